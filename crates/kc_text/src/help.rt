@@ -42,7 +42,8 @@ fn is_help_line(text: &[u8], indent: Option<u128>) -> bool
 
 // Drops lines up to the first that does not belong to a help text of this indentation.
 fn drop_lines(rest: &[u8], number: u32, indent: Option<u128>) -> Unread<'_>
-    ensures { Drops (left rest.now number) (left result.rest.now result.number) (from_other (is_help_line indent) (physical_lines rest.now)) }
+    ensures { Drops (left rest.now number) (left result.rest.now result.number)
+        (from_other (is_help_line indent) (physical_lines rest.now)) }
 {
     let mut after = rest;
     let mut next = number;
@@ -65,7 +66,8 @@ fn drop_lines(rest: &[u8], number: u32, indent: Option<u128>) -> Unread<'_>
 
 // Drops the lines of a help text.
 pub(crate) fn drop_help(rest: &[u8], number: u32) -> Unread<'_>
-    ensures { Drops (left rest.now number) (left result.rest.now result.number) (after_help (physical_lines rest.now)) }
+    ensures { Drops (left rest.now number) (left result.rest.now result.number)
+        (after_help (physical_lines rest.now)) }
 {
     let start = drop_lines(rest, number, None);
     if start.rest.is_empty() {

@@ -33,7 +33,8 @@ impl<'a> PhysicalLine<'a> {
     }
 }
 
-// The bytes of a file that are still to be read, and the number of the physical line that they begin with.
+// The bytes of a file that are still to be read, and the number of the physical line that they
+// begin with.
 #[derive(Drop)]
 pub(crate) struct Unread<'a> {
     pub(crate) rest: &'a [u8],
@@ -55,7 +56,8 @@ fn without_carriage_return(line: &[u8]) -> &[u8]
 // The first physical line of what is left of a file.
 pub(crate) fn first_physical(rest: &[u8]) -> PhysicalLine<'_>
     requires { 0 < length rest.now }
-    ensures first { physical_lines rest.now ≡ record { text = result.text.now; ended = result.ended } ∷ physical_lines result.after.now }
+    ensures first { physical_lines rest.now
+        ≡ record { text = result.text.now; ended = result.ended } ∷ physical_lines result.after.now }
     ensures less { length result.after.now < length rest.now }
 {
     match rest.find_byte(b'\n') {
@@ -80,8 +82,8 @@ fn line_feeds(bytes: &[u8]) -> usize
     bytes.iter().filter(|b| **b == b'\n').count()
 }
 
-/// The number of a file's physical lines: one for each line feed, and one more where bytes follow the last of
-/// them. It takes no memory, has no limit and reads the file once.
+/// The number of a file's physical lines: one for each line feed, and one more where bytes follow
+/// the last of them. It takes no memory, has no limit and reads the file once.
 ///
 /// That a last piece without a line feed is a line only where it is not empty is our own.
 pub fn line_count(file: &[u8]) -> usize

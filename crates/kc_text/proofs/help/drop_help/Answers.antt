@@ -1,3 +1,4 @@
+-- Why `drop_help` keeps its contract.
 use Rattle.std.proofs.Common.{sym}
 use Rattle.std.proofs.lemmas.Bool.{eqb-true}
 use Rattle.kc_text.proofs.Helps.{help_ends, help_text}

@@ -1,3 +1,4 @@
+-- Why `one_next_line` keeps its contract.
 use Rattle.kc_text.proofs.Joins.{one_next_line_law}
 use Rattle.kc_text.proofs.logical.one_next_line.Goals as goal
 

@@ -1,3 +1,4 @@
+-- Why `line_count` keeps its contract.
 use Rattle.std.proofs.Common.{◌∙◌, sym, arith}
 use Rattle.std.proofs.lemmas.Bool.{eqb-true, eqb-false, both_ways}
 use Rattle.kc_text.proofs.Counts.{lines_of_none, lines_of_ended, lines_of_open}
