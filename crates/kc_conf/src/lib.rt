@@ -1,0 +1,19 @@
+//! The run: from a map of files and a `.config` to the files written.
+#![tactic(auto)]
+
+mod cause;
+mod file_map;
+mod input;
+mod lines;
+mod options;
+mod outputs;
+mod refusal;
+mod statement;
+mod symbols;
+
+pub use cause::Cause;
+pub use file_map::FileMap;
+pub use input::Input;
+pub use options::{Options, Status};
+pub use outputs::{Outputs, Which};
+pub use refusal::{Code, Refusal};
