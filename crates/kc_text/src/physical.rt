@@ -1,0 +1,96 @@
+//! The physical lines of a file.
+ghost use Rattle.std.specs.Prelude.{◌≡◌, ◌==◌, ◌<◌, ◌≤◌, ◌∷◌, length, count_by};
+ghost use Rattle.std.specs.Str.Lines.{strip_carriage_return};
+ghost use Rattle.kc_text.specs.Lines.{physical_lines, Physical, continues, share};
+
+use bstr::ByteSlice;
+
+// A physical line without its end, whether it has one, and the bytes after it.
+#[derive(Drop)]
+pub(crate) struct PhysicalLine<'a> {
+    pub(crate) text: &'a [u8],
+    pub(crate) ended: bool,
+    pub(crate) after: &'a [u8],
+}
+
+impl<'a> PhysicalLine<'a> {
+    // Whether the line is joined with the next one.
+    pub(crate) fn continues(&self) -> bool
+        ensures { result ≡ continues (record { text = self.now.text.now; ended = self.now.ended }) }
+    {
+        self.ended && self.text.last_byte() == Some(b'\\')
+    }
+
+    // What the line gives to its logical line.
+    pub(crate) fn share(&self) -> &'a [u8]
+        ensures { result.now ≡ share (record { text = self.now.text.now; ended = self.now.ended }) }
+    {
+        if self.continues() {
+            &self.text[..self.text.len() - 1]
+        } else {
+            self.text
+        }
+    }
+}
+
+// The bytes of a file that are still to be read, and the number of the physical line that they begin with.
+#[derive(Drop)]
+pub(crate) struct Unread<'a> {
+    pub(crate) rest: &'a [u8],
+    pub(crate) number: u32,
+}
+
+// The line without the one carriage return at its end, if it has one.
+fn without_carriage_return(line: &[u8]) -> &[u8]
+    ensures { result.now ≡ strip_carriage_return line.now }
+{
+    let n = line.len();
+    if n > 0 && line[n - 1] == b'\r' {
+        &line[..n - 1]
+    } else {
+        line
+    }
+}
+
+// The first physical line of what is left of a file.
+pub(crate) fn first_physical(rest: &[u8]) -> PhysicalLine<'_>
+    requires { 0 < length rest.now }
+    ensures first { physical_lines rest.now ≡ record { text = result.text.now; ended = result.ended } ∷ physical_lines result.after.now }
+    ensures less { length result.after.now < length rest.now }
+{
+    match rest.find_byte(b'\n') {
+        Some(n) => PhysicalLine {
+            text: without_carriage_return(&rest[..n]),
+            ended: true,
+            after: &rest[n + 1..],
+        },
+        None => PhysicalLine {
+            text: rest,
+            ended: false,
+            after: &rest[rest.len()..],
+        },
+    }
+}
+
+// How many of the bytes are line feeds.
+fn line_feeds(bytes: &[u8]) -> usize
+    ensures count { result ≡ count_by (λ b. b == 10) bytes.now }
+    ensures within { result ≤ length bytes.now }
+{
+    bytes.iter().filter(|b| **b == b'\n').count()
+}
+
+/// The number of a file's physical lines: one for each line feed, and one more where bytes follow the last of
+/// them. It takes no memory, has no limit and reads the file once.
+///
+/// That a last piece without a line feed is a line only where it is not empty is our own.
+pub fn line_count(file: &[u8]) -> usize
+    ensures { result ≡ length (physical_lines file.now) }
+{
+    let ended = line_feeds(file);
+    if file.is_empty() || file[file.len() - 1] == b'\n' {
+        ended
+    } else {
+        ended + 1
+    }
+}
