@@ -1,2 +1,4 @@
 pub mod WordLemmas
 pub mod FileLemmas
+pub mod LineLemmas
+pub mod SymbolLemmas

@@ -90,8 +90,7 @@ name_fault defined name =
 
 -- an attribute stands after a `config` line
 abbrev pub place_fault : List (List ℕ) → Option Cause
-place_fault [] = Some (cause code.Misplaced)
-place_fault (name ∷ more) = None
+place_fault defined = if length defined == 0 then Some (cause code.Misplaced) else None
 
 -- what is wrong with a line behind those that define these names
 abbrev pub fault_of : List (List ℕ) → Said → Option Cause

@@ -17,6 +17,7 @@ use Rattle.kc_conf.specs.declared.lines.Stop.{Stop}
 use Rattle.kc_conf.specs.declared.lines.Step.{Step}
 use Rattle.kc_conf.specs.declared.lines.Step.TheVariants as step
 use Rattle.kc_conf.specs.declared.symbols.Symbol.{Symbol}
+use Rattle.kc_conf.specs.declared.symbols.Misfit.{Misfit}
 
 -- the tokens of a line, without where they lie
 abbrev pub lexemes_of : List Token → List Lexeme
@@ -49,6 +50,9 @@ stop_of s = record { number = s.number; cause = record { code = s.code; detail =
 abbrev pub symbol_of : Symbol → tree.Symbol
 symbol_of s = record { name = s.name.now; is_typed = s.is_typed; is_prompted = s.is_prompted; default = s.default }
 
+abbrev pub fault_stop : Misfit → tree.Stop
+fault_stop m = record { number = m.number; cause = cause_of m.fault }
+
 abbrev pub refused_of : Refusal → tree.Refused
 refused_of r = record { code = r.code; place = option_map (λ p. (p.0.items, p.1)) r.place; detail = r.detail.items }
 
@@ -57,3 +61,9 @@ abbrev pub IsStep : Left → Left → Step → Type 0
 IsStep old new step.End = old.lines ≡ []
 IsStep old new (step.Next l) = tree.TakesStatement old new (line_of l) × (new.refusal ≡ None)
 IsStep old new (step.Refused s) = tree.IsRefusedLine old (stop_of s)
+
+-- what a line's text says
+abbrev pub IsReadLine : ℕ → List ℕ → Step → Type 0
+IsReadLine number text step.End = ⊥
+IsReadLine number text (step.Next l) = (l.number ≡ number) × tree.Says text (Ok (said l.statement))
+IsReadLine number text (step.Refused s) = (s.number ≡ number) × tree.Says text (Err (stop_of s).cause)
