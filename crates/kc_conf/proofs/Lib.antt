@@ -2,3 +2,4 @@ pub mod WordLemmas
 pub mod FileLemmas
 pub mod LineLemmas
 pub mod SymbolLemmas
+pub mod SettingLemmas

@@ -190,12 +190,16 @@ tree_of file ls stop = tree_if file (first_of (first_fault [] ls) stop) ls
 abbrev pub max_lines : ℕ
 max_lines = 1000000
 
--- the tree of a file's bytes
+-- the tree that the lines of a file's bytes are
+abbrev pub IsLinesTree : List ℕ → List ℕ → Result (List Symbol) Refused → Type 0
+IsLinesTree file bytes r = (ls : List Line) × (stop : Option Stop) × AreLines (left bytes 1) ls stop × (r ≡ tree_of file ls stop)
+
+-- the tree of a file, where the map has it and its physical lines are not too many
 abbrev pub IsTreeOf : List ℕ → Option (List ℕ) → Result (List Symbol) Refused → Type 0
 IsTreeOf file None r = r ≡ Err (record { code = code.NoFile; place = Some (file, 0); detail = file })
 IsTreeOf file (Some bytes) r =
     ((max_lines < length (physical_lines bytes)) × (r ≡ Err (record { code = code.TooManyLines; place = Some (file, 0); detail = [] })))
-    ⊎ ((length (physical_lines bytes) ≤ max_lines) × ((ls : List Line) × (stop : Option Stop) × AreLines (left bytes 1) ls stop × (r ≡ tree_of file ls stop)))
+    ⊎ ((length (physical_lines bytes) ≤ max_lines) × IsLinesTree file bytes r)
 
 -- the tree of a map, from this root file on
 abbrev pub IsTree : Files → List ℕ → Result (List Symbol) Refused → Type 0

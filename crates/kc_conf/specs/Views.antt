@@ -1,5 +1,6 @@
 -- What contracts see of the values that own memory.
 use Rattle.std.specs.Prelude.{◌≡◌, ℕ, List, [], map, Option, Some, None, Result, Ok, Err, option_map, ⊤}
+use Rattle.std.specs.Borrow.{Bor}
 use Rattle.kc_text.specs.Lines.{Left}
 use Rattle.kc_text.specs.Lexemes.{Lexeme, lexeme}
 use Rattle.kc_text.specs.declared.tokens.Token.{Token}
@@ -18,6 +19,8 @@ use Rattle.kc_conf.specs.declared.lines.Step.{Step}
 use Rattle.kc_conf.specs.declared.lines.Step.TheVariants as step
 use Rattle.kc_conf.specs.declared.symbols.Symbol.{Symbol}
 use Rattle.kc_conf.specs.declared.symbols.Misfit.{Misfit}
+use Rattle.kc_conf.specs.declared.settings.Raw.{Raw}
+use Rattle.kc_conf.specs.Settings as settings
 
 -- the tokens of a line, without where they lie
 abbrev pub lexemes_of : List Token → List Lexeme
@@ -67,3 +70,9 @@ abbrev pub IsReadLine : ℕ → List ℕ → Step → Type 0
 IsReadLine number text step.End = ⊥
 IsReadLine number text (step.Next l) = (l.number ≡ number) × tree.Says text (Ok (said l.statement))
 IsReadLine number text (step.Refused s) = (s.number ≡ number) × tree.Says text (Err (stop_of s).cause)
+
+abbrev pub raw_of : Raw → settings.Raw
+raw_of r = record { bytes = r.bytes.now; is_ended = r.is_ended }
+
+abbrev pub texts_of : List (Bor (List ℕ)) → List (List ℕ)
+texts_of texts = map (λ t. t.now) texts

@@ -8,8 +8,10 @@ mod lines;
 mod options;
 mod outputs;
 mod refusal;
+mod settings;
 mod statement;
 mod symbols;
+mod tree;
 
 pub use cause::Cause;
 pub use file_map::FileMap;
