@@ -3,3 +3,4 @@ pub mod FileLemmas
 pub mod LineLemmas
 pub mod SymbolLemmas
 pub mod SettingLemmas
+pub mod PlacesLemmas

@@ -47,21 +47,21 @@ words_behind code.BadName = codes "\n"
 words_behind code.TooManySymbols = codes "\n"
 words_behind code.Memory = codes "\n"
 
--- `FILE:LINE: `
-abbrev pub place_text : List ℕ → ℕ → List ℕ
-place_text file line = file ++ codes ":" ++ decimal line ++ codes ": "
+-- an error line at a place
+abbrev pub error_at : List ℕ → ℕ → List ℕ → List ℕ
+error_at file line text = file ++ codes ":" ++ decimal line ++ codes ": error " ++ text
 
-abbrev pub place_text_if : Option (List ℕ × ℕ) → List ℕ
-place_text_if None = []
-place_text_if (Some place) = place_text place.0 place.1
+abbrev pub error_if_at : Option (List ℕ × ℕ) → List ℕ → List ℕ
+error_if_at None text = codes "error " ++ text
+error_if_at (Some place) text = error_at place.0 place.1 text
 
 -- the one error line of a refused tree
 abbrev pub refusal_line : Refused → List ℕ
-refusal_line r = place_text_if r.place ++ codes "error " ++ words_before r.code ++ r.detail ++ words_behind r.code
+refusal_line r = error_if_at r.place (words_before r.code ++ r.detail ++ words_behind r.code)
 
 -- the error line of a `.config` line that is too long
 abbrev pub too_long_line : Options → ℕ → List ℕ
-too_long_line options line = place_text (string_bytes options.config) line ++ codes "error E17: line longer than 65535 bytes\n"
+too_long_line options line = error_at (string_bytes options.config) line (codes "E17: line longer than 65535 bytes\n")
 
 -- ---- the outcome
 

@@ -5,6 +5,7 @@ mod cause;
 mod file_map;
 mod input;
 mod lines;
+mod notes;
 mod options;
 mod outputs;
 mod refusal;
@@ -12,6 +13,7 @@ mod settings;
 mod statement;
 mod symbols;
 mod tree;
+mod writing;
 
 pub use cause::Cause;
 pub use file_map::FileMap;
