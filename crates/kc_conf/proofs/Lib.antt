@@ -4,3 +4,5 @@ pub mod LineLemmas
 pub mod SymbolLemmas
 pub mod SettingLemmas
 pub mod PlacesLemmas
+pub mod Once
+pub mod RunLemmas

@@ -154,6 +154,23 @@ pub data Broken (outcome : Outcome) (cause : Cause) (old new : Places) : Type 0 
   in_file : (file : Which) (text front : List ℕ) → StrikesFile file cause → file_text outcome file ≡ Some text → BeginsWith text front →
       new ≡ marked cause (made file front (up_to file outcome old)) → Broken outcome cause old new
 
+-- the cause is of reading
+abbrev pub IsOfReading : Cause → Type 0
+IsOfReading Read = ⊤
+IsOfReading Memory = ⊤
+IsOfReading (Write which) = ⊥
+
+-- the cause is no failure of the input
+abbrev pub IsOfOutputs : Cause → Type 0
+IsOfOutputs Read = ⊥
+IsOfOutputs Memory = ⊤
+IsOfOutputs (Write which) = ⊤
+
+-- one file broke off: before it was begun, or with a beginning of its text
+abbrev pub BreaksFile : Which → List ℕ → Cause → Places → Places → Type 0
+BreaksFile file text cause old new =
+    StrikesFile file cause × ((new ≡ marked cause old) ⊎ ((front : List ℕ) × BeginsWith text front × (new ≡ marked cause (made file front old))))
+
 -- the input's count after this cause
 abbrev pub counted_input : Cause → ℕ → ℕ
 counted_input Read count = next_failure count
