@@ -4,6 +4,7 @@ ghost use Rattle.std.specs.Prelude.{◌<◌};
 use crate::memory::{MemoryInput, MemoryOutputs, Slot};
 use kc_conf::{FileMap, Options, Status, run};
 use std::alloc::{AllocError, Global};
+use std::process::Abort;
 use std::test::Fail;
 
 const HEADING: &[u8] = b"#\n# Automatically generated file; DO NOT EDIT.\n# Main menu\n#\n";
@@ -56,8 +57,13 @@ fn files(alloc: Global, kconfig: &[u8]) -> Result<FileMap, AllocError> {
 }
 
 // The run of one file and a `.config` leaves this Config and no other text.
-fn gives(rt: &HostRuntime, kconfig: &[u8], settings: &[u8], config: &[u8]) -> Result<(), Fail> {
-    let alloc = rt.alloc();
+fn gives(
+    rt: &impl Abort,
+    alloc: Global,
+    kconfig: &[u8],
+    settings: &[u8],
+    config: &[u8],
+) -> Result<(), Fail> {
     let files = files(alloc, kconfig)?;
     let mut input = input(settings, 7);
     let mut outputs = outputs(alloc)?;
@@ -71,13 +77,13 @@ fn gives(rt: &HostRuntime, kconfig: &[u8], settings: &[u8], config: &[u8]) -> Re
 
 // The run is refused with this line, and begins nothing. It reads the input where the tree is accepted.
 fn refuses(
-    rt: &HostRuntime,
+    rt: &impl Abort,
+    alloc: Global,
     files: &FileMap,
     settings: &[u8],
     reads: bool,
     line: &[u8],
 ) -> Result<(), Fail> {
-    let alloc = rt.alloc();
     let mut input = input(settings, 1000);
     let mut outputs = outputs(alloc)?;
     let status = run(alloc, files, &options(alloc)?, &mut input, &mut outputs);
@@ -88,20 +94,20 @@ fn refuses(
     Ok(())
 }
 
-fn refuses_file(rt: &HostRuntime, kconfig: &[u8], line: &[u8]) -> Result<(), Fail> {
-    refuses(rt, &files(rt.alloc(), kconfig)?, b"", false, line)
+fn refuses_file(rt: &impl Abort, alloc: Global, kconfig: &[u8], line: &[u8]) -> Result<(), Fail> {
+    refuses(rt, alloc, &files(alloc, kconfig)?, b"", false, line)
 }
 
 #[test]
 fn defaults_are_written_where_no_line_sets_a_symbol(rt: HostRuntime) -> Result<(), Fail> {
-    gives(&rt, THREE, b"", THREE_TEXT)
+    gives(&rt, rt.alloc(), THREE, b"", THREE_TEXT)
 }
 
 #[test]
 fn a_line_sets_a_symbol_with_a_prompt_and_no_other(rt: HostRuntime) -> Result<(), Fail> {
     let text =
         b"#\n# Automatically generated file; DO NOT EDIT.\n# Main menu\n#\nCONFIG_A=y\nCONFIG_B=y\nCONFIG_C=y\n";
-    gives(&rt, THREE, b"CONFIG_B=y\nCONFIG_C=n\n", text)
+    gives(&rt, rt.alloc(), THREE, b"CONFIG_B=y\nCONFIG_C=n\n", text)
 }
 
 #[test]
@@ -110,6 +116,7 @@ fn the_last_valid_line_of_a_symbol_counts(rt: HostRuntime) -> Result<(), Fail> {
         b"#\n# Automatically generated file; DO NOT EDIT.\n# Main menu\n#\n# CONFIG_A is not set\n# CONFIG_B is not set\nCONFIG_C=y\n";
     gives(
         &rt,
+        rt.alloc(),
         THREE,
         b"CONFIG_A=y\r\n CONFIG_A=y\nCONFIG_B=y\n# CONFIG_A is not set \t\nCONFIG_B=nothing\nCONFIG_A=m\nCONFIG_AA=y",
         text,
@@ -118,13 +125,14 @@ fn the_last_valid_line_of_a_symbol_counts(rt: HostRuntime) -> Result<(), Fail> {
 
 #[test]
 fn an_empty_file_gives_the_heading(rt: HostRuntime) -> Result<(), Fail> {
-    gives(&rt, b"", b"", HEADING)
+    gives(&rt, rt.alloc(), b"", b"", HEADING)
 }
 
 #[test]
 fn a_symbol_without_a_type_is_not_written(rt: HostRuntime) -> Result<(), Fail> {
     gives(
         &rt,
+        rt.alloc(),
         b"config A\n default y\n\n# a comment\nconfig B\n bool\n default n\n",
         b"CONFIG_A=y\n",
         HEADING,
@@ -135,6 +143,7 @@ fn a_symbol_without_a_type_is_not_written(rt: HostRuntime) -> Result<(), Fail> {
 fn a_type_that_is_left_out_is_named(rt: HostRuntime) -> Result<(), Fail> {
     refuses_file(
         &rt,
+        rt.alloc(),
         b"config A\n\ttristate \"a\"\n",
         b"Kconfig:2: error E7: tristate is left out\n",
     )
@@ -144,6 +153,7 @@ fn a_type_that_is_left_out_is_named(rt: HostRuntime) -> Result<(), Fail> {
 fn a_second_definition_is_left_out(rt: HostRuntime) -> Result<(), Fail> {
     refuses_file(
         &rt,
+        rt.alloc(),
         b"config A\n\tbool\nconfig A\n",
         b"Kconfig:3: error E7: config is left out\n",
     )
@@ -153,6 +163,7 @@ fn a_second_definition_is_left_out(rt: HostRuntime) -> Result<(), Fail> {
 fn a_macro_is_refused_at_its_line(rt: HostRuntime) -> Result<(), Fail> {
     refuses_file(
         &rt,
+        rt.alloc(),
         b"config A\n\tbool \"$(x)\"\n",
         b"Kconfig:2: error E6: macro\n",
     )
@@ -160,35 +171,55 @@ fn a_macro_is_refused_at_its_line(rt: HostRuntime) -> Result<(), Fail> {
 
 #[test]
 fn the_first_fault_of_the_lines_decides(rt: HostRuntime) -> Result<(), Fail> {
-    refuses_file(&rt, b"bool\nfoo\n", b"Kconfig:1: error E10: misplaced\n")?;
     refuses_file(
         &rt,
+        rt.alloc(),
+        b"bool\nfoo\n",
+        b"Kconfig:1: error E10: misplaced\n",
+    )?;
+    refuses_file(
+        &rt,
+        rt.alloc(),
         b"config A\nfoo\nconfig A\n$\n",
         b"Kconfig:2: error E8: syntax\n",
     )?;
-    refuses_file(&rt, b"\"config\" A\n", b"Kconfig:1: error E8: syntax\n")?;
     refuses_file(
         &rt,
+        rt.alloc(),
+        b"\"config\" A\n",
+        b"Kconfig:1: error E8: syntax\n",
+    )?;
+    refuses_file(
+        &rt,
+        rt.alloc(),
         b"config A\n bool \"a\n",
         b"Kconfig:2: error E5: bad token\n",
     )?;
     refuses_file(
         &rt,
-        b"config A\\\nB\n",
+        rt.alloc(),
+        b"config A \\\nB\n",
         b"Kconfig:1: error E7: config is left out\n",
     )?;
     refuses_file(
         &rt,
+        rt.alloc(),
         b"config A-B\n",
         b"Kconfig:1: error E11: bad name A-B\n",
     )?;
-    refuses_file(&rt, b"config if\n", b"Kconfig:1: error E11: bad name if\n")
+    refuses_file(
+        &rt,
+        rt.alloc(),
+        b"config if\n",
+        b"Kconfig:1: error E11: bad name if\n",
+    )
 }
 
 #[test]
 fn a_missing_root_file_is_named(rt: HostRuntime) -> Result<(), Fail> {
     refuses(
         &rt,
+        rt.alloc(),
         &FileMap::new(rt.alloc()),
         b"",
         false,
@@ -202,6 +233,7 @@ fn a_million_lines_are_the_most(rt: HostRuntime) -> Result<(), Fail> {
     let many = vec![in alloc; b'\n'; 1_000_001]?;
     refuses_file(
         &rt,
+        rt.alloc(),
         &many,
         b"Kconfig:0: error E3: more than 1000000 lines\n",
     )
@@ -213,6 +245,7 @@ fn a_logical_line_has_at_most_8191_bytes(rt: HostRuntime) -> Result<(), Fail> {
     let long = vec![in alloc; b'#'; 8192]?;
     refuses_file(
         &rt,
+        rt.alloc(),
         &long,
         b"Kconfig:1: error E4: line longer than 8191 bytes\n",
     )
@@ -225,12 +258,13 @@ fn a_config_line_has_at_most_65535_bytes(rt: HostRuntime) -> Result<(), Fail> {
     let long = vec![in alloc; b'x'; 65536]?;
     refuses(
         &rt,
+        rt.alloc(),
         &files,
         &long,
         true,
         b".config:1: error E17: line longer than 65535 bytes\n",
     )?;
-    gives(&rt, THREE, &long[1..], THREE_TEXT)
+    gives(&rt, rt.alloc(), THREE, &long[1..], THREE_TEXT)
 }
 
 #[test]
