@@ -1,5 +1,5 @@
 -- Files by their names.
-use Rattle.std.proofs.Common.{◌≡◌, ℕ, Bool, true, false, cond, List, [], ◌∷◌, map, Option, Some, None, inl, inr, refl, sym, ap, ◌∙◌}
+use Rattle.std.proofs.Common.{◌≡◌, ℕ, Bool, true, false, cond, List, [], ◌∷◌, map, Some, inl, inr, refl, sym, ap, ◌∙◌}
 use Rattle.std.specs.Option.{option_map}
 use Rattle.std.specs.Map.{lookup}
 use Rattle.std.specs.declared.vec.Vec.{Vec}
@@ -58,6 +58,7 @@ bytes_put (e ∷ es) k v o = by (bytes_eq k.items e.0.items) refl (bytes_put es 
     put_here t =
         let q : bytes_eq o e.0.items ≡ bytes_eq o k.items = ap (λ x. bytes_eq o x) (sym (bytes_eq_eq k.items e.0.items t)) in
         rw q (pick (bytes_eq o k.items) (Some v.items) (Some e.1.items) (bytes_in (files_of es) o))
+
     by : (b : Bool) → bytes_eq k.items e.0.items ≡ b → bytes_in (files_of (insert_entry (λ x y. bytes_eq x.items y.items) es k v)) o ≡ cond (bytes_eq o k.items) (Some v.items) (bytes_in (files_of es) o) → bytes_in (files_of (cond b ((e.0, v) ∷ es) (e ∷ insert_entry (λ x y. bytes_eq x.items y.items) es k v))) o ≡ cond (bytes_eq o k.items) (Some v.items) (cond (bytes_eq o e.0.items) (Some e.1.items) (bytes_in (files_of es) o))
     by true t h = put_here t
     by false t h = rw h (swap_tests (bytes_eq o k.items) (bytes_eq o e.0.items) (Some v.items) (Some e.1.items) (bytes_in (files_of es) o) (λ n. insert_keeps o k.items e.0.items (bytes_eq o k.items) (bytes_eq o e.0.items) refl refl t n))

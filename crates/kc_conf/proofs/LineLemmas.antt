@@ -1,11 +1,10 @@
 -- The lines of a file, one after another.
-use Rattle.std.proofs.Common.{◌≡◌, ℕ, ◌<◌, ◌≤◌, ◌+◌, List, [], ◌∷◌, ◌++◌, length, map, Option, Some, None, Result, Ok, Err, inl, inr, refl, sym, ap, ◌∙◌, arith, append_assoc, append-nil, length-append}
+use Rattle.std.proofs.Common.{◌≡◌, ℕ, ◌<◌, List, [], ◌∷◌, ◌++◌, length, Option, Some, None, Result, refl, sym, ap, ◌∙◌, arith, append_assoc, length-append}
 use Rattle.kc_text.specs.declared.faults.TextFault.{TextFault}
-use Rattle.kc_text.specs.declared.faults.TextFault.TheVariants as faults
 use Rattle.kc_text.specs.declared.tokens.Token.{Token}
-use Rattle.kc_text.specs.Lines.{Physical, Left, TakesLine, AreJoined, left}
+use Rattle.kc_text.specs.Lines.{Physical, Left, TakesLine, AreJoined}
 use Rattle.kc_text.specs.Tokens.{Piece, IsCut, IsCutting, pieces}
-use Rattle.kc_conf.specs.Statements.{Said, Cause, cause, statement_of}
+use Rattle.kc_conf.specs.Statements.{Said, Cause, statement_of}
 use Rattle.kc_conf.specs.Tree.{Line, Stop, lexemes, outcome_of_line, Says, TakesStatement, AreLines}
 use Rattle.kc_conf.specs.Views.{lexemes_of}
 

@@ -1,16 +1,12 @@
 -- A map has one tree, and a run one outcome.
-use Rattle.std.proofs.Common.{◌≡◌, ℕ, ◌<◌, ◌≤◌, List, [], ◌∷◌, length, Option, Some, None, Result, Ok, Err, inl, inr, refl, sym, ap, subst, ◌∙◌, arith}
+use Rattle.std.proofs.Common.{◌≡◌, ℕ, List, [], ◌∷◌, Option, Some, None, Result, Ok, Err, inl, inr, refl, sym, ap, subst, ◌∙◌, arith}
 use Rattle.std.specs.Prelude.{string_bytes}
-use Rattle.kc_text.specs.declared.faults.TextFault.{TextFault}
-use Rattle.kc_text.specs.Lines.{Left, left, TakesLine, IsTooLong, Next, Ended, Taken, TooLong, GoesOn, physical_lines}
-use Rattle.kc_text.specs.Tokens.{Piece}
+use Rattle.kc_text.specs.Lines.{Left, left, TakesLine, IsTooLong, Next, Ended, Taken, TooLong, GoesOn}
 use Rattle.kc_text.proofs.Joins.{one_next_line_law}
 use Rattle.kc_text.proofs.Once.{one_cutting_law}
-use Rattle.kc_conf.specs.Files.{Files}
 use Rattle.kc_conf.specs.Statements.{Said, Cause}
-use Rattle.kc_conf.specs.Tree.{Line, Stop, Symbol, Refused, Says, lexemes, outcome_of_line, TakesStatement, IsRefusedLine, AreLines, IsLinesTree, IsTreeOf, IsTree, OneTree, tree_of}
-use Rattle.kc_conf.specs.Outcome.{Outcome, IsOutcome, OneOutcome, outcome_of}
-use Rattle.kc_conf.specs.declared.options.Options.{Options}
+use Rattle.kc_conf.specs.Tree.{Line, Stop, Symbol, Refused, Says, lexemes, outcome_of_line, TakesStatement, IsRefusedLine, AreLines, IsLinesTree, IsTreeOf, OneTree, tree_of}
+use Rattle.kc_conf.specs.Outcome.{OneOutcome, outcome_of}
 
 -- a text says one thing
 one_saying : (text : List ℕ) (r s : Result Said Cause) → Says text r → Says text s → r ≡ s

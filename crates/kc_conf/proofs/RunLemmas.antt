@@ -1,18 +1,17 @@
 -- How the parts of a run make one run.
 use Rattle.std.proofs.Common.{◌≡◌, inl, inr, ℕ, List, [], ◌++◌, refl, sym, ap, subst, ◌∙◌, append-nil, Option, Some, None, Result, Ok, Err}
 use Rattle.std.specs.Prelude.{string_bytes}
-use Rattle.kc_dot.specs.Sink.{BeginsWith}
 use Rattle.kc_dot.proofs.SinkLemmas.{extended-nothing}
 use Rattle.kc_conf.specs.ConfigText.{config_text}
 use Rattle.kc_conf.specs.Files.{Files}
 use Rattle.kc_conf.specs.Given.{preceded, IsAtEnd, AreToCome}
-use Rattle.kc_conf.specs.Places.{Place, Places, with_place, written, made, made_if, Broke, Only}
+use Rattle.kc_conf.specs.Places.{Place, Places, with_place, written, made, Broke}
 use Rattle.kc_conf.specs.Outcome.{Outcome, IsOutcome, IsRefusedTree, outcome_of, files_of, marked, Broken, in_notes, not_begun, in_file, IsOfReading, BreaksFile, refused}
 use Rattle.kc_conf.specs.Tree.{Symbol, Refused, IsTree}
 use Rattle.kc_conf.specs.declared.cause.Cause.{Cause}
 use Rattle.kc_conf.specs.declared.cause.Cause.TheVariants.{Read, Write, Memory}
 use Rattle.kc_conf.specs.declared.options.Options.{Options}
-use Rattle.kc_conf.specs.declared.outputs.Which.TheVariants.{Config, Header, Minimal, Notes}
+use Rattle.kc_conf.specs.declared.outputs.Which.TheVariants.{Config, Notes}
 use Rattle.kc_conf.proofs.Once.{one_tree_law}
 
 -- nothing more is written

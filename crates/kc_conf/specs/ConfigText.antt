@@ -1,5 +1,5 @@
 -- The values of the symbols, and the text of the `.config` that is written.
-use Rattle.std.specs.Prelude.{ℕ, List, [], ◌++◌, flat_map, Bool, true, false, ◌||◌, ◌&&◌, codes, Option, Some, None, if◌then◌else◌, unwrap_or}
+use Rattle.std.specs.Prelude.{ℕ, List, [], ◌++◌, flat_map, Bool, true, false, ◌||◌, ◌&&◌, codes, Option, if◌then◌else◌, unwrap_or}
 use Rattle.kc_conf.specs.Tree.{Symbol}
 use Rattle.kc_conf.specs.Settings.{set_front, unset_line, last_assigned}
 

@@ -74,4 +74,3 @@ Only-only Config old mid new first second = rw first at second
 Only-only Header old mid new first second = rw first at second
 Only-only Minimal old mid new first second = rw first at second
 Only-only Notes old mid new first second = rw first at second
-

@@ -1,5 +1,5 @@
 -- What contracts see of the values that own memory.
-use Rattle.std.specs.Prelude.{◌≡◌, ℕ, List, [], map, Option, Some, None, Result, Ok, Err, option_map, ⊤}
+use Rattle.std.specs.Prelude.{◌≡◌, ℕ, List, [], map, None, Ok, Err, option_map}
 use Rattle.std.specs.Borrow.{Bor}
 use Rattle.kc_text.specs.Lines.{Left}
 use Rattle.kc_text.specs.Lexemes.{Lexeme, lexeme}

@@ -7,7 +7,7 @@ use indexmap::IndexMap;
 use std::alloc::{AllocError, Global};
 use std::marker::Model;
 
-/// Files by their names.
+/// Files by their names (our own). What a clause sees is the list of names with their bytes, each name once.
 #[derive(Drop)]
 pub struct FileMap {
     files: IndexMap<Vec<u8>, Vec<u8>>,
@@ -22,7 +22,7 @@ impl Model for FileMap {
 }
 
 impl FileMap {
-    /// No files.
+    /// A map without files. It takes no memory.
     pub fn new(alloc: Global) -> Self
         ensures { result ≡ [] }
     {
@@ -31,7 +31,10 @@ impl FileMap {
         }
     }
 
-    /// Gives the name these bytes, in place of those that it had.
+    /// Gives the name these bytes, in place of those that it had. Every other name keeps its own.
+    ///
+    /// `AllocError` where there is no memory for the entry: the map is then as it was, and the name and the bytes are
+    /// dropped.
     pub fn insert(&mut self, name: Vec<u8>, bytes: Vec<u8>) -> Result<(), AllocError>
         ensures ok { OnOk result (Puts (bytes_in self.old) (bytes_in self.new) name.items bytes.items) }
         ensures err { OnErr result (self.new ≡ self.old) }
@@ -40,7 +43,7 @@ impl FileMap {
         Ok(())
     }
 
-    /// The bytes of a name.
+    /// The bytes of a name, where the map has it. It takes no memory.
     pub fn get(&self, name: &[u8]) -> Option<&[u8]>
         ensures { option_map (λ b. b.now) result ≡ bytes_in self.now name.now }
     {

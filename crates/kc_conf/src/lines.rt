@@ -10,14 +10,14 @@ use kc_text::{LogicalLines, TextFault, lex};
 use std::alloc::{AllocError, Global};
 
 // A line, and its number.
-#[derive(Debug, Drop)]
+#[derive(Drop)]
 pub struct Line {
     pub number: u32,
     pub statement: Statement,
 }
 
 // A line that is refused, and why.
-#[derive(Debug, Drop)]
+#[derive(Drop)]
 pub struct Stop {
     pub number: u32,
     pub code: Code,
@@ -25,7 +25,7 @@ pub struct Stop {
 }
 
 // The next step through a file.
-#[derive(Debug, Drop)]
+#[derive(Drop)]
 pub enum Step {
     End,
     Next(Line),
@@ -33,7 +33,7 @@ pub enum Step {
 }
 
 // The lines of a file, and the one that ended the reading, where one is refused.
-#[derive(Debug, Drop)]
+#[derive(Drop)]
 pub struct Lines {
     pub lines: Vec<Line>,
     pub stop: Option<Stop>,
@@ -58,7 +58,11 @@ fn step_of(alloc: Global, number: u32, text: &[u8]) -> Result<Step, AllocError>
     match lex(text, &mut tokens) {
         Ok(()) => {}
         Err(TextFault::Macro) => return Ok(Step::Refused(refused(alloc, number, Code::Macro))),
-        Err(TextFault::BadToken) => return Ok(Step::Refused(refused(alloc, number, Code::BadToken))),
+        Err(TextFault::BadToken) => return Ok(Step::Refused(refused(
+            alloc,
+            number,
+            Code::BadToken,
+        ))),
         Err(TextFault::LineTooLong(_)) => unreachable!(),
         Err(TextFault::Memory) => return Err(AllocError),
     }
@@ -87,7 +91,11 @@ fn next_step(alloc: Global, lines: &mut LogicalLines) -> Result<Step, AllocError
     match lines.next_into(&mut text) {
         Ok(Some(number)) => step_of(alloc, number, &text),
         Ok(None) => Ok(Step::End),
-        Err(TextFault::LineTooLong(number)) => Ok(Step::Refused(refused(alloc, number, Code::LineTooLong))),
+        Err(TextFault::LineTooLong(number)) => Ok(Step::Refused(refused(
+            alloc,
+            number,
+            Code::LineTooLong,
+        ))),
         Err(TextFault::BadToken | TextFault::Macro) => unreachable!(),
         Err(TextFault::Memory) => Err(AllocError),
     }

@@ -74,11 +74,19 @@ fn note_at<'a, O: Outputs>(
 {
     let mut buffer = Buffer::new();
     let number = buffer.format(line).as_bytes();
-    note_parts(outputs, &[file, b":", number, b": error ", before, detail, behind])
+    note_parts(
+        outputs,
+        &[file, b":", number, b": error ", before, detail, behind],
+    )
 }
 
 // Writes an error line without a place.
-fn note_unplaced<'a, O: Outputs>(outputs: &mut O, before: &'a [u8], detail: &'a [u8], behind: &'a [u8]) -> Result<(), Fault>
+fn note_unplaced<'a, O: Outputs>(
+    outputs: &mut O,
+    before: &'a [u8],
+    detail: &'a [u8],
+    behind: &'a [u8],
+) -> Result<(), Fault>
     ensures ok { OnOk result (O.seen outputs.new ≡ written Which.Notes (codes "error " ++ before.now ++ detail.now ++ behind.now) (O.seen outputs.old)) }
     ensures err { OnErr result (Broke Which.Notes (codes "error " ++ before.now ++ detail.now ++ behind.now) (O.seen outputs.old) (O.seen outputs.new)) }
 {
@@ -93,7 +101,14 @@ pub fn note_refusal<O: Outputs>(outputs: &mut O, refusal: &Refusal) -> Result<()
     let before = words_before(refusal.code);
     let behind = words_behind(refusal.code);
     match &refusal.place {
-        Some((file, line)) => note_at(outputs, file, u64::from(*line), before, &refusal.detail, behind),
+        Some((file, line)) => note_at(
+            outputs,
+            file,
+            u64::from(*line),
+            before,
+            &refusal.detail,
+            behind,
+        ),
         None => note_unplaced(outputs, before, &refusal.detail, behind),
     }
 }
@@ -104,7 +119,14 @@ pub fn note_too_long<O: Outputs>(outputs: &mut O, options: &Options, line: u64) 
     ensures err { OnErr result (Broke Which.Notes (too_long_line options.now line) (O.seen outputs.old) (O.seen outputs.new)) }
 {
     let config = options.config.as_bytes();
-    note_at(outputs, config, line, b"E17: line longer than 65535 bytes", b"", b"\n")
+    note_at(
+        outputs,
+        config,
+        line,
+        b"E17: line longer than 65535 bytes",
+        b"",
+        b"\n",
+    )
 }
 
 // Writes an error line, or as much of it as the notes take.

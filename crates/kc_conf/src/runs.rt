@@ -51,7 +51,13 @@ fn refuse<O: Outputs>(outputs: &mut O, refusal: &Refusal) -> Result<Status, Caus
 }
 
 // After the `.config` is read.
-fn run_read<O: Outputs>(alloc: Global, options: &Options, tree: &Tree, bytes: &[u8], outputs: &mut O) -> Result<Status, Cause>
+fn run_read<O: Outputs>(
+    alloc: Global,
+    options: &Options,
+    tree: &Tree,
+    bytes: &[u8],
+    outputs: &mut O,
+) -> Result<Status, Cause>
     ensures ok { IfOk result (λ status. Finishes (outcome_of options.now bytes.now (Ok (symbols (lines_of tree.now.lines.items)))) status (O.seen outputs.old) (O.seen outputs.new)) }
     ensures err { IfErr result (λ cause. Broken (outcome_of options.now bytes.now (Ok (symbols (lines_of tree.now.lines.items)))) cause (O.seen outputs.old) (O.seen outputs.new)) }
     ensures cause { IfErr result IsOfOutputs }
@@ -69,7 +75,13 @@ fn run_read<O: Outputs>(alloc: Global, options: &Options, tree: &Tree, bytes: &[
 }
 
 // After the build.
-fn run_tree<I: Input, O: Outputs>(alloc: Global, options: &Options, tree: &Tree, input: &mut I, outputs: &mut O) -> Result<Status, Cause>
+fn run_tree<I: Input, O: Outputs>(
+    alloc: Global,
+    options: &Options,
+    tree: &Tree,
+    input: &mut I,
+    outputs: &mut O,
+) -> Result<Status, Cause>
     ensures ok { IfOk result (λ status. (bytes : List ℕ) × AreToCome (I.remaining input.old) bytes
         × Finishes (outcome_of options.now bytes (Ok (symbols (lines_of tree.now.lines.items)))) status (O.seen outputs.old) (O.seen outputs.new)) }
     ensures err { IfErr result (λ cause. (bytes : List ℕ) × AreToCome (I.remaining input.old) bytes

@@ -9,7 +9,7 @@ use kc_text::{Token, TokenKind};
 use std::alloc::{AllocError, Global};
 
 // What a line says: nothing where it has no tokens, a name, a type with a prompt or without, or a default.
-#[derive(Clone, Copy, Debug)]
+#[derive(Clone, Copy)]
 pub enum Phrase<'a> {
     Nothing,
     Config(&'a [u8]),
@@ -18,7 +18,7 @@ pub enum Phrase<'a> {
 }
 
 // The same, with a name of its own.
-#[derive(Debug, Drop)]
+#[derive(Drop)]
 pub enum Statement {
     Nothing,
     Config(Vec<u8>),
@@ -27,7 +27,7 @@ pub enum Statement {
 }
 
 // Why a line is refused: `detail` is the word or the name that the refusal is about, else empty.
-#[derive(Clone, Copy, Debug)]
+#[derive(Clone, Copy)]
 pub struct Fault<'a> {
     pub code: Code,
     pub detail: &'a [u8],

@@ -10,7 +10,7 @@ use crate::refusal::Code;
 use crate::statement::{Fault, Statement};
 
 // A symbol: whether it has a type and a prompt, and its first default.
-#[derive(Clone, Copy, Debug)]
+#[derive(Clone, Copy)]
 pub struct Symbol<'a> {
     pub name: &'a [u8],
     pub is_typed: bool,
@@ -19,7 +19,7 @@ pub struct Symbol<'a> {
 }
 
 // A line that is wrong behind those before it.
-#[derive(Clone, Copy, Debug)]
+#[derive(Clone, Copy)]
 pub struct Misfit<'a> {
     pub number: u32,
     pub fault: Fault<'a>,
@@ -70,7 +70,10 @@ fn are_name_bytes(name: &[u8]) -> bool
 fn is_taken_name(name: &[u8]) -> bool
     ensures { result ≡ spec.is_taken_name name.now }
 {
-    name == b"n".as_slice() || name == b"m".as_slice() || name == b"y".as_slice() || name == b"if".as_slice()
+    name == b"n".as_slice()
+        || name == b"m".as_slice()
+        || name == b"y".as_slice()
+        || name == b"if".as_slice()
 }
 
 fn is_good_name(name: &[u8]) -> bool

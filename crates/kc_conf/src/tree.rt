@@ -13,7 +13,7 @@ use kc_text::line_count;
 use std::alloc::{AllocError, Global};
 
 // The lines of an accepted file.
-#[derive(Debug, Drop)]
+#[derive(Drop)]
 pub struct Tree {
     pub lines: Vec<Line>,
 }
@@ -30,7 +30,13 @@ fn memory(alloc: Global) -> Refusal
     }
 }
 
-fn copied(alloc: Global, file: &[u8], line: u32, code: Code, detail: &[u8]) -> Result<Refusal, AllocError>
+fn copied(
+    alloc: Global,
+    file: &[u8],
+    line: u32,
+    code: Code,
+    detail: &[u8],
+) -> Result<Refusal, AllocError>
     ensures { IfOk result (λ r. refused_of r ≡ record { code = code; place = Some (file.now, line); detail = detail.now }) }
 {
     let name = Vec::from_slice(alloc, file)?;

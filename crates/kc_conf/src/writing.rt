@@ -68,7 +68,12 @@ fn push_both(text: &mut Vec<u8>, first: &[u8], second: &[u8]) -> Result<(), Allo
 }
 
 // Appends the line of a symbol that is written.
-fn push_line(alloc: Global, text: &mut Vec<u8>, symbol: &Symbol, texts: &[&[u8]]) -> Result<(), AllocError>
+fn push_line(
+    alloc: Global,
+    text: &mut Vec<u8>,
+    symbol: &Symbol,
+    texts: &[&[u8]],
+) -> Result<(), AllocError>
     ensures { OnOk result (text.new.items ≡ text.old.items ++ spec.value_line symbol.now.name.now (spec.value (symbol_of symbol.now) (settings.last_assigned symbol.now.name.now (texts_of texts.now)))) }
 {
     let unset = unset_line(alloc, symbol.name)?;
@@ -81,7 +86,12 @@ fn push_line(alloc: Global, text: &mut Vec<u8>, symbol: &Symbol, texts: &[&[u8]]
 }
 
 // Appends the line of a symbol, where it is written.
-fn push_symbol(alloc: Global, text: &mut Vec<u8>, symbol: &Symbol, texts: &[&[u8]]) -> Result<(), AllocError>
+fn push_symbol(
+    alloc: Global,
+    text: &mut Vec<u8>,
+    symbol: &Symbol,
+    texts: &[&[u8]],
+) -> Result<(), AllocError>
     ensures { OnOk result (text.new.items ≡ text.old.items ++ spec.symbol_text (texts_of texts.now) (symbol_of symbol.now)) }
 {
     if is_written(symbol) {

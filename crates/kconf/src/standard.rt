@@ -1,5 +1,5 @@
 //! The standard streams as the outputs of a run.
-ghost use Rattle.std.specs.Prelude.{◌≡◌, ◌<◌, ◌≤◌, length, OnOk, OnErr, IfOk, Some, []};
+ghost use Rattle.std.specs.Prelude.{◌≡◌, ◌<◌, ◌≤◌, length, OnOk, OnErr, IfOk, Some, [], false};
 ghost use Rattle.kc_conf.specs.Places.{begun, failed};
 ghost use Rattle.kconf.specs.Standard.{place_of};
 
@@ -30,7 +30,9 @@ pub struct Record {
 }
 
 impl Record {
-    fn new() -> Record {
+    fn new() -> Record
+        ensures { (result.is_begun ≡ false) × (result.failures ≡ 0) }
+    {
         Record {
             is_begun: false,
             failures: 0,
@@ -78,7 +80,12 @@ pub struct Standard<'a, C: Print, N: Print> {
 
 impl<'a, C: Print, N: Print> Standard<'a, C, N> {
     /// Outputs of which none was begun or has failed.
-    pub fn new(config_stream: &'a C, notes_stream: &'a N) -> Standard<'a, C, N> {
+    pub fn new(config_stream: &'a C, notes_stream: &'a N) -> Standard<'a, C, N>
+        ensures config { (result.config.is_begun ≡ false) × (result.config.failures ≡ 0) }
+        ensures header { (result.header.is_begun ≡ false) × (result.header.failures ≡ 0) }
+        ensures minimal { (result.minimal.is_begun ≡ false) × (result.minimal.failures ≡ 0) }
+        ensures notes { (result.notes.is_begun ≡ false) × (result.notes.failures ≡ 0) }
+    {
         Standard {
             config_stream,
             notes_stream,

@@ -1,6 +1,6 @@
 -- The reading ends with the file, or at a line that is refused.
 use Rattle.std.proofs.Common.{[], append-nil, Some, None}
-use Rattle.kc_conf.specs.Views.{lines_of, stop_of}
+use Rattle.kc_conf.specs.Views.{stop_of}
 use Rattle.kc_conf.proofs.lines.read_lines.Goals as goal
 
 pub returns-in-End : goal.returns-in-End

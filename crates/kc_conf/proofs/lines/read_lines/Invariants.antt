@@ -1,5 +1,5 @@
 -- Whatever lines follow, those so far stand before them.
-use Rattle.std.proofs.Common.{◌≡◌, List, ◌++◌, length, Option, None, map}
+use Rattle.std.proofs.Common.{◌≡◌, List, ◌++◌, length, Option, None}
 use Rattle.kc_text.specs.Lines.{left}
 use Rattle.kc_conf.specs.Tree.{Line, Stop, AreLines}
 use Rattle.kc_conf.specs.Views.{lines_of}

@@ -1,5 +1,5 @@
 -- Where a run breaks off after the `.config` is read.
-use Rattle.std.proofs.Common.{◌≡◌, ℕ, List, map, Option, Some, None, subst, sym, ap, ◌∙◌}
+use Rattle.std.proofs.Common.{◌≡◌, map, Some, subst, ap, ◌∙◌}
 use Rattle.std.proofs.lemmas.Result.{err_from_is_err_and}
 use Rattle.kc_conf.specs.ConfigText.{config_text}
 use Rattle.kc_conf.specs.Outcome.{Broken, BreaksFile, outcome_of_lines, too_long_line}
@@ -18,7 +18,7 @@ returns-in-Err-clause-err g c =
     let texts = map setting (raw_lines c.args.bytes.now) in
     let found : Some c.in-Some.line ≡ first_long 1 (raw_lines c.args.bytes.now) = c.in-Some.ensures in
     subst (λ long. Broken (outcome_of_lines c.args.options.now (symbols (lines_of c.args.tree.now.lines.items)) texts long) (Write Notes) old new) found
-        (Broken-refused (too_long_line c.args.options.now c.in-Some.line) old new c.in-Err.ensures.err)
+    (Broken-refused (too_long_line c.args.options.now c.in-Some.line) old new c.in-Err.ensures.err)
 
 pub returns-in_err-texts-clause-err : goal.returns-in_err-texts-clause-err
 returns-in_err-texts-clause-err g c =
@@ -38,7 +38,7 @@ returns-in_err-make_config-clause-err g c =
     let all = symbols (lines_of c.args.tree.now.lines.items) in
     let texts = map setting (raw_lines c.args.bytes.now) in
     let text_is : c.deref-3.result.now ≡ config_text all texts =
-        c.deref-3.ensures.value ∙ c.in_ok-text.ensures ∙ ap (λ ls. config_text (symbols (lines_of ls)) (texts_of c.deref-2.result.now)) c.deref.ensures.value
-        ∙ ap (config_text all) (ap texts_of c.deref-2.ensures.value ∙ c.in_ok-texts.ensures) in
+    c.deref-3.ensures.value ∙ c.in_ok-text.ensures ∙ ap (λ ls. config_text (symbols (lines_of ls)) (texts_of c.deref-2.result.now)) c.deref.ensures.value
+    ∙ ap (config_text all) (ap texts_of c.deref-2.ensures.value ∙ c.in_ok-texts.ensures) in
     rw (p.1, p.2) (subst (λ long. Broken (outcome_of_lines c.args.options.now all texts long) c.in_err-make_config.field-0.0 old new) c.in_default.ensures
     (Broken-config all texts c.in_err-make_config.field-0.0 old new (subst (λ t. BreaksFile Config t c.in_err-make_config.field-0.0 old new) text_is c.in_err-make_config.ensures.err)))

@@ -1,5 +1,5 @@
 -- What a run leaves, from the build on.
-use Rattle.std.proofs.Common.{◌≡◌, sym, subst, refl, ap, ◌∙◌, Ok, Err}
+use Rattle.std.proofs.Common.{subst, refl, Ok, Err}
 use Rattle.std.proofs.lemmas.Result.{IfOk-weaker, IfErr-weaker}
 use Rattle.kc_conf.specs.Files.{bytes_in}
 use Rattle.kc_conf.specs.Outcome.{refused, refusal_line}

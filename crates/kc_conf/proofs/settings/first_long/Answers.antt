@@ -1,5 +1,5 @@
 -- No line is too long where none is left.
-use Rattle.std.proofs.Common.{◌≡◌, ◌∙◌, sym, ap}
+use Rattle.std.proofs.Common.{◌∙◌, sym, ap}
 use Rattle.std.proofs.lemmas.Bool.{eqb-true}
 use Rattle.kc_conf.specs.Settings.{first_long}
 use Rattle.kc_conf.proofs.SettingLemmas.{lines_at_end}

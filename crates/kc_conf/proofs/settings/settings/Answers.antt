@@ -1,5 +1,5 @@
 -- The texts are all those of the lines where no line is left.
-use Rattle.std.proofs.Common.{◌≡◌, ◌∙◌, ◌++◌, sym, ap, map, append-nil}
+use Rattle.std.proofs.Common.{◌∙◌, ◌++◌, sym, ap, map, append-nil}
 use Rattle.std.proofs.lemmas.Bool.{eqb-true}
 use Rattle.kc_conf.specs.Settings.{setting}
 use Rattle.kc_conf.specs.Views.{texts_of}

@@ -1,5 +1,5 @@
 -- Each blank at the end goes, up to the last other byte.
-use Rattle.std.proofs.Common.{◌∙◌, refl, sym, arith}
+use Rattle.std.proofs.Common.{◌∙◌, sym, arith}
 use Rattle.kc_conf.proofs.SettingLemmas.{blank_goes, other_stays}
 use Rattle.kc_conf.proofs.settings.without_blanks.Goals as goal
 
