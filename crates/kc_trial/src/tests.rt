@@ -56,6 +56,17 @@ fn files(alloc: Global, kconfig: &[u8]) -> Result<FileMap, AllocError> {
     Ok(files)
 }
 
+// A run over these devices.
+fn run_over(
+    alloc: Global,
+    files: &FileMap,
+    input: &mut MemoryInput,
+    outputs: &mut MemoryOutputs,
+) -> Result<Status, AllocError> {
+    let options = options(alloc)?;
+    Ok(run(alloc, files, &options, input, outputs))
+}
+
 // The run of one file and a `.config` leaves this Config and no other text.
 fn gives(
     rt: &impl Abort,
@@ -67,7 +78,7 @@ fn gives(
     let files = files(alloc, kconfig)?;
     let mut input = input(settings, 7);
     let mut outputs = outputs(alloc)?;
-    let status = run(alloc, &files, &options(alloc)?, &mut input, &mut outputs);
+    let status = run_over(alloc, &files, &mut input, &mut outputs)?;
     assert_eq!(rt; status, Status::Done);
     assert_eq!(rt; outputs.config.bytes.as_slice(), config);
     assert_eq!(rt; outputs.notes.bytes.as_slice(), b"".as_slice());
@@ -86,7 +97,7 @@ fn refuses(
 ) -> Result<(), Fail> {
     let mut input = input(settings, 1000);
     let mut outputs = outputs(alloc)?;
-    let status = run(alloc, files, &options(alloc)?, &mut input, &mut outputs);
+    let status = run_over(alloc, files, &mut input, &mut outputs)?;
     assert_eq!(rt; status, Status::Refused);
     assert_eq!(rt; outputs.notes.bytes.as_slice(), line);
     assert_eq!(rt; input.calls > 0, reads);
@@ -276,7 +287,7 @@ fn pieces_of_one_byte_change_nothing(rt: HostRuntime) -> Result<(), Fail> {
         let mut outputs = outputs(alloc)?;
         outputs.config.piece = piece;
         outputs.notes.piece = piece;
-        let status = run(alloc, &files, &options(alloc)?, &mut input, &mut outputs);
+        let status = run_over(alloc, &files, &mut input, &mut outputs)?;
         assert_eq!(rt; status, Status::Done);
         assert_eq!(rt; outputs.config.bytes.as_slice(), THREE_TEXT);
     }
@@ -290,7 +301,7 @@ fn a_failed_write_leaves_a_beginning(rt: HostRuntime) -> Result<(), Fail> {
     let mut input = input(b"", 5);
     let mut outputs = outputs(alloc)?;
     outputs.config.room = 10;
-    let status = run(alloc, &files, &options(alloc)?, &mut input, &mut outputs);
+    let status = run_over(alloc, &files, &mut input, &mut outputs)?;
     assert_eq!(rt; status, Status::Faulted);
     assert_eq!(rt; outputs.config.bytes.as_slice(), b"#\n# Automa".as_slice());
     assert_eq!(rt;
@@ -309,7 +320,7 @@ fn a_failed_begin_leaves_the_output_as_it_was(rt: HostRuntime) -> Result<(), Fai
     let mut outputs = outputs(alloc)?;
     outputs.config.bytes.extend_from_slice(b"old")?;
     outputs.config.fail_at = 1;
-    let status = run(alloc, &files, &options(alloc)?, &mut input, &mut outputs);
+    let status = run_over(alloc, &files, &mut input, &mut outputs)?;
     assert_eq!(rt; status, Status::Faulted);
     assert!(rt; !outputs.config.is_begun);
     assert_eq!(rt; outputs.config.bytes.as_slice(), b"old".as_slice());
@@ -328,7 +339,7 @@ fn a_failed_read_begins_nothing(rt: HostRuntime) -> Result<(), Fail> {
         let mut input = input(b"CONFIG_B=y\n", 5);
         input.fail_at = fail_at;
         let mut outputs = outputs(alloc)?;
-        let status = run(alloc, &files, &options(alloc)?, &mut input, &mut outputs);
+        let status = run_over(alloc, &files, &mut input, &mut outputs)?;
         assert_eq!(rt; status, Status::Faulted);
         assert!(rt; !outputs.config.is_begun);
         assert_eq!(rt;
@@ -347,9 +358,21 @@ fn no_line_follows_where_the_notes_fail(rt: HostRuntime) -> Result<(), Fail> {
     let mut input = input(b"", 5);
     let mut outputs = outputs(alloc)?;
     outputs.notes.room = 9;
-    let status = run(alloc, &files, &options(alloc)?, &mut input, &mut outputs);
+    let status = run_over(alloc, &files, &mut input, &mut outputs)?;
     assert_eq!(rt; status, Status::Faulted);
     assert_eq!(rt; outputs.notes.bytes.as_slice(), b"Kconfig:1".as_slice());
     assert!(rt; !outputs.config.is_begun);
+    Ok(())
+}
+
+#[test]
+fn a_known_name_gets_the_new_bytes(rt: HostRuntime) -> Result<(), Fail> {
+    let alloc = rt.alloc();
+    let mut files = files(alloc, b"old")?;
+    let name = Vec::from_slice(alloc, b"Kconfig")?;
+    let bytes = Vec::from_slice(alloc, b"new")?;
+    files.insert(name, bytes)?;
+    assert!(rt; files.get(b"Kconfig") == Some(b"new".as_slice()));
+    assert!(rt; files.get(b"other").is_none());
     Ok(())
 }
