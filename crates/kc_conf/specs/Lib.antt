@@ -1,0 +1,9 @@
+pub mod Files
+pub mod Statements
+pub mod Tree
+pub mod Settings
+pub mod ConfigText
+pub mod Places
+pub mod Given
+pub mod Outcome
+pub mod Views

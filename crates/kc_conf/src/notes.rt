@@ -1,0 +1,158 @@
+//! What a run writes to the notes.
+ghost use Rattle.std.specs.Prelude.{◌≡◌, ◌++◌, codes, OnOk, OnErr, flat_map};
+ghost use Rattle.kc_conf.specs.Outcome.{error_at, refusal_line, too_long_line, words_before, words_behind, NotesLine, Reports};
+ghost use Rattle.kc_conf.specs.Places.{written, Broke};
+ghost use Rattle.kc_conf.specs.Views.{refused_of};
+
+use crate::cause::Cause;
+use crate::options::{Options, name_of};
+use crate::outputs::{Outputs, Which, put_to};
+use crate::refusal::{Code, Refusal};
+use itoa::Buffer;
+use kc_dot::Fault;
+
+// Writes the parts to the notes, one after another.
+fn note_parts<O: Outputs>(outputs: &mut O, parts: &[&[u8]]) -> Result<(), Fault>
+    ensures ok { OnOk result (O.seen outputs.new ≡ written Which.Notes (flat_map (λ part. part.now) parts.now) (O.seen outputs.old)) }
+    ensures err { OnErr result (Broke Which.Notes (flat_map (λ part. part.now) parts.now) (O.seen outputs.old) (O.seen outputs.new)) }
+{
+    for part in parts {
+        put_to(outputs, Which::Notes, part)?;
+    }
+    Ok(())
+}
+
+// What an error line says of a refusal, before the word or the name that it is about.
+fn words_before(code: Code) -> &'static [u8]
+    ensures { result.now ≡ words_before code }
+{
+    match code {
+        Code::NoFile => b"E1: no file ",
+        Code::TooManyLines => b"E3: more than 1000000 lines",
+        Code::LineTooLong => b"E4: line longer than 8191 bytes",
+        Code::BadToken => b"E5: bad token",
+        Code::Macro => b"E6: macro",
+        Code::LeftOut => b"E7: ",
+        Code::Syntax => b"E8: syntax",
+        Code::Misplaced => b"E10: misplaced",
+        Code::BadName => b"E11: bad name ",
+        Code::TooManySymbols => b"E16: more than 65535 symbols",
+        Code::Memory => b"E20: out of memory",
+    }
+}
+
+// And behind it.
+fn words_behind(code: Code) -> &'static [u8]
+    ensures { result.now ≡ words_behind code }
+{
+    match code {
+        Code::LeftOut => b" is left out\n",
+        Code::NoFile
+        | Code::TooManyLines
+        | Code::LineTooLong
+        | Code::BadToken
+        | Code::Macro
+        | Code::Syntax
+        | Code::Misplaced
+        | Code::BadName
+        | Code::TooManySymbols
+        | Code::Memory => b"\n",
+    }
+}
+
+// Writes an error line at a place.
+fn note_at<'a, O: Outputs>(
+    outputs: &mut O,
+    file: &'a [u8],
+    line: u64,
+    before: &'a [u8],
+    detail: &'a [u8],
+    behind: &'a [u8],
+) -> Result<(), Fault>
+    ensures ok { OnOk result (O.seen outputs.new ≡ written Which.Notes (error_at file.now line (before.now ++ detail.now ++ behind.now)) (O.seen outputs.old)) }
+    ensures err { OnErr result (Broke Which.Notes (error_at file.now line (before.now ++ detail.now ++ behind.now)) (O.seen outputs.old) (O.seen outputs.new)) }
+{
+    let mut buffer = Buffer::new();
+    let number = buffer.format(line).as_bytes();
+    note_parts(
+        outputs,
+        &[file, b":", number, b": error ", before, detail, behind],
+    )
+}
+
+// Writes an error line without a place.
+fn note_unplaced<'a, O: Outputs>(
+    outputs: &mut O,
+    before: &'a [u8],
+    detail: &'a [u8],
+    behind: &'a [u8],
+) -> Result<(), Fault>
+    ensures ok { OnOk result (O.seen outputs.new ≡ written Which.Notes (codes "error " ++ before.now ++ detail.now ++ behind.now) (O.seen outputs.old)) }
+    ensures err { OnErr result (Broke Which.Notes (codes "error " ++ before.now ++ detail.now ++ behind.now) (O.seen outputs.old) (O.seen outputs.new)) }
+{
+    note_parts(outputs, &[b"error ", before, detail, behind])
+}
+
+// Writes the error line of a refused tree.
+pub fn note_refusal<O: Outputs>(outputs: &mut O, refusal: &Refusal) -> Result<(), Fault>
+    ensures ok { OnOk result (O.seen outputs.new ≡ written Which.Notes (refusal_line (refused_of refusal.now)) (O.seen outputs.old)) }
+    ensures err { OnErr result (Broke Which.Notes (refusal_line (refused_of refusal.now)) (O.seen outputs.old) (O.seen outputs.new)) }
+{
+    let before = words_before(refusal.code);
+    let behind = words_behind(refusal.code);
+    match &refusal.place {
+        Some((file, line)) => note_at(
+            outputs,
+            file,
+            u64::from(*line),
+            before,
+            &refusal.detail,
+            behind,
+        ),
+        None => note_unplaced(outputs, before, &refusal.detail, behind),
+    }
+}
+
+// Writes the error line of a `.config` line that is too long.
+pub fn note_too_long<O: Outputs>(outputs: &mut O, options: &Options, line: u64) -> Result<(), Fault>
+    ensures ok { OnOk result (O.seen outputs.new ≡ written Which.Notes (too_long_line options.now line) (O.seen outputs.old)) }
+    ensures err { OnErr result (Broke Which.Notes (too_long_line options.now line) (O.seen outputs.old) (O.seen outputs.new)) }
+{
+    let config = options.config.as_bytes();
+    note_at(
+        outputs,
+        config,
+        line,
+        b"E17: line longer than 65535 bytes",
+        b"",
+        b"\n",
+    )
+}
+
+// Writes an error line, or as much of it as the notes take.
+fn note_line<O: Outputs>(outputs: &mut O, parts: &[&[u8]])
+    ensures { NotesLine (flat_map (λ part. part.now) parts.now) (O.seen outputs.old) (O.seen outputs.new) }
+{
+    match note_parts(outputs, parts) {
+        Ok(()) => {}
+        Err(Fault) => {}
+    }
+}
+
+// Writes the one error line of a fault, unless the notes are what failed.
+pub fn report<O: Outputs>(options: &Options, cause: Cause, outputs: &mut O)
+    ensures { Reports options.now cause (O.seen outputs.old) (O.seen outputs.new) }
+{
+    match cause {
+        Cause::Read => note_line(
+            outputs,
+            &[b"error E18: cannot read ", options.config.as_bytes(), b"\n"],
+        ),
+        Cause::Write(Which::Notes) => {}
+        Cause::Write(which) => note_line(
+            outputs,
+            &[b"error E19: cannot write ", name_of(options, which), b"\n"],
+        ),
+        Cause::Memory => note_line(outputs, &[b"error E20: out of memory\n"]),
+    }
+}

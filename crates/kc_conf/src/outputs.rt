@@ -1,0 +1,82 @@
+//! Where the files and the diagnostics go.
+ghost use Rattle.std.specs.Prelude.{◌≡◌, ◌<◌, ◌≤◌, List, ℕ, Option, length, take, IfOk, OnOk, OnErr};
+ghost use Rattle.kc_dot.specs.Sink.{extended, next_failure};
+ghost use Rattle.kc_conf.specs.Places.{Places, at, with_place, begun, failed, grown, Only, Only-same, Only-only, Broke};
+ghost use Rattle.std.proofs.Common.{refl, ◌∙◌};
+
+use kc_dot::{Fault, Sink, put};
+
+/// One of the outputs (our own). `Notes` is the place of diagnostics: it is there from the start and is never begun.
+#[derive(Clone, Copy, Debug, PartialEq, Eq)]
+pub enum Which {
+    Config,
+    Header,
+    Minimal,
+    Notes,
+}
+
+/// The outputs of a run (our own).
+///
+/// Outputs over memory tell their bytes; those over files tell nothing. Each output counts its failures in a `u64` that
+/// stays at its greatest value. No call changes another output.
+pub trait Outputs {
+    /// What is known of each output.
+    ghost seen: { Self → Places };
+
+    /// Makes an output empty. On `Fault` it is as it was, and one failure more of it is counted.
+    fn begin(&mut self, which: Which) -> Result<(), Fault>
+        ensures ok { OnOk result (seen self.new ≡ with_place (seen self.old) which (begun (at (seen self.old) which))) }
+        ensures err { OnErr result (seen self.new ≡ with_place (seen self.old) which (failed (at (seen self.old) which))) };
+
+    /// Takes a beginning of the bytes, of at least one byte, and answers how many it took.
+    ///
+    /// The caller owes at least one byte. On `Fault` nothing was taken, and one failure more of that output is counted.
+    fn write(&mut self, which: Which, bytes: &[u8]) -> Result<usize, Fault>
+        requires { 0 < length bytes.now }
+        ensures some { IfOk result (λ count. 0 < count) }
+        ensures within { IfOk result (λ count. count ≤ length bytes.now) }
+        ensures ok { IfOk result (λ count. seen self.new ≡ with_place (seen self.old) which (grown (at (seen self.old) which) (take count bytes.now))) }
+        ensures err { OnErr result (seen self.new ≡ with_place (seen self.old) which (failed (at (seen self.old) which))) };
+}
+
+// One of the outputs as a sink.
+#[derive(Drop)]
+pub struct OutputSink<'a, O: Outputs> {
+    outputs: &'a mut O,
+    which: Which,
+}
+
+impl<'a, O: Outputs> OutputSink<'a, O> {
+    pub fn new(outputs: &'a mut O, which: Which) -> OutputSink<'a, O>
+        ensures same_reference { result.outputs.ghost_name ≡ outputs.entry.ghost_name }
+        ensures same_value { result.outputs.now ≡ outputs.old }
+        ensures which { result.which ≡ which }
+    {
+        OutputSink { outputs, which }
+    }
+}
+
+impl<'a, O: Outputs> Sink for OutputSink<'a, O> {
+    ghost taken = { λ s. (at (O.seen s.outputs.now) s.which).text };
+
+    ghost failures = { λ s. (at (O.seen s.outputs.now) s.which).failures };
+
+    ghost goes_to = { λ s t. (t.outputs.ghost_name ≡ s.outputs.ghost_name) × (t.which ≡ s.which) × Only s.which (O.seen s.outputs.now) (O.seen t.outputs.now) };
+
+    fn write(&mut self, bytes: &[u8]) -> Result<usize, Fault> {
+        self.outputs.write(self.which, bytes)
+    }
+
+    ghost stays = { λ s. (refl, refl, Only-same s.which (O.seen s.outputs.now)) };
+
+    ghost goes_on = { λ s t u h k. (k.0 ∙ h.0, k.1 ∙ h.1, Only-only s.which (O.seen s.outputs.now) (O.seen t.outputs.now) (O.seen u.outputs.now) h.2 (Prim.rw h.1 at k.2)) };
+}
+
+// Writes the whole text to one output, or after an error a beginning of it.
+pub fn put_to<O: Outputs>(outputs: &mut O, which: Which, text: &[u8]) -> Result<(), Fault>
+    ensures ok { OnOk result (O.seen outputs.new ≡ with_place (O.seen outputs.old) which (grown (at (O.seen outputs.old) which) text.now)) }
+    ensures err { OnErr result (Broke which text.now (O.seen outputs.old) (O.seen outputs.new)) }
+{
+    let mut sink = OutputSink::new(outputs, which);
+    put(text, &mut sink)
+}

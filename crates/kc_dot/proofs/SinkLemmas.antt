@@ -1,0 +1,25 @@
+-- What was told, as more and more of a text is taken.
+use Rattle.std.proofs.Common.{◌≡◌, ℕ, ◌+◌, ◌-◌, List, [], ◌++◌, length, take, drop, refl, sym, ap, ◌∙◌, append_assoc, append-nil, Option, Some, None, Result, Ok, Err, OnOk}
+use Rattle.std.proofs.Math.Seq.{take-add}
+use Rattle.std.proofs.lemmas.List.{take-append-drop, take_rest}
+use Rattle.kc_dot.specs.Sink.{extended, HandsOut}
+
+-- the bytes of two calls are one text
+pub extended-extended : (told : Option (List ℕ)) (a b : List ℕ) → extended (extended told a) b ≡ extended told (a ++ b)
+extended-extended None a b = refl
+extended-extended (Some before) a b = ap Some (append_assoc before a b)
+
+-- and so are the next bytes of one text
+pub extended-take : (told : Option (List ℕ)) (text : List ℕ) (at count : ℕ) →
+    extended (extended told (take at text)) (take count (take (length text - at) (drop at text))) ≡ extended told (take (at + count) text)
+extended-take told text at count =
+    rw take_rest (extended-extended told (take at text) (take count (drop at text)) ∙ ap (extended told) (sym (take-add at count text)))
+
+-- nothing more is told
+pub extended-nothing : (told : Option (List ℕ)) → told ≡ extended told []
+extended-nothing None = refl
+extended-nothing (Some before) = ap Some (sym (append-nil before))
+
+pub HandsOut-take : (text : List ℕ) (old new : Option (List ℕ)) (at : ℕ) → new ≡ extended old (take at text) → HandsOut text old new
+HandsOut-take text old new at is = (take at text, (drop at text, sym (take-append-drop at text)), is)
+
