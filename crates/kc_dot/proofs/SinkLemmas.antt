@@ -22,4 +22,3 @@ extended-nothing (Some before) = ap Some (sym (append-nil before))
 
 pub HandsOut-take : (text : List ℕ) (old new : Option (List ℕ)) (at : ℕ) → new ≡ extended old (take at text) → HandsOut text old new
 HandsOut-take text old new at is = (take at text, (drop at text, sym (take-append-drop at text)), is)
-
