@@ -376,3 +376,29 @@ fn a_known_name_gets_the_new_bytes(rt: HostRuntime) -> Result<(), Fail> {
     assert!(rt; files.get(b"other").is_none());
     Ok(())
 }
+
+#[test]
+fn a_value_has_at_most_65000_bytes(rt: HostRuntime) -> Result<(), Fail> {
+    let alloc = rt.alloc();
+    let mut line = Vec::from_slice(alloc, b"CONFIG_B=y")?;
+    let more = vec![in alloc; b'x'; 64999]?;
+    line.extend_from_slice(&more)?;
+    let text = b"#\n# Automatically generated file; DO NOT EDIT.\n# Main menu\n#\nCONFIG_A=y\nCONFIG_B=y\nCONFIG_C=y\n";
+    gives(&rt, alloc, THREE, &line, text)?;
+    line.push(b'x')?;
+    gives(&rt, alloc, THREE, &line, THREE_TEXT)
+}
+
+#[test]
+fn a_name_has_at_most_255_bytes(rt: HostRuntime) -> Result<(), Fail> {
+    let alloc = rt.alloc();
+    let mut file = Vec::from_slice(alloc, b"config ")?;
+    let name = vec![in alloc; b'A'; 255]?;
+    file.extend_from_slice(&name)?;
+    gives(&rt, alloc, &file, b"", HEADING)?;
+    file.push(b'A')?;
+    let mut line = Vec::from_slice(alloc, b"Kconfig:1: error E11: bad name ")?;
+    line.extend_from_slice(&name)?;
+    line.extend_from_slice(b"A\n")?;
+    refuses_file(&rt, alloc, &file, &line)
+}
