@@ -1,0 +1,214 @@
+-- What reading one part of an expression gives.
+use Rattle.std.specs.Prelude.{◌≡◌, ◌≢◌, ℕ, ◌+◌, ◌≤◌, ◌<◌, length, Bool, true, false, List, [], ◌∷◌, ◌++◌, Option, Some, None, MatchBool}
+use Rattle.kc_expr.specs.declared.parse.ExprFault.{ExprFault}
+use Rattle.kc_expr.specs.declared.parse.ExprFault.TheVariants.{Syntax, TooDeep, Memory}
+use Rattle.kc_text.specs.declared.tokens.Op.{Op}
+use Rattle.kc_text.specs.declared.tokens.Op.TheVariants as op
+use Rattle.kc_expr.specs.declared.expression.SymId.{SymId}
+use Rattle.kc_expr.specs.declared.expression.Operand.{Operand}
+use Rattle.kc_text.specs.declared.tokens.Token.{Token}
+use Rattle.kc_text.specs.declared.tokens.TokenKind.{TokenKind}
+use Rattle.kc_text.specs.Lexemes.{lexeme}
+use Rattle.kc_expr.specs.Form.{Form, Leaf, leaf_of}
+use Rattle.kc_expr.specs.Names.{number_of, symbol, all_mentioned, Extends}
+use Rattle.kc_expr.specs.Grammar.{Terminal, Plain, Compares, Bang, Both, Either, Open, Close, Disjunction, Conjunction, Negation, spell_or, spell_and, spell_not, levels_or, levels_and, levels_not, meaning_or, meaning_and, meaning_not, terminals_from, terminal_of, Atom, leaf, LongestFront, Begins, BeginsWithin, op_terminal, plain_under, atom_words, words_of, words}
+use Rattle.kc_expr.specs.Scan.{State, want, single, right, done, step, run, lone_or, lone_and, lone_not}
+
+-- the next token, if there is one
+abbrev pub starts_compares : List Terminal → Bool
+starts_compares [] = false
+starts_compares (Compares o ∷ ts) = true
+starts_compares (_ ∷ ts) = false
+
+abbrev pub starts_both : List Terminal → Bool
+starts_both [] = false
+starts_both (Both ∷ ts) = true
+starts_both (_ ∷ ts) = false
+
+abbrev pub starts_either : List Terminal → Bool
+starts_either [] = false
+starts_either (Either ∷ ts) = true
+starts_either (_ ∷ ts) = false
+
+abbrev pub starts_close : List Terminal → Bool
+starts_close [] = false
+starts_close (Close ∷ ts) = true
+starts_close (_ ∷ ts) = false
+
+-- the machine can't end here
+abbrev pub IsUnfinished : State → Type 0
+IsUnfinished (want cur base stack) = Unit {0}
+IsUnfinished (right base stack) = Unit {0}
+IsUnfinished (single base []) = ⊥
+IsUnfinished (single base (b ∷ stack)) = Unit {0}
+IsUnfinished (done base []) = ⊥
+IsUnfinished (done base (b ∷ stack)) = Unit {0}
+
+-- nor go on
+abbrev pub Refuses : ℕ → State → List Terminal → Type 0
+Refuses limit s [] = Unit {0}
+Refuses limit s (t ∷ ts) = step limit s t ≡ None
+
+abbrev pub Any_start : ℕ → ℕ → Type 0
+Any_start cur base = Unit {0}
+
+abbrev pub Fresh_start : ℕ → ℕ → Type 0
+Fresh_start cur base = cur ≡ base
+
+module _ {T : Type 0} (spell : T → List Terminal) (levels : T → ℕ) where
+  -- the tokens stop making sense, or end, before the part is whole
+  pub record Broken (Starts : ℕ → ℕ → Type 0) (k : ℕ) (ts : List Terminal) : Type 0 where
+    pub front : List Terminal
+    pub rest : List Terminal
+    pub whole : ts ≡ front ++ rest
+    pub tree : T
+    pub rest_of_tree : List Terminal
+    pub begins : spell tree ≡ front ++ rest_of_tree
+    pub within : levels tree ≤ k
+    pub stuck : (limit cur base : ℕ) (stack : List ℕ) → Starts cur base → cur + k ≤ limit → (s : State) × (run limit (want cur base stack) front ≡ Some s) × IsUnfinished s × Refuses limit s rest
+
+  -- one level too many is opened
+  pub record Deep (Starts : ℕ → ℕ → Type 0) (k : ℕ) (ts : List Terminal) : Type 0 where
+    pub front : List Terminal
+    pub rest : List Terminal
+    pub whole : ts ≡ front ++ rest
+    pub tree : T
+    pub rest_of_tree : List Terminal
+    pub begins : spell tree ≡ front ++ rest_of_tree
+    pub deep : (cur base : ℕ) (stack : List ℕ) → Starts cur base → run (cur + k) (want cur base stack) front ≡ None
+
+  -- the part is whole, and no longer one begins here
+  pub record Parsed (meaning : (List ℕ → ℕ) → T → Form) (Stops : T → List Terminal → Type 0) (k : ℕ) (ts rest : List Terminal) (old names : List (List ℕ)) (f : Form) : Type 0 where
+    pub tree : T
+    pub whole : ts ≡ spell tree ++ rest
+    pub mentions : names ≡ all_mentioned old (words_of (spell tree))
+    pub within : levels tree ≤ k
+    pub stops : Stops tree rest
+    pub form : (later : List (List ℕ)) → Extends names later → f ≡ meaning (number_of later) tree
+
+abbrev pub StopsNot : Negation → List Terminal → Type 0
+StopsNot n rest = lone_not n ≡ true → starts_compares rest ≡ false
+
+abbrev pub StopsAnd : Conjunction → List Terminal → Type 0
+StopsAnd c rest = (lone_and c ≡ true → starts_compares rest ≡ false) × (starts_both rest ≡ false)
+
+abbrev pub StopsOr : Disjunction → List Terminal → Type 0
+StopsOr d rest = (lone_or d ≡ true → starts_compares rest ≡ false) × (starts_both rest ≡ false) × (starts_either rest ≡ false)
+
+abbrev pub ParsedNot : Option SymId → ℕ → List Terminal → List Terminal → List (List ℕ) → List (List ℕ) → Form → Type 0
+ParsedNot condition = Parsed spell_not levels_not (meaning_not condition) StopsNot
+
+abbrev pub ParsedAnd : Option SymId → ℕ → List Terminal → List Terminal → List (List ℕ) → List (List ℕ) → Form → Type 0
+ParsedAnd condition = Parsed spell_and levels_and (meaning_and condition) StopsAnd
+
+abbrev pub ParsedOr : Option SymId → ℕ → List Terminal → List Terminal → List (List ℕ) → List (List ℕ) → Form → Type 0
+ParsedOr condition = Parsed spell_or levels_or (meaning_or condition) StopsOr
+
+-- what each fault says
+abbrev pub FailsNot : ExprFault → ℕ → List Terminal → Type 0
+FailsNot Syntax k ts = Broken spell_not levels_not Any_start k ts
+FailsNot TooDeep k ts = Deep spell_not levels_not Any_start k ts
+FailsNot (Memory e) k ts = Unit {0}
+
+abbrev pub FailsAnd : ExprFault → ℕ → List Terminal → Type 0
+FailsAnd Syntax k ts = Broken spell_and levels_and Fresh_start k ts
+FailsAnd TooDeep k ts = Deep spell_and levels_and Fresh_start k ts
+FailsAnd (Memory e) k ts = Unit {0}
+
+abbrev pub FailsOr : ExprFault → ℕ → List Terminal → Type 0
+FailsOr Syntax k ts = Broken spell_or levels_or Fresh_start k ts
+FailsOr TooDeep k ts = Deep spell_or levels_or Fresh_start k ts
+FailsOr (Memory e) k ts = Unit {0}
+
+-- what parsing answers: the one expression of the longest front that begins some expression
+pub record IsParsed (condition : Option SymId) (ts rest : List Terminal) (old names : List (List ℕ)) (f : Form) : Type 0 where
+  pub front : List Terminal
+  pub longest : LongestFront ts front rest
+  pub tree : Disjunction
+  pub derives : spell_or tree ≡ front
+  pub within : levels_or tree ≤ 64
+  pub mentions : names ≡ all_mentioned old (words tree)
+  pub form : (later : List (List ℕ)) → Extends names later → f ≡ meaning_or condition (number_of later) tree
+
+-- the longest front that begins some expression is none itself, and opens at most 64 levels
+pub record IsNoExpression (ts : List Terminal) : Type 0 where
+  pub front : List Terminal
+  pub rest : List Terminal
+  pub longest : LongestFront ts front rest
+  pub within : BeginsWithin 64 front
+  pub none : (d : Disjunction) → spell_or d ≢ front
+
+-- a front begins some expression, but none of at most 64 levels
+pub record IsTooDeep (ts : List Terminal) : Type 0 where
+  pub front : List Terminal
+  pub rest : List Terminal
+  pub whole : ts ≡ front ++ rest
+  pub begins : Begins front
+  pub deep : BeginsWithin 64 front → ⊥
+
+abbrev pub IsRefused : ExprFault → List Terminal → Type 0
+IsRefused Syntax ts = IsNoExpression ts
+IsRefused TooDeep ts = IsTooDeep ts
+IsRefused (Memory e) ts = Unit {0}
+
+-- the next token
+abbrev pub IsNext : Option TokenKind → List Token → ℕ → Type 0
+IsNext None tokens at = terminals_from tokens at ≡ []
+IsNext (Some kind) tokens at = (at < length tokens) × (terminals_from tokens at ≡ terminal_of (lexeme kind) ∷ terminals_from tokens (at + 1))
+
+-- an operand that was read
+abbrev pub starts_plain : List Terminal → Bool
+starts_plain [] = false
+starts_plain (Plain a ∷ ts) = true
+starts_plain (_ ∷ ts) = false
+
+pub record ReadsAtom (tokens : List Token) (at : ℕ) (old names : List (List ℕ)) (o : Leaf) : Type 0 where
+  pub atom : Atom
+  pub mentions : names ≡ all_mentioned old (atom_words atom)
+  pub there : at < length tokens
+  pub next : terminals_from tokens at ≡ Plain atom ∷ terminals_from tokens (at + 1)
+  pub leaf_is : (later : List (List ℕ)) → Extends names later → o ≡ leaf (number_of later) atom
+
+abbrev pub ReadsOperand : Option Operand → List Token → ℕ → List (List ℕ) → List (List ℕ) → Type 0
+ReadsOperand None tokens at old names = starts_plain (terminals_from tokens at) ≡ false
+ReadsOperand (Some o) tokens at old names = ReadsAtom tokens at old names (leaf_of o)
+
+abbrev pub ReadsRelation : Option Op → List Token → ℕ → Type 0
+ReadsRelation None tokens at = starts_compares (terminals_from tokens at) ≡ false
+ReadsRelation (Some o) tokens at = (at < length tokens) × (terminals_from tokens at ≡ Compares o ∷ terminals_from tokens (at + 1))
+
+abbrev pub IsMemory : ExprFault → Type 0
+IsMemory Syntax = ⊥
+IsMemory TooDeep = ⊥
+IsMemory (Memory e) = Unit {0}
+
+abbrev pub starts_bang : List Terminal → Bool
+starts_bang [] = false
+starts_bang (Bang ∷ ts) = true
+starts_bang (_ ∷ ts) = false
+
+abbrev pub starts_open : List Terminal → Bool
+starts_open [] = false
+starts_open (Open ∷ ts) = true
+starts_open (_ ∷ ts) = false
+
+-- whether an operator comes that opens, joins or closes
+abbrev pub starts_op : Op → List Terminal → Bool
+starts_op op.Not ts = starts_bang ts
+starts_op op.LParen ts = starts_open ts
+starts_op op.And ts = starts_both ts
+starts_op op.Or ts = starts_either ts
+starts_op op.RParen ts = starts_close ts
+starts_op _ ts = false
+
+abbrev pub IsOp : Op → List Token → ℕ → Bool → Type 0
+IsOp o tokens at b =
+    MatchBool b ((at < length tokens) × (terminals_from tokens at ≡ op_terminal o ∷ terminals_from tokens (at + 1))) (starts_op o (terminals_from tokens at) ≡ false)
+
+-- neither ! nor ( comes
+abbrev pub StartsNoOperand : List Terminal → Type 0
+StartsNoOperand ts = (starts_bang ts ≡ false) × (starts_open ts ≡ false)
+
+-- the number of a name, also in all later names
+abbrev pub IsNumber : List (List ℕ) → List ℕ → SymId → Type 0
+IsNumber names w id = (later : List (List ℕ)) → Extends names later → id ≡ symbol (number_of later w)

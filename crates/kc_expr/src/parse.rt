@@ -1,0 +1,299 @@
+//! Expressions from tokens.
+
+ghost use Rattle.std.specs.Prelude.{◌≡◌, ℕ, ◌+◌, ◌≤◌, ◌<◌, ◌≢◌, Bool, true, false, length, [], ◌∷◌, ◌++◌, IfOk, IfErr, OnOk};
+ghost use Rattle.kc_expr.specs.Form.{form_of, leaf_of, Text};
+ghost use Rattle.kc_expr.specs.Grammar.{terminals_from, is_m_leaf, plain_under, IsUnambiguous};
+ghost use Rattle.kc_expr.specs.Reading.{IsParsed, IsRefused, ParsedNot, ParsedAnd, ParsedOr, FailsNot, FailsAnd, FailsOr, IsNext, ReadsOperand, ReadsRelation, IsMemory, IsOp, StartsNoOperand, IsNumber};
+ghost use Rattle.kc_expr.specs.Names.{Extends, mention};
+
+use crate::expression::{Expr, Operand, SymId};
+use crate::names::Names;
+use kc_text::{Op, Token, TokenKind, unescape_into};
+use crate::values::letter_of;
+use std::alloc::{AllocError, Global};
+use thiserror::Error;
+
+/// Why there is no expression.
+#[derive(Debug, Drop, Error)]
+pub enum ExprFault {
+    #[error("syntax")]
+    Syntax,
+    #[error("too deep")]
+    TooDeep,
+    #[error("out of memory")]
+    Memory(AllocError),
+}
+
+const MAX_LEVELS: usize = 64;
+
+/// The expression of the longest front of the tokens from `at` on that begins some expression,
+/// and the place of the first token that is not used.
+pub fn parse(
+    alloc: Global,
+    tokens: &[Token],
+    at: usize,
+    condition: Option<SymId>,
+    names: &mut Names,
+) -> Result<(Expr, usize), ExprFault>
+    requires { at ≤ length tokens.now }
+    ensures parsed { IfOk result (λ r. IsParsed condition (terminals_from tokens.now at) (terminals_from tokens.now r.1) names.old names.new (form_of r.0)) }
+    ensures within { IfOk result (λ r. (at ≤ r.1) × (r.1 ≤ length tokens.now)) }
+    ensures refused { IfErr result (λ f. IsRefused f (terminals_from tokens.now at)) }
+    ensures names { Extends names.old names.new }
+{
+    disjunction(alloc, tokens, at, MAX_LEVELS, condition, names)
+}
+
+/// The grammar gives no tokens two expressions.
+pub fn grammar_is_unambiguous()
+    ensures { IsUnambiguous }
+{}
+
+#[cycle(parse)]
+fn disjunction(
+    alloc: Global,
+    tokens: &[Token],
+    at: usize,
+    levels: usize,
+    condition: Option<SymId>,
+    names: &mut Names,
+) -> Result<(Expr, usize), ExprFault>
+    requires { at ≤ length tokens.now }
+    ensures parsed { IfOk result (λ r. ParsedOr condition levels (terminals_from tokens.now at) (terminals_from tokens.now r.1) names.old names.new (form_of r.0)) }
+    ensures within { IfOk result (λ r. (at ≤ r.1) × (r.1 ≤ length tokens.now)) }
+    ensures fails { IfErr result (λ f. FailsOr f levels (terminals_from tokens.now at)) }
+    ensures names { Extends names.old names.new }
+{
+    let (first, end) = conjunction(alloc, tokens, at, levels, condition, names)?;
+    if !is_op(tokens, end, Op::Or) {
+        return Ok((first, end));
+    }
+    let mut parts = Vec::new(alloc);
+    push(&mut parts, first)?;
+    let mut place = end;
+    loop {
+        let (part, end) = conjunction(alloc, tokens, place + 1, levels, condition, names)?;
+        push(&mut parts, part)?;
+        if !is_op(tokens, end, Op::Or) {
+            return Ok((Expr::Any(parts), end));
+        }
+        place = end;
+    }
+}
+
+#[cycle(parse)]
+fn conjunction(
+    alloc: Global,
+    tokens: &[Token],
+    at: usize,
+    levels: usize,
+    condition: Option<SymId>,
+    names: &mut Names,
+) -> Result<(Expr, usize), ExprFault>
+    requires { at ≤ length tokens.now }
+    ensures parsed { IfOk result (λ r. ParsedAnd condition levels (terminals_from tokens.now at) (terminals_from tokens.now r.1) names.old names.new (form_of r.0)) }
+    ensures within { IfOk result (λ r. (at ≤ r.1) × (r.1 ≤ length tokens.now)) }
+    ensures fails { IfErr result (λ f. FailsAnd f levels (terminals_from tokens.now at)) }
+    ensures names { Extends names.old names.new }
+{
+    let (first, end) = negation(alloc, tokens, at, levels, condition, names)?;
+    if !is_op(tokens, end, Op::And) {
+        return Ok((first, end));
+    }
+    let mut parts = Vec::new(alloc);
+    push(&mut parts, first)?;
+    let mut place = end;
+    loop {
+        let (part, end) = negation(alloc, tokens, place + 1, levels, condition, names)?;
+        push(&mut parts, part)?;
+        if !is_op(tokens, end, Op::And) {
+            return Ok((Expr::All(parts), end));
+        }
+        place = end;
+    }
+}
+
+#[cycle(parse)]
+fn negation(
+    alloc: Global,
+    tokens: &[Token],
+    at: usize,
+    levels: usize,
+    condition: Option<SymId>,
+    names: &mut Names,
+) -> Result<(Expr, usize), ExprFault>
+    requires { at ≤ length tokens.now }
+    ensures parsed { IfOk result (λ r. ParsedNot condition levels (terminals_from tokens.now at) (terminals_from tokens.now r.1) names.old names.new (form_of r.0)) }
+    ensures within { IfOk result (λ r. (at ≤ r.1) × (r.1 ≤ length tokens.now)) }
+    ensures fails { IfErr result (λ f. FailsNot f levels (terminals_from tokens.now at)) }
+    ensures names { Extends names.old names.new }
+{
+    if is_op(tokens, at, Op::Not) {
+        if levels == 0 {
+            return Err(ExprFault::TooDeep);
+        }
+        let (part, end) = negation(alloc, tokens, at + 1, levels - 1, condition, names)?;
+        return Ok((Expr::Not(boxed(alloc, part)?), end));
+    }
+    if is_op(tokens, at, Op::LParen) {
+        if levels == 0 {
+            return Err(ExprFault::TooDeep);
+        }
+        let (part, end) = disjunction(alloc, tokens, at + 1, levels - 1, condition, names)?;
+        if !is_op(tokens, end, Op::RParen) {
+            return Err(ExprFault::Syntax);
+        }
+        return Ok((part, end + 1));
+    }
+    relation(alloc, tokens, at, condition, names)
+}
+
+// An operand, perhaps with an operator and another.
+fn relation(
+    alloc: Global,
+    tokens: &[Token],
+    at: usize,
+    condition: Option<SymId>,
+    names: &mut Names,
+) -> Result<(Expr, usize), ExprFault>
+    requires no_op { StartsNoOperand (terminals_from tokens.now at) }
+    ensures parsed { IfOk result (λ r. (k : ℕ) → ParsedNot condition k (terminals_from tokens.now at) (terminals_from tokens.now r.1) names.old names.new (form_of r.0)) }
+    ensures within { IfOk result (λ r. (at ≤ r.1) × (r.1 ≤ length tokens.now)) }
+    ensures fails { IfErr result (λ f. (k : ℕ) → FailsNot f k (terminals_from tokens.now at)) }
+    ensures names { Extends names.old names.new }
+{
+    let Some(left) = operand(alloc, tokens, at, names)? else {
+        return Err(ExprFault::Syntax);
+    };
+    let Some(op) = relation_op(tokens, at + 1) else {
+        return Ok((plain(alloc, left, condition)?, at + 1));
+    };
+    let Some(right) = operand(alloc, tokens, at + 2, names)? else {
+        return Err(ExprFault::Syntax);
+    };
+    Ok((Expr::Rel(op, left, right), at + 3))
+}
+
+// An operand that is alone: a plain m of a condition stands for m && the modules symbol.
+fn plain(alloc: Global, operand: Operand, condition: Option<SymId>) -> Result<Expr, ExprFault>
+    ensures plain { IfOk result (λ e. form_of e ≡ plain_under condition (leaf_of operand)) }
+    ensures memory { IfErr result IsMemory }
+{
+    let Some(modules) = condition else {
+        return Ok(Expr::One(operand));
+    };
+    if !is_m(&operand) {
+        return Ok(Expr::One(operand));
+    }
+    let mut parts = Vec::new(alloc);
+    push(&mut parts, Expr::One(operand))?;
+    push(&mut parts, Expr::One(Operand::Sym(modules)))?;
+    Ok(Expr::All(parts))
+}
+
+// The constant m.
+fn is_m(operand: &Operand) -> bool
+    ensures { result ≡ is_m_leaf (leaf_of operand.now) }
+{
+    match operand {
+        Operand::Const(text) => text.as_slice() == b"m".as_slice(),
+        Operand::Sym(_) => false,
+    }
+}
+
+// The operand at a place, if there is one.
+fn operand(
+    alloc: Global,
+    tokens: &[Token],
+    at: usize,
+    names: &mut Names,
+) -> Result<Option<Operand>, ExprFault>
+    ensures reads { IfOk result (λ o. ReadsOperand o tokens.now at names.old names.new) }
+    ensures memory { IfErr result IsMemory }
+    ensures names { Extends names.old names.new }
+{
+    match next(tokens, at) {
+        Some(TokenKind::Word(word)) => {
+            if word == b"if".as_slice() {
+                return Ok(None);
+            }
+            if letter_of(word).is_some() {
+                return Ok(Some(constant(alloc, word)?));
+            }
+            Ok(Some(Operand::Sym(number(names, word)?)))
+        }
+        Some(TokenKind::Quoted(text)) => {
+            let mut bytes = Vec::new(alloc);
+            unescape_into(text, &mut bytes).map_err(ExprFault::Memory)?;
+            Ok(Some(Operand::Const(bytes)))
+        }
+        _ => Ok(None),
+    }
+}
+
+// The number of a name, which stays its number.
+#[tactic(auto, using(crate::proofs::NamesLemmas::symbol_later))]
+pub fn number(names: &mut Names, word: &[u8]) -> Result<SymId, ExprFault>
+    ensures number { IfOk result (λ id. IsNumber names.new word.now id) }
+    ensures mentions { OnOk result (names.new ≡ mention names.old word.now) }
+    ensures memory { IfErr result IsMemory }
+    ensures names { Extends names.old names.new }
+{
+    match names.id(word) {
+        Ok(id) => Ok(id),
+        Err(e) => Err(ExprFault::Memory(e)),
+    }
+}
+
+fn constant(alloc: Global, text: &[u8]) -> Result<Operand, ExprFault>
+    ensures constant { IfOk result (λ o. leaf_of o ≡ Text text.now) }
+    ensures memory { IfErr result IsMemory }
+{
+    let text = Vec::from_slice(alloc, text).map_err(ExprFault::Memory)?;
+    Ok(Operand::Const(text))
+}
+
+// The operator of a relation at a place, if there is one.
+fn relation_op(tokens: &[Token], at: usize) -> Option<Op>
+    ensures { ReadsRelation result tokens.now at }
+{
+    match next(tokens, at) {
+        Some(TokenKind::Op(op @ (Op::Eq | Op::Ne | Op::Lt | Op::Gt | Op::Le | Op::Ge))) => Some(op),
+        _ => None,
+    }
+}
+
+// Whether the operator or parenthesis stands at a place.
+fn is_op(tokens: &[Token], at: usize, op: Op) -> bool
+    ensures { IsOp op tokens.now at result }
+{
+    match next(tokens, at) {
+        Some(TokenKind::Op(found)) => found == op,
+        _ => false,
+    }
+}
+
+// What the token at a place is.
+fn next<'a>(tokens: &[Token<'a>], at: usize) -> Option<TokenKind<'a>>
+    ensures { IsNext result tokens.now at }
+{
+    if at < tokens.len() {
+        Some(tokens[at].kind)
+    } else {
+        None
+    }
+}
+
+fn push(parts: &mut Vec<Expr>, part: Expr) -> Result<(), ExprFault>
+    ensures pushed { OnOk result (parts.new.items ≡ parts.old.items ++ part ∷ []) }
+    ensures memory { IfErr result IsMemory }
+{
+    parts.push(part).map_err(|_| ExprFault::Memory(AllocError))
+}
+
+fn boxed(alloc: Global, part: Expr) -> Result<Box<Expr>, ExprFault>
+    ensures boxed { IfOk result (λ b. b.value ≡ part) }
+    ensures memory { IfErr result IsMemory }
+{
+    Box::new(alloc, part).map_err(|_| ExprFault::Memory(AllocError))
+}
