@@ -15,13 +15,15 @@ use Rattle.kc_text.specs.declared.tokens.Token.{Token}
 use Rattle.kc_expr.specs.declared.parse.ExprFault.{ExprFault}
 use Rattle.kc_expr.specs.Form.{Form, forms, form_of, leaf_of, Leaf, Symbol, Single, Related, Negated, Every, Some_of, none, more}
 use Rattle.kc_expr.specs.Names.{number_of, all_mentioned, Extends}
-use Rattle.kc_expr.specs.Grammar.{Atom, Terminal, Plain, Compares, Bang, Both, Either, Open, Close, Keyword, Disjunction, Conjunction, one_and, one_not, bang, group, lone, compare, spell_or, spell_and, spell_not, levels_or, levels_and, levels_not, leaf, plain_under, atom_words, words_of, meaning_and, meaning_not, and_parts, or_parts, terminals_from}
+use Rattle.kc_expr.specs.declared.parse.Connective.{Connective}
+use Rattle.kc_expr.specs.declared.parse.Connective.TheVariants.{And, Or}
+use Rattle.kc_expr.specs.Grammar.{Atom, Terminal, Plain, Compares, Bang, Joins, Open, Close, Keyword, Chain, only, negation, conjunction, bang, group, lone, compare, spell, spell_part, spell_not, levels, levels_part, levels_not, leaf, plain_under, atom_words, words_of, connected, meaning_part, meaning_not, parts, terminals_from}
 use Rattle.kc_expr.specs.Scan.{want, right}
-use Rattle.kc_expr.specs.Reading.{starts_compares, starts_both, starts_either, starts_close, starts_plain, starts_bang, starts_open, Refuses, Broken, Deep, Any_start, ParsedNot, ParsedAnd, ParsedOr, FailsNot, FailsAnd, FailsOr}
+use Rattle.kc_expr.specs.Reading.{starts_compares, starts_joins, starts_close, starts_plain, starts_bang, starts_open, Refuses, Broken, Deep, Any_start, ParsedNot, ParsedPart, ParsedChain, FailsNot, FailsPart, FailsChain}
 use Rattle.kc_expr.proofs.FormLemmas.{form_of-All, form_of-Any}
 use Rattle.kc_expr.proofs.NamesLemmas.{extends_on, mentioned_on, mentioned_extends, words_of-append, words_of-closed}
-use Rattle.kc_expr.proofs.PushLemmas.{push_and, push_or, spell-push_and, spell-push_or, levels-push_and, levels-push_or, lone-push_and, lone-push_or, parts-push_and, parts-push_or, meaning-push_and, meaning-push_or}
-use Rattle.kc_expr.proofs.ReadingLemmas.{no_operand, no_right, unclosed, deep_bang_now, deep_group_now, fails_bang, fails_group, fails_next_and, fails_next_or}
+use Rattle.kc_expr.proofs.PushLemmas.{push, spell-push, levels-push, lone-push, parts-push, meaning-push}
+use Rattle.kc_expr.proofs.ReadingLemmas.{no_operand, no_right, unclosed, deep_bang_now, deep_group_now, fails_bang, fails_group, fails_next}
 
 -- two parts in a `Vec`
 pub form_of_two : (v : Vec Expr Global) (o : Operand) (m : SymId) → v.items ≡ One o ∷ (One (Sym m) ∷ []) → form_of (All v) ≡ Every (more (Single (leaf_of o)) (more (Single (Symbol m)) none))
@@ -33,8 +35,7 @@ refuses_want limit cur base stack (Plain a ∷ ts) p b o = absurd (false≢true 
 refuses_want limit cur base stack (Bang ∷ ts) p b o = absurd (false≢true (sym b))
 refuses_want limit cur base stack (Open ∷ ts) p b o = absurd (false≢true (sym o))
 refuses_want limit cur base stack (Compares r ∷ ts) p b o = refl
-refuses_want limit cur base stack (Both ∷ ts) p b o = refl
-refuses_want limit cur base stack (Either ∷ ts) p b o = refl
+refuses_want limit cur base stack (Joins c ∷ ts) p b o = refl
 refuses_want limit cur base stack (Close ∷ ts) p b o = refl
 refuses_want limit cur base stack (Keyword ∷ ts) p b o = refl
 
@@ -44,8 +45,7 @@ refuses_right limit base stack (Plain a ∷ ts) p = absurd (false≢true (sym p)
 refuses_right limit base stack (Bang ∷ ts) p = refl
 refuses_right limit base stack (Open ∷ ts) p = refl
 refuses_right limit base stack (Compares r ∷ ts) p = refl
-refuses_right limit base stack (Both ∷ ts) p = refl
-refuses_right limit base stack (Either ∷ ts) p = refl
+refuses_right limit base stack (Joins c ∷ ts) p = refl
 refuses_right limit base stack (Close ∷ ts) p = refl
 refuses_right limit base stack (Keyword ∷ ts) p = refl
 
@@ -84,24 +84,15 @@ parsed_compare condition ts rest old now names a b r l m e first second is js k 
 pub two_pushed : {X : Type 0} (us vs ws : List X) (x y : X) → us ≡ [] → vs ≡ us ++ x ∷ [] → ws ≡ vs ++ y ∷ [] → ws ≡ x ∷ (y ∷ [])
 two_pushed us vs ws x y e f g = g ∙ ap (λ l. l ++ y ∷ []) (f ∙ ap (λ l. l ++ x ∷ []) e)
 
--- The parts that were read so far, where an operator stands at a place that joins another to them.
-pub record PartsAnd (condition : Option SymId) (k : ℕ) (tokens : List Token) (at place : ℕ) (old names : List (List ℕ)) (parts : List Expr) : Type 0 where
-  pub tree : Conjunction
+-- The parts that were read so far, where a connective stands at a place that joins another to them.
+pub record Parts (c : Connective) (condition : Option SymId) (k : ℕ) (tokens : List Token) (at place : ℕ) (old names : List (List ℕ)) (es : List Expr) : Type 0 where
+  pub tree : Chain c
   pub after : at ≤ place
   pub there : place < length tokens
-  pub whole : terminals_from tokens at ≡ spell_and tree ++ (Both ∷ terminals_from tokens (place + 1))
-  pub mentions : names ≡ all_mentioned old (words_of (spell_and tree))
-  pub within : levels_and tree ≤ k
-  pub forms_are : (later : List (List ℕ)) → Extends names later → map form_of parts ≡ and_parts condition (number_of later) tree
-
-pub record PartsOr (condition : Option SymId) (k : ℕ) (tokens : List Token) (at place : ℕ) (old names : List (List ℕ)) (parts : List Expr) : Type 0 where
-  pub tree : Disjunction
-  pub after : at ≤ place
-  pub there : place < length tokens
-  pub whole : terminals_from tokens at ≡ spell_or tree ++ (Either ∷ terminals_from tokens (place + 1))
-  pub mentions : names ≡ all_mentioned old (words_of (spell_or tree))
-  pub within : levels_or tree ≤ k
-  pub forms_are : (later : List (List ℕ)) → Extends names later → map form_of parts ≡ or_parts condition (number_of later) tree
+  pub whole : terminals_from tokens at ≡ spell tree ++ (Joins c ∷ terminals_from tokens (place + 1))
+  pub mentions : names ≡ all_mentioned old (words_of (spell tree))
+  pub within : levels tree ≤ k
+  pub forms_are : (later : List (List ℕ)) → Extends names later → map form_of es ≡ parts condition (number_of later) tree
 
 -- a fault that is passed on
 pub fault_passed : {X : Type 0} (r : Result X ExprFault) (P : ExprFault → Type 0) (e : ExprFault) → IsErrAnd r (λ y. y ≡ e) → P e → IfErr r P
@@ -124,7 +115,7 @@ fails_bang_at f k ts rest n w h =
     let e : k ≡ suc (k - 1) = omega arith in
     subst (λ l. FailsNot f k l) (sym w) (subst (λ m. FailsNot f m (Bang ∷ rest)) (sym e) (fails_bang f (k - 1) rest h))
 
-pub fails_group_at : (f : ExprFault) (k : ℕ) (ts rest : List Terminal) → k ≢ 0 → ts ≡ Open ∷ rest → FailsOr f (k - 1) rest → FailsNot f k ts
+pub fails_group_at : (f : ExprFault) (k : ℕ) (ts rest : List Terminal) → k ≢ 0 → ts ≡ Open ∷ rest → FailsChain Or f (k - 1) rest → FailsNot f k ts
 fails_group_at f k ts rest n w h =
     let e : k ≡ suc (k - 1) = omega arith in
     subst (λ l. FailsNot f k l) (sym w) (subst (λ m. FailsNot f m (Open ∷ rest)) (sym e) (fails_group f (k - 1) rest h))
@@ -139,36 +130,47 @@ parsed_bang condition k ts inside rest old names f g n w e p = record {
   form = λ later x. ap Negated (e ∙ p.form later x);
 }
 
-pub unclosed_at : (condition : Option SymId) (k : ℕ) (ts inside rest : List Terminal) (old names : List (List ℕ)) (f : Form) → k ≢ 0 → ts ≡ Open ∷ inside → ParsedOr condition (k - 1) inside rest old names f → starts_close rest ≡ false → BrokenNot k ts
+pub unclosed_at : (condition : Option SymId) (k : ℕ) (ts inside rest : List Terminal) (old names : List (List ℕ)) (f : Form) → k ≢ 0 → ts ≡ Open ∷ inside → ParsedChain Or condition (k - 1) inside rest old names f → starts_close rest ≡ false → BrokenNot k ts
 unclosed_at condition k ts inside rest old names f n w p s =
     let e : k ≡ suc (k - 1) = omega arith in
     let all = w ∙ ap (λ l. Open ∷ l) p.whole in
-    subst (λ l. BrokenNot k l) (sym all) (subst (λ m. BrokenNot m (Open ∷ (spell_or p.tree ++ rest))) (sym e) (unclosed (k - 1) p.tree rest p.within p.stops s))
+    subst (λ l. BrokenNot k l) (sym all) (subst (λ m. BrokenNot m (Open ∷ (spell p.tree ++ rest))) (sym e) (unclosed (k - 1) p.tree rest p.within p.stops s))
 
-pub parsed_group : (condition : Option SymId) (k : ℕ) (ts inside close rest : List Terminal) (old names : List (List ℕ)) (f : Form) → k ≢ 0 → ts ≡ Open ∷ inside → ParsedOr condition (k - 1) inside close old names f → close ≡ Close ∷ rest → ParsedNot condition k ts rest old names f
+pub parsed_group : (condition : Option SymId) (k : ℕ) (ts inside close rest : List Terminal) (old names : List (List ℕ)) (f : Form) → k ≢ 0 → ts ≡ Open ∷ inside → ParsedChain Or condition (k - 1) inside close old names f → close ≡ Close ∷ rest → ParsedNot condition k ts rest old names f
 parsed_group condition k ts inside close rest old names f n w p e = record {
   tree = group p.tree;
-  whole = w ∙ ap (λ l. Open ∷ l) (p.whole ∙ ap (λ l. spell_or p.tree ++ l) e ∙ sym (append_assoc (spell_or p.tree) (Close ∷ []) rest));
-  mentions = p.mentions ∙ ap (all_mentioned old) (sym (words_of-closed (spell_or p.tree)));
+  whole = w ∙ ap (λ l. Open ∷ l) (p.whole ∙ ap (λ l. spell p.tree ++ l) e ∙ sym (append_assoc (spell p.tree) (Close ∷ []) rest));
+  mentions = p.mentions ∙ ap (all_mentioned old) (sym (words_of-closed (spell p.tree)));
   within = let v = p.within in omega arith;
   stops = λ h. absurd (false≢true h);
   form = p.form;
 }
 
--- one part, that no operator joins to another
-pub parsed_one_and : (condition : Option SymId) (k : ℕ) (ts rest : List Terminal) (old names : List (List ℕ)) (f : Form) → ParsedNot condition k ts rest old names f → starts_both rest ≡ false → ParsedAnd condition k ts rest old names f
-parsed_one_and condition k ts rest old names f p s = record {
-  tree = one_not p.tree;
+-- a negation or a conjunction as a part
+pub parsed_negation : (condition : Option SymId) (k : ℕ) (ts rest : List Terminal) (old names : List (List ℕ)) (f : Form) → ParsedNot condition k ts rest old names f → ParsedPart And condition k ts rest old names f
+parsed_negation condition k ts rest old names f p = record {
+  tree = negation p.tree;
   whole = p.whole;
   mentions = p.mentions;
   within = p.within;
-  stops = (p.stops, s);
+  stops = (p.stops, tt);
   form = p.form;
 }
 
-pub parsed_one_or : (condition : Option SymId) (k : ℕ) (ts rest : List Terminal) (old names : List (List ℕ)) (f : Form) → ParsedAnd condition k ts rest old names f → starts_either rest ≡ false → ParsedOr condition k ts rest old names f
-parsed_one_or condition k ts rest old names f p s = record {
-  tree = one_and p.tree;
+pub parsed_conjunction : (condition : Option SymId) (k : ℕ) (ts rest : List Terminal) (old names : List (List ℕ)) (f : Form) → ParsedChain And condition k ts rest old names f → ParsedPart Or condition k ts rest old names f
+parsed_conjunction condition k ts rest old names f p = record {
+  tree = conjunction p.tree;
+  whole = p.whole;
+  mentions = p.mentions;
+  within = p.within;
+  stops = (p.stops.0, p.stops.2);
+  form = p.form;
+}
+
+-- one part, that no connective joins to another
+pub parsed_only : (c : Connective) (condition : Option SymId) (k : ℕ) (ts rest : List Terminal) (old names : List (List ℕ)) (f : Form) → ParsedPart c condition k ts rest old names f → starts_joins c rest ≡ false → ParsedChain c condition k ts rest old names f
+parsed_only c condition k ts rest old names f p s = record {
+  tree = only p.tree;
   whole = p.whole;
   mentions = p.mentions;
   within = p.within;
@@ -180,106 +182,59 @@ map_form_push : (es : List Expr) (e : Expr) → map form_of (es ++ e ∷ []) ≡
 map_form_push [] e = refl
 map_form_push (x ∷ es) e = ap (λ l. form_of x ∷ l) (map_form_push es e)
 
-module _ (condition : Option SymId) (k : ℕ) (tokens : List Token) (at place end : ℕ) (old names names' : List (List ℕ)) (parts parts' : List Expr) (part : Expr) where
-  -- the first part, where && follows
-  pub parts_and_one : parts' ≡ part ∷ [] → ParsedNot condition k (terminals_from tokens at) (terminals_from tokens end) old names (form_of part) → at ≤ end → end < length tokens → terminals_from tokens end ≡ Both ∷ terminals_from tokens (end + 1) → PartsAnd condition k tokens at end old names parts'
-  parts_and_one items p a there e = record {
-    tree = one_not p.tree;
+module _ (c : Connective) (condition : Option SymId) (k : ℕ) (tokens : List Token) (at place end : ℕ) (old names names' : List (List ℕ)) (es es' : List Expr) (e : Expr) where
+  -- the first part, where the connective follows
+  pub parts_one : es' ≡ e ∷ [] → ParsedPart c condition k (terminals_from tokens at) (terminals_from tokens end) old names (form_of e) → at ≤ end → end < length tokens → terminals_from tokens end ≡ Joins c ∷ terminals_from tokens (end + 1) → Parts c condition k tokens at end old names es'
+  parts_one items p a there is = record {
+    tree = only p.tree;
     after = a;
     there = there;
-    whole = p.whole ∙ ap (λ l. spell_not p.tree ++ l) e;
+    whole = p.whole ∙ ap (λ l. spell_part p.tree ++ l) is;
     mentions = p.mentions;
     within = p.within;
     forms_are = λ later x. ap (map form_of) items ∙ ap (λ f. f ∷ []) (p.form later x);
   }
 
-  forms_and_next : PartsAnd condition k tokens at place old names parts → Extends names names' → parts' ≡ parts ++ part ∷ [] → (q : ParsedNot condition k (terminals_from tokens (place + 1)) (terminals_from tokens end) names names' (form_of part)) → (s : PartsAnd condition k tokens at place old names parts) → (later : List (List ℕ)) → Extends names' later → map form_of parts' ≡ and_parts condition (number_of later) s.tree ++ meaning_not condition (number_of later) q.tree ∷ []
-  forms_and_next r ext items q s later x =
-      ap (map form_of) items ∙ map_form_push parts part ∙ ap (λ fs. fs ++ form_of part ∷ []) (s.forms_are later (extends_on names names' later ext x)) ∙ ap (λ f. and_parts condition (number_of later) s.tree ++ f ∷ []) (q.form later x)
+  forms_next : (s : Parts c condition k tokens at place old names es) → Extends names names' → es' ≡ es ++ e ∷ [] → (q : ParsedPart c condition k (terminals_from tokens (place + 1)) (terminals_from tokens end) names names' (form_of e)) → (later : List (List ℕ)) → Extends names' later → map form_of es' ≡ parts condition (number_of later) s.tree ++ meaning_part condition (number_of later) q.tree ∷ []
+  forms_next s ext items q later x =
+      ap (map form_of) items ∙ map_form_push es e ∙ ap (λ fs. fs ++ form_of e ∷ []) (s.forms_are later (extends_on names names' later ext x)) ∙ ap (λ f. parts condition (number_of later) s.tree ++ f ∷ []) (q.form later x)
 
-  whole_and_next : (s : PartsAnd condition k tokens at place old names parts) → (q : ParsedNot condition k (terminals_from tokens (place + 1)) (terminals_from tokens end) names names' (form_of part)) → terminals_from tokens at ≡ spell_and (push_and s.tree q.tree) ++ terminals_from tokens end
-  whole_and_next s q = s.whole ∙ ap (λ l. spell_and s.tree ++ (Both ∷ l)) q.whole ∙ sym (append_assoc (spell_and s.tree) (Both ∷ spell_not q.tree) (terminals_from tokens end)) ∙ ap (λ l. l ++ terminals_from tokens end) (sym (spell-push_and s.tree q.tree))
+  whole_next : (s : Parts c condition k tokens at place old names es) → (q : ParsedPart c condition k (terminals_from tokens (place + 1)) (terminals_from tokens end) names names' (form_of e)) → terminals_from tokens at ≡ spell (push s.tree q.tree) ++ terminals_from tokens end
+  whole_next s q = s.whole ∙ ap (λ l. spell s.tree ++ (Joins c ∷ l)) q.whole ∙ sym (append_assoc (spell s.tree) (Joins c ∷ spell_part q.tree) (terminals_from tokens end)) ∙ ap (λ l. l ++ terminals_from tokens end) (sym (spell-push s.tree q.tree))
 
-  mentions_and_next : (s : PartsAnd condition k tokens at place old names parts) → (q : ParsedNot condition k (terminals_from tokens (place + 1)) (terminals_from tokens end) names names' (form_of part)) → names' ≡ all_mentioned old (words_of (spell_and (push_and s.tree q.tree)))
-  mentions_and_next s q =
-      mentioned_on old names names' (words_of (spell_and s.tree)) (words_of (spell_not q.tree)) s.mentions q.mentions
-      ∙ ap (all_mentioned old) (sym (ap words_of (spell-push_and s.tree q.tree) ∙ words_of-append (spell_and s.tree) (Both ∷ spell_not q.tree)))
+  mentions_next : (s : Parts c condition k tokens at place old names es) → (q : ParsedPart c condition k (terminals_from tokens (place + 1)) (terminals_from tokens end) names names' (form_of e)) → names' ≡ all_mentioned old (words_of (spell (push s.tree q.tree)))
+  mentions_next s q =
+      mentioned_on old names names' (words_of (spell s.tree)) (words_of (spell_part q.tree)) s.mentions q.mentions
+      ∙ ap (all_mentioned old) (sym (ap words_of (spell-push s.tree q.tree) ∙ words_of-append (spell s.tree) (Joins c ∷ spell_part q.tree)))
 
-  -- one more part, where && follows again
-  pub parts_and_next : PartsAnd condition k tokens at place old names parts → Extends names names' → parts' ≡ parts ++ part ∷ [] → ParsedNot condition k (terminals_from tokens (place + 1)) (terminals_from tokens end) names names' (form_of part) → place + 1 ≤ end → end < length tokens → terminals_from tokens end ≡ Both ∷ terminals_from tokens (end + 1) → PartsAnd condition k tokens at end old names' parts'
-  parts_and_next s ext items q a there e = record {
-    tree = push_and s.tree q.tree;
+  -- one more part, where the connective follows again
+  pub parts_next : Parts c condition k tokens at place old names es → Extends names names' → es' ≡ es ++ e ∷ [] → ParsedPart c condition k (terminals_from tokens (place + 1)) (terminals_from tokens end) names names' (form_of e) → place + 1 ≤ end → end < length tokens → terminals_from tokens end ≡ Joins c ∷ terminals_from tokens (end + 1) → Parts c condition k tokens at end old names' es'
+  parts_next s ext items q a there is = record {
+    tree = push s.tree q.tree;
     after = let b = s.after in omega arith;
     there = there;
-    mentions = mentions_and_next s q;
-    whole = whole_and_next s q ∙ ap (λ l. spell_and (push_and s.tree q.tree) ++ l) e;
-    within = levels-push_and k s.tree q.tree s.within q.within;
-    forms_are = λ later x. forms_and_next s ext items q s later x ∙ sym (parts-push_and condition (number_of later) s.tree q.tree);
+    whole = whole_next s q ∙ ap (λ l. spell (push s.tree q.tree) ++ l) is;
+    mentions = mentions_next s q;
+    within = levels-push k s.tree q.tree s.within q.within;
+    forms_are = λ later x. forms_next s ext items q later x ∙ sym (parts-push condition (number_of later) s.tree q.tree);
   }
 
   -- the last part
-  pub parsed_and_last : (v : Vec Expr Global) → PartsAnd condition k tokens at place old names parts → Extends names names' → parts' ≡ parts ++ part ∷ [] → v.items ≡ parts' → ParsedNot condition k (terminals_from tokens (place + 1)) (terminals_from tokens end) names names' (form_of part) → starts_both (terminals_from tokens end) ≡ false → ParsedAnd condition k (terminals_from tokens at) (terminals_from tokens end) old names' (form_of (All v))
-  parsed_and_last v s ext items is q stop = record {
-    tree = push_and s.tree q.tree;
-    mentions = mentions_and_next s q;
-    whole = whole_and_next s q;
-    within = levels-push_and k s.tree q.tree s.within q.within;
-    stops = (λ h. q.stops (sym (lone-push_and s.tree q.tree) ∙ h), stop);
-    form = λ later x. form_of-All v ∙ ap (λ es. Every (forms (map form_of es))) is ∙ ap (λ fs. Every (forms fs)) (forms_and_next s ext items q s later x) ∙ meaning-push_and condition (number_of later) s.tree q.tree;
+  pub parsed_last : (f : Form) → f ≡ connected c (forms (map form_of es')) → Parts c condition k tokens at place old names es → Extends names names' → es' ≡ es ++ e ∷ [] → ParsedPart c condition k (terminals_from tokens (place + 1)) (terminals_from tokens end) names names' (form_of e) → starts_joins c (terminals_from tokens end) ≡ false → ParsedChain c condition k (terminals_from tokens at) (terminals_from tokens end) old names' f
+  parsed_last f made s ext items q stop = record {
+    tree = push s.tree q.tree;
+    whole = whole_next s q;
+    mentions = mentions_next s q;
+    within = levels-push k s.tree q.tree s.within q.within;
+    stops = (λ h. q.stops.0 (sym (lone-push s.tree q.tree) ∙ h), q.stops.1, stop);
+    form = λ later x. made ∙ ap (λ fs. connected c (forms fs)) (forms_next s ext items q later x) ∙ meaning-push condition (number_of later) s.tree q.tree;
   }
 
 -- the next part fails
-pub fails_and_after : (condition : Option SymId) (k : ℕ) (tokens : List Token) (at place : ℕ) (old names : List (List ℕ)) (parts : List Expr) (f : ExprFault) → PartsAnd condition k tokens at place old names parts → FailsNot f k (terminals_from tokens (place + 1)) → FailsAnd f k (terminals_from tokens at)
-fails_and_after condition k tokens at place old names parts f s h = subst (λ l. FailsAnd f k l) (sym s.whole) (fails_next_and f k s.tree (terminals_from tokens (place + 1)) s.within h)
+pub fails_after : (c : Connective) (condition : Option SymId) (k : ℕ) (tokens : List Token) (at place : ℕ) (old names : List (List ℕ)) (es : List Expr) (f : ExprFault) → Parts c condition k tokens at place old names es → FailsPart c f k (terminals_from tokens (place + 1)) → FailsChain c f k (terminals_from tokens at)
+fails_after c condition k tokens at place old names es f s h = subst (λ l. FailsChain c f k l) (sym s.whole) (fails_next f k s.tree (terminals_from tokens (place + 1)) s.within h)
 
-module _ (condition : Option SymId) (k : ℕ) (tokens : List Token) (at place end : ℕ) (old names names' : List (List ℕ)) (parts parts' : List Expr) (part : Expr) where
-  -- the first part, where || follows
-  pub parts_or_one : parts' ≡ part ∷ [] → ParsedAnd condition k (terminals_from tokens at) (terminals_from tokens end) old names (form_of part) → at ≤ end → end < length tokens → terminals_from tokens end ≡ Either ∷ terminals_from tokens (end + 1) → PartsOr condition k tokens at end old names parts'
-  parts_or_one items p a there e = record {
-    tree = one_and p.tree;
-    after = a;
-    there = there;
-    whole = p.whole ∙ ap (λ l. spell_and p.tree ++ l) e;
-    mentions = p.mentions;
-    within = p.within;
-    forms_are = λ later x. ap (map form_of) items ∙ ap (λ f. f ∷ []) (p.form later x);
-  }
-
-  forms_or_next : PartsOr condition k tokens at place old names parts → Extends names names' → parts' ≡ parts ++ part ∷ [] → (q : ParsedAnd condition k (terminals_from tokens (place + 1)) (terminals_from tokens end) names names' (form_of part)) → (s : PartsOr condition k tokens at place old names parts) → (later : List (List ℕ)) → Extends names' later → map form_of parts' ≡ or_parts condition (number_of later) s.tree ++ meaning_and condition (number_of later) q.tree ∷ []
-  forms_or_next r ext items q s later x =
-      ap (map form_of) items ∙ map_form_push parts part ∙ ap (λ fs. fs ++ form_of part ∷ []) (s.forms_are later (extends_on names names' later ext x)) ∙ ap (λ f. or_parts condition (number_of later) s.tree ++ f ∷ []) (q.form later x)
-
-  whole_or_next : (s : PartsOr condition k tokens at place old names parts) → (q : ParsedAnd condition k (terminals_from tokens (place + 1)) (terminals_from tokens end) names names' (form_of part)) → terminals_from tokens at ≡ spell_or (push_or s.tree q.tree) ++ terminals_from tokens end
-  whole_or_next s q = s.whole ∙ ap (λ l. spell_or s.tree ++ (Either ∷ l)) q.whole ∙ sym (append_assoc (spell_or s.tree) (Either ∷ spell_and q.tree) (terminals_from tokens end)) ∙ ap (λ l. l ++ terminals_from tokens end) (sym (spell-push_or s.tree q.tree))
-
-  mentions_or_next : (s : PartsOr condition k tokens at place old names parts) → (q : ParsedAnd condition k (terminals_from tokens (place + 1)) (terminals_from tokens end) names names' (form_of part)) → names' ≡ all_mentioned old (words_of (spell_or (push_or s.tree q.tree)))
-  mentions_or_next s q =
-      mentioned_on old names names' (words_of (spell_or s.tree)) (words_of (spell_and q.tree)) s.mentions q.mentions
-      ∙ ap (all_mentioned old) (sym (ap words_of (spell-push_or s.tree q.tree) ∙ words_of-append (spell_or s.tree) (Either ∷ spell_and q.tree)))
-
-  -- one more part, where || follows again
-  pub parts_or_next : PartsOr condition k tokens at place old names parts → Extends names names' → parts' ≡ parts ++ part ∷ [] → ParsedAnd condition k (terminals_from tokens (place + 1)) (terminals_from tokens end) names names' (form_of part) → place + 1 ≤ end → end < length tokens → terminals_from tokens end ≡ Either ∷ terminals_from tokens (end + 1) → PartsOr condition k tokens at end old names' parts'
-  parts_or_next s ext items q a there e = record {
-    tree = push_or s.tree q.tree;
-    after = let b = s.after in omega arith;
-    there = there;
-    mentions = mentions_or_next s q;
-    whole = whole_or_next s q ∙ ap (λ l. spell_or (push_or s.tree q.tree) ++ l) e;
-    within = levels-push_or k s.tree q.tree s.within q.within;
-    forms_are = λ later x. forms_or_next s ext items q s later x ∙ sym (parts-push_or condition (number_of later) s.tree q.tree);
-  }
-
-  -- the last part
-  pub parsed_or_last : (v : Vec Expr Global) → PartsOr condition k tokens at place old names parts → Extends names names' → parts' ≡ parts ++ part ∷ [] → v.items ≡ parts' → ParsedAnd condition k (terminals_from tokens (place + 1)) (terminals_from tokens end) names names' (form_of part) → starts_either (terminals_from tokens end) ≡ false → ParsedOr condition k (terminals_from tokens at) (terminals_from tokens end) old names' (form_of (Any v))
-  parsed_or_last v s ext items is q stop = record {
-    tree = push_or s.tree q.tree;
-    mentions = mentions_or_next s q;
-    whole = whole_or_next s q;
-    within = levels-push_or k s.tree q.tree s.within q.within;
-    stops = (λ h. q.stops.0 (sym (lone-push_or s.tree q.tree) ∙ h), q.stops.1, stop);
-    form = λ later x. form_of-Any v ∙ ap (λ es. Some_of (forms (map form_of es))) is ∙ ap (λ fs. Some_of (forms fs)) (forms_or_next s ext items q s later x) ∙ meaning-push_or condition (number_of later) s.tree q.tree;
-  }
-
--- the next part fails
-pub fails_or_after : (condition : Option SymId) (k : ℕ) (tokens : List Token) (at place : ℕ) (old names : List (List ℕ)) (parts : List Expr) (f : ExprFault) → PartsOr condition k tokens at place old names parts → FailsAnd f k (terminals_from tokens (place + 1)) → FailsOr f k (terminals_from tokens at)
-fails_or_after condition k tokens at place old names parts f s h = subst (λ l. FailsOr f k l) (sym s.whole) (fails_next_or f k s.tree (terminals_from tokens (place + 1)) s.within h)
+-- how far a chain's rule stands above a negation's
+abbrev pub rank : Connective → ℕ
+rank And = 0
+rank Or = 2

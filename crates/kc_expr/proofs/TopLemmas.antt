@@ -4,17 +4,18 @@ use Rattle.kc_expr.specs.declared.expression.SymId.{SymId}
 use Rattle.kc_expr.specs.declared.parse.ExprFault.{ExprFault}
 use Rattle.kc_expr.specs.declared.parse.ExprFault.TheVariants.{Syntax, TooDeep, Memory}
 use Rattle.kc_expr.specs.Form.{Form}
-use Rattle.kc_expr.specs.Grammar.{Terminal, Disjunction, spell_or, levels_or, NoLonger}
-use Rattle.kc_expr.specs.Scan.{State, want, run, lone_or, after}
-use Rattle.kc_expr.specs.Reading.{IsUnfinished, Refuses, Fresh_start, Broken, Deep, ParsedOr, FailsOr, IsParsed, IsNoExpression, IsTooDeep, IsRefused}
-use Rattle.kc_expr.proofs.ScanLemmas.{run-append, reads_or}
+use Rattle.kc_expr.specs.Grammar.{Terminal, Disjunction, spell, spell_or, levels, levels_or, NoLonger}
+use Rattle.kc_expr.specs.declared.parse.Connective.TheVariants.{Or}
+use Rattle.kc_expr.specs.Scan.{State, want, run, lone_in, after}
+use Rattle.kc_expr.specs.Reading.{IsUnfinished, Refuses, Fresh_start, Broken, Deep, ParsedChain, FailsChain, IsParsed, IsNoExpression, IsTooDeep, IsRefused}
+use Rattle.kc_expr.proofs.ScanLemmas.{run-append, reads}
 use Rattle.kc_expr.proofs.ReadingLemmas.{refuses_after}
 
 abbrev start : State
 start = want 0 0 []
 
-runs : (d : Disjunction) (limit : ℕ) → levels_or d ≤ limit → run limit start (spell_or d) ≡ Some (after (lone_or d) 0 [])
-runs d limit h = ap (run limit start) (sym (append-nil (spell_or d))) ∙ reads_or d limit 0 [] [] (omega arith)
+runs : (d : Disjunction) (limit : ℕ) → levels_or d ≤ limit → run limit start (spell_or d) ≡ Some (after (lone_in d) 0 [])
+runs d limit h = ap (run limit start) (sym (append-nil (spell_or d))) ∙ reads d limit 0 [] [] (omega arith)
 
 -- where the machine fails, nothing begins
 fails_not_begins : (limit : ℕ) (front : List Terminal) → run limit start front ≡ None → (d : Disjunction) (rest : List Terminal) → levels_or d ≤ limit → spell_or d ≡ front ++ rest → ⊥
@@ -35,15 +36,15 @@ unfinished_after : (b : Bool) → IsUnfinished (after b 0 []) → ⊥
 unfinished_after true h = h
 unfinished_after false h = h
 
-pub is_parsed : (condition : Option SymId) (ts rest : List Terminal) (old names : List (List ℕ)) (f : Form) → ParsedOr condition 64 ts rest old names f → IsParsed condition ts rest old names f
+pub is_parsed : (condition : Option SymId) (ts rest : List Terminal) (old names : List (List ℕ)) (f : Form) → ParsedChain Or condition 64 ts rest old names f → IsParsed condition ts rest old names f
 is_parsed condition ts rest old names f p = record {
-  front = spell_or p.tree;
+  front = spell p.tree;
   longest = record {
     whole = p.whole;
-    begins = (p.tree, [], sym (append-nil (spell_or p.tree)));
-    longest = no_longer (spell_or p.tree) rest (λ limit h.
+    begins = (p.tree, [], sym (append-nil (spell p.tree)));
+    longest = no_longer (spell p.tree) rest (λ limit h.
         let v = p.within in
-        (after (lone_or p.tree) 0 [], runs p.tree limit (omega arith), refuses_after limit (lone_or p.tree) 0 [] rest p.stops.0 p.stops.1 p.stops.2 (inr refl)));
+        (after (lone_in p.tree) 0 [], runs p.tree limit (omega arith), refuses_after limit (lone_in p.tree) 0 [] rest p.stops.0 p.stops.1 p.stops.2 (inr refl)));
   };
   tree = p.tree;
   derives = refl;
@@ -52,7 +53,7 @@ is_parsed condition ts rest old names f p = record {
   form = p.form;
 }
 
-is_no_expression : (ts : List Terminal) → Broken spell_or levels_or Fresh_start 64 ts → IsNoExpression ts
+is_no_expression : (ts : List Terminal) → Broken {T = Disjunction} spell levels Fresh_start 64 ts → IsNoExpression ts
 is_no_expression ts b = record {
   front = b.front;
   rest = b.rest;
@@ -67,11 +68,11 @@ is_no_expression ts b = record {
       let x = b.stuck limit 0 0 [] refl (omega arith) in
       let y = runs d limit (omega arith) in
       let z = ap (run limit start) e in
-      let same : x.0 ≡ after (lone_or d) 0 [] = cc in
-      unfinished_after (lone_or d) (subst IsUnfinished same x.2);
+      let same : x.0 ≡ after (lone_in d) 0 [] = cc in
+      unfinished_after (lone_in d) (subst IsUnfinished same x.2);
 }
 
-is_too_deep : (ts : List Terminal) → Deep spell_or levels_or Fresh_start 64 ts → IsTooDeep ts
+is_too_deep : (ts : List Terminal) → Deep {T = Disjunction} spell levels Fresh_start 64 ts → IsTooDeep ts
 is_too_deep ts b = record {
   front = b.front;
   rest = b.rest;
@@ -80,7 +81,7 @@ is_too_deep ts b = record {
   deep = λ x. fails_not_begins 64 b.front (b.deep 0 0 [] refl) x.0 x.1 x.2 x.3;
 }
 
-pub is_refused : (f : ExprFault) (ts : List Terminal) → FailsOr f 64 ts → IsRefused f ts
+pub is_refused : (f : ExprFault) (ts : List Terminal) → FailsChain Or f 64 ts → IsRefused f ts
 is_refused Syntax ts b = is_no_expression ts b
 is_refused TooDeep ts b = is_too_deep ts b
 is_refused (Memory e) ts b = tt

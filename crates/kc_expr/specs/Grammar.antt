@@ -10,10 +10,12 @@ use Rattle.std.specs.List.{flat_map}
 use Rattle.kc_text.specs.declared.tokens.Op.{Op}
 use Rattle.kc_text.specs.declared.tokens.Op.TheVariants as op
 use Rattle.kc_expr.specs.declared.expression.SymId.{SymId}
+use Rattle.kc_expr.specs.declared.parse.Connective.{Connective}
+use Rattle.kc_expr.specs.declared.parse.Connective.TheVariants.{And, Or}
 use Rattle.kc_text.specs.Escapes.{unescape}
 use Rattle.kc_text.specs.Lexemes.{Lexeme, AWord, AQuoted, AnOp, lexeme}
 use Rattle.kc_text.specs.declared.tokens.Token.{Token}
-use Rattle.kc_expr.specs.Form.{Form, forms, Leaf, Text, Symbol, Single, Related, Negated, Every, Some_of, none, more}
+use Rattle.kc_expr.specs.Form.{Form, Forms, forms, Leaf, Text, Symbol, Single, Related, Negated, Every, Some_of, none, more}
 use Rattle.kc_expr.specs.Value.{letter_of}
 use Rattle.kc_expr.specs.Names.{symbol, same_name}
 
@@ -26,8 +28,7 @@ pub data Terminal : Type 0 where
   Plain : Atom → Terminal
   Compares : Op → Terminal
   Bang : Terminal
-  Both : Terminal
-  Either : Terminal
+  Joins : Connective → Terminal
   Open : Terminal
   Close : Terminal
   Keyword : Terminal
@@ -40,8 +41,8 @@ op_terminal op.Gt = Compares op.Gt
 op_terminal op.Le = Compares op.Le
 op_terminal op.Ge = Compares op.Ge
 op_terminal op.Not = Bang
-op_terminal op.And = Both
-op_terminal op.Or = Either
+op_terminal op.And = Joins And
+op_terminal op.Or = Joins Or
 op_terminal op.LParen = Open
 op_terminal op.RParen = Close
 
@@ -65,53 +66,64 @@ lexemes_from tokens at = map (λ t. lexeme t.kind) (drop at tokens)
 abbrev pub terminals_from : List Token → ℕ → List Terminal
 terminals_from tokens at = map (λ t. terminal_of (lexeme t.kind)) (drop at tokens)
 
--- a way to derive an expression
+-- A way to derive an expression. `Chain Or` is the rule `or`, `Chain And` the rule `and`: one part or more, joined by the
+-- connective.
 mutual
-  pub data Disjunction : Type 0 where
-    one_and : Conjunction → Disjunction
-    or_more : Conjunction → Disjunction → Disjunction
+  pub data Chain : Connective → Type 0 where
+    only : {c : Connective} → Part c → Chain c
+    joined : {c : Connective} → Part c → Chain c → Chain c
 
-  pub data Conjunction : Type 0 where
-    one_not : Negation → Conjunction
-    and_more : Negation → Conjunction → Conjunction
+  pub data Part : Connective → Type 0 where
+    negation : Negation → Part And
+    conjunction : Chain And → Part Or
 
   pub data Negation : Type 0 where
     bang : Negation → Negation
-    group : Disjunction → Negation
+    group : Chain Or → Negation
     lone : Atom → Negation
     compare : Op → Atom → Atom → Negation
 
+-- a whole expression
+abbrev pub Disjunction : Type 0
+Disjunction = Chain Or
+
 abbrev mutual
   -- the tokens that it derives
-  pub spell_or : Disjunction → List Terminal
-  spell_or (one_and c) = spell_and c
-  spell_or (or_more c d) = spell_and c ++ (Either ∷ spell_or d)
+  pub spell : {c : Connective} → Chain c → List Terminal
+  spell (only p) = spell_part p
+  spell {c} (joined p ps) = spell_part p ++ (Joins c ∷ spell ps)
 
-  pub spell_and : Conjunction → List Terminal
-  spell_and (one_not n) = spell_not n
-  spell_and (and_more n c) = spell_not n ++ (Both ∷ spell_and c)
+  pub spell_part : {c : Connective} → Part c → List Terminal
+  spell_part (negation n) = spell_not n
+  spell_part (conjunction ps) = spell ps
 
   pub spell_not : Negation → List Terminal
   spell_not (bang n) = Bang ∷ spell_not n
-  spell_not (group d) = Open ∷ (spell_or d ++ (Close ∷ []))
+  spell_not (group d) = Open ∷ (spell d ++ (Close ∷ []))
   spell_not (lone a) = Plain a ∷ []
   spell_not (compare o a b) = Plain a ∷ (Compares o ∷ (Plain b ∷ []))
 
+abbrev pub spell_or : Disjunction → List Terminal
+spell_or d = spell d
+
 abbrev mutual
   -- how many `(` and `!` are open at once
-  pub levels_or : Disjunction → ℕ
-  levels_or (one_and c) = levels_and c
-  levels_or (or_more c d) = max (levels_and c) (levels_or d)
+  pub levels : {c : Connective} → Chain c → ℕ
+  levels (only p) = levels_part p
+  levels (joined p ps) = max (levels_part p) (levels ps)
 
-  pub levels_and : Conjunction → ℕ
-  levels_and (one_not n) = levels_not n
-  levels_and (and_more n c) = max (levels_not n) (levels_and c)
+  pub levels_part : {c : Connective} → Part c → ℕ
+  levels_part (negation n) = levels_not n
+  levels_part (conjunction ps) = levels ps
 
   pub levels_not : Negation → ℕ
   levels_not (bang n) = suc (levels_not n)
-  levels_not (group d) = suc (levels_or d)
+  levels_not (group d) = suc (levels d)
   levels_not (lone a) = 0
   levels_not (compare o a b) = 0
+
+abbrev pub levels_or : Disjunction → ℕ
+levels_or d = levels d
 
 -- the words n, m and y are constants
 abbrev pub is_letter : List ℕ → Bool
@@ -134,30 +146,34 @@ abbrev pub leaf : (List ℕ → ℕ) → Atom → Leaf
 leaf number (WordAtom w) = if is_letter w then Text w else Symbol (symbol (number w))
 leaf number (QuotedAtom q) = Text (unescape q)
 
+-- two parts or more, joined
+abbrev pub connected : Connective → Forms → Form
+connected And fs = Every fs
+connected Or fs = Some_of fs
+
 module _ (condition : Option SymId) (number : List ℕ → ℕ) where
   -- The expression: two parts or more are one Every or Some_of, a single part is itself, and parentheses add nothing.
   abbrev mutual
-    pub meaning_or : Disjunction → Form
-    meaning_or (one_and c) = meaning_and c
-    meaning_or (or_more c d) = Some_of (forms (meaning_and c ∷ or_parts d))
+    pub meaning : {c : Connective} → Chain c → Form
+    meaning (only p) = meaning_part p
+    meaning {c} (joined p ps) = connected c (forms (meaning_part p ∷ parts ps))
 
-    pub or_parts : Disjunction → List Form
-    or_parts (one_and c) = meaning_and c ∷ []
-    or_parts (or_more c d) = meaning_and c ∷ or_parts d
+    pub parts : {c : Connective} → Chain c → List Form
+    parts (only p) = meaning_part p ∷ []
+    parts (joined p ps) = meaning_part p ∷ parts ps
 
-    pub meaning_and : Conjunction → Form
-    meaning_and (one_not n) = meaning_not n
-    meaning_and (and_more n c) = Every (forms (meaning_not n ∷ and_parts c))
-
-    pub and_parts : Conjunction → List Form
-    and_parts (one_not n) = meaning_not n ∷ []
-    and_parts (and_more n c) = meaning_not n ∷ and_parts c
+    pub meaning_part : {c : Connective} → Part c → Form
+    meaning_part (negation n) = meaning_not n
+    meaning_part (conjunction ps) = meaning ps
 
     pub meaning_not : Negation → Form
     meaning_not (bang n) = Negated (meaning_not n)
-    meaning_not (group d) = meaning_or d
+    meaning_not (group d) = meaning d
     meaning_not (lone a) = plain_under condition (leaf number a)
     meaning_not (compare o a b) = Related o (leaf number a) (leaf number b)
+
+  abbrev pub meaning_or : Disjunction → Form
+  meaning_or d = meaning d
 
 -- the names that a token mentions: a word that stands for a symbol
 abbrev pub atom_words : Atom → List (List ℕ)
@@ -168,8 +184,7 @@ abbrev pub terminal_words : Terminal → List (List ℕ)
 terminal_words (Plain a) = atom_words a
 terminal_words (Compares o) = []
 terminal_words Bang = []
-terminal_words Both = []
-terminal_words Either = []
+terminal_words (Joins c) = []
 terminal_words Open = []
 terminal_words Close = []
 terminal_words Keyword = []

@@ -11,24 +11,35 @@ use Rattle.kc_text.specs.declared.tokens.TokenKind.{TokenKind}
 use Rattle.kc_text.specs.Lexemes.{lexeme}
 use Rattle.kc_expr.specs.Form.{Form, Leaf, leaf_of}
 use Rattle.kc_expr.specs.Names.{number_of, symbol, all_mentioned, Extends}
-use Rattle.kc_expr.specs.Grammar.{Terminal, Plain, Compares, Bang, Both, Either, Open, Close, Disjunction, Conjunction, Negation, spell_or, spell_and, spell_not, levels_or, levels_and, levels_not, meaning_or, meaning_and, meaning_not, terminals_from, terminal_of, Atom, leaf, LongestFront, Begins, BeginsWithin, op_terminal, plain_under, atom_words, words_of, words}
-use Rattle.kc_expr.specs.Scan.{State, want, single, right, done, step, run, lone_or, lone_and, lone_not}
+use Rattle.kc_expr.specs.declared.parse.Connective.{Connective}
+use Rattle.kc_expr.specs.declared.parse.Connective.TheVariants.{And, Or}
+use Rattle.kc_expr.specs.Grammar.{Terminal, Plain, Compares, Bang, Joins, Open, Close, Keyword, Chain, Part, Negation, Disjunction, spell, spell_part, spell_not, spell_or, levels, levels_part, levels_not, levels_or, meaning, meaning_part, meaning_not, meaning_or, terminals_from, terminal_of, Atom, leaf, LongestFront, Begins, BeginsWithin, op_terminal, atom_words, words_of, words}
+use Rattle.kc_expr.specs.Scan.{State, want, single, right, done, step, run, lone_in, lone_part, lone_not}
 
--- the next token, if there is one
+-- what the next token is, if there is one
 abbrev pub starts_compares : List Terminal → Bool
 starts_compares [] = false
 starts_compares (Compares o ∷ ts) = true
 starts_compares (_ ∷ ts) = false
 
-abbrev pub starts_both : List Terminal → Bool
-starts_both [] = false
-starts_both (Both ∷ ts) = true
-starts_both (_ ∷ ts) = false
+abbrev pub same_connective : Connective → Connective → Bool
+same_connective And And = true
+same_connective And Or = false
+same_connective Or And = false
+same_connective Or Or = true
 
-abbrev pub starts_either : List Terminal → Bool
-starts_either [] = false
-starts_either (Either ∷ ts) = true
-starts_either (_ ∷ ts) = false
+abbrev pub joins : Connective → Terminal → Bool
+joins c (Joins d) = same_connective c d
+joins c (Plain a) = false
+joins c (Compares o) = false
+joins c Bang = false
+joins c Open = false
+joins c Close = false
+joins c Keyword = false
+
+abbrev pub starts_joins : Connective → List Terminal → Bool
+starts_joins c [] = false
+starts_joins c (t ∷ ts) = joins c t
 
 abbrev pub starts_close : List Terminal → Bool
 starts_close [] = false
@@ -89,20 +100,30 @@ module _ {T : Type 0} (spell : T → List Terminal) (levels : T → ℕ) where
 abbrev pub StopsNot : Negation → List Terminal → Type 0
 StopsNot n rest = lone_not n ≡ true → starts_compares rest ≡ false
 
-abbrev pub StopsAnd : Conjunction → List Terminal → Type 0
-StopsAnd c rest = (lone_and c ≡ true → starts_compares rest ≡ false) × (starts_both rest ≡ false)
+-- no connective follows that a part would itself go on with
+abbrev pub NoneWithin : Connective → List Terminal → Type 0
+NoneWithin And rest = Unit {0}
+NoneWithin Or rest = starts_joins And rest ≡ false
 
-abbrev pub StopsOr : Disjunction → List Terminal → Type 0
-StopsOr d rest = (lone_or d ≡ true → starts_compares rest ≡ false) × (starts_both rest ≡ false) × (starts_either rest ≡ false)
+abbrev pub StopsPart : (c : Connective) → Part c → List Terminal → Type 0
+StopsPart c p rest = (lone_part p ≡ true → starts_compares rest ≡ false) × NoneWithin c rest
+
+abbrev pub Stops : (c : Connective) → Chain c → List Terminal → Type 0
+Stops c ps rest = (lone_in ps ≡ true → starts_compares rest ≡ false) × NoneWithin c rest × (starts_joins c rest ≡ false)
 
 abbrev pub ParsedNot : Option SymId → ℕ → List Terminal → List Terminal → List (List ℕ) → List (List ℕ) → Form → Type 0
 ParsedNot condition = Parsed spell_not levels_not (meaning_not condition) StopsNot
 
-abbrev pub ParsedAnd : Option SymId → ℕ → List Terminal → List Terminal → List (List ℕ) → List (List ℕ) → Form → Type 0
-ParsedAnd condition = Parsed spell_and levels_and (meaning_and condition) StopsAnd
+abbrev pub ParsedPart : Connective → Option SymId → ℕ → List Terminal → List Terminal → List (List ℕ) → List (List ℕ) → Form → Type 0
+ParsedPart c condition = Parsed {T = Part c} spell_part levels_part (λ number p. meaning_part condition number p) (StopsPart c)
 
-abbrev pub ParsedOr : Option SymId → ℕ → List Terminal → List Terminal → List (List ℕ) → List (List ℕ) → Form → Type 0
-ParsedOr condition = Parsed spell_or levels_or (meaning_or condition) StopsOr
+abbrev pub ParsedChain : Connective → Option SymId → ℕ → List Terminal → List Terminal → List (List ℕ) → List (List ℕ) → Form → Type 0
+ParsedChain c condition = Parsed {T = Chain c} spell levels (λ number ps. meaning condition number ps) (Stops c)
+
+-- where a part may start: the first negation of a chain also after `!`
+abbrev pub PartStart : Connective → ℕ → ℕ → Type 0
+PartStart And = Any_start
+PartStart Or = Fresh_start
 
 -- what each fault says
 abbrev pub FailsNot : ExprFault → ℕ → List Terminal → Type 0
@@ -110,15 +131,15 @@ FailsNot Syntax k ts = Broken spell_not levels_not Any_start k ts
 FailsNot TooDeep k ts = Deep spell_not levels_not Any_start k ts
 FailsNot (Memory e) k ts = Unit {0}
 
-abbrev pub FailsAnd : ExprFault → ℕ → List Terminal → Type 0
-FailsAnd Syntax k ts = Broken spell_and levels_and Fresh_start k ts
-FailsAnd TooDeep k ts = Deep spell_and levels_and Fresh_start k ts
-FailsAnd (Memory e) k ts = Unit {0}
+abbrev pub FailsPart : Connective → ExprFault → ℕ → List Terminal → Type 0
+FailsPart c Syntax k ts = Broken {T = Part c} spell_part levels_part (PartStart c) k ts
+FailsPart c TooDeep k ts = Deep {T = Part c} spell_part levels_part (PartStart c) k ts
+FailsPart c (Memory e) k ts = Unit {0}
 
-abbrev pub FailsOr : ExprFault → ℕ → List Terminal → Type 0
-FailsOr Syntax k ts = Broken spell_or levels_or Fresh_start k ts
-FailsOr TooDeep k ts = Deep spell_or levels_or Fresh_start k ts
-FailsOr (Memory e) k ts = Unit {0}
+abbrev pub FailsChain : Connective → ExprFault → ℕ → List Terminal → Type 0
+FailsChain c Syntax k ts = Broken {T = Chain c} spell levels Fresh_start k ts
+FailsChain c TooDeep k ts = Deep {T = Chain c} spell levels Fresh_start k ts
+FailsChain c (Memory e) k ts = Unit {0}
 
 -- what parsing answers: the one expression of the longest front that begins some expression
 pub record IsParsed (condition : Option SymId) (ts rest : List Terminal) (old names : List (List ℕ)) (f : Form) : Type 0 where
@@ -196,10 +217,15 @@ starts_open (_ ∷ ts) = false
 abbrev pub starts_op : Op → List Terminal → Bool
 starts_op op.Not ts = starts_bang ts
 starts_op op.LParen ts = starts_open ts
-starts_op op.And ts = starts_both ts
-starts_op op.Or ts = starts_either ts
+starts_op op.And ts = starts_joins And ts
+starts_op op.Or ts = starts_joins Or ts
 starts_op op.RParen ts = starts_close ts
 starts_op _ ts = false
+
+-- whether the connective stands at a place
+abbrev pub IsJoined : Connective → List Token → ℕ → Bool → Type 0
+IsJoined c tokens at b =
+    MatchBool b ((at < length tokens) × (terminals_from tokens at ≡ Joins c ∷ terminals_from tokens (at + 1))) (starts_joins c (terminals_from tokens at) ≡ false)
 
 abbrev pub IsOp : Op → List Token → ℕ → Bool → Type 0
 IsOp o tokens at b =

@@ -1,9 +1,10 @@
 //! Expressions from tokens.
 
-ghost use Rattle.std.specs.Prelude.{◌≡◌, ℕ, ◌+◌, ◌≤◌, ◌<◌, ◌≢◌, Bool, true, false, length, [], ◌∷◌, ◌++◌, IfOk, IfErr, OnOk};
-ghost use Rattle.kc_expr.specs.Form.{form_of, leaf_of, Text};
+ghost use Rattle.std.specs.Prelude.{◌≡◌, ℕ, ◌+◌, ◌≤◌, ◌<◌, ◌≢◌, Bool, true, false, length, [], ◌∷◌, ◌++◌, map, IfOk, IfErr, OnOk};
+ghost use Rattle.kc_expr.specs.Form.{form_of, forms, leaf_of, Text};
+ghost use Rattle.kc_expr.specs.Grammar as spec;
 ghost use Rattle.kc_expr.specs.Grammar.{terminals_from, is_m_leaf, plain_under, IsUnambiguous};
-ghost use Rattle.kc_expr.specs.Reading.{IsParsed, IsRefused, ParsedNot, ParsedAnd, ParsedOr, FailsNot, FailsAnd, FailsOr, IsNext, ReadsOperand, ReadsRelation, IsMemory, IsOp, StartsNoOperand, IsNumber};
+ghost use Rattle.kc_expr.specs.Reading.{IsParsed, IsRefused, ParsedNot, ParsedPart, ParsedChain, FailsNot, FailsPart, FailsChain, IsNext, ReadsOperand, ReadsRelation, IsMemory, IsOp, IsJoined, StartsNoOperand, IsNumber};
 ghost use Rattle.kc_expr.specs.Names.{Extends, mention};
 
 use crate::expression::{Expr, Operand, SymId};
@@ -41,7 +42,7 @@ pub fn parse(
     ensures refused { IfErr result (λ f. IsRefused f (terminals_from tokens.now at)) }
     ensures names { Extends names.old names.new }
 {
-    disjunction(alloc, tokens, at, MAX_LEVELS, condition, names)
+    chain(alloc, tokens, at, MAX_LEVELS, Connective::Or, condition, names)
 }
 
 /// The grammar gives no tokens two expressions.
@@ -49,67 +50,67 @@ pub fn grammar_is_unambiguous()
     ensures { IsUnambiguous }
 {}
 
+/// What joins the parts of a chain.
+#[derive(Clone, Copy)]
+enum Connective {
+    And,
+    Or,
+}
+
+// One part or more, joined by the connective.
 #[cycle(parse)]
-fn disjunction(
+fn chain(
     alloc: Global,
     tokens: &[Token],
     at: usize,
     levels: usize,
+    connective: Connective,
     condition: Option<SymId>,
     names: &mut Names,
 ) -> Result<(Expr, usize), ExprFault>
     requires { at ≤ length tokens.now }
-    ensures parsed { IfOk result (λ r. ParsedOr condition levels (terminals_from tokens.now at) (terminals_from tokens.now r.1) names.old names.new (form_of r.0)) }
+    ensures parsed { IfOk result (λ r. ParsedChain connective condition levels (terminals_from tokens.now at) (terminals_from tokens.now r.1) names.old names.new (form_of r.0)) }
     ensures within { IfOk result (λ r. (at ≤ r.1) × (r.1 ≤ length tokens.now)) }
-    ensures fails { IfErr result (λ f. FailsOr f levels (terminals_from tokens.now at)) }
+    ensures fails { IfErr result (λ f. FailsChain connective f levels (terminals_from tokens.now at)) }
     ensures names { Extends names.old names.new }
 {
-    let (first, end) = conjunction(alloc, tokens, at, levels, condition, names)?;
-    if !is_op(tokens, end, Op::Or) {
+    let (first, end) = part(alloc, tokens, at, levels, connective, condition, names)?;
+    if !is_joined(tokens, end, connective) {
         return Ok((first, end));
     }
     let mut parts = Vec::new(alloc);
     push(&mut parts, first)?;
     let mut place = end;
     loop {
-        let (part, end) = conjunction(alloc, tokens, place + 1, levels, condition, names)?;
-        push(&mut parts, part)?;
-        if !is_op(tokens, end, Op::Or) {
-            return Ok((Expr::Any(parts), end));
+        let (next, end) = part(alloc, tokens, place + 1, levels, connective, condition, names)?;
+        push(&mut parts, next)?;
+        if !is_joined(tokens, end, connective) {
+            return Ok((connected(connective, parts), end));
         }
         place = end;
     }
 }
 
+// One part of a chain: conjunctions are joined by `||`, negations by `&&`.
 #[cycle(parse)]
-fn conjunction(
+fn part(
     alloc: Global,
     tokens: &[Token],
     at: usize,
     levels: usize,
+    connective: Connective,
     condition: Option<SymId>,
     names: &mut Names,
 ) -> Result<(Expr, usize), ExprFault>
     requires { at ≤ length tokens.now }
-    ensures parsed { IfOk result (λ r. ParsedAnd condition levels (terminals_from tokens.now at) (terminals_from tokens.now r.1) names.old names.new (form_of r.0)) }
+    ensures parsed { IfOk result (λ r. ParsedPart connective condition levels (terminals_from tokens.now at) (terminals_from tokens.now r.1) names.old names.new (form_of r.0)) }
     ensures within { IfOk result (λ r. (at ≤ r.1) × (r.1 ≤ length tokens.now)) }
-    ensures fails { IfErr result (λ f. FailsAnd f levels (terminals_from tokens.now at)) }
+    ensures fails { IfErr result (λ f. FailsPart connective f levels (terminals_from tokens.now at)) }
     ensures names { Extends names.old names.new }
 {
-    let (first, end) = negation(alloc, tokens, at, levels, condition, names)?;
-    if !is_op(tokens, end, Op::And) {
-        return Ok((first, end));
-    }
-    let mut parts = Vec::new(alloc);
-    push(&mut parts, first)?;
-    let mut place = end;
-    loop {
-        let (part, end) = negation(alloc, tokens, place + 1, levels, condition, names)?;
-        push(&mut parts, part)?;
-        if !is_op(tokens, end, Op::And) {
-            return Ok((Expr::All(parts), end));
-        }
-        place = end;
+    match connective {
+        Connective::And => negation(alloc, tokens, at, levels, condition, names),
+        Connective::Or => chain(alloc, tokens, at, levels, Connective::And, condition, names),
     }
 }
 
@@ -132,18 +133,19 @@ fn negation(
         if levels == 0 {
             return Err(ExprFault::TooDeep);
         }
-        let (part, end) = negation(alloc, tokens, at + 1, levels - 1, condition, names)?;
-        return Ok((Expr::Not(boxed(alloc, part)?), end));
+        let (operand, end) = negation(alloc, tokens, at + 1, levels - 1, condition, names)?;
+        return Ok((Expr::Not(boxed(alloc, operand)?), end));
     }
     if is_op(tokens, at, Op::LParen) {
         if levels == 0 {
             return Err(ExprFault::TooDeep);
         }
-        let (part, end) = disjunction(alloc, tokens, at + 1, levels - 1, condition, names)?;
+        let (inner, end) =
+            chain(alloc, tokens, at + 1, levels - 1, Connective::Or, condition, names)?;
         if !is_op(tokens, end, Op::RParen) {
             return Err(ExprFault::Syntax);
         }
-        return Ok((part, end + 1));
+        return Ok((inner, end + 1));
     }
     relation(alloc, tokens, at, condition, names)
 }
@@ -260,6 +262,27 @@ fn relation_op(tokens: &[Token], at: usize) -> Option<Op>
     match next(tokens, at) {
         Some(TokenKind::Op(op @ (Op::Eq | Op::Ne | Op::Lt | Op::Gt | Op::Le | Op::Ge))) => Some(op),
         _ => None,
+    }
+}
+
+// Whether the connective stands at a place.
+fn is_joined(tokens: &[Token], at: usize, connective: Connective) -> bool
+    ensures { IsJoined connective tokens.now at result }
+{
+    match connective {
+        Connective::And => is_op(tokens, at, Op::And),
+        Connective::Or => is_op(tokens, at, Op::Or),
+    }
+}
+
+// Two parts or more, joined.
+#[tactic(auto, using(crate::proofs::FormLemmas::chain_forms))]
+fn connected(connective: Connective, parts: Vec<Expr>) -> Expr
+    ensures { form_of result ≡ spec.connected connective (forms (map form_of parts.items)) }
+{
+    match connective {
+        Connective::And => Expr::All(parts),
+        Connective::Or => Expr::Any(parts),
     }
 }
 

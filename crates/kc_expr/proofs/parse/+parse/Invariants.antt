@@ -1,31 +1,22 @@
 use Rattle.std.proofs.Common.{◌+◌, ◌-◌, ◌*◌, length}
 use Rattle.kc_expr.specs.Names.{Extends}
-use Rattle.kc_expr.proofs.ParseLemmas.{PartsAnd, PartsOr}
+use Rattle.kc_expr.proofs.ParseLemmas.{Parts, rank}
 use Rattle.kc_expr.proofs.parse.+parse.Given as goal
 
 abbrev pub decreases-negation : goal.decreases-negation
-decreases-negation l = 3 * l.levels
+decreases-negation l = 5 * l.levels
 
-abbrev pub decreases-conjunction : goal.decreases-conjunction
-decreases-conjunction l = 3 * l.levels + 1
+abbrev pub decreases-part : goal.decreases-part
+decreases-part l = 5 * l.levels + rank l.connective + 1
 
-abbrev pub decreases-disjunction : goal.decreases-disjunction
-decreases-disjunction l = 3 * l.levels + 2
+abbrev pub decreases-chain : goal.decreases-chain
+decreases-chain l = 5 * l.levels + rank l.connective + 2
 
-abbrev pub invariant-conjunction-loop-parts : goal.invariant-conjunction-loop-parts
-invariant-conjunction-loop-parts l = record {
-  parts : PartsAnd l.condition l.levels l.tokens l.fn.at l.place l.fn.names l.names l.parts.items;
+abbrev pub invariant-chain-loop-parts : goal.invariant-chain-loop-parts
+invariant-chain-loop-parts l = record {
+  parts : Parts l.connective l.condition l.levels l.tokens l.fn.at l.place l.fn.names l.names l.parts.items;
   names : Extends l.fn.names l.names;
 }
 
-abbrev pub decreases-conjunction-loop-parts : goal.decreases-conjunction-loop-parts
-decreases-conjunction-loop-parts l = length l.tokens - l.place
-
-abbrev pub invariant-disjunction-loop-parts : goal.invariant-disjunction-loop-parts
-invariant-disjunction-loop-parts l = record {
-  parts : PartsOr l.condition l.levels l.tokens l.fn.at l.place l.fn.names l.names l.parts.items;
-  names : Extends l.fn.names l.names;
-}
-
-abbrev pub decreases-disjunction-loop-parts : goal.decreases-disjunction-loop-parts
-decreases-disjunction-loop-parts l = length l.tokens - l.place
+abbrev pub decreases-chain-loop-parts : goal.decreases-chain-loop-parts
+decreases-chain-loop-parts l = length l.tokens - l.place
