@@ -1,6 +1,6 @@
 -- Names, as the bytes of the keys of a set.
 use Rattle.std.proofs.Common.{◌≡◌, ℕ, ◌+◌, Bool, true, false, not, cond, ◌||◌, List, [], ◌∷◌, ◌++◌, map, Some, None, position, length, nat_lt, zero, suc, ◌<◌, ◌==◌, get_or, slice_get, arith, refl, sym, ap, ◌∙◌, append_assoc, append-nil}
-use Rattle.std.specs.List.{list_any, prefix_len, position_or_len, IsDistinct}
+use Rattle.std.specs.List.{list_any, prefix_len, position_or_len, IsDistinct, AllByRecursion}
 use Rattle.std.proofs.lemmas.List.Elements.{All-from_recursion}
 use Rattle.std.proofs.lemmas.Bool.Decides.{nat_tests}
 use Rattle.std.proofs.lemmas.Option.{get_or_from_slice_get, slice_get_within}
@@ -13,7 +13,7 @@ use Rattle.std.specs.declared.hash.FoldHasher.{FoldHasher}
 use Rattle.std.specs.declared.hash.BuildHasherDefault.{BuildHasherDefault}
 use Rattle.indexmap.specs.IndexSet.{IndexSet}
 use Rattle.kc_expr.specs.Grammar.{Terminal, Close, terminal_words, words_of}
-use Rattle.kc_expr.specs.Names.{symbol, same_name, number_of, mention, all_mentioned, Extends}
+use Rattle.kc_expr.specs.Names.{symbol, same_name, number_of, mention, all_mentioned, Extends, AreDistinct}
 
 module _ {K : Type 0} (f : K → List ℕ) where
   prefix_len-map : (p : List ℕ → Bool) (ks : List K) → prefix_len p (map f ks) ≡ prefix_len (λ k. p (f k)) ks
@@ -158,3 +158,13 @@ words_of-append a b = flat_map-append terminal_words a b
 
 pub words_of-closed : (a : List Terminal) → words_of (a ++ Close ∷ []) ≡ words_of a
 words_of-closed a = words_of-append a (Close ∷ []) ∙ append-nil (words_of a)
+
+-- names that differ as the keys of a set differ as names
+pub distinct-map : (ks : List (Vec ℕ Global)) → IsDistinct (λ a b. same_name a.items b.items) ks → AreDistinct (map (λ v. v.items) ks)
+unfolding IsDistinct
+distinct-map [] d = d
+distinct-map (k ∷ ks) d = (all_map ks d.0, distinct-map ks d.1)
+  where
+    all_map : (vs : List (Vec ℕ Global)) → AllByRecursion (λ v. same_name k.items v.items ≡ false) vs → AllByRecursion (λ n. same_name k.items n ≡ false) (map (λ v. v.items) vs)
+    all_map [] h = tt
+    all_map (v ∷ vs) h = (h.0, all_map vs h.1)

@@ -13,7 +13,7 @@ use Rattle.kc_expr.specs.declared.expression.Operand.TheVariants.{Sym}
 use Rattle.kc_expr.specs.declared.expression.Expr.{Expr, All, Any, One}
 use Rattle.kc_text.specs.declared.tokens.Token.{Token}
 use Rattle.kc_expr.specs.declared.parse.ExprFault.{ExprFault}
-use Rattle.kc_expr.specs.Form.{Form, forms, form_of, leaf_of, Leaf, Symbol, Single, Related, Negated, Every, Some_of, none, more}
+use Rattle.kc_expr.specs.Form.{Form, forms, form_of, leaf_of, Leaf, Symbol, Single, Related, Negated, Every, Some_of, NoForms, MoreForms}
 use Rattle.kc_expr.specs.Names.{number_of, all_mentioned, Extends}
 use Rattle.kc_expr.specs.declared.parse.Connective.{Connective}
 use Rattle.kc_expr.specs.declared.parse.Connective.TheVariants.{And, Or}
@@ -26,7 +26,7 @@ use Rattle.kc_expr.proofs.PushLemmas.{push, spell-push, levels-push, lone-push, 
 use Rattle.kc_expr.proofs.ReadingLemmas.{no_operand, no_right, unclosed, deep_bang_now, deep_group_now, fails_bang, fails_group, fails_next}
 
 -- two parts in a `Vec`
-pub form_of_two : (v : Vec Expr Global) (o : Operand) (m : SymId) → v.items ≡ One o ∷ (One (Sym m) ∷ []) → form_of (All v) ≡ Every (more (Single (leaf_of o)) (more (Single (Symbol m)) none))
+pub form_of_two : (v : Vec Expr Global) (o : Operand) (m : SymId) → v.items ≡ One o ∷ (One (Sym m) ∷ []) → form_of (All v) ≡ Every (MoreForms (Single (leaf_of o)) (MoreForms (Single (Symbol m)) NoForms))
 form_of_two v o m h = form_of-All v ∙ ap (λ es. Every (forms (map form_of es))) h
 
 refuses_want : (limit cur base : ℕ) (stack : List ℕ) (ts : List Terminal) → starts_plain ts ≡ false → starts_bang ts ≡ false → starts_open ts ≡ false → Refuses limit (want cur base stack) ts

@@ -15,7 +15,7 @@ use Rattle.kc_expr.specs.declared.parse.Connective.TheVariants.{And, Or}
 use Rattle.kc_text.specs.Escapes.{unescape}
 use Rattle.kc_text.specs.Lexemes.{Lexeme, AWord, AQuoted, AnOp, lexeme}
 use Rattle.kc_text.specs.declared.tokens.Token.{Token}
-use Rattle.kc_expr.specs.Form.{Form, Forms, forms, Leaf, Text, Symbol, Single, Related, Negated, Every, Some_of, none, more}
+use Rattle.kc_expr.specs.Form.{Form, Forms, forms, Leaf, Text, Symbol, Single, Related, Negated, Every, Some_of, NoForms, MoreForms}
 use Rattle.kc_expr.specs.Value.{letter_of}
 use Rattle.kc_expr.specs.Names.{symbol, same_name}
 
@@ -139,7 +139,7 @@ is_m_leaf (Text t) = same_name t m_word
 -- a plain m of a condition stands for m && the modules symbol
 abbrev pub plain_under : Option SymId → Leaf → Form
 plain_under None l = Single l
-plain_under (Some s) l = if is_m_leaf l then Every (more (Single l) (more (Single (Symbol s)) none)) else Single l
+plain_under (Some s) l = if is_m_leaf l then Every (MoreForms (Single l) (MoreForms (Single (Symbol s)) NoForms)) else Single l
 
 -- an operand, where names have these numbers
 abbrev pub leaf : (List ℕ → ℕ) → Atom → Leaf
@@ -219,3 +219,8 @@ pub record LongestFront (ts front rest : List Terminal) : Type 0 where
 -- no two derivations have the same tokens
 abbrev pub IsUnambiguous : Type 0
 IsUnambiguous = (d e : Disjunction) → spell_or d ≡ spell_or e → d ≡ e
+
+-- at most one front is the longest that begins some expression
+abbrev pub HasOneLongestFront : Type 0
+HasOneLongestFront =
+    (ts front rest front' rest' : List Terminal) → LongestFront ts front rest → LongestFront ts front' rest' → (front ≡ front') × (rest ≡ rest')

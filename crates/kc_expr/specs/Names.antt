@@ -1,6 +1,6 @@
 -- Names and their numbers.
 use Rattle.std.specs.Prelude.{ℕ, ◌≡◌, ◌==◌, Bool, List, [], ◌∷◌, ◌++◌, if◌then◌else◌}
-use Rattle.std.specs.List.{list_any, position_or_len}
+use Rattle.std.specs.List.{list_any, position_or_len, IsDistinct}
 use Rattle.std.specs.Cmp.Lexicographic.{pointwise}
 use Rattle.kc_expr.specs.declared.expression.SymId.{SymId}
 
@@ -26,3 +26,7 @@ all_mentioned names (w ∷ ws) = all_mentioned (mention names w) ws
 -- the names so far, and perhaps more
 abbrev pub Extends : List (List ℕ) → List (List ℕ) → Type 0
 Extends old new = (others : List (List ℕ)) × (new ≡ old ++ others)
+
+-- no name stands twice
+abbrev pub AreDistinct : List (List ℕ) → Type 0
+AreDistinct = IsDistinct same_name

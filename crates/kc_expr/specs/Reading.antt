@@ -238,3 +238,9 @@ StartsNoOperand ts = (starts_bang ts ≡ false) × (starts_open ts ≡ false)
 -- the number of a name, also in all later names
 abbrev pub IsNumber : List (List ℕ) → List ℕ → SymId → Type 0
 IsNumber names w id = (later : List (List ℕ)) → Extends names later → id ≡ symbol (number_of later w)
+
+-- Parsing has one answer: one expression, one place and one list of names, or one of the refusals.
+pub record IsDetermined (ts : List Terminal) : Type 0 where
+  pub one_answer : (condition : Option SymId) (rest rest' : List Terminal) (old names names' : List (List ℕ)) (f f' : Form) → IsParsed condition ts rest old names f → IsParsed condition ts rest' old names' f' → (rest ≡ rest') × (names ≡ names') × (f ≡ f')
+  pub not_refused : (condition : Option SymId) (rest : List Terminal) (old names : List (List ℕ)) (f : Form) → IsParsed condition ts rest old names f → (IsNoExpression ts → ⊥) × (IsTooDeep ts → ⊥)
+  pub one_refusal : IsNoExpression ts → IsTooDeep ts → ⊥

@@ -1,10 +1,10 @@
 //! Expressions from tokens.
 
-ghost use Rattle.std.specs.Prelude.{◌≡◌, ℕ, ◌+◌, ◌≤◌, ◌<◌, ◌≢◌, Bool, true, false, length, [], ◌∷◌, ◌++◌, map, IfOk, IfErr, OnOk};
+ghost use Rattle.std.specs.Prelude.{◌≡◌, ℕ, ◌+◌, ◌≤◌, ◌<◌, ◌≢◌, Bool, true, false, List, length, [], ◌∷◌, ◌++◌, map, IfOk, IfErr, OnOk};
 ghost use Rattle.kc_expr.specs.Form.{form_of, forms, leaf_of, Text};
 ghost use Rattle.kc_expr.specs.Grammar as spec;
-ghost use Rattle.kc_expr.specs.Grammar.{terminals_from, is_m_leaf, plain_under, IsUnambiguous};
-ghost use Rattle.kc_expr.specs.Reading.{IsParsed, IsRefused, ParsedNot, ParsedPart, ParsedChain, FailsNot, FailsPart, FailsChain, IsNext, ReadsOperand, ReadsRelation, IsMemory, IsOp, IsJoined, StartsNoOperand, IsNumber};
+ghost use Rattle.kc_expr.specs.Grammar.{terminals_from, is_m_leaf, plain_under, IsUnambiguous, Terminal, HasOneLongestFront};
+ghost use Rattle.kc_expr.specs.Reading.{IsParsed, IsDetermined, IsRefused, ParsedNot, ParsedPart, ParsedChain, FailsNot, FailsPart, FailsChain, IsNext, ReadsOperand, ReadsRelation, IsMemory, IsOp, IsJoined, StartsNoOperand, IsNumber};
 ghost use Rattle.kc_expr.specs.Names.{Extends, mention};
 
 use crate::expression::{Expr, Operand, SymId};
@@ -48,6 +48,16 @@ pub fn parse(
 /// The grammar gives no tokens two expressions.
 pub fn grammar_is_unambiguous()
     ensures { IsUnambiguous }
+{}
+
+/// No tokens have two longest fronts that begin some expression.
+pub fn longest_front_is_unique()
+    ensures { HasOneLongestFront }
+{}
+
+/// The tokens decide what [`parse`] answers: at most one expression with its place and names, or one refusal.
+pub fn parsing_is_determined()
+    ensures { (ts : List Terminal) → IsDetermined ts }
 {}
 
 /// What joins the parts of a chain.
