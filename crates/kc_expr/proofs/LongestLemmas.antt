@@ -20,6 +20,9 @@ past_end p b t u e = ap (λ x. p ++ (x ∷ b)) e ∙ sym (append_assoc p (u ∷ 
 one_on : (p b : List Terminal) (t u : Terminal) → t ≡ u → p ++ (u ∷ b) ≡ (p ++ t ∷ []) ++ b
 one_on p b t u e = ap (λ x. p ++ (x ∷ b)) (sym e) ∙ sym (append_assoc p (t ∷ []) b)
 
+both_on : (t u : Terminal) (a b : List Terminal) → t ≡ u → a ≡ b → t ∷ a ≡ u ∷ b
+both_on t u a b e f = ap (λ x. x ∷ a) e ∙ ap (λ l. u ∷ l) f
+
 -- Where two texts are the same, what begins an expression is a front of the longest that does, here past a common beginning.
 front_of_longest : (p a b r s : List Terminal) → a ++ r ≡ b ++ s → Begins (p ++ b) → NoLonger (p ++ a) r → (c : List Terminal) × (a ≡ b ++ c) × (s ≡ c ++ r)
 front_of_longest p a [] r s e y n = (a, refl, sym e)
@@ -33,7 +36,7 @@ front_of_longest p (t ∷ a) (u ∷ b) r s e y n =
     let y' = subst Begins (one_on p b t u head) y in
     let n' = subst (λ l. NoLonger l r) (sym (append_assoc p (t ∷ []) a)) n in
     let c = front_of_longest (p ++ t ∷ []) a b r s tail y' n' in
-    (c.0, ap (λ x. x ∷ a) head ∙ ap (λ l. u ∷ l) c.1, c.2)
+    (c.0, both_on t u a (b ++ c.0) head c.1, c.2)
 
 -- what begins an expression is a front of the longest that does
 pub in_longest : (ts front rest begun after : List Terminal) → LongestFront ts front rest → ts ≡ begun ++ after → Begins begun → (c : List Terminal) × (front ≡ begun ++ c) × (after ≡ c ++ rest)

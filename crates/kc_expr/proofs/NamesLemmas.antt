@@ -13,7 +13,8 @@ use Rattle.std.specs.declared.hash.FoldHasher.{FoldHasher}
 use Rattle.std.specs.declared.hash.BuildHasherDefault.{BuildHasherDefault}
 use Rattle.indexmap.specs.IndexSet.{IndexSet}
 use Rattle.kc_expr.specs.Grammar.{Terminal, Close, terminal_words, words_of}
-use Rattle.kc_expr.specs.Names.{symbol, same_name, number_of, mention, all_mentioned, Extends, AreDistinct}
+use Rattle.kc_expr.specs.Names.{symbol, same_name, number_of, mention, all_mentioned, Extends, IsNumber, AreDistinct}
+use Rattle.kc_expr.specs.declared.expression.SymId.{SymId}
 
 module _ {K : Type 0} (f : K → List ℕ) where
   prefix_len-map : (p : List ℕ → Bool) (ks : List K) → prefix_len p (map f ks) ≡ prefix_len (λ k. p (f k)) ks
@@ -125,6 +126,9 @@ number_later names w later ext = by (list_any (same_name w) names) refl ext.1
 
 pub symbol_later : (names : List (List ℕ)) (w : List ℕ) (later : List (List ℕ)) → Extends (mention names w) later → symbol (number_of names w) ≡ symbol (number_of later w)
 symbol_later names w later ext = ap symbol (number_later names w later ext)
+
+pub number_for_later : (old new : List (List ℕ)) (w : List ℕ) (id : SymId) → id ≡ symbol (number_of old w) → new ≡ mention old w → IsNumber new w id
+number_for_later old new w id e m later x = e ∙ symbol_later old w later (x.0, x.1 ∙ ap (λ ns. ns ++ x.0) m)
 
 -- names that extend names that extend names
 pub extends_on : (a b c : List (List ℕ)) → Extends a b → Extends b c → Extends a c

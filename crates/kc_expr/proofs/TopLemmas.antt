@@ -84,7 +84,7 @@ is_too_deep ts b = record {
 pub is_refused : (f : ExprFault) (ts : List Terminal) → FailsChain Or f 64 ts → IsRefused f ts
 is_refused Syntax ts b = is_no_expression ts b
 is_refused TooDeep ts b = is_too_deep ts b
-is_refused (Memory e) ts b = tt
+is_refused Memory ts b = tt
 
 pub IfErr-weaker : {X E : Type 0} (r : Result X E) (P Q : E → Type 0) → ((e : E) → P e → Q e) → IfErr r P → IfErr r Q
 IfErr-weaker (Ok x) P Q f h = tt

@@ -27,6 +27,10 @@ all_mentioned names (w ∷ ws) = all_mentioned (mention names w) ws
 abbrev pub Extends : List (List ℕ) → List (List ℕ) → Type 0
 Extends old new = (others : List (List ℕ)) × (new ≡ old ++ others)
 
+-- the number of a name, also in all later names
+abbrev pub IsNumber : List (List ℕ) → List ℕ → SymId → Type 0
+IsNumber names name id = (later : List (List ℕ)) → Extends names later → id ≡ symbol (number_of later name)
+
 -- no name stands twice
 abbrev pub AreDistinct : List (List ℕ) → Type 0
 AreDistinct = IsDistinct same_name

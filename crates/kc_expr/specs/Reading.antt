@@ -129,17 +129,17 @@ PartStart Or = Fresh_start
 abbrev pub FailsNot : ExprFault → ℕ → List Terminal → Type 0
 FailsNot Syntax k ts = Broken spell_not levels_not Any_start k ts
 FailsNot TooDeep k ts = Deep spell_not levels_not Any_start k ts
-FailsNot (Memory e) k ts = Unit {0}
+FailsNot Memory k ts = Unit {0}
 
 abbrev pub FailsPart : Connective → ExprFault → ℕ → List Terminal → Type 0
 FailsPart c Syntax k ts = Broken {T = Part c} spell_part levels_part (PartStart c) k ts
 FailsPart c TooDeep k ts = Deep {T = Part c} spell_part levels_part (PartStart c) k ts
-FailsPart c (Memory e) k ts = Unit {0}
+FailsPart c Memory k ts = Unit {0}
 
 abbrev pub FailsChain : Connective → ExprFault → ℕ → List Terminal → Type 0
 FailsChain c Syntax k ts = Broken {T = Chain c} spell levels Fresh_start k ts
 FailsChain c TooDeep k ts = Deep {T = Chain c} spell levels Fresh_start k ts
-FailsChain c (Memory e) k ts = Unit {0}
+FailsChain c Memory k ts = Unit {0}
 
 -- what parsing answers: the one expression of the longest front that begins some expression
 pub record IsParsed (condition : Option SymId) (ts rest : List Terminal) (old names : List (List ℕ)) (f : Form) : Type 0 where
@@ -170,7 +170,7 @@ pub record IsTooDeep (ts : List Terminal) : Type 0 where
 abbrev pub IsRefused : ExprFault → List Terminal → Type 0
 IsRefused Syntax ts = IsNoExpression ts
 IsRefused TooDeep ts = IsTooDeep ts
-IsRefused (Memory e) ts = Unit {0}
+IsRefused Memory ts = Unit {0}
 
 -- the next token
 abbrev pub IsNext : Option TokenKind → List Token → ℕ → Type 0
@@ -201,7 +201,7 @@ ReadsRelation (Some o) tokens at = (at < length tokens) × (terminals_from token
 abbrev pub IsMemory : ExprFault → Type 0
 IsMemory Syntax = ⊥
 IsMemory TooDeep = ⊥
-IsMemory (Memory e) = Unit {0}
+IsMemory Memory = Unit {0}
 
 abbrev pub starts_bang : List Terminal → Bool
 starts_bang [] = false
@@ -234,10 +234,6 @@ IsOp o tokens at b =
 -- neither ! nor ( comes
 abbrev pub StartsNoOperand : List Terminal → Type 0
 StartsNoOperand ts = (starts_bang ts ≡ false) × (starts_open ts ≡ false)
-
--- the number of a name, also in all later names
-abbrev pub IsNumber : List (List ℕ) → List ℕ → SymId → Type 0
-IsNumber names w id = (later : List (List ℕ)) → Extends names later → id ≡ symbol (number_of later w)
 
 -- Parsing has one answer: one expression, one place and one list of names, or one of the refusals.
 pub record IsDetermined (ts : List Terminal) : Type 0 where

@@ -1,30 +1,51 @@
 //! Expressions from tokens.
 
 ghost use Rattle.std.specs.Prelude.{◌≡◌, ℕ, ◌+◌, ◌≤◌, ◌<◌, ◌≢◌, Bool, true, false, List, length, [], ◌∷◌, ◌++◌, map, IfOk, IfErr, OnOk};
+ghost use Rattle.kc_expr.specs.declared.parse.ExprFault.TheVariants.{Memory};
 ghost use Rattle.kc_expr.specs.Form.{form_of, forms, leaf_of, Text};
 ghost use Rattle.kc_expr.specs.Grammar as spec;
 ghost use Rattle.kc_expr.specs.Grammar.{terminals_from, is_m_leaf, plain_under, IsUnambiguous, Terminal, HasOneLongestFront};
-ghost use Rattle.kc_expr.specs.Reading.{IsParsed, IsDetermined, IsRefused, ParsedNot, ParsedPart, ParsedChain, FailsNot, FailsPart, FailsChain, IsNext, ReadsOperand, ReadsRelation, IsMemory, IsOp, IsJoined, StartsNoOperand, IsNumber};
+ghost use Rattle.kc_expr.specs.Reading.{IsParsed, IsDetermined, IsRefused, ParsedNot, ParsedPart, ParsedChain, FailsNot, FailsPart, FailsChain, IsNext, ReadsOperand, ReadsRelation, IsMemory, IsOp, IsJoined, StartsNoOperand};
 ghost use Rattle.kc_expr.specs.Names.{Extends, mention};
 
 use crate::expression::{Expr, Operand, SymId};
 use crate::names::Names;
 use kc_text::{Op, Token, TokenKind, unescape_into};
 use crate::values::letter_of;
-use std::alloc::{AllocError, Global};
+use std::alloc::{AllocError, AllocFailed, Global};
 use thiserror::Error;
 
 /// Why there is no expression.
-#[derive(Debug, Drop, Error)]
+#[derive(Clone, Copy, Debug, PartialEq, Eq, Error)]
 pub enum ExprFault {
+    /// The longest front of the tokens that begins some expression is none itself (E8).
     #[error("syntax")]
     Syntax,
+    /// One `(` or `!` more is open at once than 64 (E12).
     #[error("too deep")]
     TooDeep,
+    /// No memory was to be had (E20).
     #[error("out of memory")]
-    Memory(AllocError),
+    Memory,
 }
 
+impl From<AllocError> for ExprFault {
+    ghost from_gives = { λ _ e. e ≡ Memory };
+
+    fn from(_e: AllocError) -> ExprFault {
+        ExprFault::Memory
+    }
+}
+
+impl<T: Drop> From<AllocFailed<T>> for ExprFault {
+    ghost from_gives = { λ _ e. e ≡ Memory };
+
+    fn from(_e: AllocFailed<T>) -> ExprFault {
+        ExprFault::Memory
+    }
+}
+
+// How many `(` and `!` may be open at once.
 const MAX_LEVELS: usize = 64;
 
 /// The expression of the longest front of the tokens from `at` on that begins some expression,
@@ -89,11 +110,11 @@ fn chain(
         return Ok((first, end));
     }
     let mut parts = Vec::new(alloc);
-    push(&mut parts, first)?;
+    parts.push(first)?;
     let mut place = end;
     loop {
         let (next, end) = part(alloc, tokens, place + 1, levels, connective, condition, names)?;
-        push(&mut parts, next)?;
+        parts.push(next)?;
         if !is_joined(tokens, end, connective) {
             return Ok((connected(connective, parts), end));
         }
@@ -144,7 +165,7 @@ fn negation(
             return Err(ExprFault::TooDeep);
         }
         let (operand, end) = negation(alloc, tokens, at + 1, levels - 1, condition, names)?;
-        return Ok((Expr::Not(boxed(alloc, operand)?), end));
+        return Ok((Expr::Not(Box::new(alloc, operand)?), end));
     }
     if is_op(tokens, at, Op::LParen) {
         if levels == 0 {
@@ -198,8 +219,8 @@ fn plain(alloc: Global, operand: Operand, condition: Option<SymId>) -> Result<Ex
         return Ok(Expr::One(operand));
     }
     let mut parts = Vec::new(alloc);
-    push(&mut parts, Expr::One(operand))?;
-    push(&mut parts, Expr::One(Operand::Sym(modules)))?;
+    parts.push(Expr::One(operand))?;
+    parts.push(Expr::One(Operand::Sym(modules)))?;
     Ok(Expr::All(parts))
 }
 
@@ -232,28 +253,14 @@ fn operand(
             if letter_of(word).is_some() {
                 return Ok(Some(constant(alloc, word)?));
             }
-            Ok(Some(Operand::Sym(number(names, word)?)))
+            Ok(Some(Operand::Sym(names.id(word)?)))
         }
         Some(TokenKind::Quoted(text)) => {
             let mut bytes = Vec::new(alloc);
-            unescape_into(text, &mut bytes).map_err(ExprFault::Memory)?;
+            unescape_into(text, &mut bytes)?;
             Ok(Some(Operand::Const(bytes)))
         }
         _ => Ok(None),
-    }
-}
-
-// The number of a name, which stays its number.
-#[tactic(auto, using(crate::proofs::NamesLemmas::symbol_later))]
-pub fn number(names: &mut Names, word: &[u8]) -> Result<SymId, ExprFault>
-    ensures number { IfOk result (λ id. IsNumber names.new word.now id) }
-    ensures mentions { OnOk result (names.new ≡ mention names.old word.now) }
-    ensures memory { IfErr result IsMemory }
-    ensures names { Extends names.old names.new }
-{
-    match names.id(word) {
-        Ok(id) => Ok(id),
-        Err(e) => Err(ExprFault::Memory(e)),
     }
 }
 
@@ -261,8 +268,7 @@ fn constant(alloc: Global, text: &[u8]) -> Result<Operand, ExprFault>
     ensures constant { IfOk result (λ o. leaf_of o ≡ Text text.now) }
     ensures memory { IfErr result IsMemory }
 {
-    let text = Vec::from_slice(alloc, text).map_err(ExprFault::Memory)?;
-    Ok(Operand::Const(text))
+    Ok(Operand::Const(Vec::from_slice(alloc, text)?))
 }
 
 // The operator of a relation at a place, if there is one.
@@ -315,18 +321,4 @@ fn next<'a>(tokens: &[Token<'a>], at: usize) -> Option<TokenKind<'a>>
     } else {
         None
     }
-}
-
-fn push(parts: &mut Vec<Expr>, part: Expr) -> Result<(), ExprFault>
-    ensures pushed { OnOk result (parts.new.items ≡ parts.old.items ++ part ∷ []) }
-    ensures memory { IfErr result IsMemory }
-{
-    parts.push(part).map_err(|_| ExprFault::Memory(AllocError))
-}
-
-fn boxed(alloc: Global, part: Expr) -> Result<Box<Expr>, ExprFault>
-    ensures boxed { IfOk result (λ b. b.value ≡ part) }
-    ensures memory { IfErr result IsMemory }
-{
-    Box::new(alloc, part).map_err(|_| ExprFault::Memory(AllocError))
 }

@@ -24,7 +24,7 @@ chain-returns-then-not-is_joined-clause-parsed t c = parsed_only _ _ _ _ _ _ _ _
 
 pub chain-loop-parts-init : goal.chain-loop-parts-init
 chain-loop-parts-init t c = record {
-  parts = parts_one c.args.connective c.args.condition c.args.levels c.args.tokens.now c.args.at 0 c.in_ok-first.end c.args.names.now c.part.new.names [] [] c.push.new.parts.items c.in_ok-first.first (c.in_ok-push.ensures.pushed ∙ ap (λ l. l ++ c.in_ok-first.first ∷ []) c.new-parts.ensures.items) c.in_ok-first.ensures.parsed c.in_ok-first.ensures.within.0 c.if-not-is_joined.ensures.0 c.if-not-is_joined.ensures.1;
+  parts = parts_one c.args.connective c.args.condition c.args.levels c.args.tokens.now c.args.at 0 c.in_ok-first.end c.args.names.now c.part.new.names [] [] c.push.new.self.items c.in_ok-first.first (c.in_ok-push.ensures.items ∙ ap (λ l. l ++ c.in_ok-first.first ∷ []) c.new-parts.ensures.items) c.in_ok-first.ensures.parsed c.in_ok-first.ensures.within.0 c.if-not-is_joined.ensures.0 c.if-not-is_joined.ensures.1;
   names = c.part.ensures.names;
 }
 
@@ -34,13 +34,13 @@ chain-returns-in_err-next-clause-fails t c =
 
 pub chain-loop-parts-preserved : goal.chain-loop-parts-preserved
 chain-loop-parts-preserved t c = record {
-  parts = parts_next c.args.connective c.args.condition c.args.levels c.args.tokens.now c.args.at c.loop-parts.place c.in_ok-next.end c.args.names.now c.loop-parts.names c.part-in-loop-parts.new.names c.loop-parts.parts.items c.push-in-loop-parts.new.parts.items c.in_ok-next.next c.loop-parts.invariant.parts c.in_ok-next.ensures.names c.in_ok-push-2.ensures.pushed c.in_ok-next.ensures.parsed c.in_ok-next.ensures.within.0 c.if-not-is_joined-2.ensures.0 c.if-not-is_joined-2.ensures.1;
+  parts = parts_next c.args.connective c.args.condition c.args.levels c.args.tokens.now c.args.at c.loop-parts.place c.in_ok-next.end c.args.names.now c.loop-parts.names c.part-in-loop-parts.new.names c.loop-parts.parts.items c.push-in-loop-parts.new.self.items c.in_ok-next.next c.loop-parts.invariant.parts c.in_ok-next.ensures.names c.in_ok-push-2.ensures.items c.in_ok-next.ensures.parsed c.in_ok-next.ensures.within.0 c.if-not-is_joined-2.ensures.0 c.if-not-is_joined-2.ensures.1;
   names = extends_on _ _ _ c.loop-parts.invariant.names c.in_ok-next.ensures.names;
 }
 
 pub chain-returns-then-not-is_joined-2-clause-parsed : goal.chain-returns-then-not-is_joined-2-clause-parsed
 chain-returns-then-not-is_joined-2-clause-parsed t c =
-    parsed_last c.args.connective c.args.condition c.args.levels c.args.tokens.now c.args.at c.loop-parts.place c.in_ok-next.end c.args.names.now c.loop-parts.names c.part-in-loop-parts.new.names c.loop-parts.parts.items c.push-in-loop-parts.new.parts.items c.in_ok-next.next (form_of c.connected.result) c.connected.ensures c.loop-parts.invariant.parts c.in_ok-next.ensures.names c.in_ok-push-2.ensures.pushed c.in_ok-next.ensures.parsed c.if-not-is_joined-2.ensures
+    parsed_last c.args.connective c.args.condition c.args.levels c.args.tokens.now c.args.at c.loop-parts.place c.in_ok-next.end c.args.names.now c.loop-parts.names c.part-in-loop-parts.new.names c.loop-parts.parts.items c.push-in-loop-parts.new.self.items c.in_ok-next.next (form_of c.connected.result) c.connected.ensures c.loop-parts.invariant.parts c.in_ok-next.ensures.names c.in_ok-push-2.ensures.items c.in_ok-next.ensures.parsed c.if-not-is_joined-2.ensures
 
 pub negation-returns-in_err-operand-clause-fails : goal.negation-returns-in_err-operand-clause-fails
 negation-returns-in_err-operand-clause-fails t c =
@@ -52,7 +52,7 @@ negation-returns-in_err-inner-clause-fails t c =
 
 pub negation-returns-then-is_op-clause-parsed : goal.negation-returns-then-is_op-clause-parsed
 negation-returns-then-is_op-clause-parsed t c =
-    parsed_bang _ _ _ _ _ _ _ _ _ c.if-levels-eq0.false c.if-is_op.ensures.1 (ap form_of c.in_ok-boxed.ensures.boxed) c.in_ok-operand.ensures.parsed
+    parsed_bang _ _ _ _ _ _ _ _ _ c.if-levels-eq0.false c.if-is_op.ensures.1 (ap form_of c.in_ok-new.ensures.ok) c.in_ok-operand.ensures.parsed
 
 pub negation-returns-then-not-is_op-clause-fails : goal.negation-returns-then-not-is_op-clause-fails
 negation-returns-then-not-is_op-clause-fails t c =
