@@ -1,4 +1,4 @@
-//! Expressions from tokens.
+//! Expressions from tokens: the grammar of the kernel's kconfig-language, "Menu dependencies".
 
 ghost use Rattle.std.specs.Prelude.{◌≡◌, ℕ, ◌+◌, ◌≤◌, ◌<◌, ◌≢◌, Bool, true, false, List, length, [], ◌∷◌, ◌++◌, map, IfOk, IfErr, OnOk};
 ghost use Rattle.kc_expr.specs.declared.parse.ExprFault.TheVariants.{Memory};
@@ -48,8 +48,23 @@ impl<T: Drop> From<AllocFailed<T>> for ExprFault {
 // How many `(` and `!` may be open at once.
 const MAX_LEVELS: usize = 64;
 
-/// The expression of the longest front of the tokens from `at` on that begins some expression,
-/// and the place of the first token that is not used.
+/// The expression of the longest front of the tokens from `at` on that begins some expression, and the place of the
+/// first token that is not used:
+///
+/// ```text
+/// or      = and { "||" and }
+/// and     = not { "&&" not }
+/// not     = "!" not | "(" or ")" | operand [ ("=" | "!=" | "<" | ">" | "<=" | ">=") operand ]
+/// operand = a word other than if | a quoted text
+/// ```
+///
+/// Two parts or more are one `All` or `Any`, a single part is itself, and parentheses add nothing. In a condition,
+/// `condition` is the modules symbol: an operand `m`, quoted or not, that is no side of a relation then stands for `m`
+/// and that symbol.
+///
+/// [`ExprFault::TooDeep`] where a 65th `(` or `!` is opened at once; else [`ExprFault::Syntax`] where that front is no
+/// expression itself; [`ExprFault::Memory`] for want of memory. On `Ok` the names are the old ones and then each new one
+/// of the front at its first mention. After an `Err` further names may have been added.
 pub fn parse(
     alloc: Global,
     tokens: &[Token],
@@ -66,17 +81,18 @@ pub fn parse(
     chain(alloc, tokens, at, MAX_LEVELS, Connective::Or, condition, names)
 }
 
-/// The grammar gives no tokens two expressions.
+/// A law: the grammar derives no tokens in two ways.
 pub fn grammar_is_unambiguous()
     ensures { IsUnambiguous }
 {}
 
-/// No tokens have two longest fronts that begin some expression.
+/// A law: no tokens have two longest fronts that begin some expression.
 pub fn longest_front_is_unique()
     ensures { HasOneLongestFront }
 {}
 
-/// The tokens decide what [`parse`] answers: at most one expression with its place and names, or one refusal.
+/// A law: the tokens decide what [`parse`] answers, which is at most one expression with its place and names, or one of
+/// the two refusals.
 pub fn parsing_is_determined()
     ensures { (ts : List Terminal) → IsDetermined ts }
 {}
@@ -145,6 +161,7 @@ fn part(
     }
 }
 
+// One part of a conjunction.
 #[cycle(parse)]
 fn negation(
     alloc: Global,
@@ -264,6 +281,7 @@ fn operand(
     }
 }
 
+// A word as a constant.
 fn constant(alloc: Global, text: &[u8]) -> Result<Operand, ExprFault>
     ensures constant { IfOk result (λ o. leaf_of o ≡ Text text.now) }
     ensures memory { IfErr result IsMemory }

@@ -5,7 +5,7 @@ ghost use Rattle.std.specs.Prelude.{◌≤◌, length};
 use crate::expression::{Expr, Kind, SymId, Tri};
 use crate::names::Names;
 use crate::parse::{parse};
-use crate::values::{Values, eval, names_into};
+use crate::values::{Values, eval, eval_depends_on_symbols, names_into};
 use kc_text::{Token, lex};
 use std::test::Fail;
 
@@ -290,7 +290,7 @@ fn the_longest_lines_are_read_at_once(rt: HostRuntime) -> Result<(), Fail> {
 
 // Each symbol: its name, type, truth value and text. A word without a type is worth its own name.
 fn symbols() -> &'static [(&'static [u8], Kind, Tri, &'static [u8])] {
-    static ROWS: [(&'static [u8], Kind, Tri, &'static [u8]); 31] = [
+    static ROWS: [(&'static [u8], Kind, Tri, &'static [u8]); 33] = [
         (b"YES", Kind::Bool, Tri::Y, b""),
         (b"NO", Kind::Bool, Tri::N, b""),
         (b"MOD", Kind::Tristate, Tri::M, b""),
@@ -304,9 +304,11 @@ fn symbols() -> &'static [(&'static [u8], Kind, Tri, &'static [u8])] {
         (b"LOW", Kind::Int, Tri::N, b"-9223372036854775808"),
         (b"HIGH", Kind::Int, Tri::N, b"9223372036854775807"),
         (b"ZERO", Kind::Int, Tri::N, b"-0"),
+        (b"ODD", Kind::Int, Tri::N, b"0x0A"),
         (b"UNSET", Kind::Int, Tri::N, b""),
         (b"H", Kind::Hex, Tri::N, b"0x0A"),
         (b"BARE", Kind::Hex, Tri::N, b"a"),
+        (b"SIXTEEN", Kind::Hex, Tri::N, b"10"),
         (b"TOP", Kind::Hex, Tri::N, b"0xffffffffffffffff"),
         (b"0", Kind::Undefined, Tri::N, b"0"),
         (b"1", Kind::Undefined, Tri::N, b"1"),
@@ -348,6 +350,7 @@ fn value_of(rt: &HostRuntime, line: &[u8]) -> Result<Option<Tri>, Fail>
     if end < tokens.len() {
         return Ok(None);
     }
+    eval_depends_on_symbols(&expr, &table, &table);
     Ok(Some(eval(&expr, &table)))
 }
 
@@ -390,7 +393,7 @@ fn truth_values(rt: HostRuntime) -> Result<(), Fail> {
 
 // Relations that hold. Each is also tried with a `!` in front.
 fn hold() -> &'static [&'static [u8]] {
-    static ROWS: [&'static [u8]; 62] = [
+    static ROWS: [&'static [u8]; 75] = [
         // truth values as 0, 1, 2
         b"YES = y",
         b"NO != y",
@@ -428,10 +431,21 @@ fn hold() -> &'static [&'static [u8]] {
         b"VOID != 0",
         b"LETTER = y",
         b"LETTER != 2",
-        b"LETTER = \"y\"",
+        b"YES = LETTER",
+        b"MOD < LETTER",
+        b"NO > ABC",
         // int
         b"I = 10",
+        b"ODD != 10",
         b"I <= 10",
+        b"NO <= y",
+        b"y >= MOD",
+        b"!I = 9",
+        b"!I != 10",
+        b"!I < 10",
+        b"!I > 10",
+        b"!I <= 9",
+        b"!9 >= I",
         b"I >= \"0010\"",
         b"I > 9",
         b"9 < I",
@@ -450,6 +464,8 @@ fn hold() -> &'static [&'static [u8]] {
         b"H > 9",
         b"0 != 0x",
         b"0x = \"0x\"",
+        b"SIXTEEN = \"16\"",
+        b"SIXTEEN != 10",
         b"BARE = 10",
         b"BARE = 0x0A",
         b"BARE = \"a\"",

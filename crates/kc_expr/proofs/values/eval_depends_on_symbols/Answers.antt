@@ -7,4 +7,4 @@ pub returns : goal.returns
 returns g c =
     let values = c.args.values.now in
     let others = c.args.others.now in
-    depends_on_symbols (known_by (g.V.Values.kind_of values) (g.V.Values.tri_of values) (g.V.Values.text_of values)) (known_by (g.W.Values.kind_of others) (g.W.Values.tri_of others) (g.W.Values.text_of others)) (form_of c.args.e.now) c.requires
+    depends_on_symbols (known_by (g.V.Values.kind_of values) (g.V.Values.tri_of values) (g.V.Values.text_of values)) (known_by (g.W.Values.kind_of others) (g.W.Values.tri_of others) (g.W.Values.text_of others)) (form_of c.args.e.now)
