@@ -1,10 +1,10 @@
 -- The longest front that begins some expression, and so the outcome of parsing, is the only one.
-use Rattle.std.proofs.Common.{◌≡◌, ℕ, ◌≤◌, List, [], ◌∷◌, ◌++◌, Option, refl, sym, ap, ◌∙◌, subst, append_assoc, append-nil}
+use Rattle.std.proofs.Common.{◌≡◌, ℕ, List, [], ◌∷◌, ◌++◌, Option, refl, sym, ap, ◌∙◌, subst, append_assoc, append-nil}
 use Rattle.kc_expr.specs.declared.expression.SymId.{SymId}
 use Rattle.kc_expr.specs.Form.{Form}
 use Rattle.kc_expr.specs.Names.{number_of, all_mentioned, Extends}
-use Rattle.kc_expr.specs.Grammar.{Terminal, Disjunction, spell_or, levels_or, meaning_or, words, Begins, BeginsWithin, NoLonger, LongestFront, HasOneLongestFront}
-use Rattle.kc_expr.specs.Reading.{IsParsed, IsNoExpression, IsTooDeep, IsDetermined}
+use Rattle.kc_expr.specs.Grammar.{Terminal, Disjunction, spell_or, meaning_or, words, Begins, BeginsWithin, NoLonger, LongestFront, HasOneLongestFront}
+use Rattle.kc_expr.specs.Parsing.{IsParsed, IsNoExpression, IsTooDeep, IsDetermined}
 use Rattle.kc_expr.proofs.OneTree.{unambiguous}
 
 -- a front of what begins an expression begins it too

@@ -7,7 +7,8 @@ use Rattle.kc_expr.specs.Form.{Form}
 use Rattle.kc_expr.specs.Grammar.{Terminal, Disjunction, spell, spell_or, levels, levels_or, NoLonger}
 use Rattle.kc_expr.specs.declared.parse.Connective.TheVariants.{Or}
 use Rattle.kc_expr.specs.Scan.{State, want, run, lone_in, after}
-use Rattle.kc_expr.specs.Reading.{IsUnfinished, Refuses, Fresh_start, Broken, Deep, ParsedChain, FailsChain, IsParsed, IsNoExpression, IsTooDeep, IsRefused}
+use Rattle.kc_expr.specs.Parsing.{IsParsed, IsNoExpression, IsTooDeep, IsRefused}
+use Rattle.kc_expr.specs.Reading.{IsUnfinished, Refuses, Fresh_start, Broken, Deep, ParsedChain, FailsChain}
 use Rattle.kc_expr.proofs.ScanLemmas.{run-append, reads}
 use Rattle.kc_expr.proofs.ReadingLemmas.{refuses_after}
 

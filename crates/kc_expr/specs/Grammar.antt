@@ -62,7 +62,6 @@ terminals = map terminal_of
 abbrev pub lexemes_from : List Token → ℕ → List Lexeme
 lexemes_from tokens at = map (λ t. lexeme t.kind) (drop at tokens)
 
-
 abbrev pub terminals_from : List Token → ℕ → List Terminal
 terminals_from tokens at = map (λ t. terminal_of (lexeme t.kind)) (drop at tokens)
 

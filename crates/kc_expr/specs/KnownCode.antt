@@ -1,24 +1,12 @@
 -- How the logic stores what is known of a symbol, by which a model may have it in its value.
-use Rattle.std.specs.Prelude.{◌≡◌, ℕ, List}
+use Rattle.std.specs.Prelude.{◌≡◌}
 use Rattle.std.proofs.Common.{ap}
-use Rattle.std.specs.Coded.{Coded, coded_ℕ, coded_list}
-use base.Stored.{Gv, gnil, gnum, gcons}
+use Rattle.std.specs.Coded.{Coded}
+use base.Stored.{Gv, gnum, gcons}
 use Rattle.kc_expr.specs.contracts.expression.Tri as tri
 use Rattle.kc_expr.specs.contracts.expression.Kind as kind
+use Rattle.kc_expr.specs.FormCode.{head, tail, bytes_code}
 use Rattle.kc_expr.specs.Value.{Known, Truth, Written}
-
-abbrev head : Gv → Gv
-head gnil = gnil
-head (gnum n) = gnil
-head (gcons a b) = a
-
-abbrev tail : Gv → Gv
-tail gnil = gnil
-tail (gnum n) = gnil
-tail (gcons a b) = b
-
-abbrev bytes_code : Coded (List ℕ)
-bytes_code = coded_list coded_ℕ
 
 abbrev pub store : Known → Gv
 store (Truth t) = gcons (gnum 0) (tri.the_row.coded.code t)

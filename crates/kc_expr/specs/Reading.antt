@@ -1,5 +1,5 @@
--- What reading one part of an expression gives.
-use Rattle.std.specs.Prelude.{◌≡◌, ◌≢◌, ℕ, ◌+◌, ◌≤◌, ◌<◌, length, Bool, true, false, List, [], ◌∷◌, ◌++◌, Option, Some, None, MatchBool}
+-- What the parser's functions give: each one's part of an expression, or where it breaks off.
+use Rattle.std.specs.Prelude.{◌≡◌, ℕ, ◌+◌, ◌≤◌, ◌<◌, length, Bool, true, false, List, [], ◌∷◌, ◌++◌, Option, Some, None, MatchBool}
 use Rattle.kc_expr.specs.declared.parse.ExprFault.{ExprFault}
 use Rattle.kc_expr.specs.declared.parse.ExprFault.TheVariants.{Syntax, TooDeep, Memory}
 use Rattle.kc_text.specs.declared.tokens.Op.{Op}
@@ -10,10 +10,10 @@ use Rattle.kc_text.specs.declared.tokens.Token.{Token}
 use Rattle.kc_text.specs.declared.tokens.TokenKind.{TokenKind}
 use Rattle.kc_text.specs.Lexemes.{lexeme}
 use Rattle.kc_expr.specs.Form.{Form, Leaf, leaf_of}
-use Rattle.kc_expr.specs.Names.{number_of, symbol, all_mentioned, Extends}
+use Rattle.kc_expr.specs.Names.{number_of, all_mentioned, Extends}
 use Rattle.kc_expr.specs.declared.parse.Connective.{Connective}
 use Rattle.kc_expr.specs.declared.parse.Connective.TheVariants.{And, Or}
-use Rattle.kc_expr.specs.Grammar.{Terminal, Plain, Compares, Bang, Joins, Open, Close, Keyword, Chain, Part, Negation, Disjunction, spell, spell_part, spell_not, spell_or, levels, levels_part, levels_not, levels_or, meaning, meaning_part, meaning_not, meaning_or, terminals_from, terminal_of, Atom, leaf, LongestFront, Begins, BeginsWithin, op_terminal, atom_words, words_of, words}
+use Rattle.kc_expr.specs.Grammar.{Terminal, Plain, Compares, Bang, Joins, Open, Close, Keyword, Chain, Part, Negation, spell, spell_part, spell_not, levels, levels_part, levels_not, meaning, meaning_part, meaning_not, terminals_from, terminal_of, Atom, leaf, op_terminal, atom_words, words_of}
 use Rattle.kc_expr.specs.Scan.{State, want, single, right, done, step, run, lone_in, lone_part, lone_not}
 
 -- what the next token is, if there is one
@@ -141,37 +141,6 @@ FailsChain c Syntax k ts = Broken {T = Chain c} spell levels Fresh_start k ts
 FailsChain c TooDeep k ts = Deep {T = Chain c} spell levels Fresh_start k ts
 FailsChain c Memory k ts = Unit {0}
 
--- what parsing answers: the one expression of the longest front that begins some expression
-pub record IsParsed (condition : Option SymId) (ts rest : List Terminal) (old names : List (List ℕ)) (f : Form) : Type 0 where
-  pub front : List Terminal
-  pub longest : LongestFront ts front rest
-  pub tree : Disjunction
-  pub derives : spell_or tree ≡ front
-  pub within : levels_or tree ≤ 64
-  pub mentions : names ≡ all_mentioned old (words tree)
-  pub form : (later : List (List ℕ)) → Extends names later → f ≡ meaning_or condition (number_of later) tree
-
--- the longest front that begins some expression is none itself, and opens at most 64 levels
-pub record IsNoExpression (ts : List Terminal) : Type 0 where
-  pub front : List Terminal
-  pub rest : List Terminal
-  pub longest : LongestFront ts front rest
-  pub within : BeginsWithin 64 front
-  pub none : (d : Disjunction) → spell_or d ≢ front
-
--- a front begins some expression, but none of at most 64 levels
-pub record IsTooDeep (ts : List Terminal) : Type 0 where
-  pub front : List Terminal
-  pub rest : List Terminal
-  pub whole : ts ≡ front ++ rest
-  pub begins : Begins front
-  pub deep : BeginsWithin 64 front → ⊥
-
-abbrev pub IsRefused : ExprFault → List Terminal → Type 0
-IsRefused Syntax ts = IsNoExpression ts
-IsRefused TooDeep ts = IsTooDeep ts
-IsRefused Memory ts = Unit {0}
-
 -- the next token
 abbrev pub IsNext : Option TokenKind → List Token → ℕ → Type 0
 IsNext None tokens at = terminals_from tokens at ≡ []
@@ -234,9 +203,3 @@ IsOp o tokens at b =
 -- neither ! nor ( comes
 abbrev pub StartsNoOperand : List Terminal → Type 0
 StartsNoOperand ts = (starts_bang ts ≡ false) × (starts_open ts ≡ false)
-
--- Parsing has one answer: one expression, one place and one list of names, or one of the refusals.
-pub record IsDetermined (ts : List Terminal) : Type 0 where
-  pub one_answer : (condition : Option SymId) (rest rest' : List Terminal) (old names names' : List (List ℕ)) (f f' : Form) → IsParsed condition ts rest old names f → IsParsed condition ts rest' old names' f' → (rest ≡ rest') × (names ≡ names') × (f ≡ f')
-  pub not_refused : (condition : Option SymId) (rest : List Terminal) (old names : List (List ℕ)) (f : Form) → IsParsed condition ts rest old names f → (IsNoExpression ts → ⊥) × (IsTooDeep ts → ⊥)
-  pub one_refusal : IsNoExpression ts → IsTooDeep ts → ⊥

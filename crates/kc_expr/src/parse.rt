@@ -5,13 +5,14 @@ ghost use Rattle.kc_expr.specs.declared.parse.ExprFault.TheVariants.{Memory};
 ghost use Rattle.kc_expr.specs.Form.{form_of, forms, leaf_of, Text};
 ghost use Rattle.kc_expr.specs.Grammar as spec;
 ghost use Rattle.kc_expr.specs.Grammar.{terminals_from, is_m_leaf, plain_under, IsUnambiguous, Terminal, HasOneLongestFront};
-ghost use Rattle.kc_expr.specs.Reading.{IsParsed, IsDetermined, IsRefused, ParsedNot, ParsedPart, ParsedChain, FailsNot, FailsPart, FailsChain, IsNext, ReadsOperand, ReadsRelation, IsMemory, IsOp, IsJoined, StartsNoOperand};
+ghost use Rattle.kc_expr.specs.Parsing.{IsParsed, IsDetermined, IsRefused};
+ghost use Rattle.kc_expr.specs.Reading.{ParsedNot, ParsedPart, ParsedChain, FailsNot, FailsPart, FailsChain, IsNext, ReadsOperand, ReadsRelation, IsMemory, IsOp, IsJoined, StartsNoOperand};
 ghost use Rattle.kc_expr.specs.Names.{Extends, mention};
 
 use crate::expression::{Expr, Operand, SymId};
 use crate::names::Names;
-use kc_text::{Op, Token, TokenKind, unescape_into};
 use crate::values::letter_of;
+use kc_text::{Op, Token, TokenKind, unescape_into};
 use std::alloc::{AllocError, AllocFailed, Global};
 use thiserror::Error;
 
@@ -78,7 +79,15 @@ pub fn parse(
     ensures refused { IfErr result (λ f. IsRefused f (terminals_from tokens.now at)) }
     ensures names { Extends names.old names.new }
 {
-    chain(alloc, tokens, at, MAX_LEVELS, Connective::Or, condition, names)
+    chain(
+        alloc,
+        tokens,
+        at,
+        MAX_LEVELS,
+        Connective::Or,
+        condition,
+        names,
+    )
 }
 
 /// A law: the grammar derives no tokens in two ways.
@@ -129,7 +138,15 @@ fn chain(
     parts.push(first)?;
     let mut place = end;
     loop {
-        let (next, end) = part(alloc, tokens, place + 1, levels, connective, condition, names)?;
+        let (next, end) = part(
+            alloc,
+            tokens,
+            place + 1,
+            levels,
+            connective,
+            condition,
+            names,
+        )?;
         parts.push(next)?;
         if !is_joined(tokens, end, connective) {
             return Ok((connected(connective, parts), end));
@@ -188,8 +205,15 @@ fn negation(
         if levels == 0 {
             return Err(ExprFault::TooDeep);
         }
-        let (inner, end) =
-            chain(alloc, tokens, at + 1, levels - 1, Connective::Or, condition, names)?;
+        let (inner, end) = chain(
+            alloc,
+            tokens,
+            at + 1,
+            levels - 1,
+            Connective::Or,
+            condition,
+            names,
+        )?;
         if !is_op(tokens, end, Op::RParen) {
             return Err(ExprFault::Syntax);
         }

@@ -4,7 +4,7 @@ ghost use Rattle.std.specs.Prelude.{◌≤◌, length};
 
 use crate::expression::{Expr, Kind, SymId, Tri};
 use crate::names::Names;
-use crate::parse::{parse};
+use crate::parse::parse;
 use crate::values::{Values, eval, eval_depends_on_symbols, names_into};
 use kc_text::{Token, lex};
 use std::test::Fail;
@@ -146,7 +146,10 @@ fn plain_m_asks_for_modules(rt: HostRuntime) -> Result<(), Fail> {
         let mut names = Names::new(rt.alloc());
         let modules = names.id(b"MODULES")?;
         assert!(rt; line.len() <= 8191);
-        assert_eq!(rt; shape(&rt, line, Some(modules), &mut names)?.as_str(), *want);
+        assert_eq!(rt;
+            shape(&rt, line, Some(modules), &mut names)?.as_str(),
+            *want
+        );
     }
     Ok(())
 }
@@ -209,8 +212,20 @@ fn opened(
 }
 
 // How many openers, the opener, what follows them, the closer, and what the line reads as.
-fn levels() -> &'static [(usize, &'static [u8], &'static [u8], &'static [u8], &'static str)] {
-    static ROWS: [(usize, &'static [u8], &'static [u8], &'static [u8], &'static str); 12] = [
+fn levels() -> &'static [(
+    usize,
+    &'static [u8],
+    &'static [u8],
+    &'static [u8],
+    &'static str,
+)] {
+    static ROWS: [(
+        usize,
+        &'static [u8],
+        &'static [u8],
+        &'static [u8],
+        &'static str,
+    ); 12] = [
         (64, b"(", b"y", b")", "One(Const([121])) 129"),
         (65, b"(", b"y", b")", "too deep"),
         (65, b"!", b"y", b"", "too deep"),
@@ -270,7 +285,11 @@ fn parts_of(rt: &HostRuntime, line: &[u8]) -> Result<Option<usize>, Fail>
 
 // What is joined to an `a`, and how many parts there are then.
 fn repeated() -> &'static [(&'static [u8], usize)] {
-    static ROWS: [(&'static [u8], usize); 3] = [(b" && a", 1639), (b"||a=b", 1639), (b"&&(((a)))", 911)];
+    static ROWS: [(&'static [u8], usize); 3] = [
+        (b" && a", 1639),
+        (b"||a=b", 1639),
+        (b"&&(((a)))", 911),
+    ];
     &ROWS
 }
 
@@ -320,10 +339,30 @@ fn symbols() -> &'static [(&'static [u8], Kind, Tri, &'static [u8])] {
         (b"0x", Kind::Undefined, Tri::N, b"0x"),
         (b"a", Kind::Undefined, Tri::N, b"a"),
         (b"U", Kind::Undefined, Tri::N, b"U"),
-        (b"9223372036854775807", Kind::Undefined, Tri::N, b"9223372036854775807"),
-        (b"10000000000000000000", Kind::Undefined, Tri::N, b"10000000000000000000"),
-        (b"0xffffffffffffffff", Kind::Undefined, Tri::N, b"0xffffffffffffffff"),
-        (b"0x10000000000000000", Kind::Undefined, Tri::N, b"0x10000000000000000"),
+        (
+            b"9223372036854775807",
+            Kind::Undefined,
+            Tri::N,
+            b"9223372036854775807",
+        ),
+        (
+            b"10000000000000000000",
+            Kind::Undefined,
+            Tri::N,
+            b"10000000000000000000",
+        ),
+        (
+            b"0xffffffffffffffff",
+            Kind::Undefined,
+            Tri::N,
+            b"0xffffffffffffffff",
+        ),
+        (
+            b"0x10000000000000000",
+            Kind::Undefined,
+            Tri::N,
+            b"0x10000000000000000",
+        ),
     ];
     &ROWS
 }

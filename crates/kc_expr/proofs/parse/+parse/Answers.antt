@@ -1,3 +1,4 @@
+-- What the check left open in the cycle of `parse`.
 use Rattle.std.proofs.Common.{ℕ, ◌∙◌, ap, ◌++◌, ◌∷◌, []}
 use Rattle.std.proofs.lemmas.Result.{IfOk-weaker}
 use Rattle.kc_expr.specs.declared.expression.Expr.{Expr}

@@ -1,3 +1,4 @@
+-- The invariants and measures of the cycle of `parse`.
 use Rattle.std.proofs.Common.{◌+◌, ◌-◌, ◌*◌, length}
 use Rattle.kc_expr.specs.Names.{Extends}
 use Rattle.kc_expr.proofs.ParseLemmas.{Parts, rank}

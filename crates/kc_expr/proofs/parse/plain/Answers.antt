@@ -1,3 +1,4 @@
+-- What the check left open in `plain`.
 use Rattle.std.proofs.Common.{◌∙◌, sym}
 use Rattle.kc_expr.specs.declared.expression.Expr.{One}
 use Rattle.kc_expr.specs.declared.expression.Operand.TheVariants.{Sym}

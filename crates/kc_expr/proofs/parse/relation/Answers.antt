@@ -1,3 +1,4 @@
+-- What the check left open in `relation`.
 use Rattle.std.proofs.Common.{◌≡◌, ◌+◌, ◌∙◌, ap, ◌∷◌, arith}
 use Rattle.kc_expr.specs.Grammar.{terminals_from, Plain, Compares}
 use Rattle.kc_expr.specs.Reading.{starts_plain}

@@ -1,3 +1,4 @@
+-- What the check left open in `eval_depends_on_symbols`.
 use Rattle.kc_expr.specs.Form.{form_of}
 use Rattle.kc_expr.specs.Value.{known_by}
 use Rattle.kc_expr.proofs.AgreeLemmas.{depends_on_symbols}

@@ -1,3 +1,4 @@
+-- What the check left open in `are_distinct`.
 use Rattle.std.proofs.Common.{subst}
 use Rattle.kc_expr.specs.Names.{AreDistinct}
 use Rattle.kc_expr.proofs.NamesLemmas.{distinct-map}
