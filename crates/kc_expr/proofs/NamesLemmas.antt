@@ -1,0 +1,174 @@
+-- Names, as the bytes of the keys of a set.
+use Rattle.std.proofs.Common.{◌≡◌, ℕ, ◌+◌, Bool, true, false, not, cond, ◌||◌, List, [], ◌∷◌, ◌++◌, map, Some, None, position, length, nat_lt, zero, suc, ◌<◌, ◌==◌, get_or, slice_get, arith, refl, sym, ap, ◌∙◌, append_assoc, append-nil}
+use Rattle.std.specs.List.{list_any, prefix_len, position_or_len, IsDistinct, AllByRecursion}
+use Rattle.std.proofs.lemmas.List.Elements.{All-from_recursion}
+use Rattle.std.proofs.lemmas.Bool.Decides.{nat_tests}
+use Rattle.std.proofs.lemmas.Option.{get_or_from_slice_get, slice_get_within}
+use Rattle.std.proofs.lemmas.Bool.{false≢true}
+use Rattle.std.proofs.lemmas.Grind.{flat_map-append}
+use Rattle.std.proofs.Math.ListN.{length-map}
+use Rattle.std.specs.declared.vec.Vec.{Vec}
+use Rattle.std.specs.declared.alloc.Global.{Global}
+use Rattle.std.specs.declared.hash.FoldHasher.{FoldHasher}
+use Rattle.std.specs.declared.hash.BuildHasherDefault.{BuildHasherDefault}
+use Rattle.indexmap.specs.IndexSet.{IndexSet}
+use Rattle.kc_expr.specs.Grammar.{Terminal, Close, terminal_words, words_of}
+use Rattle.kc_expr.specs.Names.{symbol, same_name, number_of, mention, all_mentioned, Extends, IsNumber, AreDistinct}
+use Rattle.kc_expr.specs.declared.expression.SymId.{SymId}
+
+module _ {K : Type 0} (f : K → List ℕ) where
+  prefix_len-map : (p : List ℕ → Bool) (ks : List K) → prefix_len p (map f ks) ≡ prefix_len (λ k. p (f k)) ks
+  prefix_len-map p [] = refl
+  prefix_len-map p (k ∷ ks) = ap (λ n. cond (p (f k)) (1 + n) 0) (prefix_len-map p ks)
+
+  list_any-map : (p : List ℕ → Bool) (ks : List K) → list_any p (map f ks) ≡ list_any (λ k. p (f k)) ks
+  list_any-map p [] = refl
+  list_any-map p (k ∷ ks) = ap (λ b. p (f k) || b) (list_any-map p ks)
+
+  map-push : (ks : List K) (k : K) → map f (ks ++ k ∷ []) ≡ map f ks ++ f k ∷ []
+  map-push [] k = refl
+  map-push (x ∷ ks) k = ap (λ l. f x ∷ l) (map-push ks k)
+
+  pub number_of-map : (name : List ℕ) (ks : List K) → number_of (map f ks) name ≡ position_or_len (λ k. same_name name (f k)) ks
+  number_of-map name ks = prefix_len-map (λ n. not (same_name name n)) ks
+
+  pub position-map : (p : List ℕ → Bool) (ks : List K) → position p (map f ks) ≡ position (λ k. p (f k)) ks
+  position-map p ks =
+      let n = prefix_len-map (λ n. not (p n)) ks in
+      let l : length (map f ks) ≡ length ks = simp length-map in
+      rw (n, l)
+
+  pub mention-known : (name : List ℕ) (ks : List K) → true ≡ list_any (λ k. same_name name (f k)) ks → map f ks ≡ mention (map f ks) name
+  mention-known name ks h = rw (list_any-map (same_name name) ks, ← h)
+
+  pub mention-insert : (ks : List K) (k : K) → map f (cond (list_any (λ x. same_name (f k) (f x)) ks) ks (ks ++ k ∷ [])) ≡ mention (map f ks) (f k)
+  mention-insert ks k = rw (list_any-map (same_name (f k)) ks) (by (list_any (λ x. same_name (f k) (f x)) ks))
+    where
+      by : (b : Bool) → map f (cond b ks (ks ++ k ∷ [])) ≡ cond b (map f ks) (map f ks ++ f k ∷ [])
+      by true = refl
+      by false = map-push ks k
+
+-- an index that was found is the number of the name
+pub position-number : {X : Type 0} (p : X → Bool) (xs : List X) (i : ℕ) → Some i ≡ position p xs → i ≡ position_or_len p xs
+position-number p xs i h = by (nat_lt (position_or_len p xs) (length xs)) (position_or_len p xs) i h
+  where
+    by : (b : Bool) (n j : ℕ) → Some j ≡ cond b (Some n) None → j ≡ n
+    by true n j e = cc
+    by false n j e = cc
+
+module _ (names : IndexSet (Vec ℕ Global) (BuildHasherDefault FoldHasher)) (name : List ℕ) where
+  abbrev seen : List (List ℕ)
+  seen = map (λ v. v.items) names.keys
+
+  abbrev test : Vec ℕ Global → Bool
+  test = λ v. same_name name v.items
+
+  pub number_found : (i : ℕ) → Some i ≡ position test names.keys → i ≡ number_of seen name
+  number_found i h = position-number test names.keys i h ∙ sym (number_of-map (λ v. v.items) name names.keys)
+
+  pub position_found : position test names.keys ≡ position (same_name name) seen
+  position_found = sym (position-map (λ v. v.items) (same_name name) names.keys)
+
+  pub number_new : (i : ℕ) → i ≡ position_or_len test names.keys → i ≡ number_of seen name
+  number_new i h = h ∙ sym (number_of-map (λ v. v.items) name names.keys)
+
+same_name-comm : (v w : List ℕ) → same_name v w ≡ same_name w v
+same_name-comm [] [] = refl
+same_name-comm [] (b ∷ w) = refl
+same_name-comm (a ∷ v) [] = refl
+same_name-comm (a ∷ v) (b ∷ w) =
+    let e : (a == b) ≡ (b == a) = grind (arith, nat_tests) in rw (e, same_name-comm v w)
+
+-- a name is the same as itself
+pub same_name-refl : (w : List ℕ) → same_name w w ≡ true
+same_name-refl [] = refl
+same_name-refl (b ∷ w) = let e : (b == b) ≡ true = grind (arith, nat_tests) in rw (e, same_name-refl w)
+
+-- where no two names are the same, the number of the name at a place is the place
+pub number_of-at : (ks : List (Vec ℕ Global)) (i : ℕ) (d : Vec ℕ Global) → IsDistinct (λ a b. same_name a.items b.items) ks → i < length ks → number_of (map (λ v. v.items) ks) (get_or ks i d).items ≡ i
+unfolding IsDistinct
+number_of-at [] i d u h = absurd (omega arith)
+number_of-at (k ∷ ks) zero d u h = rw (same_name-refl k.items)
+number_of-at (k ∷ ks) (suc i) d u h =
+    let w = (get_or ks i d).items in
+    let apart : same_name w k.items ≡ false = same_name-comm w k.items ∙ All-from_recursion _ ks u.0 i d (omega arith) in
+    rw (apart, number_of-at ks i d u.1 (omega arith)) (omega arith)
+
+pub number_of-name : (ks : List (Vec ℕ Global)) (i : ℕ) (v : Vec ℕ Global) → IsDistinct (λ a b. same_name a.items b.items) ks → Some v ≡ slice_get ks i → number_of (map (λ k. k.items) ks) v.items ≡ i
+number_of-name ks i v u e =
+    ap (λ k. number_of (map (λ k. k.items) ks) k.items) (sym (get_or_from_slice_get ks i v v (sym e)))
+    ∙ number_of-at ks i v u (slice_get_within ks i v (sym e))
+
+-- a known name keeps its number
+number_kept : (names others : List (List ℕ)) (w : List ℕ) → list_any (same_name w) names ≡ true → number_of (names ++ others) w ≡ number_of names w
+number_kept [] others w h = absurd (false≢true h)
+number_kept (x ∷ xs) others w h = by (same_name w x) h (number_kept xs others w)
+  where
+    by : (b : Bool) → (b || list_any (same_name w) xs) ≡ true → (list_any (same_name w) xs ≡ true → number_of (xs ++ others) w ≡ number_of xs w) → cond (not b) (1 + number_of (xs ++ others) w) 0 ≡ cond (not b) (1 + number_of xs w) 0
+    by true h rest = refl
+    by false h rest = ap (λ n. 1 + n) (rest h)
+
+number_pushed : (names others : List (List ℕ)) (w : List ℕ) → list_any (same_name w) names ≡ false → number_of (names ++ (w ∷ others)) w ≡ number_of names w
+number_pushed [] others w h = rw (same_name-refl w)
+number_pushed (x ∷ xs) others w h = by (same_name w x) h (number_pushed xs others w)
+  where
+    by : (b : Bool) → (b || list_any (same_name w) xs) ≡ false → (list_any (same_name w) xs ≡ false → number_of (xs ++ (w ∷ others)) w ≡ number_of xs w) → cond (not b) (1 + number_of (xs ++ (w ∷ others)) w) 0 ≡ cond (not b) (1 + number_of xs w) 0
+    by true h rest = refl
+    by false h rest = ap (λ n. 1 + n) (rest h)
+
+-- a mentioned name has its number from then on
+pub number_later : (names : List (List ℕ)) (w : List ℕ) (later : List (List ℕ)) → Extends (mention names w) later → number_of names w ≡ number_of later w
+number_later names w later ext = by (list_any (same_name w) names) refl ext.1
+  where
+    by : (b : Bool) → list_any (same_name w) names ≡ b → later ≡ cond b names (names ++ w ∷ []) ++ ext.0 → number_of names w ≡ number_of later w
+    by true e h = sym (ap (λ ns. number_of ns w) h ∙ number_kept names ext.0 w e)
+    by false e h = sym (ap (λ ns. number_of ns w) (h ∙ append_assoc names (w ∷ []) ext.0) ∙ number_pushed names ext.0 w e)
+
+pub symbol_later : (names : List (List ℕ)) (w : List ℕ) (later : List (List ℕ)) → Extends (mention names w) later → symbol (number_of names w) ≡ symbol (number_of later w)
+symbol_later names w later ext = ap symbol (number_later names w later ext)
+
+pub number_for_later : (old new : List (List ℕ)) (w : List ℕ) (id : SymId) → id ≡ symbol (number_of old w) → new ≡ mention old w → IsNumber new w id
+number_for_later old new w id e m later x = e ∙ symbol_later old w later (x.0, x.1 ∙ ap (λ ns. ns ++ x.0) m)
+
+-- names that extend names that extend names
+pub extends_on : (a b c : List (List ℕ)) → Extends a b → Extends b c → Extends a c
+extends_on a b c x y = (x.0 ++ y.0, y.1 ∙ ap (λ l. l ++ y.0) x.1 ∙ append_assoc a x.0 y.0)
+
+-- a mention keeps the names so far, and so do several
+mention_extends : (names : List (List ℕ)) (w : List ℕ) → Extends names (mention names w)
+mention_extends names w = by (list_any (same_name w) names)
+  where
+    by : (b : Bool) → Extends names (cond b names (names ++ w ∷ []))
+    by true = ([], sym (append-nil names))
+    by false = (w ∷ [], refl)
+
+pub all_mentioned_extends : (names ws : List (List ℕ)) → Extends names (all_mentioned names ws)
+all_mentioned_extends names [] = ([], sym (append-nil names))
+all_mentioned_extends names (w ∷ ws) = extends_on _ _ _ (mention_extends names w) (all_mentioned_extends (mention names w) ws)
+
+pub mentioned_extends : (names later ws : List (List ℕ)) → later ≡ all_mentioned names ws → Extends names later
+mentioned_extends names later ws e = let x = all_mentioned_extends names ws in (x.0, e ∙ x.1)
+
+-- first these, then those
+pub all_mentioned-append : (names vs ws : List (List ℕ)) → all_mentioned names (vs ++ ws) ≡ all_mentioned (all_mentioned names vs) ws
+all_mentioned-append names [] ws = refl
+all_mentioned-append names (v ∷ vs) ws = all_mentioned-append (mention names v) vs ws
+
+pub mentioned_on : (old now names vs ws : List (List ℕ)) → now ≡ all_mentioned old vs → names ≡ all_mentioned now ws → names ≡ all_mentioned old (vs ++ ws)
+mentioned_on old now names vs ws e f = f ∙ ap (λ ns. all_mentioned ns ws) e ∙ sym (all_mentioned-append old vs ws)
+
+pub words_of-append : (a b : List Terminal) → words_of (a ++ b) ≡ words_of a ++ words_of b
+words_of-append a b = flat_map-append terminal_words a b
+
+pub words_of-closed : (a : List Terminal) → words_of (a ++ Close ∷ []) ≡ words_of a
+words_of-closed a = words_of-append a (Close ∷ []) ∙ append-nil (words_of a)
+
+-- names that differ as the keys of a set differ as names
+pub distinct-map : (ks : List (Vec ℕ Global)) → IsDistinct (λ a b. same_name a.items b.items) ks → AreDistinct (map (λ v. v.items) ks)
+unfolding IsDistinct
+distinct-map [] d = d
+distinct-map (k ∷ ks) d = (all_map ks d.0, distinct-map ks d.1)
+  where
+    all_map : (vs : List (Vec ℕ Global)) → AllByRecursion (λ v. same_name k.items v.items ≡ false) vs → AllByRecursion (λ n. same_name k.items n ≡ false) (map (λ v. v.items) vs)
+    all_map [] h = tt
+    all_map (v ∷ vs) h = (h.0, all_map vs h.1)

@@ -1,0 +1,238 @@
+-- What the parser's functions need of tokens and names.
+use Rattle.std.proofs.Common.{◌≡◌, ◌≢◌, ℕ, suc, ◌+◌, ◌-◌, ◌≤◌, ◌<◌, false, List, [], ◌∷◌, ◌++◌, map, length, Result, IfErr, IsErrAnd, Option, refl, sym, ap, ◌∙◌, subst, append_assoc, append-nil, arith}
+use Rattle.std.proofs.lemmas.Bool.{false≢true}
+use Rattle.std.proofs.lemmas.Result.{err_from_is_err_and}
+use Rattle.std.specs.declared.vec.Vec.{Vec}
+use Rattle.std.specs.declared.alloc.Global.{Global}
+use Rattle.kc_expr.specs.declared.expression.SymId.{SymId}
+use Rattle.kc_text.specs.declared.tokens.Op.{Op}
+use Rattle.kc_expr.specs.declared.expression.Operand.{Operand}
+use Rattle.kc_expr.specs.declared.expression.Operand.TheVariants.{Sym}
+use Rattle.kc_expr.specs.declared.expression.Expr.{Expr, All, One}
+use Rattle.kc_text.specs.declared.tokens.Token.{Token}
+use Rattle.kc_expr.specs.declared.parse.ExprFault.{ExprFault}
+use Rattle.kc_expr.specs.Form.{Form, forms, form_of, leaf_of, Leaf, Symbol, Single, Related, Negated, Every, NoForms, MoreForms}
+use Rattle.kc_expr.specs.Names.{number_of, all_mentioned, Extends}
+use Rattle.kc_expr.specs.declared.parse.Connective.{Connective}
+use Rattle.kc_expr.specs.declared.parse.Connective.TheVariants.{And, Or}
+use Rattle.kc_expr.specs.Grammar.{Atom, Terminal, Plain, Compares, Bang, Joins, Open, Close, Keyword, Chain, only, negation, conjunction, bang, group, lone, compare, spell, spell_part, spell_not, levels, levels_not, leaf, plain_under, atom_words, words_of, connected, meaning_part, parts, terminals_from}
+use Rattle.kc_expr.specs.Scan.{want, right}
+use Rattle.kc_expr.specs.Reading.{starts_compares, starts_joins, starts_close, starts_plain, starts_bang, starts_open, Refuses, Broken, Deep, Any_start, ParsedNot, ParsedPart, ParsedChain, FailsNot, FailsPart, FailsChain}
+use Rattle.kc_expr.proofs.FormLemmas.{form_of-All}
+use Rattle.kc_expr.proofs.NamesLemmas.{extends_on, mentioned_on, mentioned_extends, words_of-append, words_of-closed}
+use Rattle.kc_expr.proofs.PushLemmas.{push, spell-push, levels-push, lone-push, parts-push, meaning-push}
+use Rattle.kc_expr.proofs.ReadingLemmas.{no_operand, no_right, unclosed, deep_bang_now, deep_group_now, fails_bang, fails_group, fails_next}
+
+-- two parts in a `Vec`
+pub form_of_two : (v : Vec Expr Global) (o : Operand) (m : SymId) → v.items ≡ One o ∷ (One (Sym m) ∷ []) → form_of (All v) ≡ Every (MoreForms (Single (leaf_of o)) (MoreForms (Single (Symbol m)) NoForms))
+form_of_two v o m h = form_of-All v ∙ ap (λ es. Every (forms (map form_of es))) h
+
+refuses_want : (limit cur base : ℕ) (stack : List ℕ) (ts : List Terminal) → starts_plain ts ≡ false → starts_bang ts ≡ false → starts_open ts ≡ false → Refuses limit (want cur base stack) ts
+refuses_want limit cur base stack [] p b o = tt
+refuses_want limit cur base stack (Plain a ∷ ts) p b o = absurd (false≢true (sym p))
+refuses_want limit cur base stack (Bang ∷ ts) p b o = absurd (false≢true (sym b))
+refuses_want limit cur base stack (Open ∷ ts) p b o = absurd (false≢true (sym o))
+refuses_want limit cur base stack (Compares r ∷ ts) p b o = refl
+refuses_want limit cur base stack (Joins c ∷ ts) p b o = refl
+refuses_want limit cur base stack (Close ∷ ts) p b o = refl
+refuses_want limit cur base stack (Keyword ∷ ts) p b o = refl
+
+refuses_right : (limit base : ℕ) (stack : List ℕ) (ts : List Terminal) → starts_plain ts ≡ false → Refuses limit (right base stack) ts
+refuses_right limit base stack [] p = tt
+refuses_right limit base stack (Plain a ∷ ts) p = absurd (false≢true (sym p))
+refuses_right limit base stack (Bang ∷ ts) p = refl
+refuses_right limit base stack (Open ∷ ts) p = refl
+refuses_right limit base stack (Compares r ∷ ts) p = refl
+refuses_right limit base stack (Joins c ∷ ts) p = refl
+refuses_right limit base stack (Close ∷ ts) p = refl
+refuses_right limit base stack (Keyword ∷ ts) p = refl
+
+pub no_left : (ts : List Terminal) → starts_plain ts ≡ false → starts_bang ts ≡ false → starts_open ts ≡ false → (k : ℕ) → Broken spell_not levels_not Any_start k ts
+no_left ts p b o k = no_operand k ts (λ limit cur base stack. refuses_want limit cur base stack ts p b o)
+
+pub no_right_side : (ts rest : List Terminal) (a : Atom) (r : Op) → ts ≡ Plain a ∷ (Compares r ∷ rest) → starts_plain rest ≡ false → (k : ℕ) → Broken spell_not levels_not Any_start k ts
+no_right_side ts rest a r e p k =
+    subst (λ l. Broken spell_not levels_not Any_start k l) (sym e) (no_right k a r rest (λ limit base stack. refuses_right limit base stack rest p))
+
+-- an operand that is alone
+pub parsed_lone : (condition : Option SymId) (ts rest : List Terminal) (old names : List (List ℕ)) (a : Atom) (l : Leaf) (f : Form) → ts ≡ Plain a ∷ rest → starts_compares rest ≡ false → names ≡ all_mentioned old (atom_words a) → ((later : List (List ℕ)) → Extends names later → l ≡ leaf (number_of later) a) → f ≡ plain_under condition l → (k : ℕ) → ParsedNot condition k ts rest old names f
+parsed_lone condition ts rest old names a l f e s m is plain k = record {
+  tree = lone a;
+  whole = e;
+  mentions = m ∙ ap (all_mentioned old) (sym (append-nil (atom_words a)));
+  within = omega arith;
+  stops = λ _. s;
+  form = λ later x. plain ∙ ap (plain_under condition) (is later x);
+}
+
+-- a relation
+pub parsed_compare : (condition : Option SymId) (ts rest : List Terminal) (old now names : List (List ℕ)) (a b : Atom) (r : Op) (l m : Leaf) → ts ≡ Plain a ∷ (Compares r ∷ (Plain b ∷ rest)) → now ≡ all_mentioned old (atom_words a) → names ≡ all_mentioned now (atom_words b) → ((later : List (List ℕ)) → Extends now later → l ≡ leaf (number_of later) a) → ((later : List (List ℕ)) → Extends names later → m ≡ leaf (number_of later) b) → (k : ℕ) → ParsedNot condition k ts rest old names (Related r l m)
+parsed_compare condition ts rest old now names a b r l m e first second is js k = record {
+  tree = compare r a b;
+  whole = e;
+  mentions = mentioned_on old now names (atom_words a) (atom_words b) first second ∙ ap (λ ws. all_mentioned old (atom_words a ++ ws)) (sym (append-nil (atom_words b)));
+  within = omega arith;
+  stops = λ h. absurd (false≢true h);
+  form = λ later x.
+      let p = is later (extends_on now names later (mentioned_extends now names (atom_words b) second) x) in
+      let q = js later x in
+      ap (λ y. Related r y m) p ∙ ap (λ y. Related r (leaf (number_of later) a) y) q;
+}
+
+pub two_pushed : {X : Type 0} (us vs ws : List X) (x y : X) → us ≡ [] → vs ≡ us ++ x ∷ [] → ws ≡ vs ++ y ∷ [] → ws ≡ x ∷ (y ∷ [])
+two_pushed us vs ws x y e f g = g ∙ ap (λ l. l ++ y ∷ []) (f ∙ ap (λ l. l ++ x ∷ []) e)
+
+-- The parts that were read so far, where a connective stands at a place that joins another to them.
+pub record Parts (c : Connective) (condition : Option SymId) (k : ℕ) (tokens : List Token) (at place : ℕ) (old names : List (List ℕ)) (es : List Expr) : Type 0 where
+  pub tree : Chain c
+  pub after : at ≤ place
+  pub there : place < length tokens
+  pub whole : terminals_from tokens at ≡ spell tree ++ (Joins c ∷ terminals_from tokens (place + 1))
+  pub mentions : names ≡ all_mentioned old (words_of (spell tree))
+  pub within : levels tree ≤ k
+  pub forms_are : (later : List (List ℕ)) → Extends names later → map form_of es ≡ parts condition (number_of later) tree
+
+-- a fault that is passed on
+pub fault_passed : {X : Type 0} (r : Result X ExprFault) (P : ExprFault → Type 0) (e : ExprFault) → IsErrAnd r (λ y. y ≡ e) → P e → IfErr r P
+fault_passed r P e h p = let q = err_from_is_err_and r h in rw (q.1, q.2) p
+
+abbrev BrokenNot : ℕ → List Terminal → Type 0
+BrokenNot = Broken spell_not levels_not Any_start
+
+abbrev DeepNot : ℕ → List Terminal → Type 0
+DeepNot = Deep spell_not levels_not Any_start
+
+pub deep_bang_at : (k : ℕ) (ts rest : List Terminal) → k ≡ 0 → ts ≡ Bang ∷ rest → DeepNot k ts
+deep_bang_at k ts rest e w = rw (e, w) (deep_bang_now rest)
+
+pub deep_group_at : (k : ℕ) (ts rest : List Terminal) → k ≡ 0 → ts ≡ Open ∷ rest → DeepNot k ts
+deep_group_at k ts rest e w = rw (e, w) (deep_group_now rest)
+
+pub fails_bang_at : (f : ExprFault) (k : ℕ) (ts rest : List Terminal) → k ≢ 0 → ts ≡ Bang ∷ rest → FailsNot f (k - 1) rest → FailsNot f k ts
+fails_bang_at f k ts rest n w h =
+    let e : k ≡ suc (k - 1) = omega arith in
+    subst (λ l. FailsNot f k l) (sym w) (subst (λ m. FailsNot f m (Bang ∷ rest)) (sym e) (fails_bang f (k - 1) rest h))
+
+pub fails_group_at : (f : ExprFault) (k : ℕ) (ts rest : List Terminal) → k ≢ 0 → ts ≡ Open ∷ rest → FailsChain Or f (k - 1) rest → FailsNot f k ts
+fails_group_at f k ts rest n w h =
+    let e : k ≡ suc (k - 1) = omega arith in
+    subst (λ l. FailsNot f k l) (sym w) (subst (λ m. FailsNot f m (Open ∷ rest)) (sym e) (fails_group f (k - 1) rest h))
+
+pub parsed_bang : (condition : Option SymId) (k : ℕ) (ts inside rest : List Terminal) (old names : List (List ℕ)) (f g : Form) → k ≢ 0 → ts ≡ Bang ∷ inside → f ≡ g → ParsedNot condition (k - 1) inside rest old names g → ParsedNot condition k ts rest old names (Negated f)
+parsed_bang condition k ts inside rest old names f g n w e p = record {
+  tree = bang p.tree;
+  whole = w ∙ ap (λ l. Bang ∷ l) p.whole;
+  mentions = p.mentions;
+  within = let v = p.within in omega arith;
+  stops = p.stops;
+  form = λ later x. ap Negated (e ∙ p.form later x);
+}
+
+pub unclosed_at : (condition : Option SymId) (k : ℕ) (ts inside rest : List Terminal) (old names : List (List ℕ)) (f : Form) → k ≢ 0 → ts ≡ Open ∷ inside → ParsedChain Or condition (k - 1) inside rest old names f → starts_close rest ≡ false → BrokenNot k ts
+unclosed_at condition k ts inside rest old names f n w p s =
+    let e : k ≡ suc (k - 1) = omega arith in
+    let all = w ∙ ap (λ l. Open ∷ l) p.whole in
+    subst (λ l. BrokenNot k l) (sym all) (subst (λ m. BrokenNot m (Open ∷ (spell p.tree ++ rest))) (sym e) (unclosed (k - 1) p.tree rest p.within p.stops s))
+
+pub parsed_group : (condition : Option SymId) (k : ℕ) (ts inside close rest : List Terminal) (old names : List (List ℕ)) (f : Form) → k ≢ 0 → ts ≡ Open ∷ inside → ParsedChain Or condition (k - 1) inside close old names f → close ≡ Close ∷ rest → ParsedNot condition k ts rest old names f
+parsed_group condition k ts inside close rest old names f n w p e = record {
+  tree = group p.tree;
+  whole = w ∙ ap (λ l. Open ∷ l) (p.whole ∙ ap (λ l. spell p.tree ++ l) e ∙ sym (append_assoc (spell p.tree) (Close ∷ []) rest));
+  mentions = p.mentions ∙ ap (all_mentioned old) (sym (words_of-closed (spell p.tree)));
+  within = let v = p.within in omega arith;
+  stops = λ h. absurd (false≢true h);
+  form = p.form;
+}
+
+-- a negation or a conjunction as a part
+pub parsed_negation : (condition : Option SymId) (k : ℕ) (ts rest : List Terminal) (old names : List (List ℕ)) (f : Form) → ParsedNot condition k ts rest old names f → ParsedPart And condition k ts rest old names f
+parsed_negation condition k ts rest old names f p = record {
+  tree = negation p.tree;
+  whole = p.whole;
+  mentions = p.mentions;
+  within = p.within;
+  stops = (p.stops, tt);
+  form = p.form;
+}
+
+pub parsed_conjunction : (condition : Option SymId) (k : ℕ) (ts rest : List Terminal) (old names : List (List ℕ)) (f : Form) → ParsedChain And condition k ts rest old names f → ParsedPart Or condition k ts rest old names f
+parsed_conjunction condition k ts rest old names f p = record {
+  tree = conjunction p.tree;
+  whole = p.whole;
+  mentions = p.mentions;
+  within = p.within;
+  stops = (p.stops.0, p.stops.2);
+  form = p.form;
+}
+
+-- one part, that no connective joins to another
+pub parsed_only : (c : Connective) (condition : Option SymId) (k : ℕ) (ts rest : List Terminal) (old names : List (List ℕ)) (f : Form) → ParsedPart c condition k ts rest old names f → starts_joins c rest ≡ false → ParsedChain c condition k ts rest old names f
+parsed_only c condition k ts rest old names f p s = record {
+  tree = only p.tree;
+  whole = p.whole;
+  mentions = p.mentions;
+  within = p.within;
+  stops = (p.stops.0, p.stops.1, s);
+  form = p.form;
+}
+
+map_form_push : (es : List Expr) (e : Expr) → map form_of (es ++ e ∷ []) ≡ map form_of es ++ form_of e ∷ []
+map_form_push [] e = refl
+map_form_push (x ∷ es) e = ap (λ l. form_of x ∷ l) (map_form_push es e)
+
+module _ (c : Connective) (condition : Option SymId) (k : ℕ) (tokens : List Token) (at place end : ℕ) (old names names' : List (List ℕ)) (es es' : List Expr) (e : Expr) where
+  -- the first part, where the connective follows
+  pub parts_one : es' ≡ e ∷ [] → ParsedPart c condition k (terminals_from tokens at) (terminals_from tokens end) old names (form_of e) → at ≤ end → end < length tokens → terminals_from tokens end ≡ Joins c ∷ terminals_from tokens (end + 1) → Parts c condition k tokens at end old names es'
+  parts_one items p a there is = record {
+    tree = only p.tree;
+    after = a;
+    there = there;
+    whole = p.whole ∙ ap (λ l. spell_part p.tree ++ l) is;
+    mentions = p.mentions;
+    within = p.within;
+    forms_are = λ later x. ap (map form_of) items ∙ ap (λ f. f ∷ []) (p.form later x);
+  }
+
+  forms_next : (s : Parts c condition k tokens at place old names es) → Extends names names' → es' ≡ es ++ e ∷ [] → (q : ParsedPart c condition k (terminals_from tokens (place + 1)) (terminals_from tokens end) names names' (form_of e)) → (later : List (List ℕ)) → Extends names' later → map form_of es' ≡ parts condition (number_of later) s.tree ++ meaning_part condition (number_of later) q.tree ∷ []
+  forms_next s ext items q later x =
+      ap (map form_of) items ∙ map_form_push es e ∙ ap (λ fs. fs ++ form_of e ∷ []) (s.forms_are later (extends_on names names' later ext x)) ∙ ap (λ f. parts condition (number_of later) s.tree ++ f ∷ []) (q.form later x)
+
+  whole_next : (s : Parts c condition k tokens at place old names es) → (q : ParsedPart c condition k (terminals_from tokens (place + 1)) (terminals_from tokens end) names names' (form_of e)) → terminals_from tokens at ≡ spell (push s.tree q.tree) ++ terminals_from tokens end
+  whole_next s q = s.whole ∙ ap (λ l. spell s.tree ++ (Joins c ∷ l)) q.whole ∙ sym (append_assoc (spell s.tree) (Joins c ∷ spell_part q.tree) (terminals_from tokens end)) ∙ ap (λ l. l ++ terminals_from tokens end) (sym (spell-push s.tree q.tree))
+
+  mentions_next : (s : Parts c condition k tokens at place old names es) → (q : ParsedPart c condition k (terminals_from tokens (place + 1)) (terminals_from tokens end) names names' (form_of e)) → names' ≡ all_mentioned old (words_of (spell (push s.tree q.tree)))
+  mentions_next s q =
+      mentioned_on old names names' (words_of (spell s.tree)) (words_of (spell_part q.tree)) s.mentions q.mentions
+      ∙ ap (all_mentioned old) (sym (ap words_of (spell-push s.tree q.tree) ∙ words_of-append (spell s.tree) (Joins c ∷ spell_part q.tree)))
+
+  -- one more part, where the connective follows again
+  pub parts_next : Parts c condition k tokens at place old names es → Extends names names' → es' ≡ es ++ e ∷ [] → ParsedPart c condition k (terminals_from tokens (place + 1)) (terminals_from tokens end) names names' (form_of e) → place + 1 ≤ end → end < length tokens → terminals_from tokens end ≡ Joins c ∷ terminals_from tokens (end + 1) → Parts c condition k tokens at end old names' es'
+  parts_next s ext items q a there is = record {
+    tree = push s.tree q.tree;
+    after = let b = s.after in omega arith;
+    there = there;
+    whole = whole_next s q ∙ ap (λ l. spell (push s.tree q.tree) ++ l) is;
+    mentions = mentions_next s q;
+    within = levels-push k s.tree q.tree s.within q.within;
+    forms_are = λ later x. forms_next s ext items q later x ∙ sym (parts-push condition (number_of later) s.tree q.tree);
+  }
+
+  -- the last part
+  pub parsed_last : (f : Form) → f ≡ connected c (forms (map form_of es')) → Parts c condition k tokens at place old names es → Extends names names' → es' ≡ es ++ e ∷ [] → ParsedPart c condition k (terminals_from tokens (place + 1)) (terminals_from tokens end) names names' (form_of e) → starts_joins c (terminals_from tokens end) ≡ false → ParsedChain c condition k (terminals_from tokens at) (terminals_from tokens end) old names' f
+  parsed_last f made s ext items q stop = record {
+    tree = push s.tree q.tree;
+    whole = whole_next s q;
+    mentions = mentions_next s q;
+    within = levels-push k s.tree q.tree s.within q.within;
+    stops = (λ h. q.stops.0 (sym (lone-push s.tree q.tree) ∙ h), q.stops.1, stop);
+    form = λ later x. made ∙ ap (λ fs. connected c (forms fs)) (forms_next s ext items q later x) ∙ meaning-push condition (number_of later) s.tree q.tree;
+  }
+
+-- the next part fails
+pub fails_after : (c : Connective) (condition : Option SymId) (k : ℕ) (tokens : List Token) (at place : ℕ) (old names : List (List ℕ)) (es : List Expr) (f : ExprFault) → Parts c condition k tokens at place old names es → FailsPart c f k (terminals_from tokens (place + 1)) → FailsChain c f k (terminals_from tokens at)
+fails_after c condition k tokens at place old names es f s h = subst (λ l. FailsChain c f k l) (sym s.whole) (fails_next f k s.tree (terminals_from tokens (place + 1)) s.within h)
+
+-- how far a chain's rule stands above a negation's
+abbrev pub rank : Connective → ℕ
+rank And = 0
+rank Or = 2

@@ -1,0 +1,92 @@
+-- What a whole expression's reading says of the longest front.
+use Rattle.std.proofs.Common.{◌≡◌, ℕ, ◌+◌, ◌≤◌, Bool, true, false, List, [], ◌∷◌, ◌++◌, Option, Some, None, option_and_then, Result, Ok, Err, IfErr, inr, refl, sym, ap, ◌∙◌, subst, append-nil, arith}
+use Rattle.kc_expr.specs.declared.expression.SymId.{SymId}
+use Rattle.kc_expr.specs.declared.parse.ExprFault.{ExprFault}
+use Rattle.kc_expr.specs.declared.parse.ExprFault.TheVariants.{Syntax, TooDeep, Memory}
+use Rattle.kc_expr.specs.Form.{Form}
+use Rattle.kc_expr.specs.Grammar.{Terminal, Disjunction, spell, spell_or, levels, levels_or, NoLonger}
+use Rattle.kc_expr.specs.declared.parse.Connective.TheVariants.{Or}
+use Rattle.kc_expr.specs.Scan.{State, want, run, lone_in, after}
+use Rattle.kc_expr.specs.Parsing.{IsParsed, IsNoExpression, IsTooDeep, IsRefused}
+use Rattle.kc_expr.specs.Reading.{IsUnfinished, Refuses, Fresh_start, Broken, Deep, ParsedChain, FailsChain}
+use Rattle.kc_expr.proofs.ScanLemmas.{run-append, reads}
+use Rattle.kc_expr.proofs.ReadingLemmas.{refuses_after}
+
+abbrev start : State
+start = want 0 0 []
+
+runs : (d : Disjunction) (limit : ℕ) → levels_or d ≤ limit → run limit start (spell_or d) ≡ Some (after (lone_in d) 0 [])
+runs d limit h = ap (run limit start) (sym (append-nil (spell_or d))) ∙ reads d limit 0 [] [] (omega arith)
+
+-- where the machine fails, nothing begins
+fails_not_begins : (limit : ℕ) (front : List Terminal) → run limit start front ≡ None → (d : Disjunction) (rest : List Terminal) → levels_or d ≤ limit → spell_or d ≡ front ++ rest → ⊥
+fails_not_begins limit front none d rest w e =
+    let some = runs d limit w in
+    let no = ap (run limit start) e ∙ run-append limit start front rest ∙ ap (option_and_then (λ s. run limit s rest)) none in
+    cc
+
+no_longer : (front rest : List Terminal) → ((limit : ℕ) → 64 ≤ limit → (s : State) × (run limit start front ≡ Some s) × Refuses limit s rest) → NoLonger front rest
+no_longer front [] h = tt
+no_longer front (t ∷ ts) h = λ b.
+    let limit = levels_or b.0 + 64 in
+    let x = h limit (omega arith) in
+    let none = run-append limit start front (t ∷ []) ∙ ap (option_and_then (λ s. run limit s (t ∷ []))) x.1 ∙ ap (option_and_then (λ s. run limit s [])) x.2 in
+    fails_not_begins limit (front ++ t ∷ []) none b.0 b.1 (omega arith) b.2
+
+unfinished_after : (b : Bool) → IsUnfinished (after b 0 []) → ⊥
+unfinished_after true h = h
+unfinished_after false h = h
+
+pub is_parsed : (condition : Option SymId) (ts rest : List Terminal) (old names : List (List ℕ)) (f : Form) → ParsedChain Or condition 64 ts rest old names f → IsParsed condition ts rest old names f
+is_parsed condition ts rest old names f p = record {
+  front = spell p.tree;
+  longest = record {
+    whole = p.whole;
+    begins = (p.tree, [], sym (append-nil (spell p.tree)));
+    longest = no_longer (spell p.tree) rest (λ limit h.
+        let v = p.within in
+        (after (lone_in p.tree) 0 [], runs p.tree limit (omega arith), refuses_after limit (lone_in p.tree) 0 [] rest p.stops.0 p.stops.1 p.stops.2 (inr refl)));
+  };
+  tree = p.tree;
+  derives = refl;
+  within = p.within;
+  mentions = p.mentions;
+  form = p.form;
+}
+
+is_no_expression : (ts : List Terminal) → Broken {T = Disjunction} spell levels Fresh_start 64 ts → IsNoExpression ts
+is_no_expression ts b = record {
+  front = b.front;
+  rest = b.rest;
+  longest = record {
+    whole = b.whole;
+    begins = (b.tree, b.rest_of_tree, b.begins);
+    longest = no_longer b.front b.rest (λ limit h. let x = b.stuck limit 0 0 [] refl (omega arith) in (x.0, x.1, x.3));
+  };
+  within = (b.tree, b.rest_of_tree, b.within, b.begins);
+  none = λ d e.
+      let limit = levels_or d + 64 in
+      let x = b.stuck limit 0 0 [] refl (omega arith) in
+      let y = runs d limit (omega arith) in
+      let z = ap (run limit start) e in
+      let same : x.0 ≡ after (lone_in d) 0 [] = cc in
+      unfinished_after (lone_in d) (subst IsUnfinished same x.2);
+}
+
+is_too_deep : (ts : List Terminal) → Deep {T = Disjunction} spell levels Fresh_start 64 ts → IsTooDeep ts
+is_too_deep ts b = record {
+  front = b.front;
+  rest = b.rest;
+  whole = b.whole;
+  begins = (b.tree, b.rest_of_tree, b.begins);
+  deep = λ x. fails_not_begins 64 b.front (b.deep 0 0 [] refl) x.0 x.1 x.2 x.3;
+}
+
+pub is_refused : (f : ExprFault) (ts : List Terminal) → FailsChain Or f 64 ts → IsRefused f ts
+is_refused Syntax ts b = is_no_expression ts b
+is_refused TooDeep ts b = is_too_deep ts b
+is_refused Memory ts b = tt
+
+pub IfErr-weaker : {X E : Type 0} (r : Result X E) (P Q : E → Type 0) → ((e : E) → P e → Q e) → IfErr r P → IfErr r Q
+IfErr-weaker (Ok x) P Q f h = tt
+IfErr-weaker (Err e) P Q f h = f e h

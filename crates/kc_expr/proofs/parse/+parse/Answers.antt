@@ -1,0 +1,82 @@
+-- What the check left open in the cycle of `parse`.
+use Rattle.std.proofs.Common.{ℕ, ◌∙◌, ap, ◌++◌, ◌∷◌, []}
+use Rattle.std.proofs.lemmas.Result.{IfOk-weaker}
+use Rattle.kc_expr.specs.declared.expression.Expr.{Expr}
+use Rattle.kc_expr.specs.Form.{form_of}
+use Rattle.kc_expr.specs.Grammar.{terminals_from}
+use Rattle.kc_expr.proofs.ParseLemmas.{fault_passed, deep_bang_at, deep_group_at, fails_bang_at, fails_group_at, parsed_bang, unclosed_at, parsed_group, parsed_negation, parsed_conjunction, parsed_only, parts_one, parts_next, parsed_last, fails_after}
+use Rattle.kc_expr.proofs.NamesLemmas.{extends_on}
+use Rattle.kc_expr.proofs.ReadingLemmas.{fails_negation, fails_conjunction, fails_first}
+use Rattle.kc_expr.proofs.TopLemmas.{IfErr-weaker}
+use Rattle.kc_expr.proofs.parse.+parse.Goals as goal
+
+pub negation-returns-then-levels-eq0-clause-fails : goal.negation-returns-then-levels-eq0-clause-fails
+negation-returns-then-levels-eq0-clause-fails t c = deep_bang_at _ _ _ c.if-levels-eq0.true c.if-is_op.ensures.1
+
+pub negation-returns-then-levels-eq0-2-clause-fails : goal.negation-returns-then-levels-eq0-2-clause-fails
+negation-returns-then-levels-eq0-2-clause-fails t c = deep_group_at _ _ _ c.if-levels-eq0-2.true c.if-is_op-2.ensures.1
+
+pub chain-returns-in_err-first-clause-fails : goal.chain-returns-in_err-first-clause-fails
+chain-returns-in_err-first-clause-fails t c =
+    fault_passed c.from_residual.result _ _ c.from_residual.ensures.1 (fails_first _ _ _ _ c.in_err-first.ensures.fails)
+
+pub chain-returns-then-not-is_joined-clause-parsed : goal.chain-returns-then-not-is_joined-clause-parsed
+chain-returns-then-not-is_joined-clause-parsed t c = parsed_only _ _ _ _ _ _ _ _ c.in_ok-first.ensures.parsed c.if-not-is_joined.ensures
+
+pub chain-loop-parts-init : goal.chain-loop-parts-init
+chain-loop-parts-init t c = record {
+  parts = parts_one c.args.connective c.args.condition c.args.levels c.args.tokens.now c.args.at 0 c.in_ok-first.end c.args.names.now c.part.new.names [] [] c.push.new.self.items c.in_ok-first.first (c.in_ok-push.ensures.items ∙ ap (λ l. l ++ c.in_ok-first.first ∷ []) c.new-parts.ensures.items) c.in_ok-first.ensures.parsed c.in_ok-first.ensures.within.0 c.if-not-is_joined.ensures.0 c.if-not-is_joined.ensures.1;
+  names = c.part.ensures.names;
+}
+
+pub chain-returns-in_err-next-clause-fails : goal.chain-returns-in_err-next-clause-fails
+chain-returns-in_err-next-clause-fails t c =
+    fault_passed c.from_residual-in_err-next.result _ _ c.from_residual-in_err-next.ensures.1 (fails_after _ _ _ _ _ _ _ _ _ _ c.loop-parts.invariant.parts c.in_err-next.ensures.fails)
+
+pub chain-loop-parts-preserved : goal.chain-loop-parts-preserved
+chain-loop-parts-preserved t c = record {
+  parts = parts_next c.args.connective c.args.condition c.args.levels c.args.tokens.now c.args.at c.loop-parts.place c.in_ok-next.end c.args.names.now c.loop-parts.names c.part-in-loop-parts.new.names c.loop-parts.parts.items c.push-in-loop-parts.new.self.items c.in_ok-next.next c.loop-parts.invariant.parts c.in_ok-next.ensures.names c.in_ok-push-2.ensures.items c.in_ok-next.ensures.parsed c.in_ok-next.ensures.within.0 c.if-not-is_joined-2.ensures.0 c.if-not-is_joined-2.ensures.1;
+  names = extends_on _ _ _ c.loop-parts.invariant.names c.in_ok-next.ensures.names;
+}
+
+pub chain-returns-then-not-is_joined-2-clause-parsed : goal.chain-returns-then-not-is_joined-2-clause-parsed
+chain-returns-then-not-is_joined-2-clause-parsed t c =
+    parsed_last c.args.connective c.args.condition c.args.levels c.args.tokens.now c.args.at c.loop-parts.place c.in_ok-next.end c.args.names.now c.loop-parts.names c.part-in-loop-parts.new.names c.loop-parts.parts.items c.push-in-loop-parts.new.self.items c.in_ok-next.next (form_of c.connected.result) c.connected.ensures c.loop-parts.invariant.parts c.in_ok-next.ensures.names c.in_ok-push-2.ensures.items c.in_ok-next.ensures.parsed c.if-not-is_joined-2.ensures
+
+pub negation-returns-in_err-operand-clause-fails : goal.negation-returns-in_err-operand-clause-fails
+negation-returns-in_err-operand-clause-fails t c =
+    fault_passed c.from_residual.result _ _ c.from_residual.ensures.1 (fails_bang_at _ _ _ _ c.if-levels-eq0.false c.if-is_op.ensures.1 c.in_err-operand.ensures.fails)
+
+pub negation-returns-in_err-inner-clause-fails : goal.negation-returns-in_err-inner-clause-fails
+negation-returns-in_err-inner-clause-fails t c =
+    fault_passed c.from_residual-in_err-inner.result _ _ c.from_residual-in_err-inner.ensures.1 (fails_group_at _ _ _ _ c.if-levels-eq0-2.false c.if-is_op-2.ensures.1 c.in_err-inner.ensures.fails)
+
+pub negation-returns-then-is_op-clause-parsed : goal.negation-returns-then-is_op-clause-parsed
+negation-returns-then-is_op-clause-parsed t c =
+    parsed_bang _ _ _ _ _ _ _ _ _ c.if-levels-eq0.false c.if-is_op.ensures.1 (ap form_of c.in_ok-new.ensures.ok) c.in_ok-operand.ensures.parsed
+
+pub negation-returns-then-not-is_op-clause-fails : goal.negation-returns-then-not-is_op-clause-fails
+negation-returns-then-not-is_op-clause-fails t c =
+    unclosed_at _ _ _ _ _ _ _ _ c.if-levels-eq0-2.false c.if-is_op-2.ensures.1 c.in_ok-inner.ensures.parsed c.if-not-is_op.ensures
+
+pub negation-returns-then-is_op-2-clause-parsed : goal.negation-returns-then-is_op-2-clause-parsed
+negation-returns-then-is_op-2-clause-parsed t c =
+    parsed_group _ _ _ _ _ _ _ _ _ c.if-levels-eq0-2.false c.if-is_op-2.ensures.1 c.in_ok-inner.ensures.parsed c.if-not-is_op.ensures.1
+
+pub part-returns-in-And-clause-parsed : goal.part-returns-in-And-clause-parsed
+part-returns-in-And-clause-parsed t c =
+    let ts = terminals_from c.args.tokens.now in
+    rw c.in-And.is (IfOk-weaker _ _ _ (λ (r : Expr × ℕ). parsed_negation c.args.condition c.args.levels (ts c.args.at) (ts r.1) c.args.names.now c.negation.new.names (form_of r.0)) c.negation.ensures.parsed)
+
+pub part-returns-in-And-clause-fails : goal.part-returns-in-And-clause-fails
+part-returns-in-And-clause-fails t c =
+    rw c.in-And.is (IfErr-weaker _ _ _ (λ f h. fails_negation f c.args.levels (terminals_from c.args.tokens.now c.args.at) h) c.negation.ensures.fails)
+
+pub part-returns-in-Or-clause-parsed : goal.part-returns-in-Or-clause-parsed
+part-returns-in-Or-clause-parsed t c =
+    let ts = terminals_from c.args.tokens.now in
+    rw c.in-Or.is (IfOk-weaker _ _ _ (λ (r : Expr × ℕ). parsed_conjunction c.args.condition c.args.levels (ts c.args.at) (ts r.1) c.args.names.now c.chain.new.names (form_of r.0)) c.chain.ensures.parsed)
+
+pub part-returns-in-Or-clause-fails : goal.part-returns-in-Or-clause-fails
+part-returns-in-Or-clause-fails t c =
+    rw c.in-Or.is (IfErr-weaker _ _ _ (λ f h. fails_conjunction f c.args.levels (terminals_from c.args.tokens.now c.args.at) h) c.chain.ensures.fails)

@@ -1,0 +1,33 @@
+-- What the check left open in `relation`.
+use Rattle.std.proofs.Common.{◌≡◌, ◌+◌, ◌∙◌, ap, ◌∷◌, arith}
+use Rattle.kc_expr.specs.Grammar.{terminals_from, Plain, Compares}
+use Rattle.kc_expr.specs.Reading.{starts_plain}
+use Rattle.kc_expr.proofs.ParseLemmas.{no_left, no_right_side, parsed_lone, parsed_compare}
+use Rattle.kc_expr.proofs.parse.relation.Goals as goal
+
+pub returns-in_default-clause-fails : goal.returns-in_default-clause-fails
+returns-in_default-clause-fails c =
+    no_left _ (rw c.in_default.is at c.in_ok-left.ensures.reads) c.requires.no_op.0 c.requires.no_op.1
+
+pub returns-in_default-relation_op-clause-parsed : goal.returns-in_default-relation_op-clause-parsed
+returns-in_default-relation_op-clause-parsed c =
+    let left = rw c.in-Some.is at c.in_ok-left.ensures.reads in
+    parsed_lone _ _ _ _ _ left.atom _ _ left.next c.in_default-relation_op.ensures left.mentions left.leaf_is c.in_ok-plain.ensures.plain
+
+pub returns-in_default-2-clause-fails : goal.returns-in_default-2-clause-fails
+returns-in_default-2-clause-fails c =
+    let left = rw c.in-Some.is at c.in_ok-left.ensures.reads in
+    let right = rw c.in_default-2.is at c.in_ok-right.ensures.reads in
+    let e : c.args.at + 1 + 1 ≡ c.args.at + 2 = omega arith in
+    no_right_side _ _ left.atom c.in-Some-relation_op.op (left.next ∙ ap (λ l. Plain left.atom ∷ l) c.in-Some-relation_op.ensures.1) (ap (λ n. starts_plain (terminals_from c.args.tokens.now n)) e ∙ right)
+
+pub returns-clause-parsed : goal.returns-clause-parsed
+returns-clause-parsed c =
+    let left = rw c.in-Some.is at c.in_ok-left.ensures.reads in
+    let right = rw c.in-Some-2.is at c.in_ok-right.ensures.reads in
+    let op = c.in-Some-relation_op.ensures in
+    let e : c.args.at + 1 + 1 ≡ c.args.at + 2 = omega arith in
+    let f : c.args.at + 2 + 1 ≡ c.args.at + 3 = omega arith in
+    let third = ap (terminals_from c.args.tokens.now) e ∙ right.next ∙ ap (λ n. Plain right.atom ∷ terminals_from c.args.tokens.now n) f in
+    let text = left.next ∙ ap (λ l. Plain left.atom ∷ l) (op.1 ∙ ap (λ l. Compares c.in-Some-relation_op.op ∷ l) third) in
+    parsed_compare _ _ _ _ _ _ left.atom right.atom c.in-Some-relation_op.op _ _ text left.mentions right.mentions left.leaf_is right.leaf_is

@@ -1,0 +1,45 @@
+-- What parsing answers.
+use Rattle.std.specs.Prelude.{◌≡◌, ◌≢◌, ℕ, ◌≤◌, List, ◌++◌, Option}
+use Rattle.kc_expr.specs.declared.parse.ExprFault.{ExprFault}
+use Rattle.kc_expr.specs.declared.parse.ExprFault.TheVariants.{Syntax, TooDeep, Memory}
+use Rattle.kc_expr.specs.declared.expression.SymId.{SymId}
+use Rattle.kc_expr.specs.Form.{Form}
+use Rattle.kc_expr.specs.Names.{number_of, all_mentioned, Extends}
+use Rattle.kc_expr.specs.Grammar.{Terminal, Disjunction, spell_or, levels_or, meaning_or, words, Begins, BeginsWithin, LongestFront}
+
+-- what parsing answers: the one expression of the longest front that begins some expression
+pub record IsParsed (condition : Option SymId) (ts rest : List Terminal) (old names : List (List ℕ)) (f : Form) : Type 0 where
+  pub front : List Terminal
+  pub longest : LongestFront ts front rest
+  pub tree : Disjunction
+  pub derives : spell_or tree ≡ front
+  pub within : levels_or tree ≤ 64
+  pub mentions : names ≡ all_mentioned old (words tree)
+  pub form : (later : List (List ℕ)) → Extends names later → f ≡ meaning_or condition (number_of later) tree
+
+-- the longest front that begins some expression is none itself, and opens at most 64 levels
+pub record IsNoExpression (ts : List Terminal) : Type 0 where
+  pub front : List Terminal
+  pub rest : List Terminal
+  pub longest : LongestFront ts front rest
+  pub within : BeginsWithin 64 front
+  pub none : (d : Disjunction) → spell_or d ≢ front
+
+-- a front begins some expression, but none of at most 64 levels
+pub record IsTooDeep (ts : List Terminal) : Type 0 where
+  pub front : List Terminal
+  pub rest : List Terminal
+  pub whole : ts ≡ front ++ rest
+  pub begins : Begins front
+  pub deep : BeginsWithin 64 front → ⊥
+
+abbrev pub IsRefused : ExprFault → List Terminal → Type 0
+IsRefused Syntax ts = IsNoExpression ts
+IsRefused TooDeep ts = IsTooDeep ts
+IsRefused Memory ts = Unit {0}
+
+-- Parsing has one answer: one expression, one place and one list of names, or one of the refusals.
+pub record IsDetermined (ts : List Terminal) : Type 0 where
+  pub one_answer : (condition : Option SymId) (rest rest' : List Terminal) (old names names' : List (List ℕ)) (f f' : Form) → IsParsed condition ts rest old names f → IsParsed condition ts rest' old names' f' → (rest ≡ rest') × (names ≡ names') × (f ≡ f')
+  pub not_refused : (condition : Option SymId) (rest : List Terminal) (old names : List (List ℕ)) (f : Form) → IsParsed condition ts rest old names f → (IsNoExpression ts → ⊥) × (IsTooDeep ts → ⊥)
+  pub one_refusal : IsNoExpression ts → IsTooDeep ts → ⊥

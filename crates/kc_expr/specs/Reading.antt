@@ -1,0 +1,205 @@
+-- What the parser's functions give: each one's part of an expression, or where it breaks off.
+use Rattle.std.specs.Prelude.{◌≡◌, ℕ, ◌+◌, ◌≤◌, ◌<◌, length, Bool, true, false, List, [], ◌∷◌, ◌++◌, Option, Some, None, MatchBool}
+use Rattle.kc_expr.specs.declared.parse.ExprFault.{ExprFault}
+use Rattle.kc_expr.specs.declared.parse.ExprFault.TheVariants.{Syntax, TooDeep, Memory}
+use Rattle.kc_text.specs.declared.tokens.Op.{Op}
+use Rattle.kc_text.specs.declared.tokens.Op.TheVariants as op
+use Rattle.kc_expr.specs.declared.expression.SymId.{SymId}
+use Rattle.kc_expr.specs.declared.expression.Operand.{Operand}
+use Rattle.kc_text.specs.declared.tokens.Token.{Token}
+use Rattle.kc_text.specs.declared.tokens.TokenKind.{TokenKind}
+use Rattle.kc_text.specs.Lexemes.{lexeme}
+use Rattle.kc_expr.specs.Form.{Form, Leaf, leaf_of}
+use Rattle.kc_expr.specs.Names.{number_of, all_mentioned, Extends}
+use Rattle.kc_expr.specs.declared.parse.Connective.{Connective}
+use Rattle.kc_expr.specs.declared.parse.Connective.TheVariants.{And, Or}
+use Rattle.kc_expr.specs.Grammar.{Terminal, Plain, Compares, Bang, Joins, Open, Close, Keyword, Chain, Part, Negation, spell, spell_part, spell_not, levels, levels_part, levels_not, meaning, meaning_part, meaning_not, terminals_from, terminal_of, Atom, leaf, op_terminal, atom_words, words_of}
+use Rattle.kc_expr.specs.Scan.{State, want, single, right, done, step, run, lone_in, lone_part, lone_not}
+
+-- what the next token is, if there is one
+abbrev pub starts_compares : List Terminal → Bool
+starts_compares [] = false
+starts_compares (Compares o ∷ ts) = true
+starts_compares (_ ∷ ts) = false
+
+abbrev pub same_connective : Connective → Connective → Bool
+same_connective And And = true
+same_connective And Or = false
+same_connective Or And = false
+same_connective Or Or = true
+
+abbrev pub joins : Connective → Terminal → Bool
+joins c (Joins d) = same_connective c d
+joins c (Plain a) = false
+joins c (Compares o) = false
+joins c Bang = false
+joins c Open = false
+joins c Close = false
+joins c Keyword = false
+
+abbrev pub starts_joins : Connective → List Terminal → Bool
+starts_joins c [] = false
+starts_joins c (t ∷ ts) = joins c t
+
+abbrev pub starts_close : List Terminal → Bool
+starts_close [] = false
+starts_close (Close ∷ ts) = true
+starts_close (_ ∷ ts) = false
+
+-- the machine can't end here
+abbrev pub IsUnfinished : State → Type 0
+IsUnfinished (want cur base stack) = Unit {0}
+IsUnfinished (right base stack) = Unit {0}
+IsUnfinished (single base []) = ⊥
+IsUnfinished (single base (b ∷ stack)) = Unit {0}
+IsUnfinished (done base []) = ⊥
+IsUnfinished (done base (b ∷ stack)) = Unit {0}
+
+-- nor go on
+abbrev pub Refuses : ℕ → State → List Terminal → Type 0
+Refuses limit s [] = Unit {0}
+Refuses limit s (t ∷ ts) = step limit s t ≡ None
+
+abbrev pub Any_start : ℕ → ℕ → Type 0
+Any_start cur base = Unit {0}
+
+abbrev pub Fresh_start : ℕ → ℕ → Type 0
+Fresh_start cur base = cur ≡ base
+
+module _ {T : Type 0} (spell : T → List Terminal) (levels : T → ℕ) where
+  -- the tokens stop making sense, or end, before the part is whole
+  pub record Broken (Starts : ℕ → ℕ → Type 0) (k : ℕ) (ts : List Terminal) : Type 0 where
+    pub front : List Terminal
+    pub rest : List Terminal
+    pub whole : ts ≡ front ++ rest
+    pub tree : T
+    pub rest_of_tree : List Terminal
+    pub begins : spell tree ≡ front ++ rest_of_tree
+    pub within : levels tree ≤ k
+    pub stuck : (limit cur base : ℕ) (stack : List ℕ) → Starts cur base → cur + k ≤ limit → (s : State) × (run limit (want cur base stack) front ≡ Some s) × IsUnfinished s × Refuses limit s rest
+
+  -- one level too many is opened
+  pub record Deep (Starts : ℕ → ℕ → Type 0) (k : ℕ) (ts : List Terminal) : Type 0 where
+    pub front : List Terminal
+    pub rest : List Terminal
+    pub whole : ts ≡ front ++ rest
+    pub tree : T
+    pub rest_of_tree : List Terminal
+    pub begins : spell tree ≡ front ++ rest_of_tree
+    pub deep : (cur base : ℕ) (stack : List ℕ) → Starts cur base → run (cur + k) (want cur base stack) front ≡ None
+
+  -- the part is whole, and no longer one begins here
+  pub record Parsed (meaning : (List ℕ → ℕ) → T → Form) (Stops : T → List Terminal → Type 0) (k : ℕ) (ts rest : List Terminal) (old names : List (List ℕ)) (f : Form) : Type 0 where
+    pub tree : T
+    pub whole : ts ≡ spell tree ++ rest
+    pub mentions : names ≡ all_mentioned old (words_of (spell tree))
+    pub within : levels tree ≤ k
+    pub stops : Stops tree rest
+    pub form : (later : List (List ℕ)) → Extends names later → f ≡ meaning (number_of later) tree
+
+abbrev pub StopsNot : Negation → List Terminal → Type 0
+StopsNot n rest = lone_not n ≡ true → starts_compares rest ≡ false
+
+-- no connective follows that a part would itself go on with
+abbrev pub NoneWithin : Connective → List Terminal → Type 0
+NoneWithin And rest = Unit {0}
+NoneWithin Or rest = starts_joins And rest ≡ false
+
+abbrev pub StopsPart : (c : Connective) → Part c → List Terminal → Type 0
+StopsPart c p rest = (lone_part p ≡ true → starts_compares rest ≡ false) × NoneWithin c rest
+
+abbrev pub Stops : (c : Connective) → Chain c → List Terminal → Type 0
+Stops c ps rest = (lone_in ps ≡ true → starts_compares rest ≡ false) × NoneWithin c rest × (starts_joins c rest ≡ false)
+
+abbrev pub ParsedNot : Option SymId → ℕ → List Terminal → List Terminal → List (List ℕ) → List (List ℕ) → Form → Type 0
+ParsedNot condition = Parsed spell_not levels_not (meaning_not condition) StopsNot
+
+abbrev pub ParsedPart : Connective → Option SymId → ℕ → List Terminal → List Terminal → List (List ℕ) → List (List ℕ) → Form → Type 0
+ParsedPart c condition = Parsed {T = Part c} spell_part levels_part (λ number p. meaning_part condition number p) (StopsPart c)
+
+abbrev pub ParsedChain : Connective → Option SymId → ℕ → List Terminal → List Terminal → List (List ℕ) → List (List ℕ) → Form → Type 0
+ParsedChain c condition = Parsed {T = Chain c} spell levels (λ number ps. meaning condition number ps) (Stops c)
+
+-- where a part may start: the first negation of a chain also after `!`
+abbrev pub PartStart : Connective → ℕ → ℕ → Type 0
+PartStart And = Any_start
+PartStart Or = Fresh_start
+
+-- what each fault says
+abbrev pub FailsNot : ExprFault → ℕ → List Terminal → Type 0
+FailsNot Syntax k ts = Broken spell_not levels_not Any_start k ts
+FailsNot TooDeep k ts = Deep spell_not levels_not Any_start k ts
+FailsNot Memory k ts = Unit {0}
+
+abbrev pub FailsPart : Connective → ExprFault → ℕ → List Terminal → Type 0
+FailsPart c Syntax k ts = Broken {T = Part c} spell_part levels_part (PartStart c) k ts
+FailsPart c TooDeep k ts = Deep {T = Part c} spell_part levels_part (PartStart c) k ts
+FailsPart c Memory k ts = Unit {0}
+
+abbrev pub FailsChain : Connective → ExprFault → ℕ → List Terminal → Type 0
+FailsChain c Syntax k ts = Broken {T = Chain c} spell levels Fresh_start k ts
+FailsChain c TooDeep k ts = Deep {T = Chain c} spell levels Fresh_start k ts
+FailsChain c Memory k ts = Unit {0}
+
+-- the next token
+abbrev pub IsNext : Option TokenKind → List Token → ℕ → Type 0
+IsNext None tokens at = terminals_from tokens at ≡ []
+IsNext (Some kind) tokens at = (at < length tokens) × (terminals_from tokens at ≡ terminal_of (lexeme kind) ∷ terminals_from tokens (at + 1))
+
+-- an operand that was read
+abbrev pub starts_plain : List Terminal → Bool
+starts_plain [] = false
+starts_plain (Plain a ∷ ts) = true
+starts_plain (_ ∷ ts) = false
+
+pub record ReadsAtom (tokens : List Token) (at : ℕ) (old names : List (List ℕ)) (o : Leaf) : Type 0 where
+  pub atom : Atom
+  pub mentions : names ≡ all_mentioned old (atom_words atom)
+  pub there : at < length tokens
+  pub next : terminals_from tokens at ≡ Plain atom ∷ terminals_from tokens (at + 1)
+  pub leaf_is : (later : List (List ℕ)) → Extends names later → o ≡ leaf (number_of later) atom
+
+abbrev pub ReadsOperand : Option Operand → List Token → ℕ → List (List ℕ) → List (List ℕ) → Type 0
+ReadsOperand None tokens at old names = starts_plain (terminals_from tokens at) ≡ false
+ReadsOperand (Some o) tokens at old names = ReadsAtom tokens at old names (leaf_of o)
+
+abbrev pub ReadsRelation : Option Op → List Token → ℕ → Type 0
+ReadsRelation None tokens at = starts_compares (terminals_from tokens at) ≡ false
+ReadsRelation (Some o) tokens at = (at < length tokens) × (terminals_from tokens at ≡ Compares o ∷ terminals_from tokens (at + 1))
+
+abbrev pub IsMemory : ExprFault → Type 0
+IsMemory Syntax = ⊥
+IsMemory TooDeep = ⊥
+IsMemory Memory = Unit {0}
+
+abbrev pub starts_bang : List Terminal → Bool
+starts_bang [] = false
+starts_bang (Bang ∷ ts) = true
+starts_bang (_ ∷ ts) = false
+
+abbrev pub starts_open : List Terminal → Bool
+starts_open [] = false
+starts_open (Open ∷ ts) = true
+starts_open (_ ∷ ts) = false
+
+-- whether an operator comes that opens, joins or closes
+abbrev pub starts_op : Op → List Terminal → Bool
+starts_op op.Not ts = starts_bang ts
+starts_op op.LParen ts = starts_open ts
+starts_op op.And ts = starts_joins And ts
+starts_op op.Or ts = starts_joins Or ts
+starts_op op.RParen ts = starts_close ts
+starts_op _ ts = false
+
+-- whether the connective stands at a place
+abbrev pub IsJoined : Connective → List Token → ℕ → Bool → Type 0
+IsJoined c tokens at b =
+    MatchBool b ((at < length tokens) × (terminals_from tokens at ≡ Joins c ∷ terminals_from tokens (at + 1))) (starts_joins c (terminals_from tokens at) ≡ false)
+
+abbrev pub IsOp : Op → List Token → ℕ → Bool → Type 0
+IsOp o tokens at b =
+    MatchBool b ((at < length tokens) × (terminals_from tokens at ≡ op_terminal o ∷ terminals_from tokens (at + 1))) (starts_op o (terminals_from tokens at) ≡ false)
+
+-- neither ! nor ( comes
+abbrev pub StartsNoOperand : List Terminal → Type 0
+StartsNoOperand ts = (starts_bang ts ≡ false) × (starts_open ts ≡ false)

@@ -1,0 +1,366 @@
+//! Expressions from tokens: the grammar of the kernel's kconfig-language, "Menu dependencies".
+
+ghost use Rattle.std.specs.Prelude.{◌≡◌, ℕ, ◌+◌, ◌≤◌, ◌<◌, ◌≢◌, Bool, true, false, List, length, [], ◌∷◌, ◌++◌, map, IfOk, IfErr, OnOk};
+ghost use Rattle.kc_expr.specs.declared.parse.ExprFault.TheVariants.{Memory};
+ghost use Rattle.kc_expr.specs.Form.{form_of, forms, leaf_of, Text};
+ghost use Rattle.kc_expr.specs.Grammar as spec;
+ghost use Rattle.kc_expr.specs.Grammar.{terminals_from, is_m_leaf, plain_under, IsUnambiguous, Terminal, HasOneLongestFront};
+ghost use Rattle.kc_expr.specs.Parsing.{IsParsed, IsDetermined, IsRefused};
+ghost use Rattle.kc_expr.specs.Reading.{ParsedNot, ParsedPart, ParsedChain, FailsNot, FailsPart, FailsChain, IsNext, ReadsOperand, ReadsRelation, IsMemory, IsOp, IsJoined, StartsNoOperand};
+ghost use Rattle.kc_expr.specs.Names.{Extends, mention};
+
+use crate::expression::{Expr, Operand, SymId};
+use crate::names::Names;
+use crate::values::letter_of;
+use kc_text::{Op, Token, TokenKind, unescape_into};
+use std::alloc::{AllocError, AllocFailed, Global};
+use thiserror::Error;
+
+/// Why there is no expression.
+#[derive(Clone, Copy, Debug, PartialEq, Eq, Error)]
+pub enum ExprFault {
+    /// The longest front of the tokens that begins some expression is none itself (E8).
+    #[error("syntax")]
+    Syntax,
+    /// One `(` or `!` more is open at once than 64 (E12).
+    #[error("too deep")]
+    TooDeep,
+    /// No memory was to be had (E20).
+    #[error("out of memory")]
+    Memory,
+}
+
+impl From<AllocError> for ExprFault {
+    ghost from_gives = { λ _ e. e ≡ Memory };
+
+    fn from(_e: AllocError) -> ExprFault {
+        ExprFault::Memory
+    }
+}
+
+impl<T: Drop> From<AllocFailed<T>> for ExprFault {
+    ghost from_gives = { λ _ e. e ≡ Memory };
+
+    fn from(_e: AllocFailed<T>) -> ExprFault {
+        ExprFault::Memory
+    }
+}
+
+// How many `(` and `!` may be open at once.
+const MAX_LEVELS: usize = 64;
+
+/// The expression of the longest front of the tokens from `at` on that begins some expression, and the place of the
+/// first token that is not used:
+///
+/// ```text
+/// or      = and { "||" and }
+/// and     = not { "&&" not }
+/// not     = "!" not | "(" or ")" | operand [ ("=" | "!=" | "<" | ">" | "<=" | ">=") operand ]
+/// operand = a word other than if | a quoted text
+/// ```
+///
+/// Two parts or more are one `All` or `Any`, a single part is itself, and parentheses add nothing. In a condition,
+/// `condition` is the modules symbol: an operand `m`, quoted or not, that is no side of a relation then stands for `m`
+/// and that symbol.
+///
+/// [`ExprFault::TooDeep`] where a 65th `(` or `!` is opened at once; else [`ExprFault::Syntax`] where that front is no
+/// expression itself; [`ExprFault::Memory`] for want of memory. On `Ok` the names are the old ones and then each new one
+/// of the front at its first mention. After an `Err` further names may have been added.
+pub fn parse(
+    alloc: Global,
+    tokens: &[Token],
+    at: usize,
+    condition: Option<SymId>,
+    names: &mut Names,
+) -> Result<(Expr, usize), ExprFault>
+    requires { at ≤ length tokens.now }
+    ensures parsed { IfOk result (λ r. IsParsed condition (terminals_from tokens.now at) (terminals_from tokens.now r.1) names.old names.new (form_of r.0)) }
+    ensures within { IfOk result (λ r. (at ≤ r.1) × (r.1 ≤ length tokens.now)) }
+    ensures refused { IfErr result (λ f. IsRefused f (terminals_from tokens.now at)) }
+    ensures names { Extends names.old names.new }
+{
+    chain(
+        alloc,
+        tokens,
+        at,
+        MAX_LEVELS,
+        Connective::Or,
+        condition,
+        names,
+    )
+}
+
+/// A law: the grammar derives no tokens in two ways.
+pub fn grammar_is_unambiguous()
+    ensures { IsUnambiguous }
+{}
+
+/// A law: no tokens have two longest fronts that begin some expression.
+pub fn longest_front_is_unique()
+    ensures { HasOneLongestFront }
+{}
+
+/// A law: the tokens decide what [`parse`] answers, which is at most one expression with its place and names, or one of
+/// the two refusals.
+pub fn parsing_is_determined()
+    ensures { (ts : List Terminal) → IsDetermined ts }
+{}
+
+/// What joins the parts of a chain.
+#[derive(Clone, Copy)]
+enum Connective {
+    And,
+    Or,
+}
+
+// One part or more, joined by the connective.
+#[cycle(parse)]
+fn chain(
+    alloc: Global,
+    tokens: &[Token],
+    at: usize,
+    levels: usize,
+    connective: Connective,
+    condition: Option<SymId>,
+    names: &mut Names,
+) -> Result<(Expr, usize), ExprFault>
+    requires { at ≤ length tokens.now }
+    ensures parsed { IfOk result (λ r. ParsedChain connective condition levels (terminals_from tokens.now at) (terminals_from tokens.now r.1) names.old names.new (form_of r.0)) }
+    ensures within { IfOk result (λ r. (at ≤ r.1) × (r.1 ≤ length tokens.now)) }
+    ensures fails { IfErr result (λ f. FailsChain connective f levels (terminals_from tokens.now at)) }
+    ensures names { Extends names.old names.new }
+{
+    let (first, end) = part(alloc, tokens, at, levels, connective, condition, names)?;
+    if !is_joined(tokens, end, connective) {
+        return Ok((first, end));
+    }
+    let mut parts = Vec::new(alloc);
+    parts.push(first)?;
+    let mut place = end;
+    loop {
+        let (next, end) = part(
+            alloc,
+            tokens,
+            place + 1,
+            levels,
+            connective,
+            condition,
+            names,
+        )?;
+        parts.push(next)?;
+        if !is_joined(tokens, end, connective) {
+            return Ok((connected(connective, parts), end));
+        }
+        place = end;
+    }
+}
+
+// One part of a chain: conjunctions are joined by `||`, negations by `&&`.
+#[cycle(parse)]
+fn part(
+    alloc: Global,
+    tokens: &[Token],
+    at: usize,
+    levels: usize,
+    connective: Connective,
+    condition: Option<SymId>,
+    names: &mut Names,
+) -> Result<(Expr, usize), ExprFault>
+    requires { at ≤ length tokens.now }
+    ensures parsed { IfOk result (λ r. ParsedPart connective condition levels (terminals_from tokens.now at) (terminals_from tokens.now r.1) names.old names.new (form_of r.0)) }
+    ensures within { IfOk result (λ r. (at ≤ r.1) × (r.1 ≤ length tokens.now)) }
+    ensures fails { IfErr result (λ f. FailsPart connective f levels (terminals_from tokens.now at)) }
+    ensures names { Extends names.old names.new }
+{
+    match connective {
+        Connective::And => negation(alloc, tokens, at, levels, condition, names),
+        Connective::Or => chain(alloc, tokens, at, levels, Connective::And, condition, names),
+    }
+}
+
+// One part of a conjunction.
+#[cycle(parse)]
+fn negation(
+    alloc: Global,
+    tokens: &[Token],
+    at: usize,
+    levels: usize,
+    condition: Option<SymId>,
+    names: &mut Names,
+) -> Result<(Expr, usize), ExprFault>
+    requires { at ≤ length tokens.now }
+    ensures parsed { IfOk result (λ r. ParsedNot condition levels (terminals_from tokens.now at) (terminals_from tokens.now r.1) names.old names.new (form_of r.0)) }
+    ensures within { IfOk result (λ r. (at ≤ r.1) × (r.1 ≤ length tokens.now)) }
+    ensures fails { IfErr result (λ f. FailsNot f levels (terminals_from tokens.now at)) }
+    ensures names { Extends names.old names.new }
+{
+    if is_op(tokens, at, Op::Not) {
+        if levels == 0 {
+            return Err(ExprFault::TooDeep);
+        }
+        let (operand, end) = negation(alloc, tokens, at + 1, levels - 1, condition, names)?;
+        return Ok((Expr::Not(Box::new(alloc, operand)?), end));
+    }
+    if is_op(tokens, at, Op::LParen) {
+        if levels == 0 {
+            return Err(ExprFault::TooDeep);
+        }
+        let (inner, end) = chain(
+            alloc,
+            tokens,
+            at + 1,
+            levels - 1,
+            Connective::Or,
+            condition,
+            names,
+        )?;
+        if !is_op(tokens, end, Op::RParen) {
+            return Err(ExprFault::Syntax);
+        }
+        return Ok((inner, end + 1));
+    }
+    relation(alloc, tokens, at, condition, names)
+}
+
+// An operand, perhaps with an operator and another.
+fn relation(
+    alloc: Global,
+    tokens: &[Token],
+    at: usize,
+    condition: Option<SymId>,
+    names: &mut Names,
+) -> Result<(Expr, usize), ExprFault>
+    requires no_op { StartsNoOperand (terminals_from tokens.now at) }
+    ensures parsed { IfOk result (λ r. (k : ℕ) → ParsedNot condition k (terminals_from tokens.now at) (terminals_from tokens.now r.1) names.old names.new (form_of r.0)) }
+    ensures within { IfOk result (λ r. (at ≤ r.1) × (r.1 ≤ length tokens.now)) }
+    ensures fails { IfErr result (λ f. (k : ℕ) → FailsNot f k (terminals_from tokens.now at)) }
+    ensures names { Extends names.old names.new }
+{
+    let Some(left) = operand(alloc, tokens, at, names)? else {
+        return Err(ExprFault::Syntax);
+    };
+    let Some(op) = relation_op(tokens, at + 1) else {
+        return Ok((plain(alloc, left, condition)?, at + 1));
+    };
+    let Some(right) = operand(alloc, tokens, at + 2, names)? else {
+        return Err(ExprFault::Syntax);
+    };
+    Ok((Expr::Rel(op, left, right), at + 3))
+}
+
+// An operand that is alone: a plain m of a condition stands for m && the modules symbol.
+fn plain(alloc: Global, operand: Operand, condition: Option<SymId>) -> Result<Expr, ExprFault>
+    ensures plain { IfOk result (λ e. form_of e ≡ plain_under condition (leaf_of operand)) }
+    ensures memory { IfErr result IsMemory }
+{
+    let Some(modules) = condition else {
+        return Ok(Expr::One(operand));
+    };
+    if !is_m(&operand) {
+        return Ok(Expr::One(operand));
+    }
+    let mut parts = Vec::new(alloc);
+    parts.push(Expr::One(operand))?;
+    parts.push(Expr::One(Operand::Sym(modules)))?;
+    Ok(Expr::All(parts))
+}
+
+// The constant m.
+fn is_m(operand: &Operand) -> bool
+    ensures { result ≡ is_m_leaf (leaf_of operand.now) }
+{
+    match operand {
+        Operand::Const(text) => text.as_slice() == b"m".as_slice(),
+        Operand::Sym(_) => false,
+    }
+}
+
+// The operand at a place, if there is one.
+fn operand(
+    alloc: Global,
+    tokens: &[Token],
+    at: usize,
+    names: &mut Names,
+) -> Result<Option<Operand>, ExprFault>
+    ensures reads { IfOk result (λ o. ReadsOperand o tokens.now at names.old names.new) }
+    ensures memory { IfErr result IsMemory }
+    ensures names { Extends names.old names.new }
+{
+    match next(tokens, at) {
+        Some(TokenKind::Word(word)) => {
+            if word == b"if".as_slice() {
+                return Ok(None);
+            }
+            if letter_of(word).is_some() {
+                return Ok(Some(constant(alloc, word)?));
+            }
+            Ok(Some(Operand::Sym(names.id(word)?)))
+        }
+        Some(TokenKind::Quoted(text)) => {
+            let mut bytes = Vec::new(alloc);
+            unescape_into(text, &mut bytes)?;
+            Ok(Some(Operand::Const(bytes)))
+        }
+        _ => Ok(None),
+    }
+}
+
+// A word as a constant.
+fn constant(alloc: Global, text: &[u8]) -> Result<Operand, ExprFault>
+    ensures constant { IfOk result (λ o. leaf_of o ≡ Text text.now) }
+    ensures memory { IfErr result IsMemory }
+{
+    Ok(Operand::Const(Vec::from_slice(alloc, text)?))
+}
+
+// The operator of a relation at a place, if there is one.
+fn relation_op(tokens: &[Token], at: usize) -> Option<Op>
+    ensures { ReadsRelation result tokens.now at }
+{
+    match next(tokens, at) {
+        Some(TokenKind::Op(op @ (Op::Eq | Op::Ne | Op::Lt | Op::Gt | Op::Le | Op::Ge))) => Some(op),
+        _ => None,
+    }
+}
+
+// Whether the connective stands at a place.
+fn is_joined(tokens: &[Token], at: usize, connective: Connective) -> bool
+    ensures { IsJoined connective tokens.now at result }
+{
+    match connective {
+        Connective::And => is_op(tokens, at, Op::And),
+        Connective::Or => is_op(tokens, at, Op::Or),
+    }
+}
+
+// Two parts or more, joined.
+#[tactic(auto, using(crate::proofs::FormLemmas::chain_forms))]
+fn connected(connective: Connective, parts: Vec<Expr>) -> Expr
+    ensures { form_of result ≡ spec.connected connective (forms (map form_of parts.items)) }
+{
+    match connective {
+        Connective::And => Expr::All(parts),
+        Connective::Or => Expr::Any(parts),
+    }
+}
+
+// Whether the operator or parenthesis stands at a place.
+fn is_op(tokens: &[Token], at: usize, op: Op) -> bool
+    ensures { IsOp op tokens.now at result }
+{
+    match next(tokens, at) {
+        Some(TokenKind::Op(found)) => found == op,
+        _ => false,
+    }
+}
+
+// What the token at a place is.
+fn next<'a>(tokens: &[Token<'a>], at: usize) -> Option<TokenKind<'a>>
+    ensures { IsNext result tokens.now at }
+{
+    if at < tokens.len() {
+        Some(tokens[at].kind)
+    } else {
+        None
+    }
+}
