@@ -1,9 +1,9 @@
 -- One round over all symbols, one equation after another.
-use Rattle.std.proofs.Common.{◌≡◌, ℕ, ◌<◌, ◌+◌, ◌≢◌, false, List, length, zero, suc, sym, ◌∙◌, ap, inl, inr, arith}
+use Rattle.std.proofs.Common.{◌≡◌, ℕ, ◌<◌, ◌+◌, ◌≢◌, false, List, length, zero, suc, sym, ◌∙◌, ap, inl, inr, arith, ◌≤◌, subst}
 use Rattle.std.specs.List.{Contains}
 use Rattle.std.proofs.lemmas.Bool.{true≢false, cases_Bool, both_ways, cases_eq}
 use Rattle.kc_order.specs.Needs.{NeedsBelow, stuck_after, NothingStuck}
-use Rattle.kc_order.specs.Solution.{Solves, ReadsNeeds, IsUpdate}
+use Rattle.kc_order.specs.Solution.{Solves, ReadsNeeds, IsUpdate, IsRound}
 use Rattle.kc_order.proofs.Stays.{was_stuck}
 use Rattle.kc_order.proofs.Unique.{fails_each}
 
@@ -57,6 +57,29 @@ module _ {A : Type 0} (n : ℕ) (needs : ℕ → List ℕ) (rhs : ℕ → (ℕ �
 
   pub ends : (k : ℕ) (V : ℕ → A) → HoldsUpTo n needs rhs k n V → SolvesUnstuck n needs rhs (suc k) V
   ends k V h s l e = h.now s l l e
+
+-- after one more round the equations hold of the symbols that it frees
+module _ {A : Type 0} (n : ℕ) (needs : ℕ → List ℕ) (rhs : ℕ → (ℕ → A) → A) (below : NeedsBelow n needs) (reads : ReadsNeeds needs rhs) where
+  as_far : (k : ℕ) (before after : ℕ → A) → SolvesUnstuck n needs rhs k before → (round : IsRound n rhs before after) → (i : ℕ) → i ≤ n → HoldsUpTo n needs rhs k i (round.left i)
+  as_far k before after h round zero l = starts n needs rhs below reads k (round.left 0) (subst (SolvesUnstuck n needs rhs k) (sym round.begins) h)
+  as_far k before after h round (suc i) l =
+      let e : i + 1 ≡ suc i = omega arith in
+      subst (λ j. HoldsUpTo n needs rhs k j (round.left j)) e
+      (one_more n needs rhs below reads k i (round.left i) (round.left (i + 1)) (as_far k before after h round i (omega arith)) (round.computes i (omega arith)))
+
+  pub round_solves : (k : ℕ) (before after : ℕ → A) → SolvesUnstuck n needs rhs k before → IsRound n rhs before after → SolvesUnstuck n needs rhs (suc k) after
+  round_solves k before after h round =
+      subst (SolvesUnstuck n needs rhs (suc k)) round.ends (ends n needs rhs below reads k (round.left n) (as_far k before after h round n (omega arith)))
+
+  after_rounds : (values : ℕ → ℕ → A) → ((k : ℕ) → k < n → IsRound n rhs (values k) (values (k + 1))) → (k : ℕ) → k ≤ n → SolvesUnstuck n needs rhs k (values k)
+  after_rounds values rounds zero l = λ s b e. absurd (true≢false e)
+  after_rounds values rounds (suc k) l =
+      let e : k + 1 ≡ suc k = omega arith in
+      let round = subst (λ j. IsRound n rhs (values k) (values j)) e (rounds k (omega arith)) in
+      round_solves k (values k) (values (suc k)) (after_rounds values rounds k (omega arith)) round
+
+  pub rounds_solve : NothingStuck n needs → (values : ℕ → ℕ → A) → ((k : ℕ) → k < n → IsRound n rhs (values k) (values (k + 1))) → Solves n rhs (values n)
+  rounds_solve free values rounds s l = after_rounds values rounds n (omega arith) s l (free s l)
 
 -- where no symbol is stuck, all equations hold after as many rounds as there are symbols
 pub all_hold : {A : Type 0} (n k : ℕ) (needs : ℕ → List ℕ) (rhs : ℕ → (ℕ → A) → A) (V : ℕ → A) → k ≡ n → NothingStuck n needs → SolvesUnstuck n needs rhs k V → Solves n rhs V

@@ -1,9 +1,9 @@
 -- What follows of needs, and of equations over them, whatever a value is.
-use Rattle.std.specs.Prelude.{◌≡◌, ℕ, ◌<◌, ◌+◌, ◌-◌, ◌++◌, take, List, length, slice_index, Option, Bool}
+use Rattle.std.specs.Prelude.{All, ◌≡◌, ℕ, ◌<◌, ◌+◌, ◌-◌, ◌++◌, take, List, length, slice_index, Option, Bool}
 use Rattle.kc_order.specs.Needs.{needs_in, AreWithin, IsAccepted, SomeStuck}
 use Rattle.kc_order.specs.Loop.{IsNamedLoop, IsWay}
 use Rattle.kc_order.specs.Order.{Orders}
-use Rattle.kc_order.specs.Solution.{Solves, IsOnlySolution, ReadsNeeds, HasOneSolution, IsUpdate}
+use Rattle.kc_order.specs.Solution.{Solves, IsOnlySolution, ReadsNeeds, HasOneSolution, IsUpdate, IsRound}
 use Rattle.kc_order.specs.Minimal.{under, Restores, NothingCanGo, KeepsWhatDiffers}
 
 -- needs that have an order are accepted
@@ -20,6 +20,11 @@ AWayRoundIsStuck =
 abbrev pub NamedLoopGoesRound : Type 0
 NamedLoopGoesRound =
     (needs : List (List ℕ)) (loop : List ℕ) → IsNamedLoop (length needs) (needs_in needs) loop → IsWay (needs_in needs) (loop ++ take 1 loop)
+
+-- and is a symbol
+abbrev pub NamedLoopIsWithin : Type 0
+NamedLoopIsWithin =
+    (needs : List (List ℕ)) (loop : List ℕ) → AreWithin needs → IsNamedLoop (length needs) (needs_in needs) loop → All (λ s. s < length needs) loop
 
 -- no two loops are named of the same needs
 abbrev pub OneNamedLoop : Type 0
@@ -46,6 +51,13 @@ FillingSolves A =
     (filled : ℕ → ℕ → A) →
     ((i : ℕ) → i < length symbols → IsUpdate (filled i) (filled (i + 1)) (slice_index symbols i) (rhs (slice_index symbols i) (filled i))) →
     Solves (length needs) rhs (filled (length symbols))
+
+-- as many rounds as there are symbols, whatever the values before: the equations hold
+abbrev pub RoundsSolve : Type 0 → Type 0
+RoundsSolve A =
+    (needs : List (List ℕ)) (rhs : ℕ → (ℕ → A) → A) → AreWithin needs → IsAccepted needs → ReadsNeeds (needs_in needs) rhs →
+    (values : ℕ → ℕ → A) → ((k : ℕ) → k < length needs → IsRound (length needs) rhs (values k) (values (k + 1))) →
+    Solves (length needs) rhs (values (length needs))
 
 -- the kept lines of what differs restore
 abbrev pub MinimalRestores : Type 0 → Type 0 → Type 0 → Type 0

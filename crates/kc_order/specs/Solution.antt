@@ -1,5 +1,5 @@
 -- Valuations that satisfy one equation for each symbol. An equation gives a value of its symbol, read off the values of all symbols.
-use Rattle.std.specs.Prelude.{◌≡◌, ℕ, ◌<◌, ◌≢◌, List}
+use Rattle.std.specs.Prelude.{◌≡◌, ℕ, ◌<◌, ◌+◌, ◌≢◌, List}
 use Rattle.std.specs.List.{Contains}
 
 -- each of the first n symbols has the value that its equation gives
@@ -22,3 +22,10 @@ ReadsNeeds {A} needs rhs = (s : ℕ) (V W : ℕ → A) → ((t : ℕ) → Contai
 pub record IsUpdate {A : Type 0} (V W : ℕ → A) (s : ℕ) (value : A) : Type 0 where
   pub here : W s ≡ value
   pub others : (t : ℕ) → t ≢ s → W t ≡ V t
+
+-- each of the first n equations computed anew, one after another, each from the values that the ones before it left
+pub record IsRound {A : Type 0} (n : ℕ) (rhs : ℕ → (ℕ → A) → A) (before after : ℕ → A) : Type 0 where
+  pub left : ℕ → ℕ → A
+  pub begins : left 0 ≡ before
+  pub ends : left n ≡ after
+  pub computes : (s : ℕ) → s < n → IsUpdate (left s) (left (s + 1)) s (rhs s (left s))

@@ -1,6 +1,6 @@
 //! What follows of needs, and of equations over them, whatever a value is.
 
-ghost use Rattle.kc_order.specs.Laws.{OrderedAreAccepted, AWayRoundIsStuck, NamedLoopGoesRound, OneNamedLoop, AcceptedHaveOneSolution, SolutionsAgree, FillingSolves, MinimalRestores, MinimalHasNothingToSpare};
+ghost use Rattle.kc_order.specs.Laws.{OrderedAreAccepted, AWayRoundIsStuck, NamedLoopGoesRound, NamedLoopIsWithin, OneNamedLoop, AcceptedHaveOneSolution, SolutionsAgree, FillingSolves, RoundsSolve, MinimalRestores, MinimalHasNothingToSpare};
 
 /// Needs that have an order are accepted.
 pub fn ordered_are_accepted()
@@ -15,6 +15,11 @@ pub fn a_way_round_is_stuck()
 /// Each symbol of a loop that is named needs the next, and the last the first.
 pub fn named_loop_goes_round()
     ensures { NamedLoopGoesRound }
+{}
+
+/// Each symbol of a loop that is named is one of the symbols.
+pub fn named_loop_is_within()
+    ensures { NamedLoopIsWithin }
 {}
 
 /// No two loops are named of the same needs.
@@ -35,6 +40,11 @@ pub fn solutions_agree<A>()
 /// A table filled along an order, each place written once, solves the equations.
 pub fn filling_solves<A>()
     ensures { FillingSolves A }
+{}
+
+/// As many rounds as there are symbols, each of which computes every equation anew, solve the equations.
+pub fn rounds_solve<A>()
+    ensures { RoundsSolve A }
 {}
 
 /// The lines of what differs give the values again, and no others.

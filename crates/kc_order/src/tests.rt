@@ -110,10 +110,12 @@ fn laws_hold_of_bytes(_rt: HostRuntime) -> Result<(), Fail> {
     ordered_are_accepted();
     a_way_round_is_stuck();
     named_loop_goes_round();
+    named_loop_is_within();
     one_named_loop();
     accepted_have_one_solution::<u8>();
     solutions_agree::<u8>();
     filling_solves::<u8>();
+    rounds_solve::<u8>();
     minimal_restores::<u8, usize, u8>();
     minimal_has_nothing_to_spare::<u8, usize, u8>();
     Ok(())
