@@ -1,13 +1,16 @@
 -- The walk along stuck symbols.
-use Rattle.std.proofs.Common.{◌≡◌, ℕ, ◌<◌, ◌≤◌, ◌+◌, Bool, true, false, List, [], ◌∷◌, ◌++◌, length, get_or, sym, ◌∙◌, ap, refl, inl, inr, arith, All, take, drop, eqb, filter, ◌≢◌, subst}
+use Rattle.std.proofs.Common.{false, replicate, ◌||◌, get_or-set_same, get_or-set_other, ◌≡◌, ℕ, ◌<◌, ◌≤◌, ◌+◌, Bool, true, false, List, [], ◌∷◌, ◌++◌, length, get_or, sym, ◌∙◌, ap, refl, inl, inr, arith, All, take, drop, eqb, filter, ◌≢◌, subst}
 use Rattle.std.specs.Cmp.{nat_eq_equiv}
 use Rattle.std.proofs.lemmas.Map.Keys.{IsDistinct-push}
+use Rattle.std.proofs.lemmas.Map.Views.{list_any-from_Contains}
+use Rattle.std.proofs.Math.ListN.{set}
+use Rattle.kc_order.proofs.Unique.{fails_each}
 use Rattle.std.proofs.lemmas.Map.Steps.{length-le_from_distinct_below}
 use Rattle.std.proofs.lemmas.List.Folds.{list_any_none, Any-from_list_any}
-use Rattle.std.proofs.lemmas.List.{get_or_append_left, get_or_push, length_push, drop_more, take-append-drop, length-drop}
+use Rattle.std.proofs.lemmas.List.{length-replicate, get_or-replicate, length-set, get_or_append_left, get_or_push, length_push, drop_more, take-append-drop, length-drop}
 use Rattle.std.specs.List.{Contains, list_any, IsDistinct}
-use Rattle.std.proofs.lemmas.Bool.{cases_Bool, ne_eqb, eqb-true, cases_lt}
-use Rattle.std.proofs.lemmas.List.Elements.{All-tail, Contains-get_or, All-contains, All-filter, filter_passes, All-contains_itself, All-push}
+use Rattle.std.proofs.lemmas.Bool.{eqb-false, cases_eq, cases_Bool, ne_eqb, eqb-true, cases_lt}
+use Rattle.std.proofs.lemmas.List.Elements.{All-tail, Contains-get_or, All-contains, All-filter, filter_passes, All-contains_itself, All-push, Contains-push}
 use Rattle.kc_order.specs.Needs.{NeedsBelow, stuck_after}
 use Rattle.kc_order.specs.Rows.{AreMarks}
 use Rattle.kc_order.specs.Loop.{IsFirstStuck, IsNext, IsStuckWalk, IsNamedLoop}
@@ -115,4 +118,41 @@ comes_back n needs walk at i h l e = record {
       let one : take 1 (drop i walk) ≡ at ∷ [] = ap (take 1) (drop_more walk i 0 l) ∙ ap (λ (x : ℕ). x ∷ []) e in
       rw (take-append-drop, one) h.walks;
   apart = rw take-append-drop h.apart;
+}
+
+-- one more element that fails the test changes no answer
+any_push : {X : Type 0} (p : X → Bool) (xs : List X) (x : X) → p x ≡ false → list_any p (xs ++ x ∷ []) ≡ list_any p xs
+any_push p [] x e = ap (λ b. b || false) e
+any_push p (y ∷ xs) x e = ap (λ b. p y || b) (any_push p xs x e)
+
+-- one more symbol is marked as met
+pub met_push : (n : ℕ) (walk : List ℕ) (met : List Bool) (at : ℕ) → AreMarks n (λ s. list_any (eqb s) walk) met → at < n → AreMarks n (λ s. list_any (eqb s) (walk ++ at ∷ [])) (set met at true)
+met_push n walk met at m l = record {
+  length_is = length-set met at true ∙ m.length_is;
+  each = λ s h.
+      elim (cases_eq s at) [
+        | inl same ↦
+            ap (λ k. get_or (set met at true) k false) same ∙ get_or-set_same met at true false (omega (arith, m.length_is))
+            ∙ sym (list_any-from_Contains nat_eq_equiv s (walk ++ at ∷ []) (subst (Contains (walk ++ at ∷ [])) (sym same) (Contains-push walk at)))
+        | inr other ↦
+            get_or-set_other met at s true false other ∙ m.each s h
+            ∙ sym (any_push (eqb s) walk at (ne_eqb s at other))
+      ];
+}
+
+-- what is not marked is not on the walk
+pub not_met : (walk : List ℕ) (at : ℕ) → list_any (eqb at) walk ≡ false → All (λ s. s ≢ at) walk
+not_met walk at e k d l is = eqb-false at (get_or walk k d) (fails_each (eqb at) walk (get_or walk k d) e (Contains-get_or walk k d l)) (sym is)
+
+-- what is marked is
+pub is_met : (walk : List ℕ) (at : ℕ) → list_any (eqb at) walk ≡ true → All (λ s. s ≢ at) walk → ⊥
+is_met walk at e none =
+    let a = Any-from_list_any (eqb at) walk e in
+    none a.0 a.1 a.2 (a.3 ∙ sym (eqb-true at a.1 a.4))
+
+-- at first none is
+pub none_met : (n : ℕ) (met : List Bool) → met ≡ replicate n false → AreMarks n (λ s. list_any (eqb s) []) met
+none_met n met e = record {
+  length_is = ap length e ∙ length-replicate n false;
+  each = λ s h. ap (λ xs. get_or xs s false) e ∙ get_or-replicate n s false false h;
 }

@@ -1,6 +1,6 @@
 //! The loop that is named where some symbol is stuck.
 
-ghost use Rattle.std.specs.Prelude.{◌≡◌, ◌<◌, length, IfOk, MatchOption, slice_index_or, slice_index, All, filter, true, false, ◌≢◌};
+ghost use Rattle.std.specs.Prelude.{◌≡◌, ◌<◌, length, IfOk, MatchOption, slice_index_or, slice_index, All, filter, true, false, ◌≢◌, replicate};
 ghost use Rattle.kc_order.specs.Needs.{stuck_after};
 ghost use Rattle.kc_order.specs.Rows.{needs_of, RowsBelow, RowsAreThere, AreMarks};
 ghost use Rattle.kc_order.specs.Loop.{IsLeast, IsFirstStuck, IsNext, IsNamedLoop};
@@ -40,6 +40,14 @@ fn place_of(walk: &[u32], symbol: u32) -> Option<usize>
     walk.iter().position(|met| *met == symbol)
 }
 
+// Marks of symbols, none of them marked.
+fn no_marks(alloc: Global, count: usize) -> Result<Vec<bool>, AllocError>
+    ensures { IfOk result (λ v. v.items ≡ replicate count false) }
+{
+    let marks = vec![in alloc; false; count]?;
+    Ok(marks)
+}
+
 /// The loop that the walk along stuck symbols comes to.
 pub fn named_loop(
     alloc: Global,
@@ -54,14 +62,19 @@ pub fn named_loop(
     requires first { IsFirstStuck (length row_of.now) (needs_of rows.now row_of.now) first }
     ensures { IfOk result (λ v. IsNamedLoop (length row_of.now) (needs_of rows.now row_of.now) v.items) }
 {
+    let mut met = no_marks(alloc, row_of.len())?;
     let mut walk = Vec::new(alloc);
     let mut at = first;
-    loop {
-        if let Some(start) = place_of(&walk, at) {
-            let found = Vec::from_slice(alloc, &walk[start..])?;
-            return Ok(found);
-        }
+    while !met[at as usize] {
+        met[at as usize] = true;
         walk.push(at)?;
         at = next_stuck(rows, row_of, stuck, at);
+    }
+    match place_of(&walk, at) {
+        None => unreachable!(),
+        Some(start) => {
+            let found = Vec::from_slice(alloc, &walk[start..])?;
+            Ok(found)
+        }
     }
 }
