@@ -1,12 +1,12 @@
 -- Needs that are held in rows.
-use Rattle.std.proofs.Common.{◌≡◌, ℕ, ◌<◌, ◌+◌, List, [], ◌∷◌, ◌++◌, length, get_or, zero, suc, sym, ◌∙◌, ap, refl, inl, inr, arith, Vec, All, subst, map}
+use Rattle.std.proofs.Common.{◌≡◌, ℕ, ◌<◌, List, [], ◌∷◌, ◌++◌, length, get_or, zero, suc, sym, ◌∙◌, ap, refl, inl, inr, arith, Vec, All, subst, map}
 use Rattle.std.specs.Global.{Global}
 use Rattle.std.specs.List.{Contains}
 use Rattle.std.proofs.lemmas.Bool.{cases_lt}
 use Rattle.std.proofs.lemmas.List.{length_push, get_or_push, get_or_append_left, length-map, get_or-map, get_or_default, map-append}
-use Rattle.std.proofs.lemmas.List.Elements.{All-contains, All-tail, All-push, All-contains_itself, Contains-append_left, Contains-push, Contains-get_or}
-use Rattle.kc_order.specs.Needs.{NeedsBelow, NothingStuck, IsAccepted, needs_in, AreWithin, SomeStuck}
-use Rattle.kc_order.specs.Rows.{lists, in_row, held, needs_of, RowsBelow, RowsAreThere, AreTheirs}
+use Rattle.std.proofs.lemmas.List.Elements.{All-contains, All-tail, All-push, Contains-append_left, Contains-push, Contains-get_or}
+use Rattle.kc_order.specs.Needs.{NeedsBelow, NothingStuck, IsAccepted, needs_in, AreWithin}
+use Rattle.kc_order.specs.Rows.{in_row, held, needs_of, RowsBelow, RowsAreThere, AreTheirs}
 use Rattle.kc_order.specs.Loop.{IsNamedLoop}
 use Rattle.kc_order.specs.Order.{IsOrderOf, Orders}
 

@@ -1,11 +1,11 @@
 -- Marks of symbols, one round after another.
-use Rattle.std.proofs.Common.{◌≡◌, ℕ, ◌<◌, ◌+◌, Bool, false, List, [], ◌∷◌, ◌++◌, length, get_or, suc, sym, ◌∙◌, ap, refl, inl, inr, arith, Vec, All, map}
+use Rattle.std.proofs.Common.{◌≡◌, ℕ, ◌+◌, Bool, false, List, [], ◌∷◌, ◌++◌, length, get_or, suc, sym, ◌∙◌, ap, refl, inl, inr, arith, Vec, All, map}
 use Rattle.std.specs.Global.{Global}
-use Rattle.std.specs.List.{Contains, list_any}
+use Rattle.std.specs.List.{list_any}
 use Rattle.std.proofs.lemmas.Bool.{cases_eq}
 use Rattle.std.proofs.lemmas.List.{length_push, get_or_push, get_or_append_left, length-map, get_or-map}
 use Rattle.std.proofs.lemmas.List.Elements.{All-tail, Contains-get_or}
-use Rattle.kc_order.specs.Needs.{NeedsBelow, stuck_after, NothingStuck}
+use Rattle.kc_order.specs.Needs.{NeedsBelow, stuck_after}
 use Rattle.kc_order.specs.Rows.{in_row, needs_of, RowsAreThere, AreMarks}
 use Rattle.kc_order.proofs.Held.{needs_are}
 

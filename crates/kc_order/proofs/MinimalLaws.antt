@@ -1,5 +1,5 @@
 -- Keeping the places of what differs restores, and none of them can go.
-use Rattle.std.proofs.Common.{◌≡◌, ℕ, ◌<◌, Bool, true, false, Option, None, sym, ◌∙◌, ap, inl, inr, List, cond}
+use Rattle.std.proofs.Common.{ℕ, Bool, Option, None, sym, ◌∙◌, ap, inl, inr, List, cond}
 use Rattle.std.proofs.lemmas.Bool.{cases_Bool}
 use Rattle.kc_order.specs.Needs.{NeedsBelow, NothingStuck}
 use Rattle.kc_order.specs.Solution.{Solves, ReadsNeeds}

@@ -1,5 +1,5 @@
 -- One round over all symbols, one equation after another.
-use Rattle.std.proofs.Common.{◌≡◌, ℕ, ◌<◌, ◌+◌, ◌≢◌, false, List, length, zero, suc, sym, ◌∙◌, ap, inl, inr, arith, ◌≤◌, subst}
+use Rattle.std.proofs.Common.{◌≡◌, ℕ, ◌<◌, ◌+◌, false, List, zero, suc, sym, ◌∙◌, ap, inl, inr, arith, ◌≤◌, subst}
 use Rattle.std.specs.List.{Contains}
 use Rattle.std.proofs.lemmas.Bool.{true≢false, cases_Bool, both_ways, cases_eq}
 use Rattle.kc_order.specs.Needs.{NeedsBelow, stuck_after, NothingStuck}

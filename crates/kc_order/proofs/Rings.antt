@@ -1,5 +1,5 @@
 -- Ways along needs that come back.
-use Rattle.std.proofs.Common.{zero, suc, All, ◌≡◌, ℕ, ◌<◌, ◌+◌, ◌-◌, ◌++◌, true, List, length, get_or, sym, ◌∙◌, ap, inl, inr, arith, subst, take, append_assoc}
+use Rattle.std.proofs.Common.{zero, suc, All, ◌≡◌, ℕ, ◌<◌, ◌+◌, ◌-◌, ◌++◌, List, length, get_or, sym, ◌∙◌, ap, inl, inr, arith, subst, take, append_assoc}
 use Rattle.std.specs.List.{Contains}
 use Rattle.std.proofs.lemmas.Bool.{cases_lt}
 use Rattle.std.proofs.lemmas.List.{get_or_default, get_or_append_left, get_or-append-add, length-append}

@@ -1,5 +1,5 @@
 -- Needs as they are held: rows of symbols, and the row of each symbol. Symbols may share a row.
-use Rattle.std.specs.Prelude.{◌≡◌, ℕ, ◌<◌, Bool, false, List, [], length, Vec, All, slice_index_or, slice_index, map}
+use Rattle.std.specs.Prelude.{◌≡◌, ℕ, ◌<◌, Bool, false, List, [], length, Vec, All, slice_index_or, map}
 use Rattle.std.specs.Global.{Global}
 use Rattle.std.specs.List.{Contains}
 use Rattle.kc_order.specs.Needs.{needs_in}

@@ -1,4 +1,4 @@
-use Rattle.std.proofs.Common.{arith, refl, add-one, sym, length}
+use Rattle.std.proofs.Common.{arith, add-one, sym, length}
 use Rattle.kc_order.specs.Needs.{stuck_after}
 use Rattle.kc_order.specs.Rows.{needs_of, AreMarks}
 use Rattle.std.proofs.Common.{suc}

@@ -1,4 +1,4 @@
-use Rattle.std.proofs.Common.{arith, length, sym, ◌∙◌, ap, take, ◌-◌, ◌+◌, ◌<◌, ◌≡◌, ℕ, vec_len, get_or, subst, ◌++◌, ◌∷◌, []}
+use Rattle.std.proofs.Common.{arith, length, sym, ◌∙◌, ap, take, ◌-◌, ◌+◌, ◌<◌, ◌≡◌, ℕ, vec_len, get_or, subst}
 use Rattle.std.specs.List.{Contains}
 use Rattle.std.proofs.lemmas.List.{length-set, get_or_read}
 use Rattle.std.proofs.lemmas.List.Sums.{sum_by-set}

@@ -1,4 +1,4 @@
-use Rattle.std.proofs.Common.{length, arith, ap, get_or, ◌≡◌, ◌<◌, subst, sym}
+use Rattle.std.proofs.Common.{length, arith, ap, get_or, ◌≡◌, ◌<◌}
 use Rattle.std.proofs.lemmas.List.{get_or_read}
 use Rattle.kc_order.proofs.Held.{theirs_same, held_len}
 use Rattle.kc_order.proofs.needs.Needs.add_same.Goals as goal
