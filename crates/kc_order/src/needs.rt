@@ -21,7 +21,8 @@ fn are_below(rows: &[Vec<u32>], bound: usize) -> bool
     rows.iter().all(|row| is_below(row, bound))
 }
 
-/// What each symbol needs, symbols being numbers from 0 on. Symbols that need the same can share one row.
+/// What each symbol needs. Symbols are numbers from 0 on, in the order in which they are added, and symbols that need the same can
+/// share one row, so that all members of a choice take no more room than one of them.
 #[derive(Drop)]
 pub struct Needs {
     pub(crate) rows: Vec<Vec<u32>>,
@@ -64,7 +65,7 @@ impl Needs {
         are_below(&self.rows, self.row_of.len())
     }
 
-    /// The next symbol needs these. A failure for want of memory changes nothing.
+    /// The next symbol needs these, which may be symbols that are added later. A failure for want of memory changes nothing.
     pub fn add(&mut self, row: Vec<u32>) -> Result<(), AllocError>
         ensures added { OnOk result (self.new ≡ self.old ++ row.items ∷ []) }
         ensures unchanged { OnErr result (self.new ≡ self.old) }

@@ -52,7 +52,7 @@ impl Model for Order {
 }
 
 impl Order {
-    /// The symbols in order.
+    /// The symbols in order, the needs of each before it.
     pub fn symbols(&self) -> &[u32]
         ensures { Orders self.now result.now }
     {
@@ -81,7 +81,11 @@ fn order_or_loop(alloc: Global, rows: &[Vec<u32>], row_of: &[usize]) -> Result<V
     }
 }
 
-/// An order for these needs, if no symbol is stuck. Else the loop that is named, which alone tells why there is none.
+/// An order for these needs, where no symbol is stuck. The time is linear in the rows as they are held.
+///
+/// Answers `Loop` exactly where some symbol is stuck, and `Memory` for want of memory alone; then nothing is left of the needs.
+/// Which symbols are stuck, and which loop is named, is our own rule: a walk from the first stuck symbol always on to the first
+/// stuck symbol that the last one needs, and of it the part from the symbol that it meets twice.
 pub fn order_of(alloc: Global, needs: Needs) -> Result<Order, NoOrder>
     requires within { AreWithin needs }
     requires few { length needs < 2 ^ 32 }
