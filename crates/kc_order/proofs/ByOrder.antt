@@ -1,0 +1,92 @@
+-- What an order gives: nothing is stuck, and a table filled along it solves.
+use Rattle.std.proofs.Common.{◌≡◌, ℕ, ◌<◌, ◌≤◌, ◌+◌, ◌≢◌, false, List, length, get_or, zero, suc, sym, ◌∙◌, ap, inl, inr, arith, take, eqb, subst}
+use Rattle.std.specs.List.{Contains}
+use Rattle.std.proofs.lemmas.Bool.{cases_lt, eqb-true, eqb-false}
+use Rattle.std.proofs.lemmas.List.{get_or-take, length-take-le, get_or_default}
+use Rattle.std.proofs.lemmas.List.Elements.{Contains-get_or}
+use Rattle.std.proofs.lemmas.List.Folds.{list_any_none, Any-from_list_any}
+use Rattle.std.proofs.lemmas.Map.Keys.{apart_from_distinct}
+use Rattle.std.proofs.lemmas.Map.Steps.{length-le_from_distinct_below}
+use Rattle.kc_order.specs.Needs.{stuck_after, NothingStuck}
+use Rattle.kc_order.specs.Order.{IsOrderOf}
+use Rattle.kc_order.specs.Solution.{Solves, ReadsNeeds, IsUpdate}
+
+-- an element of a front stands at a place before its end
+in_front : (xs : List ℕ) (k t : ℕ) → k < length xs → Contains (take k xs) t → (i : ℕ) × (i < k) × (get_or xs i 0 ≡ t)
+in_front xs k t l c =
+    let i_lt : c.0 < k = omega (arith, c.1, length-take-le k xs (omega arith)) in
+    (c.0, i_lt, get_or_default xs c.0 0 t (omega arith) ∙ sym (get_or-take k xs c.0 t i_lt) ∙ c.2)
+
+-- the equations of the first i symbols of the order hold
+abbrev pub IsFilled : {A : Type 0} → List ℕ → (ℕ → (ℕ → A) → A) → ℕ → (ℕ → A) → Type 0
+IsFilled order rhs i V = (j : ℕ) → j < i → j < length order → V (get_or order j 0) ≡ rhs (get_or order j 0) V
+
+module _ (n : ℕ) (needs : ℕ → List ℕ) (order : List ℕ) (is : IsOrderOf n needs order) where
+  -- the first k symbols of an order are free after k rounds
+  pub free_after : (k j : ℕ) → j < k → j < length order → stuck_after needs k (get_or order j 0) ≡ false
+  free_after zero j l b = absurd (omega arith)
+  free_after (suc k) j l b =
+      list_any_none (stuck_after needs k) (needs (get_or order j 0)) (λ m d lt.
+      let t = get_or (needs (get_or order j 0)) m d in
+      let w = in_front order j t b (is.needs_first j t b (Contains-get_or (needs (get_or order j 0)) m d lt)) in
+      subst (λ x. stuck_after needs k x ≡ false) w.2 (free_after k w.0 (omega (arith, w.1)) (omega (arith, w.1))))
+
+  order_short : length order ≤ n
+  order_short = length-le_from_distinct_below order n is.apart (λ q t.
+      let a = Any-from_list_any (eqb q) order t in
+      let there : Contains order a.1 = (a.0, a.2, a.3) in
+      is.all_below q (subst (Contains order) (sym (eqb-true q a.1 a.4)) there))
+
+  pub nothing_stuck : NothingStuck n needs
+  nothing_stuck s l =
+      let c = is.all_there s l in
+      subst (λ x. stuck_after needs n x ≡ false) (get_or_default order c.0 0 s c.1 ∙ c.2) (free_after n c.0 (omega (arith, c.1, order_short)) c.1)
+
+  -- two places hold two symbols
+  differ : (i j : ℕ) → i < j → j < length order → get_or order i 0 ≢ get_or order j 0
+  differ i j l b = eqb-false (get_or order i 0) (get_or order j 0) (apart_from_distinct eqb order i j 0 is.apart l b)
+
+  -- an equation whose symbol stands up to i does not read the value at i
+  unread : {A : Type 0} (rhs : ℕ → (ℕ → A) → A) → ReadsNeeds needs rhs → (i j : ℕ) (V W : ℕ → A) (x : A) → i < length order → IsUpdate V W (get_or order i 0) x → j ≤ i → rhs (get_or order j 0) W ≡ rhs (get_or order j 0) V
+  unread rhs reads i j V W x b u l =
+      reads (get_or order j 0) W V (λ t c.
+      let w = in_front order j t (omega arith) (is.needs_first j t (omega arith) c) in
+      u.others t (λ e. differ w.0 i (omega (arith, w.1)) b (w.2 ∙ e)))
+
+  pub fill_one : {A : Type 0} (rhs : ℕ → (ℕ → A) → A) → ReadsNeeds needs rhs → (i : ℕ) (V W : ℕ → A) → IsFilled order rhs i V → i < length order → IsUpdate V W (get_or order i 0) (rhs (get_or order i 0) V) → IsFilled order rhs (i + 1) W
+  fill_one rhs reads i V W h b u j l c =
+      elim (cases_lt j i) [
+        | inl before ↦ u.others (get_or order j 0) (differ j i before b) ∙ h j before c ∙ sym (unread rhs reads i j V W _ b u (omega arith))
+        | inr last ↦
+            let same : j ≡ i = omega arith in
+            ap (λ m. W (get_or order m 0)) same ∙ u.here ∙ ap (λ m. rhs (get_or order m 0) V) (sym same) ∙ sym (unread rhs reads i j V W _ b u (omega arith))
+      ]
+
+  pub all_filled : {A : Type 0} (rhs : ℕ → (ℕ → A) → A) (V : ℕ → A) → IsFilled order rhs (length order) V → Solves n rhs V
+  all_filled rhs V h s l =
+      let c = is.all_there s l in
+      subst (λ x. V x ≡ rhs x V) (get_or_default order c.0 0 s c.1 ∙ c.2) (h c.0 c.1 c.1)
+
+  -- after each step of a filling the equations so far hold
+  filled_to : {A : Type 0} (rhs : ℕ → (ℕ → A) → A) → ReadsNeeds needs rhs → (filled : ℕ → ℕ → A) → ((i : ℕ) → i < length order → IsUpdate (filled i) (filled (i + 1)) (get_or order i 0) (rhs (get_or order i 0) (filled i))) → (i : ℕ) → i ≤ length order → IsFilled order rhs i (filled i)
+  filled_to rhs reads filled steps zero l = λ j up. absurd (omega arith)
+  filled_to rhs reads filled steps (suc i) l =
+      let e : i + 1 ≡ suc i = omega arith in
+      let step = fill_one rhs reads i (filled i) (filled (i + 1)) (filled_to rhs reads filled steps i (omega arith)) (omega arith) (steps i (omega arith)) in
+      subst (λ k. IsFilled order rhs k (filled k)) e step
+
+  pub filled_solves : {A : Type 0} (rhs : ℕ → (ℕ → A) → A) → ReadsNeeds needs rhs → (filled : ℕ → ℕ → A) → ((i : ℕ) → i < length order → IsUpdate (filled i) (filled (i + 1)) (get_or order i 0) (rhs (get_or order i 0) (filled i))) → Solves n rhs (filled (length order))
+  filled_solves rhs reads filled steps =
+      all_filled rhs (filled (length order)) (λ j up. filled_to rhs reads filled steps (length order) (omega arith) j up)
+
+-- a symbol of an order is one of the first n
+pub symbol_below : (n : ℕ) (needs : ℕ → List ℕ) (order : List ℕ) → IsOrderOf n needs order → (i : ℕ) → i < length order → get_or order i 0 < n
+symbol_below n needs order is i l = is.all_below (get_or order i 0) (Contains-get_or order i 0 l)
+
+-- what was computed once from the needs of a symbol that stands before i stays right when the value of the i-th symbol is written:
+-- for a selection that all members of a choice share, kept from the first member's turn on
+pub stays_right : {A B : Type 0} (n : ℕ) (needs : ℕ → List ℕ) (order : List ℕ) → IsOrderOf n needs order → (read : (ℕ → A) → B) (i j : ℕ) → ((V W : ℕ → A) → ((t : ℕ) → Contains (needs (get_or order j 0)) t → V t ≡ W t) → read V ≡ read W) → (V W : ℕ → A) (x : A) → j ≤ i → i < length order → IsUpdate V W (get_or order i 0) x → read W ≡ read V
+stays_right n needs order is read i j reads V W x l b u =
+    reads W V (λ t c.
+    let w = in_front order j t (omega arith) (is.needs_first j t (omega arith) c) in
+    u.others t (λ e. differ n needs order is w.0 i (omega (arith, w.1)) b (w.2 ∙ e)))

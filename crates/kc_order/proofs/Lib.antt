@@ -1,0 +1,12 @@
+pub mod Held
+pub mod Marks
+pub mod Unique
+pub mod OneSolution
+pub mod OneRound
+pub mod Stays
+pub mod Walks
+pub mod SearchSteps
+pub mod ByOrder
+pub mod MinimalLaws
+pub mod Rings
+pub mod OneLoop

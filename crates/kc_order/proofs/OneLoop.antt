@@ -1,0 +1,105 @@
+-- No two loops are named of the same needs.
+use Rattle.std.proofs.Common.{◌≡◌, ℕ, ◌<◌, ◌≤◌, ◌+◌, ◌++◌, ◌≢◌, List, length, get_or, zero, suc, sym, ◌∙◌, ap, inl, inr, arith, subst, take, drop, eqb}
+use Rattle.std.proofs.lemmas.Bool.{cases_lt, both_ways, eqb-false}
+use Rattle.std.proofs.lemmas.List.{get_or_append_left, get_or-append-add, get_or-take, length-append, length-take-le}
+use Rattle.std.proofs.lemmas.Grind.{same_number_lists}
+use Rattle.std.proofs.Math.Seq.{drop-append_seam}
+use Rattle.std.proofs.lemmas.List.Elements.{All-contains}
+use Rattle.std.proofs.lemmas.Map.Keys.{apart_from_distinct}
+use Rattle.std.specs.List.{IsDistinct}
+use Rattle.kc_order.specs.Needs.{stuck_after}
+use Rattle.kc_order.specs.Loop.{IsLeast, IsFirstStuck, IsNext, IsStuckWalk, IsNamedLoop}
+
+least_is_one : (xs : List ℕ) (t u : ℕ) → IsLeast xs t → IsLeast xs u → t ≡ u
+least_is_one xs t u a b =
+    let le : t ≤ u = All-contains (λ v. t ≤ v) xs u a.1 b.0 in
+    let ge : u ≤ t = All-contains (λ v. u ≤ v) xs t b.1 a.0 in
+    omega arith
+
+first_is_one : (n : ℕ) (needs : ℕ → List ℕ) (t u : ℕ) → IsFirstStuck n needs t → IsFirstStuck n needs u → t ≡ u
+first_is_one n needs t u a b =
+    elim (cases_lt t u) [
+      | inl less ↦ absurd (both_ways (stuck_after needs n t) (b.none_before t less) a.stuck)
+      | inr more ↦ elim (cases_lt u t) [
+        | inl less ↦ absurd (both_ways (stuck_after needs n u) (a.none_before u less) b.stuck)
+        | inr same ↦ omega arith
+      ]
+    ]
+
+-- two walks go the same way as far as both go
+same_steps : (n : ℕ) (needs : ℕ → List ℕ) (walk other : List ℕ) → IsStuckWalk n needs walk → IsStuckWalk n needs other → (k : ℕ) → k < length walk → k < length other → get_or walk k 0 ≡ get_or other k 0
+same_steps n needs walk other a b zero l m = first_is_one n needs (get_or walk 0 0) (get_or other 0 0) a.begins b.begins
+same_steps n needs walk other a b (suc k) l m =
+    let e : k + 1 ≡ suc k = omega arith in
+    let before = same_steps n needs walk other a b k (omega arith) (omega arith) in
+    let next = subst (λ s. IsNext n needs s (get_or walk (k + 1) 0)) before (a.goes_on k (omega arith)) in
+    let is = least_is_one _ (get_or walk (k + 1) 0) (get_or other (k + 1) 0) next (b.goes_on k (omega arith)) in
+    subst (λ j. get_or walk j 0 ≡ get_or other j 0) e is
+
+-- the first of what is put behind a list stands where the list ends
+seam : (xs ys : List ℕ) → get_or (xs ++ ys) (length xs) 0 ≡ get_or ys 0 0
+seam xs ys =
+    let e : length xs ≡ length xs + 0 = omega arith in
+    ap (λ k. get_or (xs ++ ys) k 0) e ∙ get_or-append-add xs ys 0 0
+
+-- the walk ends at the loop's first symbol
+ends_at : (lead loop : List ℕ) → get_or (lead ++ loop ++ take 1 loop) (length (lead ++ loop)) 0 ≡ get_or (lead ++ loop) (length lead) 0
+ends_at lead loop = seam (lead ++ loop) (take 1 loop) ∙ get_or-take 1 loop 0 0 (omega arith) ∙ sym (seam lead loop)
+
+walk_len : (lead loop : List ℕ) → 0 < length loop → length (lead ++ loop ++ take 1 loop) ≡ length (lead ++ loop) + 1
+walk_len lead loop h = omega (arith, length-append (lead ++ loop) (take 1 loop), length-take-le 1 loop (omega arith))
+
+-- two places of a list with no symbol twice hold two symbols
+differ : (xs : List ℕ) → IsDistinct eqb xs → (i j : ℕ) → i < j → j < length xs → get_or xs i 0 ≢ get_or xs j 0
+differ xs apart i j l b = eqb-false (get_or xs i 0) (get_or xs j 0) (apart_from_distinct eqb xs i j 0 apart l b)
+
+same_place : (xs : List ℕ) → IsDistinct eqb xs → (i j : ℕ) → i < length xs → j < length xs → get_or xs i 0 ≡ get_or xs j 0 → i ≡ j
+same_place xs apart i j l m e =
+    elim (cases_lt i j) [
+      | inl less ↦ absurd (differ xs apart i j less m e)
+      | inr more ↦ elim (cases_lt j i) [
+        | inl less ↦ absurd (differ xs apart j i less l (sym e))
+        | inr same ↦ omega arith
+      ]
+    ]
+
+module _ (n : ℕ) (needs : ℕ → List ℕ) (loop other : List ℕ) (a : IsNamedLoop n needs loop) (b : IsNamedLoop n needs other) where
+  -- the way to the loop's end, and back to its first symbol
+  abbrev one : List ℕ
+  one = a.lead ++ loop
+
+  abbrev two : List ℕ
+  two = b.lead ++ other
+
+  alike : (k : ℕ) → k < length one + 1 → k < length two + 1 → get_or (one ++ take 1 loop) k 0 ≡ get_or (two ++ take 1 other) k 0
+  alike k l m = same_steps n needs (one ++ take 1 loop) (two ++ take 1 other) a.walk b.walk k (omega (arith, walk_len a.lead loop a.some)) (omega (arith, walk_len b.lead other b.some))
+
+  alike_in : (k : ℕ) → k < length one → k < length two → get_or one k 0 ≡ get_or two k 0
+  alike_in k l m = sym (get_or_append_left one (take 1 loop) 0 k l) ∙ alike k (omega arith) (omega arith) ∙ get_or_append_left two (take 1 other) 0 k m
+
+  -- one way does not end before the other
+  pub not_shorter : length one < length two → ⊥
+  not_shorter less =
+      let lead : length a.lead < length one = omega (arith, length-append a.lead loop, a.some) in
+      differ two b.apart (length a.lead) (length one) lead less
+      (sym (alike_in (length a.lead) lead (omega arith)) ∙ sym (ends_at a.lead loop) ∙ alike (length one) (omega arith) (omega arith) ∙ get_or_append_left two (take 1 other) 0 (length one) less)
+
+  pub same_loop : length one ≡ length two → loop ≡ other
+  same_loop len =
+      let ways : one ≡ two = same_number_lists one two len (λ k l. alike_in k l (omega arith)) in
+      let first : get_or one (length a.lead) 0 ≡ get_or two (length b.lead) 0 =
+      sym (ends_at a.lead loop) ∙ alike (length one) (omega arith) (omega arith) ∙ ap (λ k. get_or (two ++ take 1 other) k 0) len ∙ ends_at b.lead other in
+      let leads : length a.lead ≡ length b.lead =
+      same_place two b.apart (length a.lead) (length b.lead) (omega (arith, length-append a.lead loop, a.some)) (omega (arith, length-append b.lead other, b.some))
+      (ap (λ xs. get_or xs (length a.lead) 0) (sym ways) ∙ first) in
+      sym (drop-append_seam a.lead loop) ∙ ap (λ k. drop k one) leads ∙ ap (drop (length b.lead)) ways ∙ drop-append_seam b.lead other
+
+pub one_loop : (n : ℕ) (needs : ℕ → List ℕ) (loop other : List ℕ) → IsNamedLoop n needs loop → IsNamedLoop n needs other → loop ≡ other
+one_loop n needs loop other a b =
+    elim (cases_lt (length (a.lead ++ loop)) (length (b.lead ++ other))) [
+      | inl less ↦ absurd (not_shorter n needs loop other a b less)
+      | inr more ↦ elim (cases_lt (length (b.lead ++ other)) (length (a.lead ++ loop))) [
+        | inl less ↦ absurd (not_shorter n needs other loop b a less)
+        | inr same ↦ same_loop n needs loop other a b (omega arith)
+      ]
+    ]

@@ -1,0 +1,304 @@
+-- Each step of the search keeps what the search keeps.
+use Rattle.std.proofs.Common.{◌≡◌, ℕ, ◌<◌, ◌≤◌, ◌+◌, ◌≢◌, true, List, [], ◌∷◌, ◌++◌, length, get_or, zero, suc, sym, ◌∙◌, ap, refl, inl, inr, arith, take, drop, eqb, subst, ◌⊎◌}
+use Rattle.std.proofs.Common.{get_or-set_other, get_or-set_same}
+use Rattle.std.proofs.Math.ListN.{set}
+use Rattle.std.specs.Cmp.{nat_eq_equiv}
+use Rattle.std.specs.List.{Contains, IsDistinct, slice_index}
+use Rattle.std.proofs.lemmas.Bool.{cases_eq, cases_lt, ne_eqb, eqb-false}
+use Rattle.std.proofs.lemmas.List.{get_or_append_left, get_or_push, length_push, drop_more, length-drop, take-append-le, take_at, get_or_default}
+use Rattle.std.proofs.lemmas.List.Elements.{Contains-push, Contains-push_cases, Contains-append_left, Contains-append_cases, Contains-get_or}
+use Rattle.std.proofs.lemmas.List.Folds.{list_any_none, list_any_at}
+use Rattle.std.proofs.lemmas.Map.Keys.{IsDistinct-push, apart_from_distinct, IsDistinct-from_apart}
+use Rattle.kc_order.specs.declared.search.Mark.{Mark}
+use Rattle.kc_order.specs.declared.search.Mark.TheVariants.{New, Open, Done}
+use Rattle.std.proofs.Common.{Vec, vec_len, map, sum, sum_by}
+use Rattle.std.proofs.lemmas.List.{length-set}
+use Rattle.std.proofs.lemmas.List.Sums.{sum_by-set}
+use Rattle.std.specs.Global.{Global}
+use Rattle.kc_order.specs.Needs.{NeedsBelow, stuck_after, SomeStuck}
+use Rattle.kc_order.specs.Rows.{in_row, needs_of, RowsBelow}
+use Rattle.kc_order.specs.Order.{IsOrderOf}
+use Rattle.kc_order.specs.declared.search.Search.{Search}
+use Rattle.kc_order.specs.Search.{IsSearch, IsSound, Opens, Closes, KeepsMet, weight, work}
+use Rattle.kc_order.proofs.Held.{needs_are, needs_below}
+use Rattle.kc_order.specs.Solution.{IsUpdate}
+
+-- a list with no symbol twice, and one that is not on it
+pub apart_push : (xs : List ℕ) (x : ℕ) → IsDistinct eqb xs → (Contains xs x → ⊥) → IsDistinct eqb (xs ++ x ∷ [])
+apart_push xs x apart new =
+    IsDistinct-push nat_eq_equiv xs x apart
+    (list_any_none (eqb x) xs (λ k d l. ne_eqb x (get_or xs k d) (λ e. new (subst (Contains xs) (sym e) (Contains-get_or xs k d l)))))
+
+-- a front of it
+pub apart_front : (xs : List ℕ) (x : ℕ) → IsDistinct eqb (xs ++ x ∷ []) → IsDistinct eqb xs
+apart_front xs x apart =
+    IsDistinct-from_apart eqb xs (λ i j d l m.
+    rw (← get_or_append_left xs (x ∷ []) d i (omega arith), ← get_or_append_left xs (x ∷ []) d j m)
+    (apart_from_distinct eqb (xs ++ x ∷ []) i j d apart l (omega (arith, length_push xs x))))
+
+-- its last symbol is not in the front
+pub last_apart : (xs : List ℕ) (x : ℕ) → IsDistinct eqb (xs ++ x ∷ []) → Contains xs x → ⊥
+last_apart xs x apart c =
+    eqb-false (get_or (xs ++ x ∷ []) c.0 x) (get_or (xs ++ x ∷ []) (length xs) x)
+    (apart_from_distinct eqb (xs ++ x ∷ []) c.0 (length xs) x apart c.1 (omega (arith, length_push xs x)))
+    (get_or_append_left xs (x ∷ []) x c.0 c.1 ∙ c.2 ∙ sym (get_or_push xs x x (length xs) refl))
+
+pub open≢new : (m : Mark) → m ≡ Open → m ≡ New → ⊥
+open≢new m a b = cc
+
+done≢new : (m : Mark) → m ≡ Done → m ≡ New → ⊥
+done≢new m a b = cc
+
+open≢done : (m : Mark) → m ≡ Open → m ≡ Done → ⊥
+open≢done m a b = cc
+
+-- a need of the symbol at k stands at k + 1
+goes_at : (needs : ℕ → List ℕ) (xs : List ℕ) (k a b : ℕ) → slice_index xs k ≡ a → slice_index xs (k + 1) ≡ b → Contains (needs a) b → Contains (needs (slice_index xs k)) (slice_index xs (k + 1))
+goes_at needs xs k a b p q h = subst (λ x. Contains (needs x) (slice_index xs (k + 1))) (sym p) (subst (λ y. Contains (needs a) y) (sym q) h)
+
+cons_cases : (x : ℕ) (xs : List ℕ) (v : ℕ) → Contains (x ∷ xs) v → (x ≡ v) ⊎ Contains xs v
+cons_cases x xs v c =
+    elim (Contains-append_cases (x ∷ []) xs v c) [
+      | inl one ↦ elim (Contains-push_cases [] x v one) [ inl none ↦ absurd (omega (arith, none.1)) | inr same ↦ inl same ]
+      | inr more ↦ inr more
+    ]
+
+-- one need fewer is left of s, and of each symbol that needs the same; of the others as many as before
+abbrev pub PassesOne : ℕ → (ℕ → List ℕ) → (ℕ → ℕ) → (ℕ → ℕ) → ℕ → ℕ → Type 0
+PassesOne n needs left left' s j = (t : ℕ) → t < n → ((needs t ≡ needs s) × (left' t ≡ j)) ⊎ (left' t ≡ left t)
+
+module _ (n : ℕ) (needs : ℕ → List ℕ) where
+  pub opened : (mark mark' : ℕ → Mark) (left : ℕ → ℕ) (path order : List ℕ) (s : ℕ) → IsSearch n needs mark left path order → s < n → mark s ≡ New → ((k : ℕ) → k + 1 ≡ length path → Contains (needs (slice_index path k)) s) → IsUpdate mark mark' s Open → IsSearch n needs mark' left (path ++ s ∷ []) order
+  opened mark mark' left path order s h l new needed u =
+      let others : (t : ℕ) → mark t ≢ New → mark' t ≡ mark t = λ t ne. u.others t (λ e. ne (ap mark e ∙ new)) in
+      record {
+        path_is = λ t c.
+            elim (Contains-push_cases path s t c) [
+              | inl old ↦ let p = h.path_is t old in (p.0, others t (open≢new (mark t) p.1) ∙ p.1)
+              | inr same ↦ (subst (λ x. x < n) same l, sym (ap mark' same) ∙ u.here)
+            ];
+        open_is = λ t b e.
+            elim (cases_eq t s) [
+              | inl same ↦ subst (Contains (path ++ s ∷ [])) (sym same) (Contains-push path s)
+              | inr other ↦ Contains-append_left path (s ∷ []) t (h.open_is t b (sym (u.others t other) ∙ e))
+            ];
+        path_apart = apart_push path s h.path_apart (λ c. open≢new (mark s) (h.path_is s c).1 new);
+        path_goes = λ k b.
+            elim (cases_lt (k + 1) (length path)) [
+              | inl before ↦ goes_at needs (path ++ s ∷ []) k _ _ (get_or_append_left path (s ∷ []) 0 k (omega arith)) (get_or_append_left path (s ∷ []) 0 (k + 1) before) (h.path_goes k before)
+              | inr last ↦ goes_at needs (path ++ s ∷ []) k _ _ (get_or_append_left path (s ∷ []) 0 k (omega (arith, length_push path s))) (get_or_push path s 0 (k + 1) (omega (arith, length_push path s))) (needed k (omega (arith, length_push path s)))
+            ];
+        order_is = λ t c. let d = h.order_is t c in (d.0, others t (done≢new (mark t) d.1) ∙ d.1);
+        done_is = λ t b e.
+            elim (cases_eq t s) [
+              | inl same ↦ absurd (open≢done (mark' t) (ap mark' same ∙ u.here) e)
+              | inr other ↦ h.done_is t b (sym (u.others t other) ∙ e)
+            ];
+        order_apart = h.order_apart;
+        needs_first = h.needs_first;
+        left_le = h.left_le;
+        passed = λ t v b c. let d = h.passed t v b c in others v (done≢new (mark v) d) ∙ d;
+      }
+
+  pub closed : NeedsBelow n needs → (mark mark' : ℕ → Mark) (left : ℕ → ℕ) (path order : List ℕ) (s : ℕ) → IsSearch n needs mark left (path ++ s ∷ []) order → left s ≡ 0 → IsUpdate mark mark' s Done → IsSearch n needs mark' left path (order ++ s ∷ [])
+  closed below mark mark' left path order s h none u =
+      let there = h.path_is s (Contains-push path s) in
+      let done_stays : (t : ℕ) → mark t ≡ Done → mark' t ≡ Done = λ t d. u.others t (λ e. open≢done (mark s) there.1 (sym (ap mark e) ∙ d)) ∙ d in
+      record {
+        path_is = λ t c.
+            let old = h.path_is t (Contains-append_left path (s ∷ []) t c) in
+            (old.0, u.others t (λ e. last_apart path s h.path_apart (subst (Contains path) e c)) ∙ old.1);
+        open_is = λ t b e.
+            elim (cases_eq t s) [
+              | inl same ↦ absurd (open≢done (mark' t) e (ap mark' same ∙ u.here))
+              | inr other ↦ elim (Contains-push_cases path s t (h.open_is t b (sym (u.others t other) ∙ e))) [
+                | inl p ↦ p
+                | inr same ↦ absurd (other (sym same))
+              ]
+            ];
+        path_apart = apart_front path s h.path_apart;
+        path_goes = λ k b.
+            rw (← get_or_append_left path (s ∷ []) 0 k (omega arith), ← get_or_append_left path (s ∷ []) 0 (k + 1) b)
+            (h.path_goes k (omega (arith, length_push path s)));
+        order_is = λ t c.
+            elim (Contains-push_cases order s t c) [
+              | inl old ↦ let d = h.order_is t old in (d.0, done_stays t d.1)
+              | inr same ↦ (subst (λ x. x < n) same there.0, sym (ap mark' same) ∙ u.here)
+            ];
+        done_is = λ t b e.
+            elim (cases_eq t s) [
+              | inl same ↦ subst (Contains (order ++ s ∷ [])) (sym same) (Contains-push order s)
+              | inr other ↦ Contains-append_left order (s ∷ []) t (h.done_is t b (sym (u.others t other) ∙ e))
+            ];
+        order_apart = apart_push order s h.order_apart (λ c. open≢done (mark s) there.1 (h.order_is s c).1);
+        needs_first = λ k t b c.
+            elim (cases_lt k (length order)) [
+              | inl before ↦
+                  let le : k ≤ length order = omega arith in
+                  rw (take-append-le k order (s ∷ []) le) (h.needs_first k t before (subst (λ x. Contains (needs x) t) (get_or_append_left order (s ∷ []) 0 k before) c))
+              | inr last ↦
+                  let k_is : length order ≡ k = omega (arith, length_push order s) in
+                  let need = subst (λ x. Contains (needs x) t) (get_or_push order s 0 k k_is) c in
+                  rw (take_at order (s ∷ []) k k_is)
+                  (h.done_is t (below s t there.0 need) (h.passed s t there.0 (subst (λ j. Contains (drop j (needs s)) t) (sym none) need)))
+            ];
+        left_le = h.left_le;
+        passed = λ t v b c. done_stays v (h.passed t v b c);
+      }
+
+  pub passed_one : (mark : ℕ → Mark) (left left' : ℕ → ℕ) (path order : List ℕ) (s j : ℕ) → IsSearch n needs mark left path order → s < n → left s ≡ j + 1 → mark (get_or (needs s) j 0) ≡ Done → PassesOne n needs left left' s j → IsSearch n needs mark left' path order
+  passed_one mark left left' path order s j h l e done u = record {
+    path_is = h.path_is;
+    open_is = h.open_is;
+    path_apart = h.path_apart;
+    path_goes = h.path_goes;
+    order_is = h.order_is;
+    done_is = h.done_is;
+    order_apart = h.order_apart;
+    needs_first = h.needs_first;
+    left_le = λ t b.
+        elim (u t b) [
+          | inl same ↦ omega (arith, h.left_le s l, same.1, ap length same.0)
+          | inr other ↦ omega (arith, h.left_le t b, other)
+        ];
+    passed = λ t v b c.
+        elim (u t b) [
+          | inl same ↦
+              let here = subst (λ i. Contains (drop i (needs s)) v) same.1 (subst (λ xs. Contains (drop (left' t) xs) v) same.0 c) in
+              let split = drop_more (needs s) j 0 (omega (arith, h.left_le s l)) in
+              elim (cons_cases (get_or (needs s) j 0) (drop (j + 1) (needs s)) v (subst (λ xs. Contains xs v) split here)) [
+                | inl is ↦ sym (ap mark is) ∙ done
+                | inr later ↦ h.passed s v l (subst (λ i. Contains (drop i (needs s)) v) (sym e) later)
+              ]
+          | inr other ↦ h.passed t v b (subst (λ i. Contains (drop i (needs t)) v) other c)
+        ];
+  }
+
+  -- symbols that each need one of them are stuck for ever
+  pub ring_stuck : (ring : List ℕ) → ((s : ℕ) → Contains ring s → (t : ℕ) × Contains (needs s) t × Contains ring t) → (k s : ℕ) → Contains ring s → stuck_after needs k s ≡ true
+  ring_stuck ring goes zero s c = refl
+  ring_stuck ring goes (suc k) s c =
+      let g = goes s c in
+      list_any_at (stuck_after needs k) (needs s) g.1.0 g.0 g.1.1 (rw g.1.2 (ring_stuck ring goes k g.0 g.2))
+
+  -- the last open symbol needs an open one
+  pub found : (mark : ℕ → Mark) (left : ℕ → ℕ) (path order : List ℕ) (s t : ℕ) → IsSearch n needs mark left (path ++ s ∷ []) order → Contains (needs s) t → t < n → mark t ≡ Open → SomeStuck n needs
+  found mark left path order s t h c b e =
+      let ring = path ++ s ∷ [] in
+      let goes : (r : ℕ) → Contains (path ++ s ∷ []) r → (v : ℕ) × Contains (needs r) v × Contains (path ++ s ∷ []) v = λ r d.
+      elim (cases_lt (d.0 + 1) (length (path ++ s ∷ []))) [
+        | inl before ↦ (get_or ring (d.0 + 1) 0, subst (λ x. Contains (needs x) (get_or ring (d.0 + 1) 0)) (get_or_default ring d.0 0 r d.1 ∙ d.2) (h.path_goes d.0 before), Contains-get_or ring (d.0 + 1) 0 before)
+        | inr last ↦ (t, subst (λ x. Contains (needs x) t) (sym (get_or_push path s r d.0 (omega (arith, length_push path s))) ∙ d.2) c, h.open_is t b e)
+      ] in
+      (s, (h.path_is s (Contains-push path s)).0, ring_stuck (path ++ s ∷ []) goes n s (Contains-push path s))
+
+-- a write into a list of marks or counts
+pub list_set : {A : Type 0} (d : A) (xs : List A) (i : ℕ) (x : A) → i < length xs → IsUpdate (λ s. get_or xs s d) (λ s. get_or (set xs i x) s d) i x
+list_set d xs i x l = record {
+  here = get_or-set_same xs i x d l;
+  others = λ t ne. get_or-set_other xs i t x d ne;
+}
+
+-- the last of a list that is split at its last
+pub last_is : (xs : List ℕ) (x n k : ℕ) → xs ≡ take n xs ++ x ∷ [] → k + 1 ≡ length xs → get_or xs k 0 ≡ x
+last_is xs x n k e l = ap (λ ys. get_or ys k 0) e ∙ get_or_push (take n xs) x 0 k (omega (arith, ap length e, length_push (take n xs) x))
+
+-- before the first step
+pub starts : (n : ℕ) (needs : ℕ → List ℕ) (mark : ℕ → Mark) (left : ℕ → ℕ) → ((s : ℕ) → s < n → mark s ≡ New) → ((s : ℕ) → s < n → left s ≡ length (needs s)) → IsSearch n needs mark left [] []
+unfolding IsDistinct
+starts n needs mark left new all = record {
+  path_is = λ s c. absurd (omega (arith, c.1));
+  open_is = λ s b e. absurd (open≢new (mark s) e (new s b));
+  path_apart = tt;
+  path_goes = λ k b. absurd (omega arith);
+  order_is = λ s c. absurd (omega (arith, c.1));
+  done_is = λ s b e. absurd (done≢new (mark s) e (new s b));
+  order_apart = tt;
+  needs_first = λ k t b c. absurd (omega arith);
+  left_le = λ s b. omega (arith, all s b);
+  passed = λ s t b c. absurd (omega (arith, c.1, length-drop (left s) (needs s), all s b));
+}
+
+met_not_open : (m : Mark) → m ≢ New → m ≢ Open → m ≡ Done
+met_not_open New a b = absurd (a refl)
+met_not_open Open a b = absurd (b refl)
+met_not_open Done a b = refl
+
+-- after the last step
+pub finishes : (n : ℕ) (needs : ℕ → List ℕ) (mark : ℕ → Mark) (left : ℕ → ℕ) (path order : List ℕ) → IsSearch n needs mark left path order → length path ≡ 0 → ((s : ℕ) → s < n → mark s ≢ New) → IsOrderOf n needs order
+finishes n needs mark left path order h none met = record {
+  all_there = λ s b. h.done_is s b (met_not_open (mark s) (met s b) (λ e. omega (arith, none, (h.open_is s b e).1)));
+  all_below = λ s c. (h.order_is s c).0;
+  apart = h.order_apart;
+  needs_first = h.needs_first;
+}
+
+-- the lengths of the rows are the numbers of needs
+pub counts_are : (rows : List (Vec ℕ Global)) (r : ℕ) → get_or (map (λ row. vec_len row) rows) r 0 ≡ length (in_row rows r)
+counts_are [] r = refl
+counts_are (row ∷ rows) zero = omega (arith, row.ok.0)
+counts_are (row ∷ rows) (suc r) = counts_are rows r
+
+-- one need fewer is left in a row
+pub row_passes_one : (rows : List (Vec ℕ Global)) (row_of : List ℕ) (left : List ℕ) (s j : ℕ) → s < length row_of → get_or row_of s 0 < length left → PassesOne (length row_of) (needs_of rows row_of) (λ t. get_or left (get_or row_of t 0) 0) (λ t. get_or (set left (get_or row_of s 0) j) (get_or row_of t 0) 0) s j
+row_passes_one rows row_of left s j b l t c =
+    elim (cases_eq (get_or row_of t 0) (get_or row_of s 0)) [
+      | inl same ↦ inl (
+        needs_are rows row_of t c ∙ ap (in_row rows) same ∙ sym (needs_are rows row_of s b),
+        ap (λ r. get_or (set left (get_or row_of s 0) j) r 0) same ∙ get_or-set_same left (get_or row_of s 0) j 0 l,
+      )
+      | inr other ↦ inr (get_or-set_other left (get_or row_of s 0) (get_or row_of t 0) j 0 other)
+    ]
+
+module _ (rows : List (Vec ℕ Global)) (row_of : List ℕ) (before after : Search) (s : ℕ) (sound : IsSound rows row_of before) where
+  -- a new symbol that the last open one needs is opened
+  pub opens_sound : s < length row_of → get_or before.marks.items s New ≡ New → ((k : ℕ) → k + 1 ≡ length before.path.items → Contains (needs_of rows row_of (slice_index before.path.items k)) s) → Opens before after s → IsSound rows row_of after
+  opens_sound below new needed o = record {
+    marks_len = ap length o.marks ∙ length-set before.marks.items s Open ∙ sound.marks_len;
+    left_len = ap length o.left ∙ sound.left_len;
+    keeps = rw (o.marks, o.left, o.path, o.order) (opened _ (needs_of rows row_of) _ _ _ before.path.items before.order.items s sound.keeps below new needed
+        (list_set New before.marks.items s Open (omega (arith, sound.marks_len))));
+  }
+
+  pub opens_less : s < length row_of → get_or before.marks.items s New ≡ New → Opens before after s → work after < work before
+  opens_less below new o =
+      let less = sum_by-set weight before.marks.items s Open New (omega (arith, sound.marks_len)) in
+      omega (arith, less, ap weight new, ap (sum_by weight) o.marks, ap sum o.left)
+
+  pub opens_there : s < length row_of → Opens before after s → get_or after.marks.items s New ≡ Open
+  opens_there below o = ap (λ xs. get_or xs s New) o.marks ∙ get_or-set_same before.marks.items s Open New (omega (arith, sound.marks_len))
+
+  pub opens_met : s < length row_of → Opens before after s → KeepsMet before after
+  opens_met below o t met new =
+      let u = list_set New before.marks.items s Open (omega (arith, sound.marks_len)) in
+      let is = sym (ap (λ xs. get_or xs t New) o.marks) ∙ new in
+      elim (cases_eq t s) [
+        | inl same ↦ open≢new (get_or (set before.marks.items s Open) s New) u.here (sym (ap (λ k. get_or (set before.marks.items s Open) k New) same) ∙ is)
+        | inr other ↦ met (sym (u.others t other) ∙ is)
+      ]
+
+  -- the last open symbol, of which no need is left, is closed
+  pub closes_sound : RowsBelow (length row_of) rows → s < length row_of → get_or before.left.items (get_or row_of s 0) 0 ≡ 0 → Closes before after s → IsSound rows row_of after
+  closes_sound rows_below below none o =
+      let split = subst (λ p. IsSearch (length row_of) (needs_of rows row_of) (λ t. get_or before.marks.items t New) (λ t. get_or before.left.items (get_or row_of t 0) 0) p before.order.items) o.path sound.keeps in
+      record {
+        marks_len = ap length o.marks ∙ length-set before.marks.items s Done ∙ sound.marks_len;
+        left_len = ap length o.left ∙ sound.left_len;
+        keeps = rw (o.marks, o.left, o.order) (closed _ (needs_of rows row_of) (needs_below rows row_of rows_below) _ _ _ after.path.items before.order.items s split none
+            (list_set New before.marks.items s Done (omega (arith, sound.marks_len))));
+      }
+
+  pub closes_less : s < length row_of → Closes before after s → work after < work before
+  closes_less below o =
+      let was = ap weight (sound.keeps.path_is s (subst (λ p. Contains p s) (sym o.path) (Contains-push after.path.items s))).1 in
+      let less = sum_by-set weight before.marks.items s Done New (omega (arith, sound.marks_len)) in
+      omega (arith, less, was, ap (sum_by weight) o.marks, ap sum o.left)
+
+  pub closes_met : s < length row_of → Closes before after s → KeepsMet before after
+  closes_met below o t met new =
+      let u = list_set New before.marks.items s Done (omega (arith, sound.marks_len)) in
+      let is = sym (ap (λ xs. get_or xs t New) o.marks) ∙ new in
+      elim (cases_eq t s) [
+        | inl same ↦ done≢new (get_or (set before.marks.items s Done) s New) u.here (sym (ap (λ k. get_or (set before.marks.items s Done) k New) same) ∙ is)
+        | inr other ↦ met (sym (u.others t other) ∙ is)
+      ]

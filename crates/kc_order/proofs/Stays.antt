@@ -1,0 +1,111 @@
+-- What is stuck after as many rounds as there are symbols stays stuck.
+use Rattle.std.proofs.Common.{◌≡◌, ℕ, ◌<◌, ◌≤◌, ◌+◌, Bool, true, cond, List, [], ◌∷◌, get_or, zero, suc, sym, ◌∙◌, ap, refl, inl, inr, arith, All, ◌⊎◌, subst, zero-add, ◌-◌}
+use Rattle.std.specs.List.{list_any, count_by, range_with_len}
+use Rattle.std.proofs.lemmas.Bool.{cases_Bool}
+use Rattle.std.proofs.lemmas.List.Elements.{All-cons, Contains-get_or}
+use Rattle.std.proofs.lemmas.List.Folds.{list_any_at, Any-from_list_any}
+use Rattle.std.proofs.lemmas.List.FromFn.{length-range_with_len, get_or-range_with_len}
+use Rattle.std.proofs.lemmas.List.Sums.{sum_by-cons, count_by-le-length, get_or-le-sum_by, sum_by-le-sum_by}
+use Rattle.kc_order.specs.Needs.{NeedsBelow, stuck_after}
+use Rattle.kc_order.specs.Rows.{AreMarks}
+use Rattle.kc_order.proofs.Marks.{list_any_agree}
+
+-- a narrower test finds no more
+pub list_any_narrow : {X : Type 0} (p q : X → Bool) → ((x : X) → q x ≡ true → p x ≡ true) → (xs : List X) → list_any q xs ≡ true → list_any p xs ≡ true
+list_any_narrow p q h xs e =
+    let a = Any-from_list_any q xs e in
+    list_any_at p xs a.0 a.1 a.2 (h (get_or xs a.0 a.1) (rw a.3 a.4))
+
+-- what is stuck after one more round was stuck before
+pub was_stuck : (needs : ℕ → List ℕ) (k s : ℕ) → stuck_after needs (suc k) s ≡ true → stuck_after needs k s ≡ true
+was_stuck needs zero s e = refl
+was_stuck needs (suc k) s e = list_any_narrow (stuck_after needs k) (stuck_after needs (suc k)) (was_stuck needs k) (needs s) e
+
+-- no symbol is taken away in the round after k
+abbrev Settled : ℕ → (ℕ → List ℕ) → ℕ → Type 0
+Settled n needs k = (s : ℕ) → s < n → stuck_after needs k s ≡ stuck_after needs (suc k) s
+
+settled_next : (n : ℕ) (needs : ℕ → List ℕ) (k : ℕ) → NeedsBelow n needs → Settled n needs k → Settled n needs (suc k)
+settled_next n needs k below h s l =
+    list_any_agree (stuck_after needs k) (stuck_after needs (suc k)) (needs s)
+    (λ j d lt. h (get_or (needs s) j d) (below s (get_or (needs s) j d) l (Contains-get_or (needs s) j d lt)))
+
+abbrev one_if : Bool → ℕ
+one_if b = cond b 1 0
+
+no_more : {X : Type 0} (p q : X → Bool) → ((x : X) → q x ≡ true → p x ≡ true) → (x : X) → cond (q x) 1 0 ≤ cond (p x) 1 0
+no_more p q h x =
+    elim (cases_Bool (q x)) [
+      | inl kept ↦ let a = ap one_if (h x kept) in let b = ap one_if kept in omega arith
+      | inr gone ↦ let b = ap one_if gone in omega arith
+    ]
+
+fewer_same : {X : Type 0} (p q : X → Bool) (x : X) (xs : List X) → p x ≡ q x → All (λ x. p x ≡ q x) xs ⊎ (count_by q xs + 1 ≤ count_by p xs) → All (λ x. p x ≡ q x) (x ∷ xs) ⊎ (count_by q (x ∷ xs) + 1 ≤ count_by p (x ∷ xs))
+fewer_same p q x xs e (inl same) = inl (All-cons (λ x. p x ≡ q x) x xs e same)
+fewer_same p q x xs e (inr less) =
+    let p_is = sum_by-cons (λ x. cond (p x) 1 0) x xs in
+    let q_is = sum_by-cons (λ x. cond (q x) 1 0) x xs in
+    let a = ap one_if e in
+    inr (omega arith)
+
+-- a narrower test passes the same elements or fewer
+fewer : {X : Type 0} (p q : X → Bool) → ((x : X) → q x ≡ true → p x ≡ true) → (xs : List X) → All (λ x. p x ≡ q x) xs ⊎ (count_by q xs + 1 ≤ count_by p xs)
+fewer p q h [] = inl (λ k d l. absurd (omega arith))
+fewer p q h (x ∷ xs) =
+    let p_is = sum_by-cons (λ x. cond (p x) 1 0) x xs in
+    let q_is = sum_by-cons (λ x. cond (q x) 1 0) x xs in
+    let rest = sum_by-le-sum_by (λ x. cond (q x) 1 0) (λ x. cond (p x) 1 0) xs (no_more p q h) in
+    elim (cases_Bool (q x)) [
+      | inl kept ↦ fewer_same p q x xs (h x kept ∙ sym kept) (fewer p q h xs)
+      | inr gone ↦ elim (cases_Bool (p x)) [
+        | inl lost ↦ inr (let a = ap one_if lost in let b = ap one_if gone in omega arith)
+        | inr neither ↦ fewer_same p q x xs (neither ∙ sym gone) (fewer p q h xs)
+      ]
+    ]
+
+-- either nothing more is taken away, or each round took one away
+settled_or_fewer : (n : ℕ) (needs : ℕ → List ℕ) → NeedsBelow n needs → (k : ℕ) → Settled n needs k ⊎ (count_by (stuck_after needs k) (range_with_len 0 n) + k ≤ n)
+settled_or_fewer n needs below zero = inr (omega (arith, count_by-le-length (stuck_after needs zero) (range_with_len 0 n), length-range_with_len 0 n))
+settled_or_fewer n needs below (suc k) =
+    elim (settled_or_fewer n needs below k) [
+      | inl done ↦ inl (settled_next n needs k below done)
+      | inr few ↦ elim (fewer (stuck_after needs k) (stuck_after needs (suc k)) (was_stuck needs k) (range_with_len 0 n)) [
+        | inl same ↦ inl (settled_next n needs k below (λ s l. subst (λ x. stuck_after needs k x ≡ stuck_after needs (suc k) x) (get_or-range_with_len 0 n s 0 l ∙ zero-add s) (same s 0 (omega (arith, length-range_with_len 0 n)))))
+        | inr less ↦ inr (omega arith)
+      ]
+    ]
+
+-- what is stuck needs something stuck
+pub stays_stuck : (n : ℕ) (needs : ℕ → List ℕ) → NeedsBelow n needs → (s : ℕ) → s < n → stuck_after needs n s ≡ true → list_any (stuck_after needs n) (needs s) ≡ true
+stays_stuck n needs below s l e =
+    elim (settled_or_fewer n needs below n) [
+      | inl done ↦ sym (done s l) ∙ e
+      | inr none ↦
+          let at = get_or-le-sum_by (λ x. cond (stuck_after needs n x) 1 0) (range_with_len 0 n) s 0 (omega (arith, length-range_with_len 0 n)) in
+          let is : get_or (range_with_len 0 n) s 0 ≡ s = get_or-range_with_len 0 n s 0 l ∙ zero-add s in
+          let one = ap (λ (x : ℕ). one_if (stuck_after needs n x)) is ∙ ap one_if e in
+          absurd (omega arith)
+    ]
+
+-- once nothing is taken away, nothing is later
+settled_later : (n : ℕ) (needs : ℕ → List ℕ) (k : ℕ) → NeedsBelow n needs → Settled n needs k → (j : ℕ) → Settled n needs (j + k)
+settled_later n needs k below h zero = subst (Settled n needs) (sym (zero-add k)) h
+settled_later n needs k below h (suc j) =
+    let e : suc (j + k) ≡ suc j + k = omega arith in
+    subst (Settled n needs) e (settled_next n needs (j + k) below (settled_later n needs k below h j))
+
+stays_settled : (n : ℕ) (needs : ℕ → List ℕ) (k : ℕ) → NeedsBelow n needs → Settled n needs k → (j s : ℕ) → s < n → stuck_after needs k s ≡ stuck_after needs (j + k) s
+stays_settled n needs k below h zero s l = ap (λ m. stuck_after needs m s) (sym (zero-add k))
+stays_settled n needs k below h (suc j) s l =
+    let e : suc (j + k) ≡ suc j + k = omega arith in
+    stays_settled n needs k below h j s l ∙ settled_later n needs k below h j s l ∙ ap (λ m. stuck_after needs m s) e
+
+-- marks that a round leaves as they are mark the stuck symbols
+pub marks_settled : (n k : ℕ) (needs : ℕ → List ℕ) (marks : List Bool) → NeedsBelow n needs → k ≤ n → AreMarks n (stuck_after needs k) marks → AreMarks n (stuck_after needs (suc k)) marks → AreMarks n (stuck_after needs n) marks
+marks_settled n k needs marks below le m next =
+    let settled : Settled n needs k = λ s l. sym (m.each s l) ∙ next.each s l in
+    let e : n - k + k ≡ n = omega arith in
+    record {
+      length_is = m.length_is;
+      each = λ s l. m.each s l ∙ stays_settled n needs k below settled (n - k) s l ∙ ap (λ j. stuck_after needs j s) e;
+    }

@@ -1,0 +1,158 @@
+-- The walk along stuck symbols.
+use Rattle.std.proofs.Common.{false, replicate, ◌||◌, get_or-set_same, get_or-set_other, ◌≡◌, ℕ, ◌<◌, ◌≤◌, ◌+◌, Bool, true, false, List, [], ◌∷◌, ◌++◌, length, get_or, sym, ◌∙◌, ap, refl, inl, inr, arith, All, take, drop, eqb, filter, ◌≢◌, subst}
+use Rattle.std.specs.Cmp.{nat_eq_equiv}
+use Rattle.std.proofs.lemmas.Map.Keys.{IsDistinct-push}
+use Rattle.std.proofs.lemmas.Map.Views.{list_any-from_Contains}
+use Rattle.std.proofs.Math.ListN.{set}
+use Rattle.kc_order.proofs.Unique.{fails_each}
+use Rattle.std.proofs.lemmas.Map.Steps.{length-le_from_distinct_below}
+use Rattle.std.proofs.lemmas.List.Folds.{list_any_none, Any-from_list_any}
+use Rattle.std.proofs.lemmas.List.{length-replicate, get_or-replicate, length-set, get_or_append_left, get_or_push, length_push, drop_more, take-append-drop, length-drop}
+use Rattle.std.specs.List.{Contains, list_any, IsDistinct}
+use Rattle.std.proofs.lemmas.Bool.{eqb-false, cases_eq, cases_Bool, ne_eqb, eqb-true, cases_lt}
+use Rattle.std.proofs.lemmas.List.Elements.{All-tail, Contains-get_or, All-contains, All-filter, filter_passes, All-contains_itself, All-push, Contains-push}
+use Rattle.kc_order.specs.Needs.{NeedsBelow, stuck_after}
+use Rattle.kc_order.specs.Rows.{AreMarks}
+use Rattle.kc_order.specs.Loop.{IsFirstStuck, IsNext, IsStuckWalk, IsNamedLoop}
+use Rattle.kc_order.proofs.Stays.{stays_stuck}
+
+-- tests that agree on each element keep the same
+pub filter_agree_on : {X : Type 0} (p q : X → Bool) (xs : List X) → All (λ x. p x ≡ q x) xs → filter p xs ≡ filter q xs
+filter_agree_on p q [] h = refl
+filter_agree_on p q (x ∷ xs) h =
+    let here : p x ≡ q x = h 0 x (omega arith) in
+    let rest : filter p xs ≡ filter q xs = filter_agree_on p q xs (All-tail (λ x. p x ≡ q x) x xs h) in
+    cc
+
+pub kept_from : {X : Type 0} (p : X → Bool) (xs : List X) (x : X) → Contains (filter p xs) x → Contains xs x × (p x ≡ true)
+kept_from p xs x c = (
+  All-contains (Contains xs) (filter p xs) x (All-filter p (Contains xs) xs (All-contains_itself xs)) c,
+  All-contains (λ x. p x ≡ true) (filter p xs) x (filter_passes p xs) c,
+)
+
+pub keeps_some : {X : Type 0} (p : X → Bool) (xs : List X) → list_any p xs ≡ true → length (filter p xs) ≡ 0 → ⊥
+keeps_some p [] e h = cc
+keeps_some p (x ∷ xs) e h =
+    elim (cases_Bool (p x)) [
+      | inl t ↦ let h' = rw t at h in absurd (omega arith)
+      | inr f ↦ keeps_some p xs (rw f at e) (rw f at h)
+    ]
+
+-- the marked symbols of a row are the stuck needs
+pub marked_needs : (n k : ℕ) (needs : ℕ → List ℕ) (marks : List Bool) (row : List ℕ) (s : ℕ) → NeedsBelow n needs → AreMarks n (stuck_after needs k) marks → row ≡ needs s → s < n → filter (λ t. get_or marks t false) row ≡ filter (stuck_after needs k) (needs s)
+marked_needs n k needs marks row s below m e l =
+    ap (filter (λ t. get_or marks t false)) e ∙
+    filter_agree_on (λ t. get_or marks t false) (stuck_after needs k) (needs s)
+    (λ j d lt. m.each (get_or (needs s) j d) (below s (get_or (needs s) j d) l (Contains-get_or (needs s) j d lt)))
+
+-- a stuck symbol has a next one
+pub next_is_there : (n : ℕ) (needs : ℕ → List ℕ) (s : ℕ) → NeedsBelow n needs → s < n → stuck_after needs n s ≡ true → length (filter (stuck_after needs n) (needs s)) ≡ 0 → ⊥
+next_is_there n needs s below l e = keeps_some (stuck_after needs n) (needs s) (stays_stuck n needs below s l e)
+
+-- the next symbol is a stuck symbol
+pub next_is_stuck : (n : ℕ) (needs : ℕ → List ℕ) (s t : ℕ) → NeedsBelow n needs → s < n → IsNext n needs s t → (t < n) × (stuck_after needs n t ≡ true)
+next_is_stuck n needs s t below l next =
+    let from = kept_from (stuck_after needs n) (needs s) t next.0 in
+    (below s t l from.0, from.1)
+
+-- a walk that has no symbol twice, and the symbol that comes next
+pub record IsOnTheWay (n : ℕ) (needs : ℕ → List ℕ) (walk : List ℕ) (at : ℕ) : Type 0 where
+  pub below : at < n
+  pub is_stuck : stuck_after needs n at ≡ true
+  pub walks : IsStuckWalk n needs (walk ++ at ∷ [])
+  pub apart : IsDistinct eqb walk
+  pub all_below : All (λ t. t < n) walk
+
+pub sets_out : (n : ℕ) (needs : ℕ → List ℕ) (first : ℕ) → IsFirstStuck n needs first → IsOnTheWay n needs [] first
+unfolding IsDistinct
+sets_out n needs first h = record {
+  below = h.below;
+  is_stuck = h.stuck;
+  walks = record { begins = h; goes_on = λ k l. absurd (omega arith) };
+  apart = tt;
+  all_below = λ k d l. absurd (omega arith);
+}
+
+next_at : (n : ℕ) (needs : ℕ → List ℕ) (xs : List ℕ) (k a b : ℕ) → get_or xs k 0 ≡ a → get_or xs (k + 1) 0 ≡ b → IsNext n needs a b → IsNext n needs (get_or xs k 0) (get_or xs (k + 1) 0)
+next_at n needs xs k a b p q h = subst (λ x. IsNext n needs x (get_or xs (k + 1) 0)) (sym p) (subst (λ y. IsNext n needs a y) (sym q) h)
+
+-- a symbol that is not on the walk yet is put on it
+pub goes_further : (n : ℕ) (needs : ℕ → List ℕ) (walk : List ℕ) (at next : ℕ) → NeedsBelow n needs → IsOnTheWay n needs walk at → All (λ s. s ≢ at) walk → IsNext n needs at next → IsOnTheWay n needs (walk ++ at ∷ []) next
+goes_further n needs walk at next below h new e =
+    let to = next_is_stuck n needs at next below h.below e in
+    record {
+      below = to.0;
+      is_stuck = to.1;
+      walks = record {
+        begins = let l : 0 < length (walk ++ at ∷ []) = omega (arith, length_push walk at) in rw (get_or_append_left (walk ++ at ∷ []) (next ∷ []) 0 0 l) h.walks.begins;
+        goes_on = λ k l.
+            elim (cases_lt (k + 1) (length (walk ++ at ∷ []))) [
+              | inl before ↦
+                  let here = get_or_append_left (walk ++ at ∷ []) (next ∷ []) 0 k (omega arith) in
+                  let there = get_or_append_left (walk ++ at ∷ []) (next ∷ []) 0 (k + 1) before in
+                  next_at n needs (walk ++ at ∷ [] ++ next ∷ []) k _ _ here there (h.walks.goes_on k before)
+              | inr last ↦
+                  let here = get_or_append_left (walk ++ at ∷ []) (next ∷ []) 0 k (omega (arith, length_push (walk ++ at ∷ []) next)) ∙ get_or_push walk at 0 k (omega (arith, length_push walk at, length_push (walk ++ at ∷ []) next)) in
+                  let there = get_or_push (walk ++ at ∷ []) next 0 (k + 1) (omega (arith, length_push (walk ++ at ∷ []) next)) in
+                  next_at n needs (walk ++ at ∷ [] ++ next ∷ []) k _ _ here there e
+            ];
+      };
+      apart = IsDistinct-push nat_eq_equiv walk at h.apart (list_any_none (eqb at) walk (λ k d l. ne_eqb at (get_or walk k d) (λ e. new k d l (sym e))));
+      all_below = All-push (λ t. t < n) walk at h.all_below h.below;
+    }
+
+-- a walk with no symbol twice has room for one more
+pub has_room : (n : ℕ) (walk : List ℕ) (at : ℕ) → All (λ t. t < n) (walk ++ at ∷ []) → IsDistinct eqb (walk ++ at ∷ []) → length walk + 1 ≤ n
+has_room n walk at below apart =
+    let room = length-le_from_distinct_below (walk ++ at ∷ []) n apart (λ q t.
+    let a = Any-from_list_any (eqb q) (walk ++ at ∷ []) t in
+    rw (eqb-true q a.1 a.4, ← a.3) (below a.0 a.1 a.2)) in
+    omega (arith, length_push walk at)
+
+-- the walk has come back to a place on it
+pub comes_back : (n : ℕ) (needs : ℕ → List ℕ) (walk : List ℕ) (at i : ℕ) → IsOnTheWay n needs walk at → i < length walk → get_or walk i 0 ≡ at → IsNamedLoop n needs (drop i walk)
+comes_back n needs walk at i h l e = record {
+  lead = take i walk;
+  some = omega (arith, length-drop i walk);
+  walk =
+      let one : take 1 (drop i walk) ≡ at ∷ [] = ap (take 1) (drop_more walk i 0 l) ∙ ap (λ (x : ℕ). x ∷ []) e in
+      rw (take-append-drop, one) h.walks;
+  apart = rw take-append-drop h.apart;
+}
+
+-- one more element that fails the test changes no answer
+any_push : {X : Type 0} (p : X → Bool) (xs : List X) (x : X) → p x ≡ false → list_any p (xs ++ x ∷ []) ≡ list_any p xs
+any_push p [] x e = ap (λ b. b || false) e
+any_push p (y ∷ xs) x e = ap (λ b. p y || b) (any_push p xs x e)
+
+-- one more symbol is marked as met
+pub met_push : (n : ℕ) (walk : List ℕ) (met : List Bool) (at : ℕ) → AreMarks n (λ s. list_any (eqb s) walk) met → at < n → AreMarks n (λ s. list_any (eqb s) (walk ++ at ∷ [])) (set met at true)
+met_push n walk met at m l = record {
+  length_is = length-set met at true ∙ m.length_is;
+  each = λ s h.
+      elim (cases_eq s at) [
+        | inl same ↦
+            ap (λ k. get_or (set met at true) k false) same ∙ get_or-set_same met at true false (omega (arith, m.length_is))
+            ∙ sym (list_any-from_Contains nat_eq_equiv s (walk ++ at ∷ []) (subst (Contains (walk ++ at ∷ [])) (sym same) (Contains-push walk at)))
+        | inr other ↦
+            get_or-set_other met at s true false other ∙ m.each s h
+            ∙ sym (any_push (eqb s) walk at (ne_eqb s at other))
+      ];
+}
+
+-- what is not marked is not on the walk
+pub not_met : (walk : List ℕ) (at : ℕ) → list_any (eqb at) walk ≡ false → All (λ s. s ≢ at) walk
+not_met walk at e k d l is = eqb-false at (get_or walk k d) (fails_each (eqb at) walk (get_or walk k d) e (Contains-get_or walk k d l)) (sym is)
+
+-- what is marked is
+pub is_met : (walk : List ℕ) (at : ℕ) → list_any (eqb at) walk ≡ true → All (λ s. s ≢ at) walk → ⊥
+is_met walk at e none =
+    let a = Any-from_list_any (eqb at) walk e in
+    none a.0 a.1 a.2 (a.3 ∙ sym (eqb-true at a.1 a.4))
+
+-- at first none is
+pub none_met : (n : ℕ) (met : List Bool) → met ≡ replicate n false → AreMarks n (λ s. list_any (eqb s) []) met
+none_met n met e = record {
+  length_is = ap length e ∙ length-replicate n false;
+  each = λ s h. ap (λ xs. get_or xs s false) e ∙ get_or-replicate n s false false h;
+}

@@ -1,0 +1,28 @@
+use Rattle.std.proofs.Common.{arith, length, ◌∙◌, ap, sym, get_or, vec_len}
+use Rattle.std.proofs.lemmas.List.{length-replicate, get_or-replicate, length-map}
+use Rattle.kc_order.specs.declared.search.Mark.TheVariants.{New}
+use Rattle.kc_order.specs.Rows.{needs_of}
+use Rattle.kc_order.proofs.Held.{needs_are}
+use Rattle.kc_order.proofs.SearchSteps.{starts, finishes, counts_are}
+use Rattle.kc_order.proofs.search.find_order.Goals as goal
+
+pub loop-root-init : goal.loop-root-init
+loop-root-init c =
+    let rows = c.args.rows.now in
+    let row_of = c.args.row_of.now in
+    record {
+      sound = record {
+        marks_len = ap length c.in_ok-new_marks.ensures ∙ length-replicate (length row_of) New;
+        left_len = ap length c.in_ok-need_counts.ensures ∙ length-map rows vec_len;
+        keeps = rw (c.new.ensures.items, c.new-2.ensures.items) (starts (length row_of) (needs_of rows row_of) _ _
+            (λ s b. rw c.in_ok-new_marks.ensures (get_or-replicate (length row_of) s New New b))
+            (λ s b. rw c.in_ok-need_counts.ensures (counts_are rows (get_or row_of s 0)) ∙ ap length (sym (needs_are rows row_of s b))));
+      };
+      idle = ap length c.new.ensures.items;
+      met = λ s b. absurd (omega arith);
+    }
+
+pub returns : goal.returns
+returns c =
+    let h = c.loop-root.invariant in
+    finishes _ (needs_of c.args.rows.now c.args.row_of.now) _ _ _ _ h.sound.keeps h.idle (λ s b. h.met s (omega arith))

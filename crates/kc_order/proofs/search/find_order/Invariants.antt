@@ -1,0 +1,11 @@
+use Rattle.std.proofs.Common.{◌≡◌, ◌≢◌, ◌<◌, ℕ, length, get_or}
+use Rattle.kc_order.specs.declared.search.Mark.TheVariants.{New}
+use Rattle.kc_order.specs.Search.{IsSound}
+use Rattle.kc_order.proofs.search.find_order.Given as goal
+
+abbrev pub invariant-loop-root : goal.invariant-loop-root
+invariant-loop-root l = record {
+  sound : IsSound l.rows l.row_of l.search;
+  idle : length l.search.path.items ≡ 0;
+  met : (s : ℕ) → s < l.root → get_or l.search.marks.items s New ≢ New;
+}

@@ -1,0 +1,26 @@
+use Rattle.std.proofs.Common.{arith, ℕ, ◌+◌, length, get_or, ◌∙◌, sym, take, ◌-◌, ◌≡◌, vec_len, ◌++◌, ◌∷◌, [], subst}
+use Rattle.std.specs.List.{Contains, slice_index}
+use Rattle.std.proofs.lemmas.Grind.{common_steps}
+use Rattle.std.proofs.lemmas.List.Elements.{Contains-push}
+use Rattle.std.proofs.lemmas.List.{get_or_read}
+use Rattle.kc_order.specs.declared.search.Mark.TheVariants.{New}
+use Rattle.kc_order.specs.Rows.{needs_of}
+use Rattle.kc_order.proofs.SearchSteps.{opens_sound, opens_met, opens_there, open≢new}
+use Rattle.kc_order.proofs.search.visit.Goals as goal
+
+pub advance-requires-clause-below : goal.advance-requires-clause-below
+advance-requires-clause-below c =
+    let path = c.loop-top.search.path in
+    let split : path.items ≡ take (vec_len path - 1) path.items ++ c.in-Some.top.now ∷ [] = grind (arith, common_steps) in
+    (c.loop-top.invariant.sound.keeps.path_is c.in-Some.top.now (subst (λ xs. Contains xs c.in-Some.top.now) (sym split) (Contains-push (take (vec_len path - 1) path.items) c.in-Some.top.now))).0
+
+pub loop-top-init : goal.loop-top-init
+loop-top-init c =
+    let path : (k : ℕ) → k + 1 ≡ length c.args.search.now.path.items → Contains (needs_of c.args.rows.now c.args.row_of.now (slice_index c.args.search.now.path.items k)) c.args.root = λ k e. absurd (omega (arith, c.requires.idle)) in
+    let new = sym (get_or_read c.args.search.now.marks.items c.args.root c.index.result.now (omega (arith, c.requires.sound.marks_len, c.requires.below)) c.index.ensures New) ∙ c.in-New.is in
+    let opens = c.in_ok-open.ensures in
+    record {
+      sound = opens_sound c.args.rows.now c.args.row_of.now c.args.search.now c.open.new.search c.args.root c.requires.sound c.requires.below new path opens;
+      met = opens_met c.args.rows.now c.args.row_of.now c.args.search.now c.open.new.search c.args.root c.requires.sound c.requires.below opens;
+      root_met = open≢new (get_or c.open.new.search.marks.items c.args.root New) (opens_there c.args.rows.now c.args.row_of.now c.args.search.now c.open.new.search c.args.root c.requires.sound c.requires.below opens);
+    }

@@ -1,0 +1,14 @@
+use Rattle.std.proofs.Common.{◌≢◌, get_or}
+use Rattle.kc_order.specs.declared.search.Mark.TheVariants.{New}
+use Rattle.kc_order.specs.Search.{IsSound, KeepsMet, work}
+use Rattle.kc_order.proofs.search.visit.Given as goal
+
+abbrev pub invariant-loop-top : goal.invariant-loop-top
+invariant-loop-top l = record {
+  sound : IsSound l.rows l.row_of l.search;
+  met : KeepsMet l.fn.search l.search;
+  root_met : get_or l.search.marks.items l.root New ≢ New;
+}
+
+abbrev pub decreases-loop-top : goal.decreases-loop-top
+decreases-loop-top l = work l.search

@@ -1,0 +1,74 @@
+-- What follows of needs, and of equations over them, whatever a value is.
+use Rattle.std.specs.Prelude.{All, ◌≡◌, ℕ, ◌<◌, ◌+◌, ◌-◌, ◌++◌, take, List, length, slice_index, Option, Bool}
+use Rattle.kc_order.specs.Needs.{needs_in, AreWithin, IsAccepted, SomeStuck}
+use Rattle.kc_order.specs.Loop.{IsNamedLoop, IsWay}
+use Rattle.kc_order.specs.Order.{Orders}
+use Rattle.kc_order.specs.Solution.{Solves, IsOnlySolution, ReadsNeeds, HasOneSolution, IsUpdate, IsRound}
+use Rattle.kc_order.specs.Minimal.{under, Restores, NothingCanGo, KeepsWhatDiffers}
+
+-- needs that have an order are accepted
+abbrev pub OrderedAreAccepted : Type 0
+OrderedAreAccepted = (needs : List (List ℕ)) (symbols : List ℕ) → Orders needs symbols → IsAccepted needs
+
+-- where a way along needs comes back to the symbol at which it began, some symbol is stuck
+abbrev pub AWayRoundIsStuck : Type 0
+AWayRoundIsStuck =
+    (needs : List (List ℕ)) (way : List ℕ) → 1 < length way → slice_index way 0 < length needs →
+    IsWay (needs_in needs) way → slice_index way (length way - 1) ≡ slice_index way 0 → SomeStuck (length needs) (needs_in needs)
+
+-- each symbol of a loop that is named needs the next, and the last the first
+abbrev pub NamedLoopGoesRound : Type 0
+NamedLoopGoesRound =
+    (needs : List (List ℕ)) (loop : List ℕ) → IsNamedLoop (length needs) (needs_in needs) loop → IsWay (needs_in needs) (loop ++ take 1 loop)
+
+-- and is a symbol
+abbrev pub NamedLoopIsWithin : Type 0
+NamedLoopIsWithin =
+    (needs : List (List ℕ)) (loop : List ℕ) → AreWithin needs → IsNamedLoop (length needs) (needs_in needs) loop → All (λ s. s < length needs) loop
+
+-- no two loops are named of the same needs
+abbrev pub OneNamedLoop : Type 0
+OneNamedLoop =
+    (needs : List (List ℕ)) (loop other : List ℕ) →
+    IsNamedLoop (length needs) (needs_in needs) loop → IsNamedLoop (length needs) (needs_in needs) other → loop ≡ other
+
+-- equations that read only what is needed have one solution, where no symbol is stuck
+abbrev pub AcceptedHaveOneSolution : Type 0 → Type 0
+AcceptedHaveOneSolution A =
+    (needs : List (List ℕ)) (rhs : ℕ → (ℕ → A) → A) → AreWithin needs → IsAccepted needs → ReadsNeeds (needs_in needs) rhs →
+    A → HasOneSolution (length needs) rhs
+
+-- and what solves them is that one
+abbrev pub SolutionsAgree : Type 0 → Type 0
+SolutionsAgree A =
+    (needs : List (List ℕ)) (rhs : ℕ → (ℕ → A) → A) → AreWithin needs → IsAccepted needs → ReadsNeeds (needs_in needs) rhs →
+    (V : ℕ → A) → Solves (length needs) rhs V → IsOnlySolution (length needs) rhs V
+
+-- each equation computed once, along an order, whatever the values before: the equations hold
+abbrev pub FillingSolves : Type 0 → Type 0
+FillingSolves A =
+    (needs : List (List ℕ)) (symbols : List ℕ) (rhs : ℕ → (ℕ → A) → A) → Orders needs symbols → ReadsNeeds (needs_in needs) rhs →
+    (filled : ℕ → ℕ → A) →
+    ((i : ℕ) → i < length symbols → IsUpdate (filled i) (filled (i + 1)) (slice_index symbols i) (rhs (slice_index symbols i) (filled i))) →
+    Solves (length needs) rhs (filled (length symbols))
+
+-- as many rounds as there are symbols, whatever the values before: the equations hold
+abbrev pub RoundsSolve : Type 0 → Type 0
+RoundsSolve A =
+    (needs : List (List ℕ)) (rhs : ℕ → (ℕ → A) → A) → AreWithin needs → IsAccepted needs → ReadsNeeds (needs_in needs) rhs →
+    (values : ℕ → ℕ → A) → ((k : ℕ) → k < length needs → IsRound (length needs) rhs (values k) (values (k + 1))) →
+    Solves (length needs) rhs (values (length needs))
+
+-- the kept lines of what differs restore
+abbrev pub MinimalRestores : Type 0 → Type 0 → Type 0 → Type 0
+MinimalRestores A Place G =
+    (needs : List (List ℕ)) (place : ℕ → Place) (rhs : ℕ → Option G → (ℕ → A) → A) (lines : Place → Option G) (V : ℕ → A) (keep : Place → Bool) →
+    AreWithin needs → IsAccepted needs → ((given : Place → Option G) → ReadsNeeds (needs_in needs) (under place rhs given)) →
+    KeepsWhatDiffers (length needs) place rhs lines V keep → Restores (length needs) place rhs lines V keep
+
+-- and none of them can go
+abbrev pub MinimalHasNothingToSpare : Type 0 → Type 0 → Type 0 → Type 0
+MinimalHasNothingToSpare A Place G =
+    (needs : List (List ℕ)) (place : ℕ → Place) (rhs : ℕ → Option G → (ℕ → A) → A) (lines : Place → Option G) (V : ℕ → A) (keep : Place → Bool) →
+    AreWithin needs → ((given : Place → Option G) → ReadsNeeds (needs_in needs) (under place rhs given)) →
+    KeepsWhatDiffers (length needs) place rhs lines V keep → NothingCanGo (length needs) place rhs lines V keep

@@ -1,0 +1,9 @@
+pub mod Needs
+pub mod Rows
+pub mod Solution
+pub mod Loop
+pub mod Order
+pub mod Reason
+pub mod Search
+pub mod Minimal
+pub mod Laws

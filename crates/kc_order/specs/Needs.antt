@@ -1,0 +1,32 @@
+-- Which symbols a symbol needs, and which are stuck on their own needs. Symbols are numbers from 0 on.
+use Rattle.std.specs.Prelude.{◌≡◌, ℕ, ◌<◌, Bool, true, false, List, [], length, zero, suc, slice_index_or}
+use Rattle.std.specs.List.{Contains, list_any}
+
+-- the needs of symbol s, and none past the last symbol
+abbrev pub needs_in : List (List ℕ) → ℕ → List ℕ
+needs_in needs s = slice_index_or needs s []
+
+-- each need of one of the first n symbols is one of them
+abbrev pub NeedsBelow : ℕ → (ℕ → List ℕ) → Type 0
+NeedsBelow n needs = (s t : ℕ) → s < n → Contains (needs s) t → t < n
+
+-- each need of a symbol is a symbol
+abbrev pub AreWithin : List (List ℕ) → Type 0
+AreWithin needs = NeedsBelow (length needs) (needs_in needs)
+
+-- before the first round every symbol is stuck, and after one more round those that need a symbol stuck before
+abbrev pub stuck_after : (ℕ → List ℕ) → ℕ → ℕ → Bool
+stuck_after needs zero s = true
+stuck_after needs (suc k) s = list_any (stuck_after needs k) (needs s)
+
+-- none of the first n symbols is stuck after n rounds
+abbrev pub NothingStuck : ℕ → (ℕ → List ℕ) → Type 0
+NothingStuck n needs = (s : ℕ) → s < n → stuck_after needs n s ≡ false
+
+-- one of the first n symbols is stuck after n rounds
+abbrev pub SomeStuck : ℕ → (ℕ → List ℕ) → Type 0
+SomeStuck n needs = (s : ℕ) × (s < n) × (stuck_after needs n s ≡ true)
+
+-- after as many rounds as there are symbols no symbol is stuck
+abbrev pub IsAccepted : List (List ℕ) → Type 0
+IsAccepted needs = NothingStuck (length needs) (needs_in needs)

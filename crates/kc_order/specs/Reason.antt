@@ -1,0 +1,11 @@
+-- Why there is no order.
+use Rattle.std.specs.Prelude.{ℕ, List, length}
+use Rattle.kc_order.specs.declared.order.NoOrder.{NoOrder}
+use Rattle.kc_order.specs.declared.order.NoOrder.TheVariants.{Loop, Memory}
+use Rattle.kc_order.specs.Needs.{needs_in}
+use Rattle.kc_order.specs.Loop.{IsNamedLoop}
+
+-- the loop that is named; nothing is said of memory
+abbrev pub IsReason : List (List ℕ) → NoOrder → Type 0
+IsReason needs (Loop symbols) = IsNamedLoop (length needs) (needs_in needs) symbols.items
+IsReason needs Memory = Unit {0}

@@ -1,0 +1,64 @@
+-- What a depth-first search for an order keeps.
+use Rattle.std.specs.Prelude.{◌≡◌, ℕ, ◌<◌, ◌≤◌, ◌+◌, List, length, slice_index, slice_index_or, nat_eq, drop, Vec, sum, sum_by, slice_set, ◌++◌, ◌∷◌, []}
+use Rattle.std.specs.Global.{Global}
+use Rattle.std.specs.List.{Contains, IsDistinct}
+use Rattle.kc_order.specs.declared.search.Mark.{Mark}
+use Rattle.kc_order.specs.declared.search.Mark.TheVariants.{New, Open, Done}
+use Rattle.kc_order.specs.declared.search.Search.{Search}
+use Rattle.kc_order.specs.Rows.{needs_of}
+use Rattle.kc_order.specs.Order.{NeedsFirst}
+
+-- the open symbols are a path along needs, the done ones are in order, and of each symbol the needs past its first `left` are done
+pub record IsSearch (n : ℕ) (needs : ℕ → List ℕ) (mark : ℕ → Mark) (left : ℕ → ℕ) (path order : List ℕ) : Type 0 where
+  pub path_is : (s : ℕ) → Contains path s → (s < n) × (mark s ≡ Open)
+  pub open_is : (s : ℕ) → s < n → mark s ≡ Open → Contains path s
+  pub path_apart : IsDistinct nat_eq path
+  pub path_goes : (k : ℕ) → k + 1 < length path → Contains (needs (slice_index path k)) (slice_index path (k + 1))
+  pub order_is : (s : ℕ) → Contains order s → (s < n) × (mark s ≡ Done)
+  pub done_is : (s : ℕ) → s < n → mark s ≡ Done → Contains order s
+  pub order_apart : IsDistinct nat_eq order
+  pub needs_first : NeedsFirst needs order
+  pub left_le : (s : ℕ) → s < n → left s ≤ length (needs s)
+  pub passed : (s t : ℕ) → s < n → Contains (drop (left s) (needs s)) t → mark t ≡ Done
+
+-- how far symbol s is
+abbrev pub mark_of : Search → ℕ → Mark
+mark_of search s = slice_index_or search.marks.items s New
+
+-- how many needs of symbol s are left, which are those of its row
+abbrev pub left_of : List ℕ → Search → ℕ → ℕ
+left_of row_of search s = slice_index_or search.left.items (slice_index row_of s) 0
+
+-- a search over rows
+pub record IsSound (rows : List (Vec ℕ Global)) (row_of : List ℕ) (search : Search) : Type 0 where
+  pub marks_len : length search.marks.items ≡ length row_of
+  pub left_len : length search.left.items ≡ length rows
+  pub keeps : IsSearch (length row_of) (needs_of rows row_of) (λ s. slice_index_or search.marks.items s New) (λ s. slice_index_or search.left.items (slice_index row_of s) 0) search.path.items search.order.items
+
+-- s is open now, at the end of the path
+pub record Opens (before after : Search) (s : ℕ) : Type 0 where
+  pub marks : after.marks.items ≡ slice_set before.marks.items s Open
+  pub left : after.left.items ≡ before.left.items
+  pub path : after.path.items ≡ before.path.items ++ s ∷ []
+  pub order : after.order.items ≡ before.order.items
+
+-- s, which was at the end of the path, is done now, at the end of the order
+pub record Closes (before after : Search) (s : ℕ) : Type 0 where
+  pub marks : after.marks.items ≡ slice_set before.marks.items s Done
+  pub left : after.left.items ≡ before.left.items
+  pub path : before.path.items ≡ after.path.items ++ s ∷ []
+  pub order : after.order.items ≡ before.order.items ++ s ∷ []
+
+-- what is still to be done for a symbol, beside its needs
+abbrev pub weight : Mark → ℕ
+weight New = 2
+weight Open = 1
+weight Done = 0
+
+-- the steps still to be made
+abbrev pub work : Search → ℕ
+work search = sum_by weight search.marks.items + sum search.left.items
+
+-- what was met stays met
+abbrev pub KeepsMet : Search → Search → Type 0
+KeepsMet before after = (s : ℕ) → (slice_index_or before.marks.items s New ≡ New → ⊥) → slice_index_or after.marks.items s New ≡ New → ⊥

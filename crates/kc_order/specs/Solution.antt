@@ -1,0 +1,31 @@
+-- Valuations that satisfy one equation for each symbol. An equation gives a value of its symbol, read off the values of all symbols.
+use Rattle.std.specs.Prelude.{◌≡◌, ℕ, ◌<◌, ◌+◌, ◌≢◌, List}
+use Rattle.std.specs.List.{Contains}
+
+-- each of the first n symbols has the value that its equation gives
+abbrev pub Solves : {A : Type 0} → ℕ → (ℕ → (ℕ → A) → A) → (ℕ → A) → Type 0
+Solves n rhs V = (s : ℕ) → s < n → V s ≡ rhs s V
+
+-- any valuation that solves has the values of this one
+abbrev pub IsOnlySolution : {A : Type 0} → ℕ → (ℕ → (ℕ → A) → A) → (ℕ → A) → Type 0
+IsOnlySolution {A} n rhs V = (W : ℕ → A) → Solves n rhs W → (s : ℕ) → s < n → W s ≡ V s
+
+-- some valuation solves, and no other does
+abbrev pub HasOneSolution : {A : Type 0} → ℕ → (ℕ → (ℕ → A) → A) → Type 0
+HasOneSolution {A} n rhs = (V : ℕ → A) × Solves n rhs V × IsOnlySolution n rhs V
+
+-- the equation of s reads only the values of what s needs
+abbrev pub ReadsNeeds : {A : Type 0} → (ℕ → List ℕ) → (ℕ → (ℕ → A) → A) → Type 0
+ReadsNeeds {A} needs rhs = (s : ℕ) (V W : ℕ → A) → ((t : ℕ) → Contains (needs s) t → V t ≡ W t) → rhs s V ≡ rhs s W
+
+-- W is V but for the value of s
+pub record IsUpdate {A : Type 0} (V W : ℕ → A) (s : ℕ) (value : A) : Type 0 where
+  pub here : W s ≡ value
+  pub others : (t : ℕ) → t ≢ s → W t ≡ V t
+
+-- each of the first n equations computed anew, one after another, each from the values that the ones before it left
+pub record IsRound {A : Type 0} (n : ℕ) (rhs : ℕ → (ℕ → A) → A) (before after : ℕ → A) : Type 0 where
+  pub left : ℕ → ℕ → A
+  pub begins : left 0 ≡ before
+  pub ends : left n ≡ after
+  pub computes : (s : ℕ) → s < n → IsUpdate (left s) (left (s + 1)) s (rhs s (left s))

@@ -1,0 +1,58 @@
+//! What follows of needs, and of equations over them, whatever a value is.
+
+ghost use Rattle.kc_order.specs.Laws.{OrderedAreAccepted, AWayRoundIsStuck, NamedLoopGoesRound, NamedLoopIsWithin, OneNamedLoop, AcceptedHaveOneSolution, SolutionsAgree, FillingSolves, RoundsSolve, MinimalRestores, MinimalHasNothingToSpare};
+
+/// Needs that have an order are accepted.
+pub fn ordered_are_accepted()
+    ensures { OrderedAreAccepted }
+{}
+
+/// Where a way along needs comes back to where it began, some symbol is stuck.
+pub fn a_way_round_is_stuck()
+    ensures { AWayRoundIsStuck }
+{}
+
+/// Each symbol of a loop that is named needs the next, and the last the first.
+pub fn named_loop_goes_round()
+    ensures { NamedLoopGoesRound }
+{}
+
+/// Each symbol of a loop that is named is one of the symbols.
+pub fn named_loop_is_within()
+    ensures { NamedLoopIsWithin }
+{}
+
+/// No two loops are named of the same needs.
+pub fn one_named_loop()
+    ensures { OneNamedLoop }
+{}
+
+/// Equations that read only what is needed have one solution where no symbol is stuck.
+pub fn accepted_have_one_solution<A>()
+    ensures { AcceptedHaveOneSolution A }
+{}
+
+/// What solves such equations has the values of any other solution.
+pub fn solutions_agree<A>()
+    ensures { SolutionsAgree A }
+{}
+
+/// A table filled along an order, each place written once, solves the equations.
+pub fn filling_solves<A>()
+    ensures { FillingSolves A }
+{}
+
+/// As many rounds as there are symbols, each of which computes every equation anew, solve the equations.
+pub fn rounds_solve<A>()
+    ensures { RoundsSolve A }
+{}
+
+/// The lines of what differs give the values again, and no others.
+pub fn minimal_restores<A, Place, G>()
+    ensures { MinimalRestores A Place G }
+{}
+
+/// Without any of those lines the values do not solve.
+pub fn minimal_has_nothing_to_spare<A, Place, G>()
+    ensures { MinimalHasNothingToSpare A Place G }
+{}

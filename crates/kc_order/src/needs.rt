@@ -1,0 +1,92 @@
+//! What each symbol needs.
+
+ghost use Rattle.std.specs.Prelude.{◌≡◌, ◌<◌, [], ◌∷◌, ◌++◌, ◌↔◌, length, OnOk, OnErr, IsTrue, All};
+ghost use Rattle.kc_order.specs.Needs.{needs_in, AreWithin};
+ghost use Rattle.kc_order.specs.Rows.{RowsBelow};
+
+use std::alloc::{AllocError, Global};
+use std::marker::Model;
+
+// Whether a row holds numbers below a bound.
+fn is_below(row: &[u32], bound: usize) -> bool
+    ensures { IsTrue result ↔ All (λ t. t < bound) row.now }
+{
+    row.iter().all(|need| (*need as usize) < bound)
+}
+
+// Whether each row does.
+fn are_below(rows: &[Vec<u32>], bound: usize) -> bool
+    ensures { IsTrue result ↔ RowsBelow bound rows.now }
+{
+    rows.iter().all(|row| is_below(row, bound))
+}
+
+/// What each symbol needs. Symbols are numbers from 0 on, in the order in which they are added, and symbols that need the same can
+/// share one row, so that all members of a choice take no more room than one of them.
+#[derive(Drop)]
+pub struct Needs {
+    pub(crate) rows: Vec<Vec<u32>>,
+    pub(crate) row_of: Vec<usize>,
+}
+
+impl Model for Needs {
+    ghost use Rattle.std.specs.Prelude.{ℕ, List};
+    ghost use Rattle.kc_order.specs.Rows.{held, AreTheirs};
+
+    ghost Value = { List (List ℕ) };
+
+    ghost view = { λ n. held n.rows.items n.row_of.items };
+
+    ghost invariant = { λ n. AreTheirs n.rows.items n.row_of.items };
+}
+
+impl Needs {
+    /// The needs of no symbol yet.
+    pub fn new(alloc: Global) -> Needs
+        ensures { result ≡ [] }
+    {
+        Needs {
+            rows: Vec::new(alloc),
+            row_of: Vec::new(alloc),
+        }
+    }
+
+    /// How many symbols there are.
+    pub fn count(&self) -> usize
+        ensures { result ≡ length self.now }
+    {
+        self.row_of.len()
+    }
+
+    /// Whether each need is one of the symbols.
+    pub fn is_within(&self) -> bool
+        ensures { IsTrue result ↔ AreWithin self.now }
+    {
+        are_below(&self.rows, self.row_of.len())
+    }
+
+    /// The next symbol needs these, which may be symbols that are added later. A failure for want of memory changes nothing.
+    pub fn add(&mut self, row: Vec<u32>) -> Result<(), AllocError>
+        ensures added { OnOk result (self.new ≡ self.old ++ row.items ∷ []) }
+        ensures unchanged { OnErr result (self.new ≡ self.old) }
+    {
+        let number = self.rows.len();
+        self.rows.push(row)?;
+        if let Err(failed) = self.row_of.push(number) {
+            self.rows.pop();
+            return Err(failed.into());
+        }
+        Ok(())
+    }
+
+    /// The next symbol needs what an earlier one needs, whose row it shares. A failure for want of memory changes nothing.
+    pub fn add_same(&mut self, symbol: u32) -> Result<(), AllocError>
+        requires { symbol < length self.old }
+        ensures added { OnOk result (self.new ≡ self.old ++ needs_in self.old symbol ∷ []) }
+        ensures unchanged { OnErr result (self.new ≡ self.old) }
+    {
+        let number = self.row_of[symbol as usize];
+        self.row_of.push(number)?;
+        Ok(())
+    }
+}
