@@ -383,7 +383,8 @@ fn a_value_has_at_most_65000_bytes(rt: HostRuntime) -> Result<(), Fail> {
     let mut line = Vec::from_slice(alloc, b"CONFIG_B=y")?;
     let more = vec![in alloc; b'x'; 64999]?;
     line.extend_from_slice(&more)?;
-    let text = b"#\n# Automatically generated file; DO NOT EDIT.\n# Main menu\n#\nCONFIG_A=y\nCONFIG_B=y\nCONFIG_C=y\n";
+    let text =
+        b"#\n# Automatically generated file; DO NOT EDIT.\n# Main menu\n#\nCONFIG_A=y\nCONFIG_B=y\nCONFIG_C=y\n";
     gives(&rt, alloc, THREE, &line, text)?;
     line.push(b'x')?;
     gives(&rt, alloc, THREE, &line, THREE_TEXT)
