@@ -1,1 +1,15 @@
+pub mod BlankLemmas
+pub mod CallLemmas
+pub mod FedLemmas
+pub mod FeedLemmas
+pub mod LineLemmas
+pub mod LineWordLemmas
+pub mod PartLemmas
+pub mod PlaceLemmas
+pub mod QuotedLemmas
+pub mod ReadingLemmas
+pub mod RoundTripLemmas
 pub mod SinkLemmas
+pub mod StepLemmas
+pub mod TextLemmas
+pub mod WarningLemmas

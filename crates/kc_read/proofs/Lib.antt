@@ -1,0 +1,11 @@
+pub mod BlockLemmas
+pub mod FileLemmas
+pub mod FrontLemmas
+pub mod ListLemmas
+pub mod NameLemmas
+pub mod PartLemmas
+pub mod RestLemmas
+pub mod ShapeLemmas
+pub mod SourceLemmas
+pub mod StateLemmas
+pub mod StepLemmas

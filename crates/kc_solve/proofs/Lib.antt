@@ -1,0 +1,4 @@
+pub mod FillSteps
+pub mod UserSteps
+pub mod WarningSteps
+pub mod FlagSteps

@@ -1,0 +1,8 @@
+//! The solver: an order of a tree's symbols, and the one valuation that solves the equations under a user's places.
+#![tactic(auto)]
+
+pub mod fill;
+pub mod flags;
+pub mod order;
+pub mod solve;
+pub mod warnings;

@@ -1,0 +1,28 @@
+//! From the statements of a Kconfig tree to its symbols, choices, entries and warnings.
+#![tactic(auto)]
+
+mod assembly;
+mod attributes;
+mod blocks;
+mod choices;
+mod collect;
+mod conditions;
+mod copies;
+mod diagnoses;
+mod entries;
+mod firsts;
+mod known;
+mod late;
+mod lines;
+mod marks;
+mod members;
+mod owners;
+pub mod parts;
+mod raises;
+mod round;
+mod symbols;
+#[cfg(test)]
+mod tests;
+pub mod tree;
+mod warning;
+mod warnings;

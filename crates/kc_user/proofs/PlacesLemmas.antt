@@ -1,0 +1,57 @@
+-- The places of a tree: empty, and with one place filled.
+use Rattle.std.proofs.Common.{◌≡◌, ℕ, true, List, length, Option, Some, None, sym, ◌∙◌, ap, inl, inr, arith, replicate, get_or-set_same, get_or-set_other}
+use Rattle.std.specs.Prelude.{slice_get, slice_index_or, slice_set}
+use Rattle.std.specs.List.{Contains}
+use Rattle.std.proofs.lemmas.Bool.{cases_eq, cases_lt}
+use Rattle.std.proofs.lemmas.List.{get_or-replicate, get_or_past, length-replicate, length-set}
+use Rattle.kc_expr.specs.Names.{symbol}
+use Rattle.kc_expr.specs.declared.expression.SymId.{SymId}
+use Rattle.kc_tree.specs.TreeFacts.{TreeFacts}
+use Rattle.kc_user.specs.Given.{Given}
+use Rattle.kc_user.specs.Laws.{EmptyArePlaces, SettingKeepsPlaces, SelectingKeepsPlaces}
+use Rattle.kc_user.specs.Places.{Places, ArePlaces, no_places, allowed, members_of}
+
+none_replicated : {X : Type 0} (n i : ℕ) (x : X) → slice_index_or (replicate n None) i None ≡ Some x → ⊥
+none_replicated {X} n i x e =
+    elim (cases_lt i n) [
+      | inl l ↦ let z = sym (get_or-replicate n i None None l) ∙ e in cc
+      | inr l ↦ let z = sym (get_or_past (replicate n None) i None (omega (arith, length-replicate {A = Option X} n None))) ∙ e in cc
+    ]
+
+-- what stands in a place after one is filled is what was put there, or what stood before
+after_set : {X : Type 0} (xs : List (Option X)) (i j : ℕ) (x y : X) (P : ℕ → X → Type 0) → ((k : ℕ) (z : X) → slice_index_or xs k None ≡ Some z → P k z) → P i x → slice_index_or (slice_set xs i (Some x)) j None ≡ Some y → P j y
+after_set {X} xs i j x y P old new e =
+    elim (cases_eq j i) [
+      | inl at ↦
+        elim (cases_lt i (length xs)) [
+          | inl l ↦
+            let same : Some x ≡ Some y = sym (get_or-set_same xs i (Some x) None l) ∙ ap (λ n. slice_index_or (slice_set xs i (Some x)) n None) (sym at) ∙ e in
+            let is : x ≡ y = cc in
+            rw (at, ← is) new
+          | inr l ↦
+            let z : None ≡ Some y = sym (get_or_past (slice_set xs i (Some x)) j None (omega (arith, length-set {A = Option X} xs i (Some x)))) ∙ e in
+            cc
+        ]
+      | inr other ↦ old j y (sym (get_or-set_other xs i j (Some x) None other) ∙ e)
+    ]
+
+pub empty_are : EmptyArePlaces
+empty_are tree = record {
+  there = record { symbols = length-replicate (length tree.symbols) None; choices = length-replicate (length tree.choices) None };
+  allowed_all = λ i g e. absurd (none_replicated (length tree.symbols) i g e);
+  members = λ c m e. absurd (none_replicated (length tree.choices) c m e);
+}
+
+pub setting_keeps : SettingKeepsPlaces
+setting_keeps tree places s g old ok = record {
+  there = record { symbols = length-set places.symbols s.0 (Some g) ∙ old.there.symbols; choices = old.there.choices };
+  allowed_all = λ j h e. after_set places.symbols s.0 j g h (λ k z. allowed tree (symbol k) z ≡ true) old.allowed_all ok e;
+  members = old.members;
+}
+
+pub selecting_keeps : SelectingKeepsPlaces
+selecting_keeps tree places c m old ok = record {
+  there = record { symbols = old.there.symbols; choices = length-set places.choices c (Some m) ∙ old.there.choices };
+  allowed_all = old.allowed_all;
+  members = λ d n e. after_set places.choices c d m n (λ k z. Contains (members_of (slice_get tree.choices k)) z) old.members ok e;
+}
