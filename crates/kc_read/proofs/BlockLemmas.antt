@@ -1,0 +1,237 @@
+-- The blocks that are open after a list of lines, one line after another.
+use Rattle.std.proofs.Common.{◌≡◌, ℕ, zero, suc, ◌-◌, Bool, true, false, cond, ◌&&◌, nat_le, List, [], ◌∷◌, ◌++◌, map, filter, length, Option, Some, None, option_map, slice_get, is_some, refl, sym, ap, ◌∙◌, append_assoc, arith}
+use Rattle.std.specs.List.{filter_map}
+use Rattle.std.proofs.lemmas.Bool.Decides.{nat_tests}
+use Rattle.std.proofs.lemmas.List.Elements.{filter_map-append}
+use Rattle.kc_read.specs.declared.statement.Block.{Block}
+use Rattle.kc_read.specs.declared.statement.Opener.{Opener}
+use Rattle.kc_read.specs.Blocks.{Bracket, Opens, Closes, NoBracket, bracket, bracket_at, opened, closes_outer, depth_after, stays_open, is_open, open_places, open_blocks, last_of, numbers}
+use Rattle.kc_read.specs.Expansion.{statements, IsUnclosed}
+use Rattle.kc_read.specs.Progress.{opener_of, open_openers, openers_after}
+use Rattle.kc_read.specs.Statements.{Written, Placed}
+use Rattle.kc_read.proofs.ListLemmas.{last_of-append, last_of-map, but_last, but_last-take, but_last-append, filter-map, filter_map-map, map-filter_map, numbers_front}
+
+-- how many closers close what was opened before
+abbrev unmatched_with : Bracket → ℕ → ℕ
+unmatched_with (Opens b) u = u - 1
+unmatched_with Closes u = suc u
+unmatched_with NoBracket u = u
+
+abbrev unmatched : List Written → ℕ
+unmatched [] = 0
+unmatched (s ∷ ss) = unmatched_with (bracket s) (unmatched ss)
+
+stays_with : (b : Bracket) (d : ℕ) (ss : List Written) → ((e : ℕ) → stays_open e ss ≡ nat_le (unmatched ss) e) → cond (closes_outer d b) false (stays_open (depth_after d b) ss) ≡ nat_le (unmatched_with b (unmatched ss)) d
+stays_with (Opens b) zero ss h = let e = h 1 in rw e (grind (arith, nat_tests))
+stays_with (Opens b) (suc d) ss h = let e = h (suc (suc d)) in rw e (grind (arith, nat_tests))
+stays_with Closes zero ss h = grind (arith, nat_tests)
+stays_with Closes (suc d) ss h = let e = h (suc d - 1) in rw e (grind (arith, nat_tests))
+stays_with NoBracket zero ss h = h zero
+stays_with NoBracket (suc d) ss h = h (suc d)
+
+stays_unmatched : (ss : List Written) (d : ℕ) → stays_open d ss ≡ nat_le (unmatched ss) d
+stays_unmatched [] d = grind (arith, nat_tests)
+stays_unmatched (s ∷ ss) d = stays_with (bracket s) d ss (stays_unmatched ss)
+
+-- The open blocks, read from the front.
+abbrev here : {A : Type 0} → Bracket → (Block → A) → ℕ → List A
+here (Opens b) make zero = make b ∷ []
+here (Opens b) make (suc u) = []
+here Closes make u = []
+here NoBracket make u = []
+
+abbrev opener : ℕ → Block → Opener
+opener n b = record { block = b; line = n }
+
+abbrev pub opens : List (Placed Written) → List Opener
+opens [] = []
+opens (l ∷ ls) = here (bracket l.statement) (opener l.line) (unmatched (statements ls)) ++ opens ls
+
+head_place : (b : Bracket) (ss : List Written) → cond (is_some (opened b) && stays_open 0 ss) (zero ∷ []) [] ≡ here b (λ b. zero) (unmatched ss)
+head_place (Opens b) ss = ap (λ t. cond t (zero ∷ []) []) (stays_unmatched ss 0) ∙ by (unmatched ss)
+  where
+    by : (u : ℕ) → cond (nat_le u 0) (zero ∷ []) [] ≡ here (Opens b) (λ b. zero) u
+    by zero = refl
+    by (suc u) = let e : nat_le (suc u) 0 ≡ false = grind (arith, nat_tests) in rw e refl
+head_place Closes ss = refl
+head_place NoBracket ss = refl
+
+head_first : {A : Type 0} (t : Bool) (x : A) (xs : List A) → cond t (x ∷ xs) xs ≡ cond t (x ∷ []) [] ++ xs
+head_first true x xs = refl
+head_first false x xs = refl
+
+places_front : (s : Written) (ss : List Written) → open_places (s ∷ ss) ≡ here (bracket s) (λ b. zero) (unmatched ss) ++ map suc (open_places ss)
+places_front s ss =
+    ap (filter (is_open (s ∷ ss))) (numbers_front (length ss))
+    ∙ ap (λ xs. cond (is_open (s ∷ ss) zero) (zero ∷ xs) xs) (filter-map (is_open (s ∷ ss)) suc (numbers (length ss)))
+    ∙ head_first (is_open (s ∷ ss) zero) zero (map suc (open_places ss))
+    ∙ ap (λ xs. xs ++ map suc (open_places ss)) (head_place (bracket s) ss)
+
+openers_front : (l : Placed Written) (ls : List (Placed Written)) → open_openers (l ∷ ls) ≡ here (bracket l.statement) (opener l.line) (unmatched (statements ls)) ++ open_openers ls
+openers_front l ls =
+    ap (filter_map (λ j. opener_of (slice_get (l ∷ ls) j))) (places_front l.statement (statements ls))
+    ∙ filter_map-append (λ j. opener_of (slice_get (l ∷ ls) j)) (here (bracket l.statement) (λ b. zero) (unmatched (statements ls))) (map suc (open_places (statements ls)))
+    ∙ ap (λ xs. filter_map (λ j. opener_of (slice_get (l ∷ ls) j)) (here (bracket l.statement) (λ b. zero) (unmatched (statements ls))) ++ xs) (filter_map-map (λ j. opener_of (slice_get (l ∷ ls) j)) suc (open_places (statements ls)))
+    ∙ ap (λ xs. xs ++ open_openers ls) (by (bracket l.statement) (unmatched (statements ls)) refl)
+  where
+    by : (b : Bracket) (u : ℕ) → bracket l.statement ≡ b → filter_map (λ j. opener_of (slice_get (l ∷ ls) j)) (here b (λ b. zero) u) ≡ here b (opener l.line) u
+    by (Opens b) zero e = rw e refl
+    by (Opens b) (suc u) e = refl
+    by Closes u e = refl
+    by NoBracket u e = refl
+
+pub openers-opens : (ls : List (Placed Written)) → open_openers ls ≡ opens ls
+openers-opens [] = refl
+openers-opens (l ∷ ls) = openers_front l ls ∙ ap (λ xs. here (bracket l.statement) (opener l.line) (unmatched (statements ls)) ++ xs) (openers-opens ls)
+
+-- One more line at the end.
+abbrev more_unmatched : List Opener → ℕ → ℕ
+more_unmatched [] u = suc u
+more_unmatched (o ∷ os) u = u
+
+abbrev unmatched_after : Bracket → List Opener → ℕ → ℕ
+unmatched_after (Opens b) os u = u
+unmatched_after Closes os u = more_unmatched os u
+unmatched_after NoBracket os u = u
+
+abbrev opens_after : Bracket → ℕ → List Opener → List Opener
+opens_after (Opens b) n os = os ++ opener n b ∷ []
+opens_after Closes n os = but_last os
+opens_after NoBracket n os = os
+
+unmatched_step : (b : Bracket) (n : ℕ) (e : Bracket) (os : List Opener) (u : ℕ) → unmatched_with b (unmatched_after e os u) ≡ unmatched_after e (here b (opener n) u ++ os) (unmatched_with b u)
+unmatched_step b n (Opens x) os u = refl
+unmatched_step b n NoBracket os u = refl
+unmatched_step (Opens x) n Closes [] zero = refl
+unmatched_step (Opens x) n Closes [] (suc u) = omega arith
+unmatched_step (Opens x) n Closes (o ∷ os) zero = refl
+unmatched_step (Opens x) n Closes (o ∷ os) (suc u) = refl
+unmatched_step Closes n Closes [] u = refl
+unmatched_step Closes n Closes (o ∷ os) u = refl
+unmatched_step NoBracket n Closes [] u = refl
+unmatched_step NoBracket n Closes (o ∷ os) u = refl
+
+opens_step : (b : Bracket) (n : ℕ) (e : Bracket) (m : ℕ) (os : List Opener) (u : ℕ) → here b (opener n) (unmatched_after e os u) ++ opens_after e m os ≡ opens_after e m (here b (opener n) u ++ os)
+opens_step b n (Opens x) m os u = sym (append_assoc (here b (opener n) u) os (opener m x ∷ []))
+opens_step b n NoBracket m os u = refl
+opens_step b n Closes m (o ∷ os) u = sym (but_last-append (here b (opener n) u) o os)
+opens_step (Opens x) n Closes m [] zero = refl
+opens_step (Opens x) n Closes m [] (suc u) = refl
+opens_step Closes n Closes m [] u = refl
+opens_step NoBracket n Closes m [] u = refl
+
+unmatched_last : (e : Bracket) → unmatched_with e 0 ≡ unmatched_after e [] 0
+unmatched_last (Opens b) = refl
+unmatched_last Closes = refl
+unmatched_last NoBracket = refl
+
+unmatched_push : (ls : List (Placed Written)) (l : Placed Written) → unmatched (statements (ls ++ l ∷ [])) ≡ unmatched_after (bracket l.statement) (opens ls) (unmatched (statements ls))
+unmatched_push [] l = unmatched_last (bracket l.statement)
+unmatched_push (k ∷ ls) l =
+    ap (unmatched_with (bracket k.statement)) (unmatched_push ls l)
+    ∙ unmatched_step (bracket k.statement) k.line (bracket l.statement) (opens ls) (unmatched (statements ls))
+
+opens_last : (e : Bracket) (m : ℕ) → here e (opener m) 0 ++ [] ≡ opens_after e m []
+opens_last (Opens b) m = refl
+opens_last Closes m = refl
+opens_last NoBracket m = refl
+
+opens_push : (ls : List (Placed Written)) (l : Placed Written) → opens (ls ++ l ∷ []) ≡ opens_after (bracket l.statement) l.line (opens ls)
+opens_push [] l = opens_last (bracket l.statement) l.line
+opens_push (k ∷ ls) l =
+    ap (λ u. here (bracket k.statement) (opener k.line) u ++ opens (ls ++ l ∷ [])) (unmatched_push ls l)
+    ∙ ap (λ os. here (bracket k.statement) (opener k.line) (unmatched_after (bracket l.statement) (opens ls) (unmatched (statements ls))) ++ os) (opens_push ls l)
+    ∙ opens_step (bracket k.statement) k.line (bracket l.statement) l.line (opens ls) (unmatched (statements ls))
+
+after_same : (e : Bracket) (n : ℕ) (os : List Opener) → opens_after e n os ≡ openers_after e n os
+after_same (Opens b) n os = refl
+after_same Closes n os = sym (but_last-take os)
+after_same NoBracket n os = refl
+
+pub openers_push : (ls : List (Placed Written)) (l : Placed Written) → open_openers (ls ++ l ∷ []) ≡ openers_after (bracket l.statement) l.line (open_openers ls)
+openers_push ls l =
+    openers-opens (ls ++ l ∷ []) ∙ opens_push ls l
+    ∙ after_same (bracket l.statement) l.line (opens ls)
+    ∙ ap (openers_after (bracket l.statement) l.line) (sym (openers-opens ls))
+
+-- the open blocks are those of the openers
+same_bracket : (ls : List (Placed Written)) (j : ℕ) → option_map (λ o. o.block) (opener_of (slice_get ls j)) ≡ opened (bracket_at (statements ls) j)
+same_bracket [] j = refl
+same_bracket (l ∷ ls) zero = by (opened (bracket l.statement))
+  where
+    by : (o : Option Block) → option_map (λ o. o.block) (option_map (opener l.line) o) ≡ o
+    by None = refl
+    by (Some b) = refl
+same_bracket (l ∷ ls) (suc j) = same_bracket ls j
+
+pub blocks_of_openers : (ls : List (Placed Written)) → map (λ o. o.block) (open_openers ls) ≡ open_blocks (statements ls)
+blocks_of_openers ls = map-filter_map (λ o. o.block) (λ j. opener_of (slice_get ls j)) (λ j. opened (bracket_at (statements ls) j)) (same_bracket ls) (open_places (statements ls))
+
+-- the innermost open block
+here_both : (b : Bracket) (n u : ℕ) → here b (opener n) u ≡ [] → here b (λ b. zero) u ≡ []
+here_both (Opens b) n zero e = absurd cc
+here_both (Opens b) n (suc u) e = refl
+here_both Closes n u e = refl
+here_both NoBracket n u e = refl
+
+first_nil : {A : Type 0} (xs ys : List A) → xs ++ ys ≡ [] → xs ≡ []
+first_nil [] ys e = refl
+first_nil (x ∷ xs) ys e = absurd cc
+
+second_nil : {A : Type 0} (xs ys : List A) → xs ++ ys ≡ [] → ys ≡ []
+second_nil [] ys e = e
+second_nil (x ∷ xs) ys e = absurd cc
+
+pub no_places : (ls : List (Placed Written)) → opens ls ≡ [] → open_places (statements ls) ≡ []
+no_places [] e = refl
+no_places (l ∷ ls) e =
+    let b = bracket l.statement in
+    let u = unmatched (statements ls) in
+    let h : here b (λ b. zero) u ≡ [] = here_both b l.line u (first_nil (here b (opener l.line) u) (opens ls) e) in
+    let t : open_places (statements ls) ≡ [] = no_places ls (second_nil (here b (opener l.line) u) (opens ls) e) in
+    places_front l.statement (statements ls) ∙ rw (h, t) refl
+
+unclosed_here : (b : Bracket) (u : ℕ) (l : Placed Written) (ls : List (Placed Written)) (o : Opener) → bracket l.statement ≡ b → unmatched (statements ls) ≡ u → opens ls ≡ [] → last_of (here b (opener l.line) u ++ opens ls) ≡ Some o → IsUnclosed (l ∷ ls) o.line
+unclosed_here (Opens b) zero l ls o e f none last =
+    let h : last_of (opener l.line b ∷ []) ≡ Some o = rw none at last in
+    record {
+      before = [];
+      opener = l;
+      after = ls;
+      split = refl;
+      innermost_is = ap last_of (places_front l.statement (statements ls)) ∙ rw (e, f, no_places ls none) refl;
+      line_is = let g : Some (opener l.line b) ≡ Some o = h in cc;
+    }
+unclosed_here (Opens b) (suc u) l ls o e f none last = absurd (let h : None ≡ Some o = rw none at last in cc)
+unclosed_here Closes u l ls o e f none last = absurd (let h : None ≡ Some o = rw none at last in cc)
+unclosed_here NoBracket u l ls o e f none last = absurd (let h : None ≡ Some o = rw none at last in cc)
+
+last_tail : {A : Type 0} (xs : List A) (y : A) (ys : List A) → last_of (xs ++ y ∷ ys) ≡ last_of (y ∷ ys)
+last_tail [] y ys = refl
+last_tail (x ∷ []) y ys = refl
+last_tail (x ∷ z ∷ zs) y ys = last_tail (z ∷ zs) y ys
+
+unclosed_later : (l : Placed Written) (ls : List (Placed Written)) (line : ℕ) → IsUnclosed ls line → IsUnclosed (l ∷ ls) line
+unclosed_later l ls line r = record {
+  before = l ∷ r.before;
+  opener = r.opener;
+  after = r.after;
+  split = ap (λ xs. l ∷ xs) r.split;
+  innermost_is =
+      ap last_of (places_front l.statement (statements ls))
+      ∙ last_of-append (here (bracket l.statement) (λ b. zero) (unmatched (statements ls))) (map suc (open_places (statements ls))) (suc (length r.before)) (last_of-map suc (open_places (statements ls)) ∙ ap (option_map suc) r.innermost_is);
+  line_is = r.line_is;
+}
+
+unclosed_at : (ls : List (Placed Written)) (o : Opener) → last_of (opens ls) ≡ Some o → IsUnclosed ls o.line
+unclosed_at [] o e = absurd cc
+unclosed_at (l ∷ ls) o e = by (opens ls) refl (unclosed_at ls o)
+  where
+    by : (os : List Opener) → opens ls ≡ os → (last_of (opens ls) ≡ Some o → IsUnclosed ls o.line) → IsUnclosed (l ∷ ls) o.line
+    by [] f later = unclosed_here (bracket l.statement) (unmatched (statements ls)) l ls o refl refl f e
+    by (x ∷ xs) f later =
+        let h : last_of (x ∷ xs) ≡ Some o = sym (last_tail (here (bracket l.statement) (opener l.line) (unmatched (statements ls))) x xs) ∙ ap (λ os. last_of (here (bracket l.statement) (opener l.line) (unmatched (statements ls)) ++ os)) (sym f) ∙ e in
+        unclosed_later l ls o.line (later (ap last_of f ∙ h))
+
+pub unclosed : (ls : List (Placed Written)) (o : Opener) → last_of (open_openers ls) ≡ Some o → IsUnclosed ls o.line
+unclosed ls o e = unclosed_at ls o (ap last_of (sym (openers-opens ls)) ∙ e)

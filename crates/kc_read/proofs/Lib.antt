@@ -1,0 +1,15 @@
+pub mod BlockLemmas
+pub mod FileLemmas
+pub mod FrontLemmas
+pub mod ListLemmas
+pub mod NameLemmas
+pub mod OneExpansion
+pub mod OneLine
+pub mod OpeningLemmas
+pub mod PartLemmas
+pub mod RestLemmas
+pub mod ShapeLemmas
+pub mod SourceLemmas
+pub mod SourceWord
+pub mod StateLemmas
+pub mod StepLemmas

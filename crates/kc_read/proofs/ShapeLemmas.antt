@@ -1,0 +1,160 @@
+-- What a statement does, whether its names are written or numbered.
+use Rattle.std.specs.declared.vec.Vec.{Vec}
+use Rattle.std.specs.declared.alloc.Global.{Global}
+use Rattle.std.proofs.Common.{◌≡◌, ℕ, ◌+◌, Bool, false, List, length, Option, Some, None, option_map, refl, sym, ap, ◌∙◌}
+use Rattle.std.specs.Option.{option_or}
+use Rattle.kc_expr.specs.declared.expression.SymId.{SymId}
+use Rattle.kc_expr.specs.Names.{symbol, number_of}
+use Rattle.kc_read.specs.declared.statement.Entry.{Entry}
+use Rattle.kc_read.specs.declared.statement.Statement.{Statement}
+use Rattle.kc_read.specs.declared.statement.Statement.TheVariants as made
+use Rattle.kc_read.specs.Blocks.{Bracket, bracket, is_attribute, is_modules, entry_of, name_at, open_blocks}
+use Rattle.kc_read.specs.Expansion.{Around, Log, statements, defined, effect_cause, opener_cause, symbol_cause, is_source}
+use Rattle.kc_read.specs.Progress.{naming_cause, IsNamed}
+use Rattle.kc_read.specs.Reads.{IsMade, statement_view}
+use Rattle.kc_read.specs.Statements as s
+use Rattle.kc_read.specs.Statements.{Written, Numbered, Placed, numbered, ConfigLine, IfLine, EndIfLine, CommentLine, SourceLine, MenuLine, EndMenuLine, ChoiceLine, EndChoiceLine, MainMenuLine, TypeLine, PromptLine, DefaultLine, DefLine, DependsLine, VisibleLine, SelectLine, ImplyLine, RangeLine, HelpLine, ModulesLine, IgnoredLine}
+use Rattle.kc_read.proofs.NameLemmas.{extends_none, is_named}
+
+-- the bracket, whether it is an attribute, the entry that it begins, whether it is a `modules` line, and a `source` line
+abbrev pub shape : {E L S : Type 0} → s.Statement E L S → Bracket × Bool × Entry × Bool × Bool
+shape x = (bracket x, is_attribute x, entry_of (Some x), is_modules x, is_source x)
+
+shape_numbered : (modules : Option SymId) (number : List ℕ → ℕ) (x : Written) → shape (numbered modules number x) ≡ shape x
+shape_numbered modules number (ConfigLine n) = refl
+shape_numbered modules number (IfLine e) = refl
+shape_numbered modules number EndIfLine = refl
+shape_numbered modules number (CommentLine t) = refl
+shape_numbered modules number (SourceLine t) = refl
+shape_numbered modules number (MenuLine t) = refl
+shape_numbered modules number EndMenuLine = refl
+shape_numbered modules number ChoiceLine = refl
+shape_numbered modules number EndChoiceLine = refl
+shape_numbered modules number (MainMenuLine t) = refl
+shape_numbered modules number (TypeLine k p) = refl
+shape_numbered modules number (PromptLine p) = refl
+shape_numbered modules number (DefaultLine v w) = refl
+shape_numbered modules number (DefLine k v w) = refl
+shape_numbered modules number (DependsLine e) = refl
+shape_numbered modules number (VisibleLine e) = refl
+shape_numbered modules number (SelectLine n w) = refl
+shape_numbered modules number (ImplyLine n w) = refl
+shape_numbered modules number (RangeLine a b w) = refl
+shape_numbered modules number HelpLine = refl
+shape_numbered modules number ModulesLine = refl
+shape_numbered modules number IgnoredLine = refl
+
+name_numbered : (modules : Option SymId) (number : List ℕ → ℕ) (x : Written) → name_at (numbered modules number x) ≡ option_map (λ n. symbol (number n)) (name_at x)
+name_numbered modules number (ConfigLine n) = refl
+name_numbered modules number (IfLine e) = refl
+name_numbered modules number EndIfLine = refl
+name_numbered modules number (CommentLine t) = refl
+name_numbered modules number (SourceLine t) = refl
+name_numbered modules number (MenuLine t) = refl
+name_numbered modules number EndMenuLine = refl
+name_numbered modules number ChoiceLine = refl
+name_numbered modules number EndChoiceLine = refl
+name_numbered modules number (MainMenuLine t) = refl
+name_numbered modules number (TypeLine k p) = refl
+name_numbered modules number (PromptLine p) = refl
+name_numbered modules number (DefaultLine v w) = refl
+name_numbered modules number (DefLine k v w) = refl
+name_numbered modules number (DependsLine e) = refl
+name_numbered modules number (VisibleLine e) = refl
+name_numbered modules number (SelectLine n w) = refl
+name_numbered modules number (ImplyLine n w) = refl
+name_numbered modules number (RangeLine a b w) = refl
+name_numbered modules number HelpLine = refl
+name_numbered modules number ModulesLine = refl
+name_numbered modules number IgnoredLine = refl
+
+pub made_shape : (modules : Option SymId) (known names : List (List ℕ)) (s : Statement) (x : Written) → IsMade modules known names s x → shape (statement_view s) ≡ shape x
+made_shape modules known names s x m = ap shape (m.form names (extends_none names)) ∙ shape_numbered modules (number_of names) x
+
+pub made_name : (modules : Option SymId) (known names : List (List ℕ)) (s : Statement) (x : Written) → IsMade modules known names s x → IsNamed names (name_at (statement_view s)) (name_at x)
+made_name modules known names s x m = is_named names (name_at (statement_view s)) (name_at x) (λ later e. ap name_at (m.form later e) ∙ name_numbered modules (number_of later) x)
+
+pub or_none : {A : Type 0} (o : Option A) → option_or o None ≡ o
+or_none None = refl
+or_none (Some x) = refl
+
+-- a config line is counted, and any other line opens a block or has no effect
+pub effect_by : (a : Around) (own : List (Placed Written)) (log : Log) (x : Written) → option_or (naming_cause (defined (statements log.lines)) (name_at x)) (opener_cause (length a.blocks + length (open_blocks (statements own))) (bracket x)) ≡ effect_cause a own log x
+effect_by site own log (ConfigLine n) = or_none (symbol_cause (defined (statements log.lines)) n)
+effect_by site own log (IfLine e) = refl
+effect_by site own log EndIfLine = refl
+effect_by site own log (CommentLine t) = refl
+effect_by site own log (SourceLine t) = refl
+effect_by site own log (MenuLine t) = refl
+effect_by site own log EndMenuLine = refl
+effect_by site own log ChoiceLine = refl
+effect_by site own log EndChoiceLine = refl
+effect_by site own log (MainMenuLine t) = refl
+effect_by site own log (TypeLine k p) = refl
+effect_by site own log (PromptLine p) = refl
+effect_by site own log (DefaultLine v w) = refl
+effect_by site own log (DefLine k v w) = refl
+effect_by site own log (DependsLine e) = refl
+effect_by site own log (VisibleLine e) = refl
+effect_by site own log (SelectLine n w) = refl
+effect_by site own log (ImplyLine n w) = refl
+effect_by site own log (RangeLine a b w) = refl
+effect_by site own log HelpLine = refl
+effect_by site own log ModulesLine = refl
+effect_by site own log IgnoredLine = refl
+
+-- a `source` line is written as one
+pub source_is : (modules : Option SymId) (number : List ℕ → ℕ) (t : List ℕ) (x : Written) → SourceLine t ≡ numbered modules number x → x ≡ SourceLine t
+source_is modules number t (ConfigLine n) same = absurd cc
+source_is modules number t (IfLine e) same = absurd cc
+source_is modules number t EndIfLine same = absurd cc
+source_is modules number t (CommentLine u) same = absurd cc
+source_is modules number t (SourceLine u) same = ap SourceLine (let f : u ≡ t = cc in f)
+source_is modules number t (MenuLine u) same = absurd cc
+source_is modules number t EndMenuLine same = absurd cc
+source_is modules number t ChoiceLine same = absurd cc
+source_is modules number t EndChoiceLine same = absurd cc
+source_is modules number t (MainMenuLine u) same = absurd cc
+source_is modules number t (TypeLine k p) same = absurd cc
+source_is modules number t (PromptLine p) same = absurd cc
+source_is modules number t (DefaultLine v w) same = absurd cc
+source_is modules number t (DefLine k v w) same = absurd cc
+source_is modules number t (DependsLine e) same = absurd cc
+source_is modules number t (VisibleLine e) same = absurd cc
+source_is modules number t (SelectLine n w) same = absurd cc
+source_is modules number t (ImplyLine n w) same = absurd cc
+source_is modules number t (RangeLine a b w) same = absurd cc
+source_is modules number t HelpLine same = absurd cc
+source_is modules number t ModulesLine same = absurd cc
+source_is modules number t IgnoredLine same = absurd cc
+
+pub or_first : {A : Type 0} (o p : Option A) (x : A) → o ≡ Some x → option_or o p ≡ Some x
+or_first None p x e = absurd cc
+or_first (Some y) p x e = e
+
+no_source : (s : Statement) → ((t : Vec ℕ Global) → s ≡ made.Source t → ⊥) → is_source (statement_view s) ≡ false
+no_source (made.Config s) h = refl
+no_source (made.If e) h = refl
+no_source made.EndIf h = refl
+no_source (made.Comment t) h = refl
+no_source (made.Source t) h = absurd (h t refl)
+no_source (made.Menu t) h = refl
+no_source made.EndMenu h = refl
+no_source made.Choice h = refl
+no_source made.EndChoice h = refl
+no_source (made.MainMenu t) h = refl
+no_source (made.Type k p) h = refl
+no_source (made.Prompt p) h = refl
+no_source (made.Default v w) h = refl
+no_source (made.Def k v w) h = refl
+no_source (made.Depends e) h = refl
+no_source (made.Visible e) h = refl
+no_source (made.Select s w) h = refl
+no_source (made.Imply s w) h = refl
+no_source (made.Range a b w) h = refl
+no_source made.Help h = refl
+no_source made.Modules h = refl
+no_source made.Ignored h = refl
+
+pub made_no_source : (modules : Option SymId) (known names : List (List ℕ)) (s : Statement) (x : Written) → IsMade modules known names s x → ((t : Vec ℕ Global) → s ≡ made.Source t → ⊥) → is_source x ≡ false
+made_no_source modules known names s x m h = sym (ap (λ z. z.4) (made_shape modules known names s x m)) ∙ no_source s h

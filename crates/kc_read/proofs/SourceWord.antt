@@ -1,0 +1,171 @@
+-- The lines that begin with the word `source`, and no others, are `source` lines.
+use Rattle.std.proofs.Common.{◌≡◌, inl, inr, ℕ, Bool, true, false, cond, List, [], ◌∷◌, drop, codes, Option, Some, None, Result, Ok, Err, refl, ap, subst}
+use Rattle.std.proofs.lemmas.Bool.{cases_Bool}
+use Rattle.kc_text.specs.Lexemes.{Lexeme, AWord, AQuoted, AnOp}
+use Rattle.kc_expr.specs.declared.expression.Kind.{Kind}
+use Rattle.kc_expr.specs.declared.expression.Kind.TheVariants as kind
+use Rattle.kc_expr.specs.Grammar.{Disjunction, if_word}
+use Rattle.kc_expr.specs.Names.{same_name}
+use Rattle.kc_read.specs.declared.statement.Keyword.{Keyword}
+use Rattle.kc_read.specs.declared.statement.Keyword.TheVariants as key
+use Rattle.kc_read.specs.declared.statement.Context.{Context}
+use Rattle.kc_read.specs.Statements.{Written, Asked, IfLine, EndIfLine, CommentLine, SourceLine, MenuLine, EndMenuLine, EndChoiceLine, MainMenuLine, TypeLine, PromptLine, DefaultLine, DefLine, DependsLine, VisibleLine, SelectLine, ImplyLine, RangeLine, HelpLine, ModulesLine, ConfigLine, IgnoredLine}
+use Rattle.kc_read.specs.declared.refusal.Code.TheVariants as code
+use Rattle.kc_read.specs.Lines.{Cause, syntax_cause, After, ReadsWhole, ReadsCondition, ReadsTextLine, ReadsSource, ReadsConfig, ReadsAsked, ReadsType, ReadsValue, ReadsTarget, ReadsRange, ReadsRest, ReadsPlaced, ReadsLine, finish, text_of, word_of, target_of, operand_of, good_name, is_good_name, choice_line, option_line, expected, block_word, type_word, attribute_word, left_out_word, first_some, keyword_of, known, in_place, place_cause, begins_with}
+use Rattle.kc_read.proofs.FileLemmas.{same_name_eq}
+use Rattle.kc_read.proofs.OneExpansion.{source_line}
+
+-- ---- The word
+
+abbrev is_source_key : Option Keyword → Bool
+is_source_key (Some key.Source) = true
+is_source_key _ = false
+
+other_word : (b : Bool) (k : Keyword) (o : Option Keyword) → is_source_key (Some k) ≡ false → is_source_key o ≡ false → is_source_key (cond b (Some k) o) ≡ false
+other_word true k o e f = e
+other_word false k o e f = f
+
+not_source : (b : Bool) (o : Option Keyword) → b ≡ false → is_source_key o ≡ false → is_source_key (cond b (Some key.Source) o) ≡ false
+not_source true o e f = absurd (let h : true ≡ false = e in cc)
+not_source false o e f = f
+
+either_word : (o p : Option Keyword) → is_source_key o ≡ false → is_source_key p ≡ false → is_source_key (first_some o p) ≡ false
+either_word None p e f = f
+either_word (Some k) p e f = e
+
+block_other : (w : List ℕ) → same_name w (codes "source") ≡ false → is_source_key (block_word w) ≡ false
+block_other w e = other_word (same_name w (codes "config")) key.Config _ refl (other_word (same_name w (codes "menuconfig")) key.Config _ refl (other_word (same_name w (codes "if")) key.If _ refl (other_word (same_name w (codes "endif")) key.EndIf _ refl (other_word (same_name w (codes "comment")) key.Comment _ refl (not_source (same_name w (codes "source")) _ e (other_word (same_name w (codes "menu")) key.Menu _ refl (other_word (same_name w (codes "endmenu")) key.EndMenu _ refl (other_word (same_name w (codes "choice")) key.Choice _ refl (other_word (same_name w (codes "endchoice")) key.EndChoice _ refl (other_word (same_name w (codes "mainmenu")) key.MainMenu _ refl (refl)))))))))))
+
+type_other : (w : List ℕ) → is_source_key (type_word w) ≡ false
+type_other w = other_word (same_name w (codes "bool")) (key.Type kind.Bool) _ refl (other_word (same_name w (codes "tristate")) (key.Type kind.Tristate) _ refl (other_word (same_name w (codes "string")) (key.Type kind.Str) _ refl (other_word (same_name w (codes "int")) (key.Type kind.Int) _ refl (other_word (same_name w (codes "hex")) (key.Type kind.Hex) _ refl (other_word (same_name w (codes "def_bool")) (key.Def kind.Bool) _ refl (other_word (same_name w (codes "def_tristate")) (key.Def kind.Tristate) _ refl (refl)))))))
+
+attribute_other : (w : List ℕ) → is_source_key (attribute_word w) ≡ false
+attribute_other w = other_word (same_name w (codes "prompt")) key.Prompt _ refl (other_word (same_name w (codes "default")) key.Default _ refl (other_word (same_name w (codes "depends")) key.Depends _ refl (other_word (same_name w (codes "visible")) key.Visible _ refl (other_word (same_name w (codes "select")) key.Select _ refl (other_word (same_name w (codes "imply")) key.Imply _ refl (other_word (same_name w (codes "range")) key.Range _ refl (other_word (same_name w (codes "help")) key.Help _ refl (other_word (same_name w (codes "---help---")) key.Help _ refl (other_word (same_name w (codes "modules")) key.Modules _ refl (other_word (same_name w (codes "option")) key.«Option» _ refl (refl)))))))))))
+
+left_out_other : (w : List ℕ) → is_source_key (left_out_word w) ≡ false
+left_out_other w = other_word (same_name w (codes "rsource")) key.LeftOut _ refl (other_word (same_name w (codes "osource")) key.LeftOut _ refl (other_word (same_name w (codes "orsource")) key.LeftOut _ refl (other_word (same_name w (codes "boolean")) key.LeftOut _ refl (other_word (same_name w (codes "def_int")) key.LeftOut _ refl (other_word (same_name w (codes "def_hex")) key.LeftOut _ refl (other_word (same_name w (codes "def_string")) key.LeftOut _ refl (other_word (same_name w (codes "transitional")) key.LeftOut _ refl (other_word (same_name w (codes "optional")) key.LeftOut _ refl (refl)))))))))
+
+keyword_other : (w : List ℕ) → same_name w (codes "source") ≡ false → is_source_key (keyword_of w) ≡ false
+keyword_other w e =
+    either_word (block_word w) (first_some (type_word w) (first_some (attribute_word w) (left_out_word w))) (block_other w e)
+    (either_word (type_word w) (first_some (attribute_word w) (left_out_word w)) (type_other w) (either_word (attribute_word w) (left_out_word w) (attribute_other w) (left_out_other w)))
+
+-- ---- What is read
+
+-- no `source` line is read
+abbrev NoSource : (Result Written Cause → Type 0) → Type 0
+NoSource R = (name : List ℕ) → R (Ok (SourceLine name)) → ⊥
+
+-- this is no `source` line
+abbrev IsOther : Result Written Cause → Type 0
+IsOther t = (name : List ℕ) → Ok (source_line name) ≡ t → ⊥
+
+none_after : {A : Type 0} (o : Result A Cause) (Next : A → Result Written Cause → Type 0) → ((a : A) → NoSource (Next a)) → NoSource (After o Next)
+none_after (Ok a) Next h name x = h a name x
+none_after (Err c) Next h name x = let e : Ok (source_line name) ≡ Err c = x in cc
+
+none_whole : (make : Disjunction → Written) (ts : List Lexeme) → ((d : Disjunction) → IsOther (Ok (make d))) → NoSource (ReadsWhole make ts)
+none_whole make ts h name x = h x.0 name (ap Ok x.2)
+
+none_condition : (make : Option Disjunction → Written) (ts : List Lexeme) → ((w : Option Disjunction) → IsOther (Ok (make w))) → NoSource (ReadsCondition make ts)
+none_condition make ts h name x = h x.0 name (ap Ok x.2)
+
+none_value : (make : Disjunction → Option Disjunction → Written) (ts : List Lexeme) → ((d : Disjunction) (w : Option Disjunction) → IsOther (Ok (make d w))) → NoSource (ReadsValue make ts)
+none_value make ts h name x = h x.0.tree x.1 name (ap Ok x.4)
+
+other_end : (s : Written) (ts : List Lexeme) → IsOther (Ok s) → IsOther (finish s ts)
+other_end s [] h name e = h name e
+other_end s (t ∷ ts) h name e = cc
+
+none_text : (make : List ℕ → Written) (ts : List Lexeme) → ((t : List ℕ) → IsOther (Ok (make t))) → NoSource (ReadsTextLine make ts)
+none_text make ts h = none_after (text_of ts) (λ t r. r ≡ finish (make t) (drop 1 ts)) (λ t. other_end (make t) (drop 1 ts) (h t))
+
+none_asked : (make : Asked Disjunction → Written) (ts : List Lexeme) → ((p : Asked Disjunction) → IsOther (Ok (make p))) → NoSource (ReadsAsked make ts)
+none_asked make ts h = none_after (text_of ts) (λ t. ReadsCondition (λ w. make (record { text = t; when = w })) (drop 1 ts)) (λ t. none_condition (λ w. make (record { text = t; when = w })) (drop 1 ts) (λ w. h (record { text = t; when = w })))
+
+none_target : (make : List ℕ → Option Disjunction → Written) (ts : List Lexeme) → ((t : List ℕ) (w : Option Disjunction) → IsOther (Ok (make t w))) → NoSource (ReadsTarget make ts)
+none_target make ts h = none_after (target_of ts) (λ t. ReadsCondition (make t) (drop 1 ts)) (λ t. none_condition (make t) (drop 1 ts) (h t))
+
+none_expected : (make : Disjunction → Written) (w : List ℕ) (ts : List Lexeme) → ((d : Disjunction) → IsOther (Ok (make d))) → NoSource (After (expected w ts) (ReadsWhole make))
+none_expected make w ts h = none_after (expected w ts) (ReadsWhole make) (λ us. none_whole make us h)
+
+none_range : (ts : List Lexeme) → NoSource (ReadsRange ts)
+none_range ts = none_after (operand_of ts) (λ a. After (operand_of (drop 1 ts)) (λ b. ReadsCondition (RangeLine a b) (drop 2 ts)))
+    (λ a. none_after (operand_of (drop 1 ts)) (λ b. ReadsCondition (RangeLine a b) (drop 2 ts)) (λ b. none_condition (RangeLine a b) (drop 2 ts) (λ w name e. cc)))
+
+other_if : (b : Bool) (x y : Result Written Cause) → IsOther x → IsOther y → IsOther (cond b x y)
+other_if true x y h i = h
+other_if false x y h i = i
+
+other_refused : (c : Cause) → IsOther (Err c)
+other_refused c name e = cc
+
+other_good : (w : List ℕ) → IsOther (good_name w)
+other_good w = other_if (is_good_name w) (Ok (ConfigLine w)) (Err (record { code = code.BadName; detail = w })) (λ name e. cc) (other_refused _)
+
+none_config : (ts : List Lexeme) → NoSource (ReadsConfig ts)
+none_config ts = none_after (word_of ts) (λ w. After (finish w (drop 1 ts)) (λ v r. r ≡ good_name v)) (λ w. none_after (finish w (drop 1 ts)) (λ v r. r ≡ good_name v) other_good)
+
+none_type : (k : Kind) (ts : List Lexeme) → NoSource (ReadsType k ts)
+none_type k ts name (inl x) = let e : Ok (source_line name) ≡ Ok (TypeLine k None) = x.1 in cc
+none_type k ts name (inr x) = none_asked (λ p. TypeLine k (Some p)) ts (λ p n e. cc) name x.1
+
+other_choice : (ts : List Lexeme) → IsOther (choice_line ts)
+other_choice [] name e = cc
+other_choice (t ∷ ts) name e = cc
+
+other_option : (ts : List Lexeme) → IsOther (option_line ts)
+other_option ts =
+    other_if (begins_with (codes "modules") ts) _ _ (other_end ModulesLine (drop 1 ts) (λ name e. cc))
+    (other_if (begins_with (codes "allnoconfig_y") ts) _ _ (other_end IgnoredLine (drop 1 ts) (λ name e. cc))
+    (other_if (begins_with (codes "env") ts) _ _ (other_refused _) (other_if (begins_with (codes "defconfig_list") ts) _ _ (other_refused _) (other_refused _))))
+
+none_rest : (w : List ℕ) (k : Keyword) (ts : List Lexeme) → is_source_key (Some k) ≡ false → NoSource (ReadsRest w k ts)
+none_rest w key.Config ts e = none_config ts
+none_rest w key.If ts e = none_whole IfLine ts (λ d name f. cc)
+none_rest w key.EndIf ts e = other_end EndIfLine ts (λ name f. cc)
+none_rest w key.Comment ts e = none_text CommentLine ts (λ t name f. cc)
+none_rest w key.Source ts e = absurd (let h : true ≡ false = e in cc)
+none_rest w key.Menu ts e = none_text MenuLine ts (λ t name f. cc)
+none_rest w key.EndMenu ts e = other_end EndMenuLine ts (λ name f. cc)
+none_rest w key.Choice ts e = other_choice ts
+none_rest w key.EndChoice ts e = other_end EndChoiceLine ts (λ name f. cc)
+none_rest w key.MainMenu ts e = none_text MainMenuLine ts (λ t name f. cc)
+none_rest w (key.Type k) ts e = none_type k ts
+none_rest w key.Prompt ts e = none_asked PromptLine ts (λ p name f. cc)
+none_rest w key.Default ts e = none_value DefaultLine ts (λ d v name f. cc)
+none_rest w (key.Def k) ts e = none_value (DefLine k) ts (λ d v name f. cc)
+none_rest w key.Depends ts e = none_expected DependsLine (codes "on") ts (λ d name f. cc)
+none_rest w key.Visible ts e = none_expected VisibleLine if_word ts (λ d name f. cc)
+none_rest w key.Select ts e = none_target SelectLine ts (λ t v name f. cc)
+none_rest w key.Imply ts e = none_target ImplyLine ts (λ t v name f. cc)
+none_rest w key.Range ts e = none_range ts
+none_rest w key.Help ts e = other_end HelpLine ts (λ name f. cc)
+none_rest w key.Modules ts e = other_end ModulesLine ts (λ name f. cc)
+none_rest w key.«Option» ts e = other_option ts
+none_rest w key.LeftOut ts e = other_refused _
+
+none_placed : (c : Context) (w : List ℕ) (ts : List Lexeme) (o : Option Keyword) → is_source_key o ≡ false → NoSource (After (known o) (ReadsPlaced c w ts))
+none_placed c w ts None e name x = let f : Ok (source_line name) ≡ Err syntax_cause = x in cc
+none_placed c w ts (Some k) e name x = by (place_cause c w ts k) x
+  where
+    by : (o : Option Cause) → After (in_place k o) (λ j. ReadsRest w j ts) (Ok (SourceLine name)) → ⊥
+    by None y = none_rest w k ts e name y
+    by (Some why) y = let f : Ok (source_line name) ≡ Err why = y in cc
+
+-- a `source` line begins with that word
+pub source_begins : (c : Context) (ts : List Lexeme) (name : List ℕ) → ReadsLine c ts (Ok (SourceLine name)) → begins_with (codes "source") ts ≡ true
+source_begins c [] name x = absurd (let e : Ok (source_line name) ≡ Err syntax_cause = x in cc)
+source_begins c (AQuoted t ∷ ts) name x = absurd (let e : Ok (source_line name) ≡ Err syntax_cause = x in cc)
+source_begins c (AnOp o ∷ ts) name x = absurd (let e : Ok (source_line name) ≡ Err syntax_cause = x in cc)
+source_begins c (AWord w ∷ ts) name x = elim (cases_Bool (same_name w (codes "source"))) [
+  | inl e ↦ e
+  | inr e ↦ absurd (none_placed c w ts (keyword_of w) (keyword_other w e) name x)
+]
+
+-- what begins with the word is read as a `source` line
+pub begins_source : (c : Context) (ts : List Lexeme) (r : Result Written Cause) → begins_with (codes "source") ts ≡ true → ReadsLine c ts r → ReadsSource (drop 1 ts) r
+begins_source c [] r b x = absurd cc
+begins_source c (AQuoted t ∷ ts) r b x = absurd cc
+begins_source c (AnOp o ∷ ts) r b x = absurd cc
+begins_source c (AWord w ∷ ts) r b x = subst (λ v. After (known (keyword_of v)) (ReadsPlaced c v ts) r) (same_name_eq w (codes "source") b) x

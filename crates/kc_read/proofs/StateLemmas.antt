@@ -1,0 +1,223 @@
+-- What is remembered, one statement after another.
+use Rattle.std.proofs.Common.{◌≡◌, ℕ, ◌+◌, Bool, true, false, cond, ◌||◌, List, [], ◌∷◌, ◌++◌, map, filter, length, Option, Some, None, option_map, Result, Err, refl, sym, ap, ◌∙◌, subst, append-nil, length-append}
+use Rattle.std.specs.List.{cons_option, flat_map, list_any}
+use Rattle.std.specs.Option.{option_or}
+use Rattle.std.proofs.Math.ListN.{length-map}
+use Rattle.std.proofs.lemmas.Grind.{flat_map-append}
+use Rattle.std.proofs.lemmas.List.Elements.{filter-append, filter_map-append}
+use Rattle.std.proofs.lemmas.List.Folds.{list_any-append}
+use Rattle.kc_expr.specs.declared.expression.SymId.{SymId}
+use Rattle.kc_expr.specs.Names.{all_mentioned, number_of, Extends}
+use Rattle.kc_expr.proofs.NamesLemmas.{extends_on, mentioned_on, mentioned_extends, all_mentioned-append}
+use Rattle.kc_read.specs.declared.frame.Frame.{Frame}
+use Rattle.kc_read.specs.declared.progress.Progress.{Progress}
+use Rattle.kc_read.specs.declared.statement.Context.{Context}
+use Rattle.kc_read.specs.declared.statement.Statement.{Statement}
+use Rattle.kc_read.specs.Blocks.{bracket, definitions, entry_of, is_attribute, is_modules, is_other, last_of, last_other, modules_after, modules_of, name_after, name_at, open_blocks}
+use Rattle.kc_read.specs.Expansion.{Around, Log, Rest, context_of, effect_cause, opener_cause, defined, inside, is_choice, lines_of, logged, opening, statements, with_line, Expands, Refused, bytes_cause, nothing_read, refused, root_around}
+use Rattle.kc_read.specs.Files.{Files}
+use Rattle.kc_read.specs.Lines.{Cause}
+use Rattle.kc_text.specs.Lines.{left}
+use Rattle.kc_read.specs.Numbering.{place_numbered}
+use Rattle.kc_read.specs.Progress.{effect_view, naming_cause, IsEntered, IsFrame, IsInside, IsNamed, IsProgress, IsState, IsTaken, IsBegun, defined_after, entry_after, ids_match, named, openers_after}
+use Rattle.kc_read.specs.Reads.{IsMade, line_view, statement_view}
+use Rattle.kc_read.specs.Statements.{Numbered, Placed, Written, statement_words}
+use Rattle.kc_read.proofs.BlockLemmas.{blocks_of_openers, openers_push}
+use Rattle.kc_read.proofs.ListLemmas.{last_of-map, last_of-push, list_any-map, map-push}
+use Rattle.kc_read.proofs.NameLemmas.{match_same, named_if, named_later, named_of, named_or}
+use Rattle.kc_read.proofs.ShapeLemmas.{effect_by, made_name, made_shape, or_none, shape}
+
+abbrev placed : Around → ℕ → Written → Placed Written
+placed a n x = record { file = a.file; line = n; statement = x }
+
+entry_push : (ss : List Written) (x : Written) → entry_after (entry_of (last_other ss)) x ≡ entry_of (last_other (ss ++ x ∷ []))
+entry_push ss x = by (is_attribute x) ∙ ap (λ l. entry_of (last_of l)) (sym (filter-append is_other ss (x ∷ [])))
+  where
+    by : (b : Bool) → cond b (entry_of (last_other ss)) (entry_of (Some x)) ≡ entry_of (last_of (filter is_other ss ++ cond (cond b false true) (x ∷ []) []))
+    by true = ap (λ l. entry_of (last_of l)) (sym (append-nil (filter is_other ss)))
+    by false = ap entry_of (sym (last_of-push (filter is_other ss) x))
+
+pub frame_push : (a : Around) (own : List (Placed Written)) (f g : Frame) (x : Written) (n : ℕ) → IsFrame a own f → g.file ≡ f.file → g.depth ≡ f.depth → g.in_choice ≡ f.in_choice → g.blocks.items ≡ openers_after (bracket x) n f.blocks.items → g.entry ≡ entry_after f.entry x → IsFrame a (with_line own a n x) g
+frame_push a own f g x n i e_file e_depth e_choice e_blocks e_entry = record {
+  file = ap (λ r. r.value.items) e_file ∙ i.file;
+  depth = e_depth ∙ i.depth;
+  in_choice = e_choice ∙ i.in_choice;
+  blocks = e_blocks ∙ ap (openers_after (bracket x) n) i.blocks ∙ sym (openers_push own (placed a n x));
+  entry =
+      e_entry ∙ ap (λ z. entry_after z x) i.entry ∙ entry_push (statements own) x
+      ∙ ap (λ l. entry_of (last_other l)) (sym (map-push (λ l. l.statement) own (placed a n x)));
+}
+
+frame_taken : (a : Around) (own : List (Placed Written)) (f g : Frame) (p q : Progress) (names : List (List ℕ)) (v : Numbered) (x : Written) (n : ℕ) → IsFrame a own f → shape v ≡ shape x → IsTaken names v n f g p q → IsFrame a (with_line own a n x) g
+frame_taken a own f g p q names v x n i e t =
+    frame_push a own f g x n i t.file t.depth t.in_choice
+    (t.blocks ∙ ap (λ b. openers_after b n f.blocks.items) (ap (λ z. z.0) e))
+    (t.entry ∙ ap (λ b. cond b f.entry (entry_of (Some v))) (ap (λ z. z.1) e) ∙ ap (λ y. cond (is_attribute x) f.entry y) (ap (λ z. z.2) e))
+
+-- the definitions, one statement later
+definitions_push : (ss : List Written) (x : Written) → definitions (ss ++ x ∷ []) ≡ definitions ss ++ cons_option (name_at x) []
+definitions_push ss x = filter_map-append name_at ss (x ∷ [])
+
+defined_push : (ss : List Written) (x : Written) → defined_after (defined ss) (name_at x) ≡ defined (ss ++ x ∷ [])
+defined_push ss x =
+    by (name_at x)
+    ∙ sym (all_mentioned-append [] (definitions ss) (cons_option (name_at x) []))
+    ∙ ap (all_mentioned []) (sym (definitions_push ss x))
+  where
+    by : (o : Option (List ℕ)) → defined_after (defined ss) o ≡ all_mentioned (defined ss) (cons_option o [])
+    by None = refl
+    by (Some n) = refl
+
+last_defined : (ds : List (List ℕ)) (o : Option (List ℕ)) → option_or o (last_of ds) ≡ last_of (ds ++ cons_option o [])
+last_defined ds None = ap last_of (sym (append-nil ds))
+last_defined ds (Some n) = sym (last_of-push ds n)
+
+last_definition_push : (ss : List Written) (x : Written) → option_or (name_at x) (last_of (definitions ss)) ≡ last_of (definitions (ss ++ x ∷ []))
+last_definition_push ss x = last_defined (definitions ss) (name_at x) ∙ ap last_of (sym (definitions_push ss x))
+
+or_assoc : {A : Type 0} (o p q : Option A) → option_or o (option_or p q) ≡ option_or (option_or o p) q
+or_assoc None p q = refl
+or_assoc (Some x) p q = refl
+
+last_first : (o now : Option (List ℕ)) (ds : List (List ℕ)) → option_or (last_of ds) (option_or o now) ≡ option_or (last_of (cons_option o ds)) now
+last_first None now ds = refl
+last_first (Some n) now [] = refl
+last_first (Some n) now (d ∷ ds) = by (last_of (d ∷ ds)) refl
+  where
+    by : (o : Option (List ℕ)) → last_of (d ∷ ds) ≡ o → option_or o (Some n) ≡ option_or o now
+    by None e = absurd (none_last d ds e)
+      where
+        none_last : (d : List ℕ) (ds : List (List ℕ)) → last_of (d ∷ ds) ≡ None → ⊥
+        none_last d [] e = cc
+        none_last d (x ∷ xs) e = none_last x xs e
+    by (Some m) e = refl
+
+modules_push : (ss : List Written) (now : Option (List ℕ)) (x : Written) → modules_after now (ss ++ x ∷ []) ≡ option_or (modules_after now ss) (cond (is_modules x) (option_or (last_of (definitions ss)) now) None)
+modules_push [] now x = or_none (cond (is_modules x) now None)
+modules_push (s ∷ ss) now x =
+    let first = cond (is_modules s) now None in
+    ap (option_or first) (modules_push ss (name_after now s) x)
+    ∙ or_assoc first (modules_after (name_after now s) ss) (cond (is_modules x) (option_or (last_of (definitions ss)) (name_after now s)) None)
+    ∙ ap (λ o. option_or (option_or first (modules_after (name_after now s) ss)) (cond (is_modules x) o None)) (last_first (name_at s) now (definitions ss))
+
+modules_of_push : (ss : List Written) (x : Written) → modules_of (ss ++ x ∷ []) ≡ option_or (modules_of ss) (cond (is_modules x) (last_of (definitions ss)) None)
+modules_of_push ss x = modules_push ss None x ∙ ap (λ o. option_or (modules_of ss) (cond (is_modules x) o None)) (or_none (last_of (definitions ss)))
+
+words_push : (ss : List Written) (x : Written) → flat_map statement_words ss ++ statement_words x ≡ flat_map statement_words (ss ++ x ∷ [])
+words_push ss x = ap (λ ws. flat_map statement_words ss ++ ws) (sym (append-nil (statement_words x))) ∙ sym (flat_map-append statement_words ss (x ∷ []))
+
+progress_taken : (first : List (List ℕ)) (modules : Option SymId) (known names : List (List ℕ)) (a : Around) (own : List (Placed Written)) (log : Log) (f g : Frame) (p q : Progress) (s : Statement) (x : Written) (n : ℕ) → IsProgress first modules known log p → IsFrame a own f → IsMade modules known names s x → IsTaken names (statement_view s) n f g p q → IsProgress first modules names (logged log a n x) q
+progress_taken first modules known names a own log f g p q s x n i fr m t =
+    let ss = statements log.lines in
+    let later_names : Extends known names = mentioned_extends known names (statement_words x) m.mentions in
+    let pushed : statements (log.lines ++ placed a n x ∷ []) ≡ ss ++ x ∷ [] = map-push (λ l. l.statement) log.lines (placed a n x) in
+    let name : IsNamed names (name_at (statement_view s)) (name_at x) = made_name modules known names s x m in
+    let is_mod : is_modules (statement_view s) ≡ is_modules x = ap (λ z. z.3) (made_shape modules known names s x m) in
+    let config_now : IsNamed names p.config (last_of (definitions ss)) = named_later known names p.config (last_of (definitions ss)) later_names i.config in
+    let modules_now : IsNamed names p.modules (modules_of ss) = named_later known names p.modules (modules_of ss) later_names i.modules_is in
+    record {
+      lines = λ later e.
+          t.lines
+          ∙ (λ j. i.lines later (extends_on known names later later_names e) j ++ record { file = fr.file j; line = n; statement = m.form later e j } ∷ [])
+          ∙ sym (map-push (place_numbered modules (number_of later)) log.lines (placed a n x));
+      mentions = mentioned_on first known names (flat_map statement_words ss) (statement_words x) i.mentions m.mentions ∙ ap (all_mentioned first) (words_push ss x ∙ ap (flat_map statement_words) (sym pushed));
+      counted = t.counted ∙ i.counted;
+      defined_is =
+          t.defined_is ∙ ap (defined_after p.defined) (named_of names (name_at (statement_view s)) (name_at x) name)
+          ∙ ap (λ ds. defined_after ds (name_at x)) i.defined_is ∙ defined_push ss x ∙ ap defined (sym pushed);
+      config =
+          subst (λ o. IsNamed names o (last_of (definitions (statements (log.lines ++ placed a n x ∷ []))))) (sym t.config)
+          (subst (IsNamed names (option_or (name_at (statement_view s)) p.config)) (last_definition_push ss x ∙ ap (λ l. last_of (definitions l)) (sym pushed))
+          (named_or names (name_at (statement_view s)) p.config (name_at x) (last_of (definitions ss)) name config_now));
+      modules_is =
+          subst (λ o. IsNamed names o (modules_of (statements (log.lines ++ placed a n x ∷ [])))) (sym (t.modules_is ∙ ap (λ b. option_or p.modules (cond b p.config None)) is_mod))
+          (subst (IsNamed names (option_or p.modules (cond (is_modules x) p.config None))) (sym (modules_of_push ss x) ∙ ap modules_of (sym pushed))
+          (named_or names p.modules (cond (is_modules x) p.config None) (modules_of ss) (cond (is_modules x) (last_of (definitions ss)) None) modules_now
+          (named_if names (is_modules x) p.config (last_of (definitions ss)) config_now)));
+    }
+
+pub state_taken : (first : List (List ℕ)) (modules : Option SymId) (known names : List (List ℕ)) (a : Around) (own : List (Placed Written)) (log : Log) (f g : Frame) (p q : Progress) (s : Statement) (x : Written) (n : ℕ) → IsState first modules known a own log p f → IsMade modules known names s x → IsTaken names (statement_view s) n f g p q → IsState first modules names a (with_line own a n x) (logged log a n x) q g
+state_taken first modules known names a own log f g p q s x n i m t = record {
+  progress = progress_taken first modules known names a own log f g p q s x n i.progress i.frame m t;
+  frame = frame_taken a own f g p q names (statement_view s) x n i.frame (made_shape modules known names s x m) t;
+  files = ap (λ fs. map (λ f. f.value.items) fs.items) t.open_files ∙ i.files;
+}
+
+-- the context of the next line
+pub context_same : (first : List (List ℕ)) (modules : Option SymId) (names : List (List ℕ)) (a : Around) (own : List (Placed Written)) (log : Log) (f : Frame) (p : Progress) (c : Context) → IsState first modules names a own log p f → c.entry ≡ f.entry → c.own ≡ option_map (λ o. o.block) (last_of f.blocks.items) → c.in_choice ≡ (f.in_choice || list_any (λ o. is_choice o.block) f.blocks.items) → c.modules ≡ ids_match p.modules p.config → c ≡ context_of a own log
+context_same first modules names a own log f p c i e_entry e_own e_choice e_modules =
+    let blocks : map (λ o. o.block) f.blocks.items ≡ open_blocks (statements own) = ap (map (λ o. o.block)) i.frame.blocks ∙ blocks_of_openers own in
+    let entry_is = e_entry ∙ i.frame.entry in
+    let own_is = e_own ∙ sym (last_of-map (λ o. o.block) f.blocks.items) ∙ ap last_of blocks in
+    let choice_is = e_choice ∙ ap (λ b. b || list_any (λ o. is_choice o.block) f.blocks.items) i.frame.in_choice ∙ ap (λ b. list_any is_choice a.blocks || b) (sym (list_any-map is_choice (λ o. o.block) f.blocks.items) ∙ ap (list_any is_choice) blocks) in
+    let modules_are = e_modules ∙ match_same names p.modules p.config (modules_of (statements log.lines)) (last_of (definitions (statements log.lines))) i.progress.modules_is i.progress.config in
+    λ j. record { entry = entry_is j; own = own_is j; in_choice = choice_is j; modules = modules_are j }
+
+-- inside a file that is sourced
+pub state_inside : (first : List (List ℕ)) (modules : Option SymId) (names : List (List ℕ)) (a : Around) (own : List (Placed Written)) (log : Log) (f g : Frame) (p q : Progress) (name bytes : List ℕ) (counted : ℕ) → IsState first modules names a own log p f → IsInside f name g → IsEntered name counted p q → counted ≡ p.counted + lines_of bytes → IsState first modules names (inside a own name) [] (opening log bytes) q g
+state_inside first modules names a own log f g p q name bytes counted i n t c =
+    let blocks : map (λ o. o.block) f.blocks.items ≡ open_blocks (statements own) = ap (map (λ o. o.block)) i.frame.blocks ∙ blocks_of_openers own in
+    let mapped : length (map (λ o. o.block) f.blocks.items) ≡ length f.blocks.items = simp length-map in
+    let many : length f.blocks.items ≡ length (open_blocks (statements own)) = sym mapped ∙ ap length blocks in
+    let fr = t.open_files.0 in
+    record {
+      progress = record {
+        lines = λ later e. ap (λ ls. map line_view ls.items) t.lines ∙ i.progress.lines later e;
+        mentions = i.progress.mentions;
+        counted = t.counted_is ∙ c ∙ ap (λ k. k + lines_of bytes) i.progress.counted;
+        defined_is = t.defined_is ∙ i.progress.defined_is;
+        config = subst (λ o. IsNamed names o (last_of (definitions (statements log.lines)))) (sym t.config) i.progress.config;
+        modules_is = subst (λ o. IsNamed names o (modules_of (statements log.lines))) (sym t.modules_is) i.progress.modules_is;
+      };
+      frame = record {
+        file = n.file;
+        depth = n.depth ∙ ap (λ k. k + length f.blocks.items) i.frame.depth ∙ ap (λ k. length a.blocks + k) many ∙ sym (length-append a.blocks (open_blocks (statements own)));
+        in_choice =
+            n.in_choice ∙ ap (λ b. b || list_any (λ o. is_choice o.block) f.blocks.items) i.frame.in_choice
+            ∙ ap (λ b. list_any is_choice a.blocks || b) (sym (list_any-map is_choice (λ o. o.block) f.blocks.items) ∙ ap (list_any is_choice) blocks)
+            ∙ sym (list_any-append is_choice a.blocks (open_blocks (statements own)));
+        blocks = n.blocks;
+        entry = n.entry;
+      };
+      files =
+          ap (map (λ f. f.value.items)) t.open_files.2 ∙ map-push (λ f. f.value.items) p.open_files.items fr
+          ∙ ap (λ ns. ns ++ fr.value.items ∷ []) i.files ∙ ap (λ w. a.open_files ++ w ∷ []) t.open_files.1;
+    }
+
+-- what a statement may not do
+pub effect_same : (first : List (List ℕ)) (modules : Option SymId) (known names : List (List ℕ)) (a : Around) (own : List (Placed Written)) (log : Log) (f : Frame) (p : Progress) (s : Statement) (x : Written) → IsState first modules known a own log p f → IsMade modules known names s x → effect_view names (statement_view s) f p ≡ effect_cause a own log x
+effect_same first modules known names a own log f p s x i m =
+    let blocks : map (λ o. o.block) f.blocks.items ≡ open_blocks (statements own) = ap (map (λ o. o.block)) i.frame.blocks ∙ blocks_of_openers own in
+    let mapped : length (map (λ o. o.block) f.blocks.items) ≡ length f.blocks.items = simp length-map in
+    let many : length f.blocks.items ≡ length (open_blocks (statements own)) = sym mapped ∙ ap length blocks in
+    let name : named names (statement_view s) ≡ name_at x = named_of names (name_at (statement_view s)) (name_at x) (made_name modules known names s x m) in
+    let depth : f.depth + length f.blocks.items ≡ length a.blocks + length (open_blocks (statements own)) = ap (λ k. k + length f.blocks.items) i.frame.depth ∙ ap (λ k. length a.blocks + k) many in
+    (λ j. option_or (naming_cause (i.progress.defined_is j) (name j)) (opener_cause (depth j) (ap (λ z. z.0) (made_shape modules known names s x m) j)))
+    ∙ effect_by a own log x
+
+-- as the root file is opened
+pub state_begun : (modules : Option SymId) (names : List (List ℕ)) (root bytes : List ℕ) (counted : ℕ) (f : Frame) (p : Progress) → IsBegun root counted f p → counted ≡ 0 + lines_of bytes → IsState names modules names (root_around root) [] (opening nothing_read bytes) p f
+state_begun modules names root bytes counted f p b c = record {
+  progress = record {
+    lines = λ later e. ap (map line_view) b.lines;
+    mentions = refl;
+    counted = b.counted_is ∙ c;
+    defined_is = b.defined_is;
+    config = subst (λ o. IsNamed names o None) (sym b.config) tt;
+    modules_is = subst (λ o. IsNamed names o None) (sym b.modules_is) tt;
+  };
+  frame = record {
+    file = b.file;
+    depth = b.depth;
+    in_choice = b.in_choice;
+    blocks = b.blocks;
+    entry = b.entry;
+  };
+  files = b.open_files;
+}
+
+pub expands_read : (files : Files) (root bytes : List ℕ) (r : Result Log Refused) → bytes_cause root 0 (files root) ≡ None → files root ≡ Some bytes → Rest files (root_around root) (left bytes 1) [] (opening nothing_read bytes) r → Expands files root r
+expands_read files root bytes r allowed found rest = rw allowed (bytes, found, rest)
+
+pub expands_refused : (files : Files) (root : List ℕ) (why : Cause) (e : Refused) → bytes_cause root 0 (files root) ≡ Some why → e ≡ refused why root 0 → Expands files root (Err e)
+expands_refused files root why e bad is = rw bad (ap Err is)

@@ -1,0 +1,31 @@
+use Rattle.std.proofs.Common.{◌≡◌, ◌+◌, ◌-◌, ◌*◌, List, [], None, length}
+use Rattle.std.proofs.Common.{ℕ}
+use Rattle.kc_text.specs.Lines.{left}
+use Rattle.kc_read.specs.Expansion.{Around, Log}
+use Rattle.kc_read.specs.Files.{bytes_in}
+use Rattle.kc_read.specs.Progress.{GoesOn, IsBounded, IsShallow, IsState}
+use Rattle.kc_read.proofs.files.+files.Given as goal
+
+abbrev pub decreases-read_file : goal.decreases-read_file
+decreases-read_file l = 4 * (64 - length l.progress.now.open_files.items) + 3
+
+abbrev pub decreases-read_next : goal.decreases-read_next
+decreases-read_next l = 4 * (64 - length l.progress.now.open_files.items) + 2
+
+abbrev pub decreases-read_statement : goal.decreases-read_statement
+decreases-read_statement l = 4 * (64 - length l.progress.now.open_files.items) + 1
+
+abbrev pub decreases-source : goal.decreases-source
+decreases-source l = 4 * (64 - length l.progress.now.open_files.items)
+
+abbrev pub invariant-read_file-loop-frame : goal.invariant-read_file-loop-frame
+invariant-read_file-loop-frame l = record {
+  read : (first : List (List ℕ)) (a : Around) (log : Log) → IsState first l.reader.modules l.fn.names a [] log l.fn.progress l.fn.frame → GoesOn (bytes_in l.reader.map.now) first l.reader.modules l.names a (left l.bytes 1) l.lines [] log l.progress l.frame;
+  clear : l.lines.refusal ≡ None;
+  shallow : IsShallow l.frame;
+  bounded : IsBounded l.progress;
+  same_open : l.progress.open_files.items ≡ l.fn.progress.open_files.items;
+}
+
+abbrev pub decreases-read_file-loop-frame : goal.decreases-read_file-loop-frame
+decreases-read_file-loop-frame l = length l.lines.lines

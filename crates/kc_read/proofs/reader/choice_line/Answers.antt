@@ -1,0 +1,6 @@
+use Rattle.std.proofs.Common.{refl}
+use Rattle.kc_read.specs.Statements.{ChoiceLine}
+use Rattle.kc_read.proofs.reader.choice_line.Goals as goal
+
+pub returns-in-None : goal.returns-in-None
+returns-in-None c = λ modules names. (ChoiceLine, rw c.in-None.ensures refl, record { mentions = refl; form = λ later x. refl })

@@ -1,0 +1,35 @@
+use Rattle.kc_expr.specs.Grammar.{atom_words}
+use Rattle.std.proofs.Common.{◌++◌}
+use Rattle.kc_read.specs.Statements.{condition_words}
+use Rattle.kc_expr.specs.Grammar.{lexemes_from}
+use Rattle.kc_expr.proofs.NamesLemmas.{extends_on, mentioned_on}
+use Rattle.kc_read.specs.Statements.{RangeLine}
+use Rattle.kc_read.specs.Lines.{ReadsRange}
+use Rattle.kc_read.proofs.FrontLemmas.{after_one, after_two}
+use Rattle.kc_read.proofs.PartLemmas.{read_passed, range_ok, range_fault}
+use Rattle.kc_read.proofs.reader.range_line.Goals as goal
+
+pub returns-clause-read : goal.returns-clause-read
+returns-clause-read c =
+    let ts = c.args.tokens.now in
+    let a = c.in_ok-low.ensures.operand in
+    let b = c.in_ok-high.ensures.operand in
+    let w = c.in_ok-when.ensures.condition in
+    let mid = extends_on c.operand_at-2.new.names c.condition.new.names in (
+      RangeLine a.atom b.atom w.tree,
+      range_ok (lexemes_from ts 1) (lexemes_from ts 2) (lexemes_from ts 3) a.atom b.atom w.tree a.part_is (after_one ts 1) b.part_is (after_two ts 1) w.condition_is,
+      record {
+        mentions =
+            mentioned_on c.args.names.now c.operand_at.new.names c.condition.new.names (atom_words a.atom) (atom_words b.atom ++ condition_words w.tree) a.mentions
+            (mentioned_on c.operand_at.new.names c.operand_at-2.new.names c.condition.new.names (atom_words b.atom) (condition_words w.tree) b.mentions w.mentions);
+        form = λ later x. λ i. RangeLine (a.form later (extends_on c.operand_at.new.names c.operand_at-2.new.names later c.in_ok-high.ensures.names (mid later c.in_ok-when.ensures.names x)) i) (b.form later (mid later c.in_ok-when.ensures.names x) i) (w.form later x i);
+      },
+    )
+
+pub returns-in_err-when-clause-read : goal.returns-in_err-when-clause-read
+returns-in_err-when-clause-read c =
+    let ts = c.args.tokens.now in
+    let a = c.in_ok-low.ensures.operand in
+    let b = c.in_ok-high.ensures.operand in
+    read_passed c.args.modules c.args.names.now c.condition.new.names (ReadsRange (lexemes_from ts 1)) c.from_residual-in_err-when.result c.in_err-when.field-0.0 c.from_residual-in_err-when.ensures.1
+    (range_fault (lexemes_from ts 1) (lexemes_from ts 2) (lexemes_from ts 3) a.atom b.atom c.in_err-when.field-0.0 a.part_is (after_one ts 1) b.part_is (after_two ts 1) c.in_err-when.ensures.fault)

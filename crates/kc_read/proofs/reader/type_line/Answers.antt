@@ -1,0 +1,13 @@
+use Rattle.std.proofs.Common.{refl, inl}
+use Rattle.kc_expr.specs.Grammar.{lexemes_from}
+use Rattle.kc_read.specs.Statements.{TypeLine}
+use Rattle.std.proofs.Common.{None}
+use Rattle.kc_read.proofs.PartLemmas.{typed_read}
+use Rattle.kc_read.proofs.reader.type_line.Goals as goal
+
+pub returns-in-None-clause-read : goal.returns-in-None-clause-read
+returns-in-None-clause-read c = (TypeLine c.args.kind None, inl (c.in-None.ensures, refl), record { mentions = refl; form = λ later x. refl })
+
+pub returns-in-Some-clause-read : goal.returns-in-Some-clause-read
+returns-in-Some-clause-read c =
+    typed_read c.args.modules c.args.names.now c.asked_type.new.names c.args.kind (lexemes_from c.args.tokens.now 1) c.asked_type.result (_, _, c.in-Some.ensures.1) c.asked_type.ensures.read

@@ -1,0 +1,17 @@
+use Rattle.kc_text.specs.Lines.{left}
+use Rattle.std.proofs.Common.{map, sym, subst}
+use Rattle.kc_read.proofs.SourceLemmas.{Follows, follows_name, follows_other}
+use Rattle.kc_read.proofs.sources.sources_of.Goals as goal
+
+pub along-preserved-in-Other : goal.along-preserved-in-Other
+along-preserved-in-Other c = record {
+  clear = (rw c.in-Other.is at c.in_ok-next_source.ensures.clear) tt;
+  follows = follows_other (left c.args.file.now 1) c.along.lines c.next_source.new.lines (map (λ n. n.items) c.along.names.items) c.along.invariant.follows (rw c.in-Other.is at c.in_ok-next_source.ensures.found);
+}
+
+pub along-preserved : goal.along-preserved
+along-preserved c = record {
+  clear = (rw c.in-Name.is at c.in_ok-next_source.ensures.clear) tt;
+  follows = subst (λ ns. Follows (left c.args.file.now 1) c.next_source.new.lines (map (λ n. n.items) ns)) (sym c.in_ok-push-in-Name.ensures.items)
+      (follows_name (left c.args.file.now 1) c.along.lines c.next_source.new.lines c.in-Name.name c.along.names.items c.along.invariant.follows (rw c.in-Name.is at c.in_ok-next_source.ensures.found));
+}

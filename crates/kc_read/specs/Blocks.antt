@@ -1,0 +1,143 @@
+-- Blocks and entries, by counting brackets on a list of statements.
+use Rattle.std.specs.Prelude.{ℕ, zero, suc, ◌-◌, List, [], ◌∷◌, ◌++◌, length, take, drop, filter, Bool, true, false, ◌&&◌, Option, Some, None, slice_get, is_some, if◌then◌else◌}
+use Rattle.std.specs.List.{take_while, filter_map}
+use Rattle.std.specs.Option.{option_or}
+use Rattle.kc_read.specs.declared.statement.Block.{Block}
+use Rattle.kc_read.specs.declared.statement.Block.TheVariants as block
+use Rattle.kc_read.specs.declared.statement.Entry.{Entry}
+use Rattle.kc_read.specs.declared.statement.Entry.TheVariants as entry
+use Rattle.kc_read.specs.Statements.{Statement, ConfigLine, IfLine, EndIfLine, CommentLine, MenuLine, EndMenuLine, ChoiceLine, EndChoiceLine, TypeLine, PromptLine, DefaultLine, DefLine, DependsLine, VisibleLine, SelectLine, ImplyLine, RangeLine, HelpLine, ModulesLine, IgnoredLine}
+
+pub data Bracket : Type 0 where
+  Opens : Block → Bracket
+  Closes : Bracket
+  NoBracket : Bracket
+
+-- the numbers below n
+abbrev pub numbers : ℕ → List ℕ
+numbers zero = []
+numbers (suc n) = numbers n ++ n ∷ []
+
+-- the last element
+abbrev pub last_of : {A : Type 0} → List A → Option A
+last_of [] = None
+last_of (x ∷ []) = Some x
+last_of (x ∷ y ∷ xs) = last_of (y ∷ xs)
+
+-- how many brackets are open after one more
+abbrev pub depth_after : ℕ → Bracket → ℕ
+depth_after d (Opens b) = suc d
+depth_after d Closes = d - 1
+depth_after d NoBracket = d
+
+-- it closes what was opened before the count began
+abbrev pub closes_outer : ℕ → Bracket → Bool
+closes_outer zero Closes = true
+closes_outer zero (Opens b) = false
+closes_outer zero NoBracket = false
+closes_outer (suc d) b = false
+
+abbrev pub is_closer : Bracket → Bool
+is_closer (Opens b) = false
+is_closer Closes = true
+is_closer NoBracket = false
+
+abbrev pub opened : Bracket → Option Block
+opened (Opens b) = Some b
+opened Closes = None
+opened NoBracket = None
+
+module _ {E L S : Type 0} where
+  abbrev pub bracket : Statement E L S → Bracket
+  bracket (IfLine e) = Opens block.If
+  bracket (MenuLine t) = Opens block.Menu
+  bracket ChoiceLine = Opens block.Choice
+  bracket EndIfLine = Closes
+  bracket EndMenuLine = Closes
+  bracket EndChoiceLine = Closes
+  bracket _ = NoBracket
+
+  -- the line belongs to the entry before it
+  abbrev pub is_attribute : Statement E L S → Bool
+  is_attribute (TypeLine k p) = true
+  is_attribute (PromptLine p) = true
+  is_attribute (DefaultLine v w) = true
+  is_attribute (DefLine k v w) = true
+  is_attribute (DependsLine e) = true
+  is_attribute (VisibleLine e) = true
+  is_attribute (SelectLine n w) = true
+  is_attribute (ImplyLine n w) = true
+  is_attribute (RangeLine a b w) = true
+  is_attribute HelpLine = true
+  is_attribute ModulesLine = true
+  is_attribute IgnoredLine = true
+  is_attribute _ = false
+
+  abbrev pub is_other : Statement E L S → Bool
+  is_other s = if is_attribute s then false else true
+
+  -- a block that was open stays open through these statements, with d brackets open in it
+  abbrev pub stays_open : ℕ → List (Statement E L S) → Bool
+  stays_open d [] = true
+  stays_open d (s ∷ ss) = if closes_outer d (bracket s) then false else stays_open (depth_after d (bracket s)) ss
+
+  abbrev pub bracket_of : Option (Statement E L S) → Bracket
+  bracket_of None = NoBracket
+  bracket_of (Some s) = bracket s
+
+  abbrev pub bracket_at : List (Statement E L S) → ℕ → Bracket
+  bracket_at ss j = bracket_of (slice_get ss j)
+
+  -- statement j opens a block, and its closer does not stand among those after it
+  abbrev pub is_open : List (Statement E L S) → ℕ → Bool
+  is_open ss j = is_some (opened (bracket_at ss j)) && stays_open 0 (drop (suc j) ss)
+
+  -- the places of the openers whose blocks are open after these statements, the outermost first
+  abbrev pub open_places : List (Statement E L S) → List ℕ
+  open_places ss = filter (is_open ss) (numbers (length ss))
+
+  abbrev pub open_blocks : List (Statement E L S) → List Block
+  open_blocks ss = filter_map (λ j. opened (bracket_at ss j)) (open_places ss)
+
+  -- the places of the openers of the blocks round statement i
+  abbrev pub enclosing : List (Statement E L S) → ℕ → List ℕ
+  enclosing ss i = open_places (take i ss)
+
+  -- the attributes of the entry at a place
+  abbrev pub attributes : List (Statement E L S) → ℕ → List (Statement E L S)
+  attributes ss j = take_while is_attribute (drop (suc j) ss)
+
+  -- the last statement that is no attribute
+  abbrev pub last_other : List (Statement E L S) → Option (Statement E L S)
+  last_other ss = last_of (filter is_other ss)
+
+  abbrev pub entry_of : Option (Statement E L S) → Entry
+  entry_of (Some (ConfigLine n)) = entry.Config
+  entry_of (Some ChoiceLine) = entry.Choice
+  entry_of (Some (MenuLine t)) = entry.Menu
+  entry_of (Some (CommentLine t)) = entry.Comment
+  entry_of _ = entry.Nothing
+
+  abbrev pub name_at : Statement E L S → Option S
+  name_at (ConfigLine n) = Some n
+  name_at _ = None
+
+  -- the names that are defined, each as often as it is
+  abbrev pub definitions : List (Statement E L S) → List S
+  definitions = filter_map name_at
+
+  -- the last defined name after one more statement
+  abbrev pub name_after : Option S → Statement E L S → Option S
+  name_after now s = option_or (name_at s) now
+
+  abbrev pub is_modules : Statement E L S → Bool
+  is_modules ModulesLine = true
+  is_modules _ = false
+
+  -- the name in whose entry the first `modules` line stands, where `now` is the last defined name before these statements
+  abbrev pub modules_after : Option S → List (Statement E L S) → Option S
+  modules_after now [] = None
+  modules_after now (s ∷ ss) = option_or (if is_modules s then now else None) (modules_after (name_after now s) ss)
+
+  abbrev pub modules_of : List (Statement E L S) → Option S
+  modules_of = modules_after None

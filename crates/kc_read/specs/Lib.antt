@@ -1,0 +1,11 @@
+pub mod Blocks
+pub mod Expansion
+pub mod Files
+pub mod Lines
+pub mod Openings
+pub mod Statements
+pub mod Reads
+pub mod Steps
+pub mod Numbering
+pub mod Progress
+pub mod Sources

@@ -1,0 +1,382 @@
+-- How a line of tokens is read.
+use Rattle.std.specs.Prelude.{◌≡◌, ℕ, ◌≤◌, ◌⊎◌, List, [], ◌∷◌, length, Bool, true, false, not, ◌||◌, ◌&&◌, ◌==◌, nat_le, codes, Option, Some, None, Result, Ok, Err, if◌then◌else◌, MatchResult, drop}
+use Rattle.std.specs.List.{list_any, list_all}
+use Rattle.std.specs.Char.{is_ascii_alphanumeric}
+use Rattle.kc_text.specs.Lexemes.{Lexeme, AWord, AQuoted, AnOp}
+use Rattle.kc_text.specs.Escapes.{unescape}
+use Rattle.kc_expr.specs.declared.expression.Kind.{Kind}
+use Rattle.kc_expr.specs.declared.expression.Kind.TheVariants as kind
+use Rattle.kc_expr.specs.Grammar.{Disjunction, Atom, WordAtom, QuotedAtom, spell_or, levels_or, terminals, LongestFront, if_word, is_letter}
+use Rattle.kc_expr.specs.Names.{same_name}
+use Rattle.kc_expr.specs.Parsing.{IsNoExpression, IsTooDeep}
+use Rattle.kc_expr.specs.declared.parse.ExprFault.{ExprFault}
+use Rattle.kc_expr.specs.declared.parse.ExprFault.TheVariants as expr
+use Rattle.kc_read.specs.declared.refusal.Code.{Code}
+use Rattle.kc_read.specs.declared.refusal.Code.TheVariants as code
+use Rattle.kc_read.specs.declared.statement.Keyword.{Keyword}
+use Rattle.kc_read.specs.declared.statement.Keyword.TheVariants as key
+use Rattle.kc_read.specs.declared.statement.Block.{Block}
+use Rattle.kc_read.specs.declared.statement.Block.TheVariants as block
+use Rattle.kc_read.specs.declared.statement.Entry.{Entry}
+use Rattle.kc_read.specs.declared.statement.Entry.TheVariants as entry
+use Rattle.kc_read.specs.declared.statement.Context.{Context}
+use Rattle.kc_read.specs.Statements.{Written, Asked, ConfigLine, IfLine, EndIfLine, CommentLine, SourceLine, MenuLine, EndMenuLine, ChoiceLine, EndChoiceLine, MainMenuLine, TypeLine, PromptLine, DefaultLine, DefLine, DependsLine, VisibleLine, SelectLine, ImplyLine, RangeLine, HelpLine, ModulesLine, IgnoredLine}
+
+-- why a line is refused
+pub record Cause : Type 0 where
+  pub code : Code
+  pub detail : List ℕ
+
+abbrev pub cause : Code → Cause
+cause c = record { code = c; detail = [] }
+
+abbrev pub syntax_cause : Cause
+syntax_cause = cause code.Syntax
+
+abbrev pub misplaced_cause : Cause
+misplaced_cause = cause code.Misplaced
+
+abbrev pub left_out : List ℕ → Cause
+left_out w = record { code = code.LeftOut; detail = w }
+
+-- the words that begin a line
+abbrev pub block_word : List ℕ → Option Keyword
+block_word w =
+    if same_name w (codes "config") then Some key.Config
+    else if same_name w (codes "menuconfig") then Some key.Config
+    else if same_name w (codes "if") then Some key.If
+    else if same_name w (codes "endif") then Some key.EndIf
+    else if same_name w (codes "comment") then Some key.Comment
+    else if same_name w (codes "source") then Some key.Source
+    else if same_name w (codes "menu") then Some key.Menu
+    else if same_name w (codes "endmenu") then Some key.EndMenu
+    else if same_name w (codes "choice") then Some key.Choice
+    else if same_name w (codes "endchoice") then Some key.EndChoice
+    else if same_name w (codes "mainmenu") then Some key.MainMenu
+    else None
+
+abbrev pub type_word : List ℕ → Option Keyword
+type_word w =
+    if same_name w (codes "bool") then Some (key.Type kind.Bool)
+    else if same_name w (codes "tristate") then Some (key.Type kind.Tristate)
+    else if same_name w (codes "string") then Some (key.Type kind.Str)
+    else if same_name w (codes "int") then Some (key.Type kind.Int)
+    else if same_name w (codes "hex") then Some (key.Type kind.Hex)
+    else if same_name w (codes "def_bool") then Some (key.Def kind.Bool)
+    else if same_name w (codes "def_tristate") then Some (key.Def kind.Tristate)
+    else None
+
+abbrev pub attribute_word : List ℕ → Option Keyword
+attribute_word w =
+    if same_name w (codes "prompt") then Some key.Prompt
+    else if same_name w (codes "default") then Some key.Default
+    else if same_name w (codes "depends") then Some key.Depends
+    else if same_name w (codes "visible") then Some key.Visible
+    else if same_name w (codes "select") then Some key.Select
+    else if same_name w (codes "imply") then Some key.Imply
+    else if same_name w (codes "range") then Some key.Range
+    else if same_name w (codes "help") then Some key.Help
+    else if same_name w (codes "---help---") then Some key.Help
+    else if same_name w (codes "modules") then Some key.Modules
+    else if same_name w (codes "option") then Some key.«Option»
+    else None
+
+abbrev pub left_out_word : List ℕ → Option Keyword
+left_out_word w =
+    if same_name w (codes "rsource") then Some key.LeftOut
+    else if same_name w (codes "osource") then Some key.LeftOut
+    else if same_name w (codes "orsource") then Some key.LeftOut
+    else if same_name w (codes "boolean") then Some key.LeftOut
+    else if same_name w (codes "def_int") then Some key.LeftOut
+    else if same_name w (codes "def_hex") then Some key.LeftOut
+    else if same_name w (codes "def_string") then Some key.LeftOut
+    else if same_name w (codes "transitional") then Some key.LeftOut
+    else if same_name w (codes "optional") then Some key.LeftOut
+    else None
+
+abbrev pub first_some : Option Keyword → Option Keyword → Option Keyword
+first_some None o = o
+first_some (Some k) o = Some k
+
+abbrev pub keyword_of : List ℕ → Option Keyword
+keyword_of w = first_some (block_word w) (first_some (type_word w) (first_some (attribute_word w) (left_out_word w)))
+
+-- Whether the line stands in a right place.
+abbrev pub closes : Block → Option Block → Option Cause
+closes block.If (Some block.If) = None
+closes block.Menu (Some block.Menu) = None
+closes block.Choice (Some block.Choice) = None
+closes b _ = Some (cause code.Block)
+
+abbrev pub unless_placed : Bool → Option Cause
+unless_placed true = None
+unless_placed false = Some misplaced_cause
+
+abbrev pub is_config : Entry → Bool
+is_config entry.Config = true
+is_config entry.Choice = false
+is_config entry.Menu = false
+is_config entry.Comment = false
+is_config entry.Nothing = false
+
+abbrev pub is_choice : Entry → Bool
+is_choice entry.Config = false
+is_choice entry.Choice = true
+is_choice entry.Menu = false
+is_choice entry.Comment = false
+is_choice entry.Nothing = false
+
+abbrev pub is_menu : Entry → Bool
+is_menu entry.Config = false
+is_menu entry.Choice = false
+is_menu entry.Menu = true
+is_menu entry.Comment = false
+is_menu entry.Nothing = false
+
+abbrev pub is_entry : Entry → Bool
+is_entry entry.Config = true
+is_entry entry.Choice = true
+is_entry entry.Menu = true
+is_entry entry.Comment = true
+is_entry entry.Nothing = false
+
+abbrev pub type_place : Entry → Kind → Option Cause
+type_place entry.Config k = None
+type_place entry.Choice kind.Bool = None
+type_place entry.Choice kind.Tristate = Some (left_out (codes "tristate choice"))
+type_place e k = Some misplaced_cause
+
+-- the next token is this word
+abbrev pub begins_with : List ℕ → List Lexeme → Bool
+begins_with w [] = false
+begins_with w (AWord v ∷ ts) = same_name v w
+begins_with w (AQuoted t ∷ ts) = false
+begins_with w (AnOp o ∷ ts) = false
+
+-- what is wrong with the first word, or with the place of the line, where something is
+abbrev pub place_cause : Context → List ℕ → List Lexeme → Keyword → Option Cause
+place_cause c w ts key.Config = None
+place_cause c w ts key.If = None
+place_cause c w ts key.EndIf = closes block.If c.own
+place_cause c w ts key.Comment = None
+place_cause c w ts key.Source = None
+place_cause c w ts key.Menu = unless_placed (not c.in_choice)
+place_cause c w ts key.EndMenu = closes block.Menu c.own
+place_cause c w ts key.Choice = unless_placed (not c.in_choice)
+place_cause c w ts key.EndChoice = closes block.Choice c.own
+place_cause c w ts key.MainMenu = unless_placed (not c.in_choice)
+place_cause c w ts (key.Type k) = type_place c.entry k
+place_cause c w ts key.Prompt = unless_placed (is_config c.entry || is_choice c.entry)
+place_cause c w ts key.Default = unless_placed (is_config c.entry || is_choice c.entry)
+place_cause c w ts (key.Def k) = unless_placed (is_config c.entry)
+place_cause c w ts key.Depends = unless_placed (is_entry c.entry)
+place_cause c w ts key.Visible = unless_placed (is_menu c.entry)
+place_cause c w ts key.Select = unless_placed (is_config c.entry)
+place_cause c w ts key.Imply = unless_placed (is_config c.entry)
+place_cause c w ts key.Range = unless_placed (is_config c.entry)
+place_cause c w ts key.Help = unless_placed (is_config c.entry || is_choice c.entry)
+place_cause c w ts key.Modules = unless_placed (is_config c.entry && c.modules)
+place_cause c w ts key.«Option» = if begins_with (codes "modules") ts then unless_placed (is_config c.entry && c.modules) else unless_placed (is_config c.entry)
+place_cause c w ts key.LeftOut = Some (left_out w)
+
+-- Parts of a line.
+
+-- an expression, and the tokens after it
+pub record Front : Type 0 where
+  pub tree : Disjunction
+  pub rest : List Lexeme
+
+-- the longest front that begins some expression is this expression
+pub record StartsExpression (ts : List Lexeme) (f : Front) : Type 0 where
+  pub used : ℕ
+  pub rest_is : f.rest ≡ drop used ts
+  pub longest : LongestFront (terminals ts) (spell_or f.tree) (terminals f.rest)
+  pub within : levels_or f.tree ≤ 64
+
+-- it is none, or opens a 65th level
+abbrev pub ExpressionFault : List Lexeme → Cause → Type 0
+ExpressionFault ts c = (IsNoExpression (terminals ts) × (c ≡ syntax_cause)) ⊎ (IsTooDeep (terminals ts) × (c ≡ cause code.TooDeep))
+
+-- the code of an expression's fault
+abbrev pub code_of : ExprFault → Code
+code_of expr.Syntax = code.Syntax
+code_of expr.TooDeep = code.TooDeep
+code_of expr.Memory = code.Memory
+
+-- something is left of the line
+abbrev pub IsMore : List Lexeme → Type 0
+IsMore ts = (t : Lexeme) × (us : List Lexeme) × (ts ≡ t ∷ us)
+
+-- the line ends after a part
+abbrev pub finish : {A : Type 0} → A → List Lexeme → Result A Cause
+finish a [] = Ok a
+finish a (t ∷ ts) = Err syntax_cause
+
+abbrev pub front : Disjunction → List Lexeme → Front
+front d rest = record { tree = d; rest = rest }
+
+-- an expression up to the end of the line
+abbrev pub IsWhole : List Lexeme → Disjunction → Type 0
+IsWhole ts d = StartsExpression ts (front d [])
+
+abbrev pub WholeFault : List Lexeme → Cause → Type 0
+WholeFault ts c = ExpressionFault ts c ⊎ ((f : Front) × StartsExpression ts f × IsMore f.rest × (c ≡ syntax_cause))
+
+abbrev pub ReadsWhole : (Disjunction → Written) → List Lexeme → Result Written Cause → Type 0
+ReadsWhole make ts (Ok x) = (d : Disjunction) × IsWhole ts d × (x ≡ make d)
+ReadsWhole make ts (Err c) = WholeFault ts c
+
+-- nothing, or `if` and an expression, up to the end of the line
+abbrev pub IsCondition : List Lexeme → Option Disjunction → Type 0
+IsCondition ts None = ts ≡ []
+IsCondition ts (Some d) = (begins_with if_word ts ≡ true) × IsWhole (drop 1 ts) d
+
+abbrev pub ConditionFault : List Lexeme → Cause → Type 0
+ConditionFault ts c =
+    ((begins_with if_word ts ≡ true) × WholeFault (drop 1 ts) c)
+    ⊎ (IsMore ts × (begins_with if_word ts ≡ false) × (c ≡ syntax_cause))
+
+abbrev pub ReadsCondition : (Option Disjunction → Written) → List Lexeme → Result Written Cause → Type 0
+ReadsCondition make ts (Ok x) = (w : Option Disjunction) × IsCondition ts w × (x ≡ make w)
+ReadsCondition make ts (Err c) = ConditionFault ts c
+
+-- a text: a quoted text or a word other than `if`
+abbrev pub text_of : List Lexeme → Result (List ℕ) Cause
+text_of [] = Err syntax_cause
+text_of (AWord w ∷ ts) = if same_name w if_word then Err syntax_cause else Ok w
+text_of (AQuoted t ∷ ts) = Ok (unescape t)
+text_of (AnOp o ∷ ts) = Err syntax_cause
+
+-- a word
+abbrev pub word_of : List Lexeme → Result (List ℕ) Cause
+word_of [] = Err syntax_cause
+word_of (AWord w ∷ ts) = Ok w
+word_of (AQuoted t ∷ ts) = Err syntax_cause
+word_of (AnOp o ∷ ts) = Err syntax_cause
+
+-- the name that a select or an imply names
+abbrev pub target_of : List Lexeme → Result (List ℕ) Cause
+target_of [] = Err syntax_cause
+target_of (AWord w ∷ ts) = if same_name w if_word || is_letter w then Err syntax_cause else Ok w
+target_of (AQuoted t ∷ ts) = Err syntax_cause
+target_of (AnOp o ∷ ts) = Err syntax_cause
+
+-- an operand
+abbrev pub operand_of : List Lexeme → Result Atom Cause
+operand_of [] = Err syntax_cause
+operand_of (AWord w ∷ ts) = if same_name w if_word then Err syntax_cause else Ok (WordAtom w)
+operand_of (AQuoted t ∷ ts) = Ok (QuotedAtom t)
+operand_of (AnOp o ∷ ts) = Err syntax_cause
+
+-- a part that is one token, and then what follows it
+abbrev pub After : {A B : Type 0} → Result A Cause → (A → Result B Cause → Type 0) → Result B Cause → Type 0
+After o Next r = MatchResult o (λ a. Next a r) (λ c. r ≡ Err c)
+
+abbrev pub ReadsTextLine : (List ℕ → Written) → List Lexeme → Result Written Cause → Type 0
+ReadsTextLine make ts = After (text_of ts) (λ t r. r ≡ finish (make t) (drop 1 ts))
+
+-- `*`, `?` or `[` stands in the text
+abbrev pub is_pattern : List ℕ → Bool
+is_pattern t = list_any (λ b. b == 42 || b == 63 || b == 91) t
+
+abbrev pub plain_text : List ℕ → Result (List ℕ) Cause
+plain_text t = if is_pattern t then Err (left_out (codes "pattern")) else Ok t
+
+abbrev pub ReadsSource : List Lexeme → Result Written Cause → Type 0
+ReadsSource ts = After (text_of ts) (λ t. After (plain_text t) (λ u r. r ≡ finish (SourceLine u) (drop 1 ts)))
+
+-- 1 to 255 bytes of `A` to `Z`, `a` to `z`, `0` to `9` and `_`, and none of the words n, m, y and if
+abbrev pub is_name_byte : ℕ → Bool
+is_name_byte b = is_ascii_alphanumeric b || b == 95
+
+abbrev pub is_good_name : List ℕ → Bool
+is_good_name w = if same_name w if_word || is_letter w then false else (nat_le 1 (length w) && nat_le (length w) 255 && list_all is_name_byte w)
+
+abbrev pub good_name : List ℕ → Result Written Cause
+good_name w = if is_good_name w then Ok (ConfigLine w) else Err (record { code = code.BadName; detail = w })
+
+abbrev pub ReadsConfig : List Lexeme → Result Written Cause → Type 0
+ReadsConfig ts = After (word_of ts) (λ w. After (finish w (drop 1 ts)) (λ v r. r ≡ good_name v))
+
+abbrev pub choice_line : List Lexeme → Result Written Cause
+choice_line [] = Ok ChoiceLine
+choice_line (t ∷ ts) = Err (left_out (codes "named choice"))
+
+-- a text, and then a condition
+abbrev pub ReadsAsked : (Asked Disjunction → Written) → List Lexeme → Result Written Cause → Type 0
+ReadsAsked make ts = After (text_of ts) (λ t. ReadsCondition (λ w. make (record { text = t; when = w })) (drop 1 ts))
+
+abbrev pub ReadsType : Kind → List Lexeme → Result Written Cause → Type 0
+ReadsType k ts r = ((ts ≡ []) × (r ≡ Ok (TypeLine k None))) ⊎ (IsMore ts × ReadsAsked (λ p. TypeLine k (Some p)) ts r)
+
+-- a value, and then a condition
+abbrev pub ReadsValue : (Disjunction → Option Disjunction → Written) → List Lexeme → Result Written Cause → Type 0
+ReadsValue make ts (Ok x) = (f : Front) × (w : Option Disjunction) × StartsExpression ts f × IsCondition f.rest w × (x ≡ make f.tree w)
+ReadsValue make ts (Err c) = ExpressionFault ts c ⊎ ((f : Front) × StartsExpression ts f × ConditionFault f.rest c)
+
+-- a word that has to stand there, and then an expression
+abbrev pub expected : List ℕ → List Lexeme → Result (List Lexeme) Cause
+expected w ts = if begins_with w ts then Ok (drop 1 ts) else Err syntax_cause
+
+abbrev pub ReadsDepends : List Lexeme → Result Written Cause → Type 0
+ReadsDepends ts r = After (expected (codes "on") ts) (λ us. ReadsWhole DependsLine us) r
+
+abbrev pub ReadsVisible : List Lexeme → Result Written Cause → Type 0
+ReadsVisible ts r = After (expected if_word ts) (λ us. ReadsWhole VisibleLine us) r
+
+abbrev pub ReadsTarget : (List ℕ → Option Disjunction → Written) → List Lexeme → Result Written Cause → Type 0
+ReadsTarget make ts = After (target_of ts) (λ t. ReadsCondition (make t) (drop 1 ts))
+
+abbrev pub ReadsRange : List Lexeme → Result Written Cause → Type 0
+ReadsRange ts = After (operand_of ts) (λ a. After (operand_of (drop 1 ts)) (λ b. ReadsCondition (RangeLine a b) (drop 2 ts)))
+
+abbrev pub option_line : List Lexeme → Result Written Cause
+option_line ts =
+    if begins_with (codes "modules") ts then finish ModulesLine (drop 1 ts)
+    else if begins_with (codes "allnoconfig_y") ts then finish IgnoredLine (drop 1 ts)
+    else if begins_with (codes "env") ts then Err (left_out (codes "option env"))
+    else if begins_with (codes "defconfig_list") ts then Err (left_out (codes "option defconfig_list"))
+    else Err syntax_cause
+
+-- what follows the first word
+abbrev pub ReadsRest : List ℕ → Keyword → List Lexeme → Result Written Cause → Type 0
+ReadsRest w key.Config ts r = ReadsConfig ts r
+ReadsRest w key.If ts r = ReadsWhole IfLine ts r
+ReadsRest w key.EndIf ts r = r ≡ finish EndIfLine ts
+ReadsRest w key.Comment ts r = ReadsTextLine CommentLine ts r
+ReadsRest w key.Source ts r = ReadsSource ts r
+ReadsRest w key.Menu ts r = ReadsTextLine MenuLine ts r
+ReadsRest w key.EndMenu ts r = r ≡ finish EndMenuLine ts
+ReadsRest w key.Choice ts r = r ≡ choice_line ts
+ReadsRest w key.EndChoice ts r = r ≡ finish EndChoiceLine ts
+ReadsRest w key.MainMenu ts r = ReadsTextLine MainMenuLine ts r
+ReadsRest w (key.Type k) ts r = ReadsType k ts r
+ReadsRest w key.Prompt ts r = ReadsAsked PromptLine ts r
+ReadsRest w key.Default ts r = ReadsValue DefaultLine ts r
+ReadsRest w (key.Def k) ts r = ReadsValue (DefLine k) ts r
+ReadsRest w key.Depends ts r = ReadsDepends ts r
+ReadsRest w key.Visible ts r = ReadsVisible ts r
+ReadsRest w key.Select ts r = ReadsTarget SelectLine ts r
+ReadsRest w key.Imply ts r = ReadsTarget ImplyLine ts r
+ReadsRest w key.Range ts r = ReadsRange ts r
+ReadsRest w key.Help ts r = r ≡ finish HelpLine ts
+ReadsRest w key.Modules ts r = r ≡ finish ModulesLine ts
+ReadsRest w key.«Option» ts r = r ≡ option_line ts
+ReadsRest w key.LeftOut ts r = r ≡ Err (left_out w)
+
+-- nothing is wrong with the place
+abbrev pub in_place : Keyword → Option Cause → Result Keyword Cause
+in_place k None = Ok k
+in_place k (Some why) = Err why
+
+abbrev pub known : Option Keyword → Result Keyword Cause
+known None = Err syntax_cause
+known (Some k) = Ok k
+
+-- the place, and then the rest
+abbrev pub ReadsPlaced : Context → List ℕ → List Lexeme → Keyword → Result Written Cause → Type 0
+ReadsPlaced c w ts k r = After (in_place k (place_cause c w ts k)) (λ j. ReadsRest w j ts) r
+
+-- the whole line: its first word, its place and its rest, in this order
+abbrev pub ReadsLine : Context → List Lexeme → Result Written Cause → Type 0
+ReadsLine c ts r = After (word_of ts) (λ w. After (known (keyword_of w)) (ReadsPlaced c w (drop 1 ts))) r

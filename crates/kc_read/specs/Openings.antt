@@ -1,0 +1,42 @@
+-- The files that an expansion opens.
+use Rattle.std.specs.Prelude.{◌≡◌, ℕ, List, [], ◌∷◌, ◌++◌, Some, Result}
+use Rattle.std.specs.List.{Contains}
+use Rattle.kc_text.specs.Lines.{Left, left}
+use Rattle.kc_read.specs.Expansion.{Around, Log, Refused, Rest, at_end, unclosed, too_long, no_tokens, blank, bad_line, bad_effect, statement, bad_source, refused_inside, source, root_around, opening, nothing_read}
+use Rattle.kc_read.specs.Files.{Files}
+use Rattle.kc_read.specs.Sources.{Names}
+use Rattle.kc_read.specs.Statements.{Placed, Written}
+
+-- The files that are asked for along the rest of a file, in order: those that are opened, and last the one that may not
+-- be opened or has no bytes, where there is one.
+abbrev pub asked : {files : Files} {a : Around} {l : Left} {own : List (Placed Written)} {log : Log} {r : Result Log Refused} → Rest files a l own log r → List (List ℕ)
+asked (at_end a l own log none closed) = []
+asked (unclosed a l own log line none unmatched) = []
+asked (too_long a l own log long) = []
+asked (no_tokens a l m own log ts why next) = []
+asked (blank a l m own log r next d) = asked d
+asked (bad_line a l m own log c next) = []
+asked (bad_effect a l m own log s c next effect) = []
+asked (statement a l m own log s r next plain effect d) = asked d
+asked (bad_source a l m own log name c next why) = name ∷ []
+asked (refused_inside a l m own log name bytes e next free there d) = name ∷ asked d
+asked (source a l m own log more name bytes r next free there d f) = name ∷ asked d ++ asked f
+
+-- whatever list of names these lines have, the name is among it
+abbrev pub IsNamedIn : Left → List ℕ → Type 0
+IsNamedIn l name = (names : List (List ℕ)) → Names l names → Contains names name
+
+-- one of these files names it
+abbrev pub IsNamedByOne : Files → List (List ℕ) → List ℕ → Type 0
+IsNamedByOne files before name = (by bytes : List ℕ) × Contains before by × (files by ≡ Some bytes) × IsNamedIn (left bytes 1) name
+
+-- Each file that an expansion asks for after the root is named in one that it opened before.
+abbrev pub AskedAreNamed : Type 0
+AskedAreNamed =
+    (files : Files) (root bytes : List ℕ) (r : Result Log Refused) → files root ≡ Some bytes →
+    (d : Rest files (root_around root) (left bytes 1) [] (opening nothing_read bytes) r) (before after : List (List ℕ)) (name : List ℕ) →
+    asked d ≡ before ++ name ∷ after → IsNamedByOne files (root ∷ before) name
+
+-- lines have at most one list of names
+abbrev pub OneListOfNames : Type 0
+OneListOfNames = (l : Left) (names other : List (List ℕ)) → Names l names → Names l other → names ≡ other

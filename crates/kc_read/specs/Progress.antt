@@ -1,0 +1,220 @@
+-- What the reader of files remembers of what it has read.
+use Rattle.std.specs.Prelude.{◌≡◌, ◌≢◌, ℕ, ◌+◌, ◌<◌, ◌≤◌, List, [], ◌∷◌, ◌++◌, map, length, Bool, true, false, Option, Some, None, Result, Ok, Err, option_map, slice_get, take, ◌-◌, ◌==◌, ◌||◌, if◌then◌else◌, MatchOption, ⊤}
+use Rattle.std.specs.List.{filter_map, flat_map, list_any}
+use Rattle.std.specs.Option.{option_or, option_and_then}
+use Rattle.std.specs.declared.alloc.Global.{Global}
+use Rattle.std.specs.declared.vec.Vec.{Vec}
+use Rattle.std.specs.declared.rc.Rc.{Rc}
+use Rattle.kc_text.specs.Lines.{Left}
+use Rattle.kc_expr.specs.declared.expression.SymId.{SymId}
+use Rattle.kc_expr.specs.Names.{all_mentioned, mention, IsNumber}
+use Rattle.kc_read.specs.declared.expansion.Expansion.{Expansion}
+use Rattle.kc_read.specs.declared.frame.Frame.{Frame}
+use Rattle.kc_read.specs.declared.progress.Progress.{Progress}
+use Rattle.kc_read.specs.declared.refusal.Code.TheVariants as code
+use Rattle.kc_read.specs.declared.refusal.Refusal.{Refusal}
+use Rattle.kc_read.specs.declared.statement.Entry.{Entry}
+use Rattle.kc_read.specs.declared.statement.Entry.TheVariants as entry
+use Rattle.kc_read.specs.declared.statement.Opener.{Opener}
+use Rattle.kc_read.specs.Blocks.{Bracket, Opens, Closes, NoBracket, bracket, opened, open_places, last_of, last_other, entry_of, is_attribute, definitions, modules_of, name_at, name_after, is_modules}
+use Rattle.kc_read.specs.Expansion.{Around, Log, Refused, Rest, statements, defined, is_choice, refused, symbol_cause, opener_cause}
+use Rattle.kc_read.specs.Lines.{Cause, cause}
+use Rattle.kc_read.specs.Files.{Files}
+use Rattle.kc_read.specs.Numbering.{place_numbered}
+use Rattle.kc_read.specs.Reads.{ForLater, line_view}
+use Rattle.kc_read.specs.Statements.{Statement, Written, Numbered, Placed, statement_words}
+use Rattle.kc_read.specs.Steps.{refusal_view}
+
+-- the opener of a block, if the line is one
+abbrev pub opener_of : Option (Placed Written) → Option Opener
+opener_of None = None
+opener_of (Some l) = option_map (λ b. record { block = b; line = l.line }) (opened (bracket l.statement))
+
+-- the openers of the blocks that are open after these lines, the outermost first
+abbrev pub open_openers : List (Placed Written) → List Opener
+open_openers ls = filter_map (λ j. opener_of (slice_get ls j)) (open_places (statements ls))
+
+-- the open blocks after one more line
+abbrev pub openers_after : Bracket → ℕ → List Opener → List Opener
+openers_after (Opens b) n bs = bs ++ record { block = b; line = n } ∷ []
+openers_after Closes n bs = take (length bs - 1) bs
+openers_after NoBracket n bs = bs
+
+-- the entry after one more statement
+abbrev pub entry_after : {E L S : Type 0} → Entry → Statement E L S → Entry
+entry_after now s = if is_attribute s then now else entry_of (Some s)
+
+-- no more than 64 blocks are open
+abbrev pub IsShallow : Frame → Type 0
+IsShallow f = f.depth + length f.blocks.items ≤ 64
+
+-- what a file's reader knows: own are the file's statements so far
+pub record IsFrame (a : Around) (own : List (Placed Written)) (f : Frame) : Type 0 where
+  pub file : f.file.value.items ≡ a.file
+  pub depth : f.depth ≡ length a.blocks
+  pub in_choice : f.in_choice ≡ list_any is_choice a.blocks
+  pub blocks : f.blocks.items ≡ open_openers own
+  pub entry : f.entry ≡ entry_of (last_other (statements own))
+
+-- the number of a name, where there is a name
+abbrev pub IsNamed : List (List ℕ) → Option SymId → Option (List ℕ) → Type 0
+IsNamed names None None = Unit {0}
+IsNamed names None (Some n) = ⊥
+IsNamed names (Some id) None = ⊥
+IsNamed names (Some id) (Some n) = IsNumber names n id
+
+-- whether the numbers say the same symbol
+abbrev pub ids_match : Option SymId → Option SymId → Bool
+ids_match None now = true
+ids_match (Some i) None = false
+ids_match (Some i) (Some j) = i.0 == j.0
+
+-- what is remembered of all files: the names stood at first, and are names now
+pub record IsProgress (first : List (List ℕ)) (modules : Option SymId) (names : List (List ℕ)) (log : Log) (p : Progress) : Type 0 where
+  pub lines : ForLater names (λ number. map line_view p.lines.items ≡ map (place_numbered modules number) log.lines)
+  pub mentions : names ≡ all_mentioned first (flat_map statement_words (statements log.lines))
+  pub counted : p.counted ≡ log.counted
+  pub defined_is : p.defined ≡ defined (statements log.lines)
+  pub config : IsNamed names p.config (last_of (definitions (statements log.lines)))
+  pub modules_is : IsNamed names p.modules (modules_of (statements log.lines))
+
+abbrev pub open_names : Progress → List (List ℕ)
+open_names p = map (λ f. f.value.items) p.open_files.items
+
+pub record IsState (first : List (List ℕ)) (modules : Option SymId) (names : List (List ℕ)) (a : Around) (own : List (Placed Written)) (log : Log) (p : Progress) (f : Frame) : Type 0 where
+  pub progress : IsProgress first modules names log p
+  pub frame : IsFrame a own f
+  pub files : open_names p ≡ a.open_files
+
+-- the defined names are counted, and no more than there may be
+pub record IsCounted (p : Progress) : Type 0 where
+  pub count : p.symbols ≡ length p.defined
+  pub within : length p.defined ≤ 65535
+
+-- as many physical lines, symbols and files as there may be
+pub record IsBounded (p : Progress) : Type 0 where
+  pub lines : p.counted ≤ 1000000
+  pub symbols : IsCounted p
+  pub files : length p.open_files.items ≤ 64
+
+-- the symbol of a config line has a name
+abbrev pub IsKnown : List (List ℕ) → Numbered → Type 0
+IsKnown names s = MatchOption (name_at s) (Unit {0}) (λ id. id.0 < length names)
+
+-- the name that a statement defines
+abbrev pub named : List (List ℕ) → Numbered → Option (List ℕ)
+named names s = option_and_then (λ id. slice_get names id.0) (name_at s)
+
+abbrev pub defined_after : List (List ℕ) → Option (List ℕ) → List (List ℕ)
+defined_after ds None = ds
+defined_after ds (Some n) = mention ds n
+
+abbrev pub naming_cause : List (List ℕ) → Option (List ℕ) → Option Cause
+naming_cause ds None = None
+naming_cause ds (Some n) = symbol_cause ds n
+
+-- a statement was seen: what is remembered of the symbols
+pub record IsSeen (names : List (List ℕ)) (s : Numbered) (old new : Progress) : Type 0 where
+  pub defined_is : new.defined ≡ defined_after old.defined (named names s)
+  pub config : new.config ≡ name_after old.config s
+  pub modules_is : new.modules ≡ option_or old.modules (if is_modules s then old.config else None)
+  pub lines : new.lines ≡ old.lines
+  pub counted : new.counted ≡ old.counted
+  pub open_files : new.open_files ≡ old.open_files
+
+-- a statement was taken
+pub record IsTaken (names : List (List ℕ)) (s : Numbered) (line : ℕ) (f g : Frame) (old new : Progress) : Type 0 where
+  pub defined_is : new.defined ≡ defined_after old.defined (named names s)
+  pub config : new.config ≡ name_after old.config s
+  pub modules_is : new.modules ≡ option_or old.modules (if is_modules s then old.config else None)
+  pub lines : map line_view new.lines.items ≡ map line_view old.lines.items ++ record { file = f.file.value.items; line = line; statement = s } ∷ []
+  pub counted : new.counted ≡ old.counted
+  pub open_files : new.open_files ≡ old.open_files
+  pub file : g.file ≡ f.file
+  pub depth : g.depth ≡ f.depth
+  pub in_choice : g.in_choice ≡ f.in_choice
+  pub blocks : g.blocks.items ≡ openers_after (bracket s) line f.blocks.items
+  pub entry : g.entry ≡ entry_after f.entry s
+
+-- what a statement may not do
+abbrev pub effect_view : List (List ℕ) → Numbered → Frame → Progress → Option Cause
+effect_view names s f p = option_or (naming_cause p.defined (named names s)) (opener_cause (f.depth + length f.blocks.items) (bracket s))
+
+-- what is known inside a file that is sourced in another one
+pub record IsInside (f : Frame) (name : List ℕ) (g : Frame) : Type 0 where
+  pub file : g.file.value.items ≡ name
+  pub depth : g.depth ≡ f.depth + length f.blocks.items
+  pub in_choice : g.in_choice ≡ (f.in_choice || list_any (λ o. is_choice o.block) f.blocks.items)
+  pub blocks : g.blocks.items ≡ []
+  pub entry : g.entry ≡ entry.Nothing
+
+-- a file is opened
+pub record IsEntered (name : List ℕ) (counted : ℕ) (old new : Progress) : Type 0 where
+  pub open_files : (f : Rc (Vec ℕ Global) Global) × (f.value.items ≡ name) × (new.open_files.items ≡ old.open_files.items ++ f ∷ [])
+  pub counted_is : new.counted ≡ counted
+  pub lines : new.lines ≡ old.lines
+  pub defined_is : new.defined ≡ old.defined
+  pub config : new.config ≡ old.config
+  pub modules_is : new.modules ≡ old.modules
+
+-- a block of the file is open at its end
+abbrev pub IsOpenAtEnd : Frame → Refused → Type 0
+IsOpenAtEnd f r = (o : Opener) × (last_of f.blocks.items ≡ Some o) × (r ≡ refused (cause code.Block) f.file.value.items o.line)
+
+-- a refusal of the rest of a file
+abbrev pub IsRestRefusal : Files → Around → Left → List (Placed Written) → Log → Refusal → Type 0
+IsRestRefusal files a l own log r = r.code ≢ code.Memory → Rest files a l own log (Err (refusal_view r))
+
+module _ (files : Files) (first : List (List ℕ)) (modules : Option SymId) (names : List (List ℕ)) (a : Around) where
+  -- a file goes on: what its rest gives from here on is what it gave from the line before on
+  pub record GoesOn (old new : Left) (own : List (Placed Written)) (log : Log) (p : Progress) (f : Frame) : Type 0 where
+    pub own_now : List (Placed Written)
+    pub log_now : Log
+    pub state : IsState first modules names a own_now log_now p f
+    pub follows : (r : Result Log Refused) → Rest files a new own_now log_now r → Rest files a old own log r
+
+  -- a whole file was read
+  pub record IsFileRead (l : Left) (log : Log) (p : Progress) : Type 0 where
+    pub log_now : Log
+    pub rest : Rest files a l [] log (Ok log_now)
+    pub progress : IsProgress first modules names log_now p
+
+  -- a file has ended
+  pub record IsEnded (l : Left) (own : List (Placed Written)) (log : Log) (p : Progress) : Type 0 where
+    pub rest : Rest files a l own log (Ok log)
+    pub progress : IsProgress first modules names log p
+
+  abbrev pub IsReading : Left → Log → Progress → Result ⊤ Refusal → Type 0
+  IsReading l log p (Ok u) = IsFileRead l log p
+  IsReading l log p (Err r) = IsRestRefusal files a l [] log r
+
+  abbrev pub IsStatementRead : Left → Left → List (Placed Written) → Log → Progress → Frame → Result ⊤ Refusal → Type 0
+  IsStatementRead l m own log p f (Ok u) = GoesOn l m own log p f
+  IsStatementRead l m own log p f (Err r) = IsRestRefusal files a l own log r
+
+  abbrev pub IsNextRead : Left → Left → List (Placed Written) → Log → Progress → Frame → Result Bool Refusal → Type 0
+  IsNextRead l m own log p f (Ok true) = GoesOn l m own log p f
+  IsNextRead l m own log p f (Ok false) = IsEnded l own log p
+  IsNextRead l m own log p f (Err r) = IsRestRefusal files a l own log r
+
+-- the expanded list that was read: the names stood at first, and are names now
+pub record IsExpansion (first : List (List ℕ)) (modules : Option SymId) (names : List (List ℕ)) (log : Log) (e : Expansion) : Type 0 where
+  pub lines : ForLater names (λ number. map line_view e.lines.items ≡ map (place_numbered modules number) log.lines)
+  pub mentions : names ≡ all_mentioned first (flat_map statement_words (statements log.lines))
+  pub defined_is : e.defined ≡ defined (statements log.lines)
+  pub symbols : e.symbols ≡ length (defined (statements log.lines))
+  pub modules_is : IsNamed names e.modules (modules_of (statements log.lines))
+
+-- what is known as the root file is opened
+pub record IsBegun (root : List ℕ) (counted : ℕ) (f : Frame) (p : Progress) : Type 0 where
+  pub file : f.file.value.items ≡ root
+  pub depth : f.depth ≡ 0
+  pub in_choice : f.in_choice ≡ false
+  pub blocks : f.blocks.items ≡ []
+  pub entry : f.entry ≡ entry.Nothing
+  pub lines : p.lines.items ≡ []
+  pub counted_is : p.counted ≡ counted
+  pub defined_is : p.defined ≡ []
+  pub config : p.config ≡ None
+  pub modules_is : p.modules ≡ None
+  pub open_files : open_names p ≡ root ∷ []

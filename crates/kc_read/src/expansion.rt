@@ -1,0 +1,110 @@
+//! The expanded list of a root file.
+
+ghost use Rattle.std.specs.Prelude.{◌≡◌, ◌≢◌, ◌≤◌, Err, IfErr, IfOk, Ok, OnOk};
+ghost use Rattle.kc_read.specs.Expansion.{Expands, Log};
+ghost use Rattle.kc_read.specs.Files.{bytes_in};
+ghost use Rattle.kc_read.specs.Progress.{IsBegun, IsBounded, IsExpansion, IsShallow};
+ghost use Rattle.kc_read.specs.Steps.{IsMemory, refusal_view};
+ghost use Rattle.kc_read.specs.declared.refusal.Code.TheVariants.{Memory};
+
+use crate::file_map::FileMap;
+use crate::files::{Reader, open, read_file};
+use crate::frame::Frame;
+use crate::line::Line;
+use crate::progress::Progress;
+use crate::refusal::Refusal;
+use crate::refuse::{memory, refuse};
+use crate::statement::{Entry, Fault};
+use kc_expr::expression::SymId;
+use kc_expr::names::Names;
+use std::alloc::Global;
+use std::rc::Rc;
+
+/// The expanded list of a root file: its lines, the names of the defined symbols in order of their first definition
+/// and how many they are, and the symbol in whose entry the first `modules` line stands.
+#[derive(Drop)]
+pub struct Expansion {
+    pub lines: Vec<Line>,
+    pub defined: Names,
+    pub symbols: usize,
+    pub modules: Option<SymId>,
+}
+
+// What is known as the root file is opened.
+fn begin(alloc: Global, root: &[u8], counted: usize) -> Result<(Frame, Progress), Fault<'static>>
+    requires { counted ≤ 1000000 }
+    ensures begun { IfOk result (λ r. IsBegun root.now counted r.0 r.1) }
+    ensures shallow { IfOk result (λ r. IsShallow r.0) }
+    ensures bounded { IfOk result (λ r. IsBounded r.1) }
+    ensures memory { IfErr result (λ f. f.code ≡ Memory) }
+{
+    let name = Vec::from_slice(alloc, root)?;
+    let file = Rc::new(alloc, name)?;
+    let mut open_files = Vec::new(alloc);
+    open_files.push(file.clone()?)?;
+    let frame = Frame {
+        file,
+        depth: 0,
+        in_choice: false,
+        blocks: Vec::new(alloc),
+        entry: Entry::Nothing,
+    };
+    let progress = Progress {
+        lines: Vec::new(alloc),
+        counted,
+        defined: Names::new(alloc),
+        symbols: 0,
+        config: None,
+        modules: None,
+        open_files,
+    };
+    Ok((frame, progress))
+}
+
+/// The expanded list of the root file: the statements of the file, each `source` line replaced by the statements of
+/// its file, each with its file and line; or the first refusal.
+///
+/// `modules` is the number of the modules symbol, by which a plain `m` of a condition also asks for that symbol. On
+/// `Ok` the names are the old ones and then each new one at its first mention. A caller who wants the defined symbols
+/// numbered first calls this twice: the first call tells the defined names and the modules symbol, and answers the same
+/// list or the same refusal.
+///
+/// Each of the refusals E1 to E12 and E16 comes exactly for its cause, at the first line with a fault: E1 where a file
+/// is not in the map, E2 where it is open now, E3 where the physical lines of the files opened so far are more than
+/// 1,000,000, each file counted as often as it is sourced, E12 for the 65th block, file or level open at once, E16 for
+/// the 65,536th defined symbol; a refusal of the root file itself stands at its line 0. E20, which has no place and no
+/// detail, is want of memory. After a refusal further names may have been added.
+///
+/// The statements are those of the kernel's kconfig-language document; the limits and the order of checks are our own.
+pub fn expand(
+    alloc: Global,
+    map: &FileMap,
+    root: &[u8],
+    modules: Option<SymId>,
+    names: &mut Names,
+) -> Result<Expansion, Refusal>
+    ensures expanded { IfOk result (λ e. (log : Log) × Expands (bytes_in map.now) root.now (Ok log) × IsExpansion names.old modules names.new log e) }
+    ensures refused { IfErr result (λ r. r.code ≢ Memory → Expands (bytes_in map.now) root.now (Err (refusal_view r))) }
+    ensures memory { IfErr result IsMemory }
+{
+    let (bytes, counted) = match open(map, root, 0) {
+        Ok(opened) => opened,
+        Err(fault) => return Err(refuse(alloc, fault, root, 0)),
+    };
+    let (frame, mut progress) = match begin(alloc, root, counted) {
+        Ok(begun) => begun,
+        Err(_) => return Err(memory(alloc)),
+    };
+    let reader = Reader {
+        alloc,
+        map,
+        modules,
+    };
+    read_file(&reader, bytes, frame, &mut progress, names)?;
+    Ok(Expansion {
+        lines: progress.lines,
+        defined: progress.defined,
+        symbols: progress.symbols,
+        modules: progress.modules,
+    })
+}

@@ -1,0 +1,50 @@
+//! The files that a tree may be made of.
+
+ghost use Rattle.std.specs.Prelude.{◌≡◌, [], OnOk, OnErr, option_map, None};
+ghost use Rattle.kc_read.specs.Files.{bytes_in, Puts};
+
+use indexmap::IndexMap;
+use std::alloc::{AllocError, Global};
+use std::marker::Model;
+
+/// Files by their names.
+#[derive(Drop)]
+pub struct FileMap {
+    files: IndexMap<Vec<u8>, Vec<u8>>,
+}
+
+impl Model for FileMap {
+    ghost use Rattle.std.specs.Prelude.{ℕ, List, map};
+
+    ghost Value = { List (List ℕ × List ℕ) };
+
+    ghost view = { λ m. map (λ e. (e.0.items, e.1.items)) m.files.entries };
+}
+
+impl FileMap {
+    /// No files.
+    pub fn new(alloc: Global) -> Self
+        ensures { result ≡ [] }
+    {
+        FileMap {
+            files: IndexMap::new(alloc),
+        }
+    }
+
+    /// Gives the name these bytes, in place of those that it had.
+    pub fn insert(&mut self, name: Vec<u8>, bytes: Vec<u8>) -> Result<(), AllocError>
+        ensures ok { OnOk result (Puts (bytes_in self.old) (bytes_in self.new) name.items bytes.items) }
+        ensures err { OnErr result (self.new ≡ self.old) }
+    {
+        self.files.insert(name, bytes)?;
+        Ok(())
+    }
+
+    /// The bytes of a name.
+    pub fn get(&self, name: &[u8]) -> Option<&[u8]>
+        ensures { option_map (λ b. b.now) result ≡ bytes_in self.now name.now }
+    {
+        let bytes = self.files.get(name)?;
+        Some(bytes)
+    }
+}

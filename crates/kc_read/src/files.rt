@@ -1,0 +1,310 @@
+//! Reading a file, and the files that it sources.
+
+ghost use Rattle.std.specs.Prelude.{◌≡◌, ◌≢◌, ◌≤◌, ◌<◌, ◌+◌, ℕ, List, Option, [], ◌∷◌, ◌++◌, None, Some, Ok, Err, false, true, length, map, IfErr, IfOk, OnOk, IsTrue};
+ghost use Rattle.kc_text.specs.Lines.{Left, left};
+ghost use Rattle.std.specs.List.{list_any};
+ghost use Rattle.kc_expr.specs.Names.{same_name};
+ghost use Rattle.kc_read.specs.declared.refusal.Code.TheVariants.{Memory};
+ghost use Rattle.kc_read.specs.Expansion as spec;
+ghost use Rattle.kc_read.specs.Expansion.{Around, Log, NextStatement, sourcing_cause};
+ghost use Rattle.kc_read.specs.Files.{bytes_in};
+ghost use Rattle.kc_read.specs.Progress.{IsBounded, IsEntered, IsInside, IsKnown, IsNextRead, IsOpenAtEnd, IsReading, IsShallow, IsState, IsStatementRead, IsTaken, effect_view, open_names};
+ghost use Rattle.kc_read.specs.Reads.{IsFault, IsMade, cause_of, statement_view};
+ghost use Rattle.kc_read.specs.Statements.{Placed, Written, SourceLine};
+ghost use Rattle.kc_read.specs.Steps.{IsMemory, refusal_view};
+
+use crate::file_map::FileMap;
+use crate::frame::Frame;
+use crate::line::Line;
+use crate::progress::Progress;
+use crate::refusal::{Code, Refusal};
+use crate::refuse::{memory, refuse};
+use crate::statement::{Entry, Fault, Statement};
+use crate::step::{Step, next_step};
+use kc_expr::expression::SymId;
+use kc_expr::names::Names;
+use kc_text::{LogicalLines, line_count};
+use std::alloc::{AllocError, Global};
+use std::rc::Rc;
+
+const MAX_LINES: usize = 1_000_000;
+
+const MAX_FILES: usize = 64;
+
+/// What stays the same while files are read: the files, and the modules symbol's number.
+#[derive(Drop)]
+pub struct Reader<'a> {
+    pub alloc: Global,
+    pub map: &'a FileMap,
+    pub modules: Option<SymId>,
+}
+
+/// The bytes of a file, and how many physical lines are counted with those of the file.
+pub fn open<'a, 'b>(
+    map: &'a FileMap,
+    name: &'b [u8],
+    counted: usize,
+) -> Result<(&'a [u8], usize), Fault<'b>>
+    requires { counted ≤ 1000000 }
+    ensures bytes { IfOk result (λ r. bytes_in map.now name.now ≡ Some r.0.now) }
+    ensures counted { IfOk result (λ r. (r.1 ≡ counted + spec.lines_of r.0.now) × (r.1 ≤ 1000000)) }
+    ensures allowed { OnOk result (spec.bytes_cause name.now counted (bytes_in map.now name.now) ≡ None) }
+    ensures fault { IfErr result (λ f. spec.bytes_cause name.now counted (bytes_in map.now name.now) ≡ Some (cause_of f)) }
+{
+    let Some(bytes) = map.get(name) else {
+        return Err(Fault {
+            code: Code::NoFile,
+            detail: name,
+        });
+    };
+    let lines = line_count(bytes);
+    if lines > MAX_LINES - counted {
+        return Err(Fault {
+            code: Code::TooManyLines,
+            detail: b"",
+        });
+    }
+    Ok((bytes, counted + lines))
+}
+
+// Whether the open file has this name.
+fn is_named(file: &Rc<Vec<u8>>, name: &[u8]) -> bool
+    ensures { result ≡ same_name name.now file.now.value.items }
+{
+    name == file.as_slice()
+}
+
+// Whether the file is open.
+fn is_open(progress: &Progress, name: &[u8]) -> bool
+    ensures { result ≡ list_any (same_name name.now) (open_names progress.now) }
+{
+    progress.open_files.iter().any(|file| is_named(file, name))
+}
+
+// The bytes of a sourced file, and how many physical lines are counted with them.
+fn open_source<'a, 'b>(
+    map: &'a FileMap,
+    name: &'b [u8],
+    progress: &Progress,
+) -> Result<(&'a [u8], usize), Fault<'b>>
+    requires { IsBounded progress.now }
+    ensures bytes { IfOk result (λ r. bytes_in map.now name.now ≡ Some r.0.now) }
+    ensures counted { IfOk result (λ r. (r.1 ≡ progress.now.counted + spec.lines_of r.0.now) × (r.1 ≤ 1000000)) }
+    ensures fewer { OnOk result (length progress.now.open_files.items < 64) }
+    ensures allowed { OnOk result (sourcing_cause (bytes_in map.now) (open_names progress.now) progress.now.counted name.now ≡ None) }
+    ensures fault { IfErr result (λ f. sourcing_cause (bytes_in map.now) (open_names progress.now) progress.now.counted name.now ≡ Some (cause_of f)) }
+{
+    if is_open(progress, name) {
+        return Err(Fault {
+            code: Code::InclusionLoop,
+            detail: name,
+        });
+    }
+    if progress.open_files.len() >= MAX_FILES {
+        return Err(Fault {
+            code: Code::TooDeep,
+            detail: b"",
+        });
+    }
+    open(map, name, progress.counted)
+}
+
+// Takes a statement that is no `source` line.
+fn take(
+    statement: Statement,
+    line: u32,
+    frame: &mut Frame,
+    progress: &mut Progress,
+    names: &Names,
+) -> Result<(), Fault<'static>>
+    requires shallow { IsShallow frame.old }
+    requires bounded { IsBounded progress.old }
+    requires known { IsKnown names.now (statement_view statement) }
+    ensures taken { OnOk result (IsTaken names.now (statement_view statement) line frame.old frame.new progress.old progress.new) }
+    ensures shallow { OnOk result (IsShallow frame.new) }
+    ensures file { frame.new.file ≡ frame.old.file }
+    ensures bounded { OnOk result (IsBounded progress.new) }
+    ensures allowed { OnOk result (effect_view names.now (statement_view statement) frame.old progress.old ≡ None) }
+    ensures fault { IfErr result (λ f. IsFault f (λ c. effect_view names.now (statement_view statement) frame.old progress.old ≡ Some c)) }
+{
+    progress.see(&statement, names)?;
+    frame.take(&statement, line)?;
+    let file = frame.file.clone()?;
+    progress.lines.push(Line {
+        file,
+        line,
+        statement,
+    })?;
+    Ok(())
+}
+
+// What is known inside a file that is opened in another one.
+fn enter(
+    alloc: Global,
+    name: Vec<u8>,
+    counted: usize,
+    frame: &Frame,
+    progress: &mut Progress,
+) -> Result<Frame, Fault<'static>>
+    requires shallow { IsShallow frame.now }
+    requires bounded { IsBounded progress.old }
+    requires counted { counted ≤ 1000000 }
+    requires fewer { length progress.old.open_files.items < 64 }
+    ensures frame { IfOk result (λ f. IsInside frame.now name.items f) }
+    ensures progress { OnOk result (IsEntered name.items counted progress.old progress.new) }
+    ensures shallow { IfOk result IsShallow }
+    ensures bounded { OnOk result (IsBounded progress.new) }
+    ensures memory { IfErr result (λ f. f.code ≡ Memory) }
+{
+    let file = Rc::new(alloc, name)?;
+    progress.open_files.push(file.clone()?)?;
+    progress.counted = counted;
+    Ok(Frame {
+        file,
+        depth: frame.depth + frame.blocks.len(),
+        in_choice: frame.is_in_choice(),
+        blocks: Vec::new(alloc),
+        entry: Entry::Nothing,
+    })
+}
+
+// The end of a file, where no block of its own may be open.
+fn end(alloc: Global, frame: &Frame) -> Result<(), Refusal>
+    ensures closed { OnOk result (frame.now.blocks.items ≡ []) }
+    ensures open { IfErr result (λ r. r.code ≢ Memory → IsOpenAtEnd frame.now (refusal_view r)) }
+    ensures memory { IfErr result IsMemory }
+{
+    match frame.innermost() {
+        Some(opener) => {
+            let fault = Fault {
+                code: Code::Block,
+                detail: b"",
+            };
+            Err(refuse(alloc, fault, &frame.file, opener.line))
+        }
+        None => Ok(()),
+    }
+}
+
+/// Reads a file to its end. The caller gives what is known inside it, and the file as an open one.
+#[cycle(files)]
+pub fn read_file(
+    reader: &Reader,
+    bytes: &[u8],
+    frame: Frame,
+    progress: &mut Progress,
+    names: &mut Names,
+) -> Result<(), Refusal>
+    requires shallow { IsShallow frame }
+    requires bounded { IsBounded progress.old }
+    ensures read { (first : List (List ℕ)) (a : Around) (log : Log) → IsState first reader.now.modules names.old a [] log progress.old frame → IsReading (bytes_in reader.now.map.now) first reader.now.modules names.new a (left bytes.now 1) log progress.new result }
+    ensures open { OnOk result (progress.new.open_files.items ≡ progress.old.open_files.items) }
+    ensures bounded { OnOk result (IsBounded progress.new) }
+    ensures memory { IfErr result IsMemory }
+{
+    let mut frame = frame;
+    let mut lines = LogicalLines::new(bytes);
+    while read_next(reader, &mut lines, &mut frame, progress, names)? {}
+    Ok(())
+}
+
+// Reads one line of a file; false at its end.
+#[cycle(files)]
+fn read_next(
+    reader: &Reader,
+    lines: &mut LogicalLines,
+    frame: &mut Frame,
+    progress: &mut Progress,
+    names: &mut Names,
+) -> Result<bool, Refusal>
+    requires clear { lines.old.refusal ≡ None }
+    requires shallow { IsShallow frame.old }
+    requires bounded { IsBounded progress.old }
+    ensures read { (first : List (List ℕ)) (a : Around) (own : List (Placed Written)) (log : Log) → IsState first reader.now.modules names.old a own log progress.old frame.old → IsNextRead (bytes_in reader.now.map.now) first reader.now.modules names.new a lines.old lines.new own log progress.new frame.new result }
+    ensures less { IfOk result (λ more. IsTrue more → length lines.new.lines < length lines.old.lines) }
+    ensures clear { IfOk result (λ more. IsTrue more → lines.new.refusal ≡ None) }
+    ensures open { OnOk result (progress.new.open_files.items ≡ progress.old.open_files.items) }
+    ensures shallow { OnOk result (IsShallow frame.new) }
+    ensures bounded { OnOk result (IsBounded progress.new) }
+    ensures memory { IfErr result IsMemory }
+{
+    let context = frame.context(progress.may_be_modules());
+    match next_step(
+        reader.alloc,
+        &frame.file,
+        lines,
+        context,
+        reader.modules,
+        names,
+    )? {
+        Step::End => {
+            end(reader.alloc, frame)?;
+            Ok(false)
+        }
+        Step::Blank => Ok(true),
+        Step::Next(line, statement) => {
+            read_statement(reader, statement, line, frame, progress, names)?;
+            Ok(true)
+        }
+    }
+}
+
+// Takes a statement, or reads the file that it sources.
+#[cycle(files)]
+fn read_statement(
+    reader: &Reader,
+    statement: Statement,
+    line: u32,
+    frame: &mut Frame,
+    progress: &mut Progress,
+    names: &mut Names,
+) -> Result<(), Refusal>
+    requires shallow { IsShallow frame.old }
+    requires bounded { IsBounded progress.old }
+    requires known { IsKnown names.old (statement_view statement) }
+    ensures read { (first known : List (List ℕ)) (a : Around) (own : List (Placed Written)) (log : Log) (x : Written) (l m : Left) → IsState first reader.now.modules known a own log progress.old frame.old → IsMade reader.now.modules known names.old statement x → NextStatement l m (spec.context_of a own log) (Ok x) → line ≡ l.number → IsStatementRead (bytes_in reader.now.map.now) first reader.now.modules names.new a l m own log progress.new frame.new result }
+    ensures open { OnOk result (progress.new.open_files.items ≡ progress.old.open_files.items) }
+    ensures shallow { OnOk result (IsShallow frame.new) }
+    ensures bounded { OnOk result (IsBounded progress.new) }
+    ensures memory { IfErr result IsMemory }
+{
+    match statement {
+        Statement::Source(name) => source(reader, name, line, frame, progress, names),
+        other => match take(other, line, frame, progress, names) {
+            Ok(()) => Ok(()),
+            Err(fault) => Err(refuse(reader.alloc, fault, &frame.file, line)),
+        },
+    }
+}
+
+// Reads a sourced file.
+#[cycle(files)]
+fn source(
+    reader: &Reader,
+    name: Vec<u8>,
+    line: u32,
+    frame: &mut Frame,
+    progress: &mut Progress,
+    names: &mut Names,
+) -> Result<(), Refusal>
+    requires shallow { IsShallow frame.old }
+    requires bounded { IsBounded progress.old }
+    ensures read { (first : List (List ℕ)) (a : Around) (own : List (Placed Written)) (log : Log) (l m : Left) → IsState first reader.now.modules names.old a own log progress.old frame.old → NextStatement l m (spec.context_of a own log) (Ok (SourceLine name.items)) → line ≡ l.number → IsStatementRead (bytes_in reader.now.map.now) first reader.now.modules names.new a l m own log progress.new frame.new result }
+    ensures open { OnOk result (progress.new.open_files.items ≡ progress.old.open_files.items) }
+    ensures shallow { OnOk result (IsShallow frame.new) }
+    ensures bounded { OnOk result (IsBounded progress.new) }
+    ensures memory { IfErr result IsMemory }
+{
+    let (bytes, counted) = match open_source(reader.map, &name, progress) {
+        Ok(opened) => opened,
+        Err(fault) => return Err(refuse(reader.alloc, fault, &frame.file, line)),
+    };
+    let inside = match enter(reader.alloc, name, counted, frame, progress) {
+        Ok(inside) => inside,
+        Err(_) => return Err(memory(reader.alloc)),
+    };
+    read_file(reader, bytes, inside, progress, names)?;
+    progress.open_files.pop();
+    frame.entry = Entry::Nothing;
+    Ok(())
+}

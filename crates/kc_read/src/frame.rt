@@ -1,0 +1,135 @@
+//! What is known inside a file: the entry that goes on, and the blocks that are open.
+
+ghost use Rattle.std.specs.Prelude.{◌≡◌, ◌+◌, ◌≤◌, ◌||◌, IfErr, OnOk, None, Some, length, map, option_map};
+ghost use Rattle.std.specs.List.{list_any};
+ghost use Rattle.kc_read.specs.Blocks as blocks;
+ghost use Rattle.kc_read.specs.Expansion as expansion;
+ghost use Rattle.kc_read.specs.Progress.{IsShallow, openers_after, entry_after};
+ghost use Rattle.kc_read.specs.Reads.{IsFault, statement_view, cause_of};
+ghost use Rattle.kc_read.specs.Lines.{cause};
+ghost use Rattle.kc_read.specs.declared.refusal.Code.TheVariants.{TooDeep};
+
+use crate::refusal::Code;
+use crate::statement::{Block, Context, Entry, Fault, Opener, Statement};
+use std::rc::Rc;
+
+/// How many blocks may be open at once.
+pub const MAX_BLOCKS: usize = 64;
+
+/// What is known inside a file: its name, how many blocks are open in the files that source it and whether one of
+/// them is a choice, its own open blocks, the innermost last, and the entry that the next line may add to.
+#[derive(Drop)]
+pub struct Frame {
+    pub file: Rc<Vec<u8>>,
+    pub depth: usize,
+    pub in_choice: bool,
+    pub blocks: Vec<Opener>,
+    pub entry: Entry,
+}
+
+// The block that a statement opens.
+fn opened(statement: &Statement) -> Option<Block>
+    ensures { result ≡ blocks.opened (blocks.bracket (statement_view statement.now)) }
+{
+    match statement {
+        Statement::If(_) => Some(Block::If),
+        Statement::Menu(_) => Some(Block::Menu),
+        Statement::Choice => Some(Block::Choice),
+        _ => None,
+    }
+}
+
+// Whether a statement closes a block.
+fn closes(statement: &Statement) -> bool
+    ensures { result ≡ blocks.is_closer (blocks.bracket (statement_view statement.now)) }
+{
+    matches!(
+        statement,
+        Statement::EndIf | Statement::EndMenu | Statement::EndChoice
+    )
+}
+
+// The entry after one more statement.
+fn entry_after(entry: Entry, statement: &Statement) -> Entry
+    ensures { result ≡ entry_after entry (statement_view statement.now) }
+{
+    match statement {
+        Statement::Config(_) => Entry::Config,
+        Statement::Choice => Entry::Choice,
+        Statement::Menu(_) => Entry::Menu,
+        Statement::Comment(_) => Entry::Comment,
+        Statement::If(_)
+        | Statement::EndIf
+        | Statement::Source(_)
+        | Statement::EndMenu
+        | Statement::EndChoice
+        | Statement::MainMenu(_) => Entry::Nothing,
+        _ => entry,
+    }
+}
+
+fn is_choice(block: Block) -> bool
+    ensures { result ≡ expansion.is_choice block }
+{
+    match block {
+        Block::Choice => true,
+        Block::If | Block::Menu => false,
+    }
+}
+
+impl Frame {
+    /// The opener of the innermost open block of the file.
+    pub fn innermost(&self) -> Option<Opener>
+        ensures { result ≡ blocks.last_of self.now.blocks.items }
+    {
+        self.blocks.last().copied()
+    }
+
+    // Whether a choice is open.
+    pub fn is_in_choice(&self) -> bool
+        ensures { result ≡ (self.now.in_choice || list_any (λ o. expansion.is_choice o.block) self.now.blocks.items) }
+    {
+        self.in_choice || self.blocks.iter().any(|opener| is_choice(opener.block))
+    }
+
+    /// The context of the next line; `modules` says whether it may be a line of the modules symbol.
+    pub fn context(&self, modules: bool) -> Context
+        ensures entry { result.entry ≡ self.now.entry }
+        ensures own { result.own ≡ option_map (λ o. o.block) (blocks.last_of self.now.blocks.items) }
+        ensures in_choice { result.in_choice ≡ (self.now.in_choice || list_any (λ o. expansion.is_choice o.block) self.now.blocks.items) }
+        ensures modules { result.modules ≡ modules }
+    {
+        Context {
+            entry: self.entry,
+            own: self.innermost().map(|opener| opener.block),
+            in_choice: self.is_in_choice(),
+            modules,
+        }
+    }
+
+    /// Takes a statement: a block is opened or closed, and the entry goes on or ends. The 65th open block is refused.
+    pub fn take(&mut self, statement: &Statement, line: u32) -> Result<(), Fault<'static>>
+        requires { IsShallow self.old }
+        ensures blocks { OnOk result (self.new.blocks.items ≡ openers_after (blocks.bracket (statement_view statement.now)) line self.old.blocks.items) }
+        ensures entry { OnOk result (self.new.entry ≡ entry_after self.old.entry (statement_view statement.now)) }
+        ensures kept { (self.new.file ≡ self.old.file) × (self.new.depth ≡ self.old.depth) × (self.new.in_choice ≡ self.old.in_choice) }
+        ensures shallow { IsShallow self.new }
+        ensures allowed { OnOk result (expansion.opener_cause (self.old.depth + length self.old.blocks.items) (blocks.bracket (statement_view statement.now)) ≡ None) }
+        ensures fault { IfErr result (λ f. IsFault f (λ c. expansion.opener_cause (self.old.depth + length self.old.blocks.items) (blocks.bracket (statement_view statement.now)) ≡ Some c)) }
+    {
+        if let Some(block) = opened(statement) {
+            if self.depth + self.blocks.len() >= MAX_BLOCKS {
+                return Err(Fault {
+                    code: Code::TooDeep,
+                    detail: b"",
+                });
+            }
+            self.blocks.push(Opener { block, line })?;
+        }
+        if closes(statement) {
+            self.blocks.pop();
+        }
+        self.entry = entry_after(self.entry, statement);
+        Ok(())
+    }
+}

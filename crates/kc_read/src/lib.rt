@@ -1,0 +1,28 @@
+//! Reading Kconfig files: the statements of a file and of the files that it sources.
+#![tactic(auto)]
+
+pub mod expansion;
+pub mod file_map;
+mod files;
+mod frame;
+mod keywords;
+pub mod laws;
+pub mod line;
+mod parts;
+mod place;
+mod progress;
+mod reader;
+pub mod refusal;
+mod refuse;
+mod sources;
+pub mod statement;
+mod step;
+
+pub use expansion::{Expansion, expand};
+pub use file_map::FileMap;
+pub use line::Line;
+pub use refusal::{Code, Refusal};
+pub use sources::sources_of;
+
+#[cfg(test)]
+mod tests;

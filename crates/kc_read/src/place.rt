@@ -1,0 +1,103 @@
+//! Whether a line stands in a right place.
+
+ghost use Rattle.std.specs.Prelude.{◌≡◌, option_map, false, Some, None, ◌<◌};
+ghost use Rattle.kc_expr.specs.Grammar.{lexemes_from};
+ghost use Rattle.kc_read.specs.Lines as spec;
+ghost use Rattle.kc_read.specs.Lines.{place_cause};
+ghost use Rattle.std.specs.Prelude.{Option};
+ghost use Rattle.kc_expr.specs.declared.expression.SymId.{SymId};
+ghost use Rattle.kc_read.specs.Reads.{cause_of};
+
+use crate::parts::begins_with;
+use crate::refusal::Code;
+use crate::statement::{Block, Context, Entry, Fault, Keyword, Prompt};
+use kc_expr::expression::{Kind, SymId};
+use kc_text::Token;
+
+// What is wrong with the place of a line.
+pub fn place_fault<'a>(
+    context: Context,
+    word: &'a [u8],
+    tokens: &[Token<'a>],
+    keyword: Keyword,
+) -> Option<Fault<'a>>
+    ensures { option_map cause_of result ≡ place_cause context word.now (lexemes_from tokens.now 1) keyword }
+{
+    match keyword {
+        Keyword::Config | Keyword::If | Keyword::Comment | Keyword::Source => None,
+        Keyword::EndIf => closes(Block::If, context.own),
+        Keyword::EndMenu => closes(Block::Menu, context.own),
+        Keyword::EndChoice => closes(Block::Choice, context.own),
+        Keyword::Menu | Keyword::Choice | Keyword::MainMenu => unless(!context.in_choice),
+        Keyword::Type(kind) => type_place(context.entry, kind),
+        Keyword::Prompt | Keyword::Default | Keyword::Help => unless(matches!(
+            context.entry,
+            Entry::Config | Entry::Choice
+        )),
+        Keyword::Def(_) | Keyword::Select | Keyword::Imply | Keyword::Range => unless(matches!(
+            context.entry,
+            Entry::Config
+        )),
+        Keyword::Depends => unless(!matches!(context.entry, Entry::Nothing)),
+        Keyword::Visible => unless(matches!(context.entry, Entry::Menu)),
+        Keyword::Modules => unless(matches!(context.entry, Entry::Config) && context.modules),
+        Keyword::Option => {
+            if begins_with(tokens, 1, b"modules") {
+                unless(matches!(context.entry, Entry::Config) && context.modules)
+            } else {
+                unless(matches!(context.entry, Entry::Config))
+            }
+        }
+        Keyword::LeftOut => Some(left_out(word)),
+    }
+}
+
+pub fn left_out(word: &[u8]) -> Fault<'_>
+    ensures { cause_of result ≡ spec.left_out word.now }
+{
+    Fault {
+        code: Code::LeftOut,
+        detail: word,
+    }
+}
+
+// A misplaced line, unless it stands in a right place.
+fn unless<'a>(placed: bool) -> Option<Fault<'a>>
+    ensures { option_map cause_of result ≡ spec.unless_placed placed }
+{
+    if placed {
+        None
+    } else {
+        Some(Fault {
+            code: Code::Misplaced,
+            detail: b"",
+        })
+    }
+}
+
+// A closer closes the innermost block of its file.
+fn closes<'a>(block: Block, own: Option<Block>) -> Option<Fault<'a>>
+    ensures { option_map cause_of result ≡ spec.closes block own }
+{
+    match (block, own) {
+        (Block::If, Some(Block::If)) => None,
+        (Block::Menu, Some(Block::Menu)) => None,
+        (Block::Choice, Some(Block::Choice)) => None,
+        _ => Some(Fault {
+            code: Code::Block,
+            detail: b"",
+        }),
+    }
+}
+
+// A type may stand in a config, and in a choice bool alone.
+fn type_place<'a>(entry: Entry, kind: Kind) -> Option<Fault<'a>>
+    ensures { option_map cause_of result ≡ spec.type_place entry kind }
+{
+    match (entry, kind) {
+        (Entry::Config, _) => None,
+        (Entry::Choice, Kind::Bool) => None,
+        (Entry::Choice, Kind::Tristate) => Some(left_out(b"tristate choice")),
+        _ => unless(false),
+    }
+}

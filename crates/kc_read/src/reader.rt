@@ -1,0 +1,348 @@
+//! The statement of a line.
+
+ghost use Rattle.std.specs.Prelude.{◌≡◌, ◌≤◌, ℕ, length, IfOk, IfErr, Ok, Some, None, Err, ◌<◌};
+ghost use Rattle.kc_expr.specs.Grammar.{lexemes_from};
+ghost use Rattle.kc_expr.specs.Names.{Extends};
+ghost use Rattle.kc_read.specs.Lines as spec;
+ghost use Rattle.kc_read.specs.Lines.{finish, ReadsLine, ReadsRest, ReadsWhole, ReadsValue, ReadsAsked, ReadsType, ReadsTarget, ReadsRange, ReadsDepends, ReadsVisible, ReadsConfig, ReadsSource, ReadsTextLine};
+ghost use Rattle.std.specs.Prelude.{List, Option};
+ghost use Rattle.kc_expr.specs.declared.expression.SymId.{SymId};
+ghost use Rattle.kc_read.specs.Statements.{Written, SourceLine, IfLine, CommentLine, DefaultLine, PromptLine, SelectLine, ImplyLine, MenuLine, MainMenuLine, DefLine, TypeLine};
+ghost use Rattle.kc_read.specs.Reads.{IsFault, IsRead, IsMade};
+
+use crate::keywords::keyword_of;
+use crate::parts::{
+    begins_with, condition, end, front, is_good_name, is_pattern, name_number, next, operand_at,
+    syntax, target_at, text_at, whole, word_at,
+};
+use crate::place::{left_out, place_fault};
+use crate::refusal::Code;
+use crate::statement::{Context, Fault, Keyword, Prompt, Statement};
+use kc_expr::expression::{Kind, SymId};
+use kc_expr::names::Names;
+use kc_text::Token;
+use std::alloc::Global;
+
+fn config_line<'a>(tokens: &[Token<'a>], names: &mut Names) -> Result<Statement, Fault<'a>>
+    ensures read { (modules : Option SymId) → IsRead modules names.old names.new (ReadsConfig (lexemes_from tokens.now 1)) result }
+    ensures names { Extends names.old names.new }
+{
+    let word = word_at(tokens, 1)?;
+    end(tokens, 2)?;
+    if !is_good_name(word) {
+        return Err(Fault {
+            code: Code::BadName,
+            detail: word,
+        });
+    }
+    let id = name_number(names, word)?;
+    Ok(Statement::Config(id))
+}
+
+fn if_line<'a>(
+    alloc: Global,
+    tokens: &[Token<'a>],
+    modules: Option<SymId>,
+    names: &mut Names,
+) -> Result<Statement, Fault<'a>>
+    requires { 1 ≤ length tokens.now }
+    ensures read { IsRead modules names.old names.new (ReadsWhole IfLine (lexemes_from tokens.now 1)) result }
+    ensures names { Extends names.old names.new }
+{
+    let when = whole(alloc, tokens, 1, modules, names)?;
+    Ok(Statement::If(when))
+}
+
+fn comment_line<'a>(alloc: Global, tokens: &[Token<'a>]) -> Result<Statement, Fault<'a>>
+    ensures { (modules : Option SymId) (names : List (List ℕ)) → IsRead modules names names (ReadsTextLine CommentLine (lexemes_from tokens.now 1)) result }
+{
+    let text = text_at(alloc, tokens, 1)?;
+    end(tokens, 2)?;
+    Ok(Statement::Comment(text))
+}
+
+/// The name in a `source` line.
+pub fn source_name<'a>(alloc: Global, tokens: &[Token<'a>]) -> Result<Vec<u8>, Fault<'a>>
+    ensures name { IfOk result (λ name. ReadsSource (lexemes_from tokens.now 1) (Ok (SourceLine name.items))) }
+    ensures fault { IfErr result (λ f. IsFault f (λ c. ReadsSource (lexemes_from tokens.now 1) (Err c))) }
+{
+    let name = text_at(alloc, tokens, 1)?;
+    if is_pattern(&name) {
+        return Err(left_out(b"pattern"));
+    }
+    end(tokens, 2)?;
+    Ok(name)
+}
+
+fn source_line<'a>(alloc: Global, tokens: &[Token<'a>]) -> Result<Statement, Fault<'a>>
+    ensures { (modules : Option SymId) (names : List (List ℕ)) → IsRead modules names names (ReadsSource (lexemes_from tokens.now 1)) result }
+{
+    let name = source_name(alloc, tokens)?;
+    Ok(Statement::Source(name))
+}
+
+fn default_line<'a>(
+    alloc: Global,
+    tokens: &[Token<'a>],
+    modules: Option<SymId>,
+    names: &mut Names,
+) -> Result<Statement, Fault<'a>>
+    requires { 1 ≤ length tokens.now }
+    ensures read { IsRead modules names.old names.new (ReadsValue DefaultLine (lexemes_from tokens.now 1)) result }
+    ensures names { Extends names.old names.new }
+{
+    let (value, after) = front(alloc, tokens, 1, None, names)?;
+    let when = condition(alloc, tokens, after, modules, names)?;
+    Ok(Statement::Default(value, when))
+}
+
+fn prompt_line<'a>(
+    alloc: Global,
+    tokens: &[Token<'a>],
+    modules: Option<SymId>,
+    names: &mut Names,
+) -> Result<Statement, Fault<'a>>
+    ensures read { IsRead modules names.old names.new (ReadsAsked PromptLine (lexemes_from tokens.now 1)) result }
+    ensures names { Extends names.old names.new }
+{
+    let text = text_at(alloc, tokens, 1)?;
+    let when = condition(alloc, tokens, 2, modules, names)?;
+    Ok(Statement::Prompt(Prompt { text, when }))
+}
+
+fn depends_line<'a>(
+    alloc: Global,
+    tokens: &[Token<'a>],
+    modules: Option<SymId>,
+    names: &mut Names,
+) -> Result<Statement, Fault<'a>>
+    ensures read { IsRead modules names.old names.new (ReadsDepends (lexemes_from tokens.now 1)) result }
+    ensures names { Extends names.old names.new }
+{
+    if !begins_with(tokens, 1, b"on") {
+        return Err(syntax());
+    }
+    let when = whole(alloc, tokens, 2, modules, names)?;
+    Ok(Statement::Depends(when))
+}
+
+fn end_line<'a>(tokens: &[Token<'a>], statement: Statement) -> Result<Statement, Fault<'a>>
+    ensures { (x : Written) (modules : Option SymId) (names : List (List ℕ)) → IsMade modules names names statement x → IsRead modules names names (λ r. r ≡ finish x (lexemes_from tokens.now 1)) result }
+{
+    end(tokens, 1)?;
+    Ok(statement)
+}
+
+fn choice_line<'a>(tokens: &[Token<'a>]) -> Result<Statement, Fault<'a>>
+    ensures { (modules : Option SymId) (names : List (List ℕ)) → IsRead modules names names (λ r. r ≡ spec.choice_line (lexemes_from tokens.now 1)) result }
+{
+    match next(tokens, 1) {
+        Some(_) => Err(left_out(b"named choice")),
+        None => Ok(Statement::Choice),
+    }
+}
+
+fn select_line<'a>(
+    alloc: Global,
+    tokens: &[Token<'a>],
+    modules: Option<SymId>,
+    names: &mut Names,
+) -> Result<Statement, Fault<'a>>
+    ensures read { IsRead modules names.old names.new (ReadsTarget SelectLine (lexemes_from tokens.now 1)) result }
+    ensures names { Extends names.old names.new }
+{
+    let word = target_at(tokens, 1)?;
+    let id = name_number(names, word)?;
+    let when = condition(alloc, tokens, 2, modules, names)?;
+    Ok(Statement::Select(id, when))
+}
+
+fn range_line<'a>(
+    alloc: Global,
+    tokens: &[Token<'a>],
+    modules: Option<SymId>,
+    names: &mut Names,
+) -> Result<Statement, Fault<'a>>
+    ensures read { IsRead modules names.old names.new (ReadsRange (lexemes_from tokens.now 1)) result }
+    ensures names { Extends names.old names.new }
+{
+    let low = operand_at(alloc, tokens, 1, names)?;
+    let high = operand_at(alloc, tokens, 2, names)?;
+    let when = condition(alloc, tokens, 3, modules, names)?;
+    Ok(Statement::Range(low, high, when))
+}
+
+fn option_line<'a>(tokens: &[Token<'a>]) -> Result<Statement, Fault<'a>>
+    ensures { (modules : Option SymId) (names : List (List ℕ)) → IsRead modules names names (λ r. r ≡ spec.option_line (lexemes_from tokens.now 1)) result }
+{
+    if begins_with(tokens, 1, b"modules") {
+        end(tokens, 2)?;
+        return Ok(Statement::Modules);
+    }
+    if begins_with(tokens, 1, b"allnoconfig_y") {
+        end(tokens, 2)?;
+        return Ok(Statement::Ignored);
+    }
+    if begins_with(tokens, 1, b"env") {
+        return Err(left_out(b"option env"));
+    }
+    if begins_with(tokens, 1, b"defconfig_list") {
+        return Err(left_out(b"option defconfig_list"));
+    }
+    Err(syntax())
+}
+
+fn menu_line<'a>(alloc: Global, tokens: &[Token<'a>]) -> Result<Statement, Fault<'a>>
+    ensures { (modules : Option SymId) (names : List (List ℕ)) → IsRead modules names names (ReadsTextLine MenuLine (lexemes_from tokens.now 1)) result }
+{
+    let text = text_at(alloc, tokens, 1)?;
+    end(tokens, 2)?;
+    Ok(Statement::Menu(text))
+}
+
+fn main_menu_line<'a>(alloc: Global, tokens: &[Token<'a>]) -> Result<Statement, Fault<'a>>
+    ensures { (modules : Option SymId) (names : List (List ℕ)) → IsRead modules names names (ReadsTextLine MainMenuLine (lexemes_from tokens.now 1)) result }
+{
+    let text = text_at(alloc, tokens, 1)?;
+    end(tokens, 2)?;
+    Ok(Statement::MainMenu(text))
+}
+
+fn imply_line<'a>(
+    alloc: Global,
+    tokens: &[Token<'a>],
+    modules: Option<SymId>,
+    names: &mut Names,
+) -> Result<Statement, Fault<'a>>
+    ensures read { IsRead modules names.old names.new (ReadsTarget ImplyLine (lexemes_from tokens.now 1)) result }
+    ensures names { Extends names.old names.new }
+{
+    let word = target_at(tokens, 1)?;
+    let id = name_number(names, word)?;
+    let when = condition(alloc, tokens, 2, modules, names)?;
+    Ok(Statement::Imply(id, when))
+}
+
+fn visible_line<'a>(
+    alloc: Global,
+    tokens: &[Token<'a>],
+    modules: Option<SymId>,
+    names: &mut Names,
+) -> Result<Statement, Fault<'a>>
+    ensures read { IsRead modules names.old names.new (ReadsVisible (lexemes_from tokens.now 1)) result }
+    ensures names { Extends names.old names.new }
+{
+    if !begins_with(tokens, 1, b"if") {
+        return Err(syntax());
+    }
+    let when = whole(alloc, tokens, 2, modules, names)?;
+    Ok(Statement::Visible(when))
+}
+
+fn def_line<'a>(
+    alloc: Global,
+    tokens: &[Token<'a>],
+    kind: Kind,
+    modules: Option<SymId>,
+    names: &mut Names,
+) -> Result<Statement, Fault<'a>>
+    requires { 1 ≤ length tokens.now }
+    ensures read { IsRead modules names.old names.new (ReadsValue (DefLine kind) (lexemes_from tokens.now 1)) result }
+    ensures names { Extends names.old names.new }
+{
+    let (value, after) = front(alloc, tokens, 1, None, names)?;
+    let when = condition(alloc, tokens, after, modules, names)?;
+    Ok(Statement::Def(kind, value, when))
+}
+
+fn asked_type<'a>(
+    alloc: Global,
+    tokens: &[Token<'a>],
+    kind: Kind,
+    modules: Option<SymId>,
+    names: &mut Names,
+) -> Result<Statement, Fault<'a>>
+    ensures read { IsRead modules names.old names.new (ReadsAsked (λ p. TypeLine kind (Some p)) (lexemes_from tokens.now 1)) result }
+    ensures names { Extends names.old names.new }
+{
+    let text = text_at(alloc, tokens, 1)?;
+    let when = condition(alloc, tokens, 2, modules, names)?;
+    Ok(Statement::Type(kind, Some(Prompt { text, when })))
+}
+
+fn type_line<'a>(
+    alloc: Global,
+    tokens: &[Token<'a>],
+    kind: Kind,
+    modules: Option<SymId>,
+    names: &mut Names,
+) -> Result<Statement, Fault<'a>>
+    ensures read { IsRead modules names.old names.new (ReadsType kind (lexemes_from tokens.now 1)) result }
+    ensures names { Extends names.old names.new }
+{
+    match next(tokens, 1) {
+        Some(_) => asked_type(alloc, tokens, kind, modules, names),
+        None => Ok(Statement::Type(kind, None)),
+    }
+}
+
+// What follows the first word.
+fn rest_of_line<'a>(
+    alloc: Global,
+    tokens: &[Token<'a>],
+    word: &'a [u8],
+    keyword: Keyword,
+    modules: Option<SymId>,
+    names: &mut Names,
+) -> Result<Statement, Fault<'a>>
+    requires { 1 ≤ length tokens.now }
+    ensures read { IsRead modules names.old names.new (ReadsRest word.now keyword (lexemes_from tokens.now 1)) result }
+    ensures names { Extends names.old names.new }
+{
+    match keyword {
+        Keyword::Config => config_line(tokens, names),
+        Keyword::If => if_line(alloc, tokens, modules, names),
+        Keyword::EndIf => end_line(tokens, Statement::EndIf),
+        Keyword::Comment => comment_line(alloc, tokens),
+        Keyword::Source => source_line(alloc, tokens),
+        Keyword::Menu => menu_line(alloc, tokens),
+        Keyword::EndMenu => end_line(tokens, Statement::EndMenu),
+        Keyword::Choice => choice_line(tokens),
+        Keyword::EndChoice => end_line(tokens, Statement::EndChoice),
+        Keyword::MainMenu => main_menu_line(alloc, tokens),
+        Keyword::Type(kind) => type_line(alloc, tokens, kind, modules, names),
+        Keyword::Prompt => prompt_line(alloc, tokens, modules, names),
+        Keyword::Default => default_line(alloc, tokens, modules, names),
+        Keyword::Def(kind) => def_line(alloc, tokens, kind, modules, names),
+        Keyword::Depends => depends_line(alloc, tokens, modules, names),
+        Keyword::Visible => visible_line(alloc, tokens, modules, names),
+        Keyword::Select => select_line(alloc, tokens, modules, names),
+        Keyword::Imply => imply_line(alloc, tokens, modules, names),
+        Keyword::Range => range_line(alloc, tokens, modules, names),
+        Keyword::Help => end_line(tokens, Statement::Help),
+        Keyword::Modules => end_line(tokens, Statement::Modules),
+        Keyword::Option => option_line(tokens),
+        Keyword::LeftOut => Err(left_out(word)),
+    }
+}
+
+/// The statement of a line that has tokens, or why it is refused.
+pub fn read_line<'a>(
+    alloc: Global,
+    tokens: &[Token<'a>],
+    context: Context,
+    modules: Option<SymId>,
+    names: &mut Names,
+) -> Result<Statement, Fault<'a>>
+    ensures read { IsRead modules names.old names.new (ReadsLine context (lexemes_from tokens.now 0)) result }
+    ensures names { Extends names.old names.new }
+{
+    let word = word_at(tokens, 0)?;
+    let Some(keyword) = keyword_of(word) else {
+        return Err(syntax());
+    };
+    if let Some(fault) = place_fault(context, word, tokens, keyword) {
+        return Err(fault);
+    }
+    rest_of_line(alloc, tokens, word, keyword, modules, names)
+}

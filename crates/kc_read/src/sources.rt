@@ -1,0 +1,84 @@
+//! The files that a file names in its `source` lines.
+
+ghost use Rattle.std.specs.Prelude.{◌≡◌, ◌≢◌, ◌<◌, IfOk, length, map, None};
+ghost use Rattle.kc_text.specs.Lines.{left};
+ghost use Rattle.kc_text.specs.declared.faults.TextFault.TheVariants.{Memory};
+ghost use Rattle.kc_read.specs.declared.sources.Found.TheVariants.{Nothing};
+ghost use Rattle.kc_read.specs.Sources as spec;
+ghost use Rattle.kc_read.specs.Sources.{GoesOn, IsFound};
+
+use crate::parts::begins_with;
+use crate::reader::source_name;
+use crate::refusal::Code;
+use crate::step::begins_help;
+use kc_text::{LogicalLines, TextFault, lex};
+use std::alloc::{AllocError, Global};
+
+/// What the next line says: no name and none after it, none, or this one.
+#[derive(Debug, Drop)]
+pub enum Found {
+    Nothing,
+    Other,
+    Name(Vec<u8>),
+}
+
+// A line that is too long or cannot be cut is followed by no name.
+fn ended(fault: TextFault) -> Result<Found, AllocError>
+    ensures { IfOk result (λ f. (f ≡ Nothing) × (fault ≢ Memory)) }
+{
+    match fault {
+        TextFault::Memory => Err(AllocError),
+        TextFault::LineTooLong(_) | TextFault::BadToken | TextFault::Macro => Ok(Found::Nothing),
+    }
+}
+
+// What the next line of a file says.
+fn next_source(alloc: Global, lines: &mut LogicalLines) -> Result<Found, AllocError>
+    requires { lines.old.refusal ≡ None }
+    ensures found { IfOk result (IsFound lines.old lines.new) }
+    ensures clear { IfOk result (λ f. GoesOn f → lines.new.refusal ≡ None) }
+    ensures less { IfOk result (λ f. GoesOn f → length lines.new.lines < length lines.old.lines) }
+{
+    let mut text = Vec::new(alloc);
+    match lines.next_into(&mut text) {
+        Ok(Some(_)) => {}
+        Ok(None) => return Ok(Found::Nothing),
+        Err(fault) => return ended(fault),
+    }
+    let mut tokens = Vec::new(alloc);
+    match lex(&text, &mut tokens) {
+        Ok(()) => {}
+        Err(fault) => return ended(fault),
+    }
+    if begins_help(&tokens) {
+        lines.skip_help();
+    }
+    if !begins_with(&tokens, 0, b"source") {
+        return Ok(Found::Other);
+    }
+    match source_name(alloc, &tokens) {
+        Ok(name) => Ok(Found::Name(name)),
+        Err(fault) => match fault.code {
+            Code::Memory => Err(AllocError),
+            _ => Ok(Found::Nothing),
+        },
+    }
+}
+
+/// The names of the file's `source` lines in order, up to the first line that is too long or cannot be cut into tokens,
+/// or to the first `source` line whose rest is refused, whichever comes first. Help lines are passed over.
+///
+/// Its only error is want of memory.
+pub fn sources_of(alloc: Global, file: &[u8]) -> Result<Vec<Vec<u8>>, AllocError>
+    ensures { IfOk result (λ names. spec.Names (left file.now 1) (map (λ n. n.items) names.items)) }
+{
+    let mut names = Vec::new(alloc);
+    let mut lines = LogicalLines::new(file);
+    'along: loop {
+        match next_source(alloc, &mut lines)? {
+            Found::Nothing => return Ok(names),
+            Found::Other => {}
+            Found::Name(name) => names.push(name)?,
+        }
+    }
+}

@@ -1,0 +1,134 @@
+//! The statement of a line.
+
+ghost use Rattle.std.specs.Prelude.{◌≡◌};
+ghost use Rattle.kc_read.specs.declared.refusal.Code.TheVariants.{Memory};
+
+use crate::refusal::Code;
+use kc_expr::expression::{Expr, Kind, Operand, SymId};
+use std::alloc::{AllocError, AllocFailed};
+
+/// A prompt's text and its condition.
+#[derive(Debug, Drop)]
+pub struct Prompt {
+    pub text: Vec<u8>,
+    pub when: Option<Expr>,
+}
+
+/// A line's statement.
+#[derive(Debug, Drop)]
+pub enum Statement {
+    Config(SymId),
+    If(Expr),
+    EndIf,
+    Comment(Vec<u8>),
+    Source(Vec<u8>),
+    Menu(Vec<u8>),
+    EndMenu,
+    Choice,
+    EndChoice,
+    MainMenu(Vec<u8>),
+    Type(Kind, Option<Prompt>),
+    Prompt(Prompt),
+    Default(Expr, Option<Expr>),
+    Def(Kind, Expr, Option<Expr>),
+    Depends(Expr),
+    Visible(Expr),
+    Select(SymId, Option<Expr>),
+    Imply(SymId, Option<Expr>),
+    Range(Operand, Operand, Option<Expr>),
+    Help,
+    Modules,
+    Ignored,
+}
+
+/// What a first word says.
+#[derive(Clone, Copy, Debug, PartialEq, Eq)]
+pub enum Keyword {
+    Config,
+    If,
+    EndIf,
+    Comment,
+    Source,
+    Menu,
+    EndMenu,
+    Choice,
+    EndChoice,
+    MainMenu,
+    Type(Kind),
+    Prompt,
+    Default,
+    Def(Kind),
+    Depends,
+    Visible,
+    Select,
+    Imply,
+    Range,
+    Help,
+    Modules,
+    Option,
+    LeftOut,
+}
+
+/// A block.
+#[derive(Clone, Copy, Debug, PartialEq, Eq)]
+pub enum Block {
+    If,
+    Menu,
+    Choice,
+}
+
+/// The line that opened a block.
+#[derive(Clone, Copy, Debug)]
+pub struct Opener {
+    pub block: Block,
+    pub line: u32,
+}
+
+/// The entry to which an attribute would belong.
+#[derive(Clone, Copy, Debug, PartialEq, Eq)]
+pub enum Entry {
+    Nothing,
+    Config,
+    Choice,
+    Menu,
+    Comment,
+}
+
+/// What surrounds a line: the entry that it may add to, the innermost open block of its own file, whether a choice
+/// is open, and whether the line may be one of the modules symbol's.
+#[derive(Clone, Copy, Debug)]
+pub struct Context {
+    pub entry: Entry,
+    pub own: Option<Block>,
+    pub in_choice: bool,
+    pub modules: bool,
+}
+
+/// Why a line is refused: a kind, and the word or name that it is about.
+#[derive(Clone, Copy, Debug)]
+pub struct Fault<'a> {
+    pub code: Code,
+    pub detail: &'a [u8],
+}
+
+impl<'a> From<AllocError> for Fault<'a> {
+    ghost from_gives = { λ _ e. e.code ≡ Memory };
+
+    fn from(_e: AllocError) -> Fault<'a> {
+        Fault {
+            code: Code::Memory,
+            detail: b"",
+        }
+    }
+}
+
+impl<'a, T: Drop> From<AllocFailed<T>> for Fault<'a> {
+    ghost from_gives = { λ _ e. e.code ≡ Memory };
+
+    fn from(_e: AllocFailed<T>) -> Fault<'a> {
+        Fault {
+            code: Code::Memory,
+            detail: b"",
+        }
+    }
+}
