@@ -1,0 +1,18 @@
+use Rattle.std.proofs.Common.{map}
+use Rattle.kc_read.specs.Reads.{line_view}
+use Rattle.kc_tree.specs.Late.{IsDiagnosis}
+use Rattle.kc_tree.specs.declared.diagnoses.Diagnosis.TheVariants as diagnosis
+use Rattle.kc_tree.proofs.AssemblyLemmas.{whole}
+use Rattle.kc_tree.proofs.assembly.assemble.Goals as goal
+
+pub returns : goal.returns
+returns c =
+    let said : IsDiagnosis c.args.names.now (map line_view c.args.lines.now) (diagnosis.Warned c.in-Warned.warnings) = (rw c.in-Warned.is at c.in_ok-refusal.ensures) in
+    whole c.args.names.now c.args.count c.args.modules c.args.lines.now (record {
+      symbols = c.in_ok-symbols.symbols;
+      choices = c.in_ok-choices-in-Warned.field-0;
+      entries = c.in_ok-entries-in-Warned.field-0;
+      warnings = c.in-Warned.warnings;
+      main_menu = c.in_ok-main_menu-in-Warned.field-0;
+      modules = c.defined.result;
+    }) said.0 c.in_ok-symbols.ensures c.in_ok-choices-in-Warned.ensures c.in_ok-entries-in-Warned.ensures said.1 c.in_ok-main_menu-in-Warned.ensures c.defined.ensures

@@ -1,0 +1,42 @@
+use Rattle.std.proofs.Common.{◌≡◌, ◌∙◌, ap, arith, length, map}
+use Rattle.std.specs.Option.{option_map}
+use Rattle.kc_tree.specs.declared.parts.ChoiceId.{ChoiceId}
+use Rattle.kc_tree.specs.Facts.{opener_of}
+use Rattle.kc_tree.specs.Passes.{said_by}
+use Rattle.kc_tree.specs.RoundViews.{round_view}
+use Rattle.kc_tree.proofs.LateLemmas.{from_start, from_next, from_here, from_end, is_bad_config, bad_config-is, mode_is}
+use Rattle.kc_tree.proofs.OpenerLemmas.{length-said_by}
+use Rattle.kc_tree.proofs.PlaceLemmas.{length-map_numbers}
+use Rattle.kc_tree.proofs.WarningLemmas.{is_place}
+use Rattle.kc_tree.proofs.late.first_bad_member.Goals as goal
+
+pub loop-i-init : goal.loop-i-init
+loop-i-init c = from_start (is_bad_config c.args.lines.now) (length (said_by c.args.lines.now))
+
+pub around-requires : goal.around-requires
+around-requires c =
+    let n : length c.args.openers.now ≡ length c.args.lines.now = ap length c.requires.openers ∙ length-map_numbers (opener_of (said_by c.args.lines.now)) (length c.args.lines.now) in
+    omega arith
+
+pub at-requires : goal.at-requires
+at-requires c =
+    is_place (said_by c.args.lines.now) c.args.marks.now c.loop-i.i c.requires.marks (omega (arith, length-said_by c.args.lines.now))
+
+pub returns-then-is_bad_member-clause-first : goal.returns-then-is_bad_member-clause-first
+returns-then-is_bad_member-clause-first c =
+    let ls = c.args.lines.now in
+    let mode = mode_is ls c.loop-i.i c.args.openers.now (map round_view c.args.insides.now) (round_view c.outside-outside.result) (round_view c.around.result.now) c.loop-i-test.true c.requires.openers c.requires.insides c.outside-outside.ensures c.around.ensures in
+    let test = bad_config-is ls c.loop-i.i c.index-lines-i.result c.args.symbols.now c.args.marks.now c.at.result (option_map (λ (k : ChoiceId). k.0) c.around.result.now.mode) c.is_bad_member.result c.requires.symbols c.requires.marks c.loop-i-test.true c.index-lines-i.is c.at.ensures mode c.is_bad_member.ensures in
+    from_here (is_bad_config ls) (length (said_by ls)) c.loop-i.i c.loop-i.invariant (omega (arith, length-said_by ls)) (test ∙ c.if-is_bad_member.true)
+
+pub loop-i-preserved : goal.loop-i-preserved
+loop-i-preserved c =
+    let ls = c.args.lines.now in
+    let mode = mode_is ls c.loop-i.i c.args.openers.now (map round_view c.args.insides.now) (round_view c.outside-outside.result) (round_view c.around.result.now) c.loop-i-test.true c.requires.openers c.requires.insides c.outside-outside.ensures c.around.ensures in
+    let test = bad_config-is ls c.loop-i.i c.index-lines-i.result c.args.symbols.now c.args.marks.now c.at.result (option_map (λ (k : ChoiceId). k.0) c.around.result.now.mode) c.is_bad_member.result c.requires.symbols c.requires.marks c.loop-i-test.true c.index-lines-i.is c.at.ensures mode c.is_bad_member.ensures in
+    from_next (is_bad_config ls) (length (said_by ls)) c.loop-i.i c.loop-i.invariant (omega (arith, length-said_by ls)) (test ∙ c.if-is_bad_member.false)
+
+pub returns-clause-first : goal.returns-clause-first
+returns-clause-first c =
+    let ls = c.args.lines.now in
+    from_end (is_bad_config ls) (length (said_by ls)) c.loop-i.i c.loop-i.invariant (omega (arith, length-said_by ls))

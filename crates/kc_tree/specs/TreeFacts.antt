@@ -1,0 +1,112 @@
+-- What a tree says, without where it lies in memory.
+use Rattle.std.specs.Prelude.{◌≡◌, ℕ, true, ◌<◌, ◌≤◌, List, length, Option, Some, None, slice_get, Contains, All}
+use Rattle.kc_expr.specs.declared.expression.SymId.{SymId}
+use Rattle.kc_expr.specs.declared.expression.Kind.{Kind}
+use Rattle.kc_expr.specs.declared.expression.Kind.TheVariants as kind
+use Rattle.kc_expr.specs.Form.{Form, Leaf}
+use Rattle.kc_read.specs.Lines.{is_name_byte}
+
+-- the `&&` of its parts, and of that choice's mode
+pub record Condition : Type 0 where
+  pub parts : List Form
+  pub mode : Option ℕ
+
+-- something that counts under a condition
+pub record Guarded (X : Type 0) : Type 0 where
+  pub what : X
+  pub when : Condition
+
+pub record Bounds : Type 0 where
+  pub low : Leaf
+  pub high : Leaf
+
+pub record SymbolFacts : Type 0 where
+  pub kind : Kind
+  pub choice : Option ℕ
+  pub deps : List Condition
+  pub prompts : List Condition
+  pub defaults : List (Guarded Form)
+  pub ranges : List (Guarded Bounds)
+  pub selectors : List (Guarded SymId)
+  pub impliers : List (Guarded SymId)
+
+pub record ChoiceFacts : Type 0 where
+  pub prompt : Option Condition
+  pub defaults : List (Guarded SymId)
+  pub members : List SymId
+
+-- a symbol at its first definition; a menu or comment with its text and the condition under which it is shown; the end
+-- of a menu, with that menu's place among the entries
+pub data Shown : Type 0 where
+  SymbolShown : SymId → Shown
+  MenuShown : List ℕ → Condition → Shown
+  EndShown : ℕ → Shown
+  CommentShown : List ℕ → Condition → Shown
+
+-- Symbol i is the i-th by first definition: its name is name i, its facts are facts i. The names after those of the
+-- symbols are not defined. `modules` is None where the modules symbol is not defined.
+pub record TreeFacts : Type 0 where
+  pub names : List (List ℕ)
+  pub symbols : List SymbolFacts
+  pub choices : List ChoiceFacts
+  pub entries : List Shown
+  pub warnings : List (List ℕ)
+  pub main_menu : List ℕ
+  pub modules : Option SymId
+
+-- What holds of the facts of every tree.
+
+-- 1 to 255 bytes of `A` to `Z`, `a` to `z`, `0` to `9` and `_`
+pub record IsSymbolName (name : List ℕ) : Type 0 where
+  pub some : 0 < length name
+  pub short : length name ≤ 255
+  pub bytes : All (λ b. is_name_byte b ≡ true) name
+
+-- a condition names only choices that there are
+abbrev pub IsModeBelow : ℕ → Condition → Type 0
+IsModeBelow n c = (k : ℕ) → c.mode ≡ Some k → k < n
+
+abbrev pub IsDefined : TreeFacts → SymId → Type 0
+IsDefined t s = s.0 < length t.symbols
+
+-- the lines of one symbol name only choices and symbols that there are
+pub record AreLinesSound (t : TreeFacts) (f : SymbolFacts) : Type 0 where
+  pub deps : All (IsModeBelow (length t.choices)) f.deps
+  pub prompts : All (IsModeBelow (length t.choices)) f.prompts
+  pub defaults : All (λ (g : Guarded Form). IsModeBelow (length t.choices) g.when) f.defaults
+  pub ranges : All (λ (g : Guarded Bounds). IsModeBelow (length t.choices) g.when) f.ranges
+  pub selectors : All (λ (g : Guarded SymId). IsDefined t g.what × IsModeBelow (length t.choices) g.when) f.selectors
+  pub impliers : All (λ (g : Guarded SymId). IsDefined t g.what × IsModeBelow (length t.choices) g.when) f.impliers
+
+-- s is a member of choice k, and is a bool
+abbrev pub IsMemberOf : TreeFacts → ℕ → SymId → Type 0
+IsMemberOf t k s = (f : SymbolFacts) × (slice_get t.symbols s.0 ≡ Some f) × (f.choice ≡ Some k) × (f.kind ≡ kind.Bool)
+
+-- the members of a choice are its own; its defaults are some of them; no condition of it asks for a choice's mode
+pub record IsChoiceSound (t : TreeFacts) (k : ℕ) (c : ChoiceFacts) : Type 0 where
+  pub members : All (IsMemberOf t k) c.members
+  pub defaults : All (λ (g : Guarded SymId). Contains c.members g.what × (g.when.mode ≡ None)) c.defaults
+  pub prompt : (when : Condition) → c.prompt ≡ Some when → when.mode ≡ None
+
+-- a member stands among the members of its choice
+abbrev pub IsListed : TreeFacts → SymId → SymbolFacts → Type 0
+IsListed t s f = (k : ℕ) → f.choice ≡ Some k → (c : ChoiceFacts) × (slice_get t.choices k ≡ Some c) × Contains c.members s
+
+-- an entry at a place names what there is
+abbrev pub IsEntrySound : TreeFacts → ℕ → Shown → Type 0
+IsEntrySound t i (SymbolShown s) = IsDefined t s
+IsEntrySound t i (MenuShown text when) = IsModeBelow (length t.choices) when
+IsEntrySound t i (EndShown menu) =
+    (menu < i) × ((text : List ℕ) × (when : Condition) × (slice_get t.entries menu ≡ Some (MenuShown text when)))
+IsEntrySound t i (CommentShown text when) = IsModeBelow (length t.choices) when
+
+pub record IsWellFormed (t : TreeFacts) : Type 0 where
+  pub names_differ : (i j : ℕ) (name : List ℕ) → slice_get t.names i ≡ Some name → slice_get t.names j ≡ Some name → i ≡ j
+  pub names_known : length t.symbols ≤ length t.names
+  pub names_allowed : (i : ℕ) (name : List ℕ) → i < length t.symbols → slice_get t.names i ≡ Some name → IsSymbolName name
+  pub symbols_few : length t.symbols ≤ 65535
+  pub lines_sound : All (AreLinesSound t) t.symbols
+  pub members_listed : (i : ℕ) (f : SymbolFacts) → slice_get t.symbols i ≡ Some f → IsListed t (record { 0 = i }) f
+  pub choices_sound : (k : ℕ) (c : ChoiceFacts) → slice_get t.choices k ≡ Some c → IsChoiceSound t k c
+  pub entries_sound : (i : ℕ) (e : Shown) → slice_get t.entries i ≡ Some e → IsEntrySound t i e
+  pub modules_defined : (s : SymId) → t.modules ≡ Some s → IsDefined t s

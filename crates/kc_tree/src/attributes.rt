@@ -1,0 +1,111 @@
+//! The attributes of an entry, and what they say of it.
+
+ghost use Rattle.std.specs.Prelude.{◌≡◌, ◌<◌, ◌≤◌, ◌+◌, ◌++◌, length, drop, map, option_map, IfOk, OnOk, Some};
+ghost use Rattle.std.specs.List.{filter_map, prefix_len};
+ghost use Rattle.kc_expr.specs.Form.{form_of};
+ghost use Rattle.kc_read.specs.Blocks as blocks;
+ghost use Rattle.kc_read.specs.Reads.{asked_view, statement_view};
+ghost use Rattle.kc_tree.specs.Facts as facts;
+ghost use Rattle.kc_tree.specs.Passes.{said_by, asks_form};
+
+use crate::copies::expression_copy;
+use crate::lines::{asked_of, depends_of, is_attribute, type_of, visible_of};
+use kc_expr::expression::{Expr, Kind};
+use kc_read::line::Line;
+use kc_read::statement::{Prompt, Statement};
+use std::alloc::{AllocError, Global};
+
+// How many attributes lines begin with.
+fn attribute_count(lines: &[Line]) -> usize
+    ensures count { result ≡ prefix_len blocks.is_attribute (said_by lines.now) }
+    ensures within { result ≤ length lines.now }
+{
+    for (i, line) in lines.iter().enumerate() {
+        if !is_attribute(&line.statement) {
+            return i;
+        }
+    }
+    lines.len()
+}
+
+/// The attributes of the entry at a place.
+pub fn attributes(lines: &[Line], place: usize) -> &[Line]
+    requires { place < length lines.now }
+    ensures { said_by result.now ≡ blocks.attributes (said_by lines.now) place }
+{
+    let rest = &lines[place + 1..];
+    let count = attribute_count(rest);
+    &rest[..count]
+}
+
+/// The first type that attributes give.
+pub fn first_type(attributes: &[Line]) -> Option<Kind>
+    ensures { result ≡ facts.first_of (filter_map facts.type_of (said_by attributes.now)) }
+{
+    for line in attributes {
+        if let Some(kind) = type_of(&line.statement) {
+            return Some(kind);
+        }
+    }
+    None
+}
+
+/// The prompt that counts of several: the last.
+pub fn last_prompt(attributes: &[Line]) -> Option<&Prompt>
+    ensures { option_map (λ p. asked_view p.now) result ≡ blocks.last_of (filter_map facts.asked_of (said_by attributes.now)) }
+{
+    let mut last = None;
+    for line in attributes {
+        last = asked_of(&line.statement).or(last);
+    }
+    last
+}
+
+/// What lines can ask for: that an entry may be there at all, or that it is shown.
+#[derive(Clone, Copy, Debug, PartialEq, Eq)]
+pub enum Asks {
+    Depends,
+    Visible,
+}
+
+// The expression of a line that asks for it.
+fn asks_of(statement: &Statement, asks: Asks) -> Option<&Expr>
+    ensures { option_map (λ e. form_of e.now) result ≡ asks_form asks (statement_view statement.now) }
+{
+    match asks {
+        Asks::Depends => depends_of(statement),
+        Asks::Visible => visible_of(statement),
+    }
+}
+
+// The expressions of the lines that ask for it.
+fn asked_parts(alloc: Global, attributes: &[Line], asks: Asks) -> Result<Vec<Expr>, AllocError>
+    ensures { IfOk result (λ v. map form_of v.items ≡ filter_map (asks_form asks) (said_by attributes.now)) }
+{
+    let mut parts = Vec::new(alloc);
+    for line in attributes {
+        if let Some(part) = asks_of(&line.statement, asks) {
+            parts.push(expression_copy(alloc, part)?)?;
+        }
+    }
+    Ok(parts)
+}
+
+// None, one, or the `&&` of two and more.
+fn conjunction(mut parts: Vec<Expr>) -> Option<Expr>
+    ensures { facts.listed (option_map form_of result) ≡ facts.joined (map form_of parts.items) }
+{
+    if parts.len() < 2 {
+        parts.pop()
+    } else {
+        Some(Expr::All(parts))
+    }
+}
+
+/// What the lines ask for together.
+pub fn joined(alloc: Global, attributes: &[Line], asks: Asks) -> Result<Option<Expr>, AllocError>
+    ensures { IfOk result (λ o. facts.listed (option_map form_of o) ≡ facts.joined (filter_map (asks_form asks) (said_by attributes.now))) }
+{
+    let parts = asked_parts(alloc, attributes, asks)?;
+    Ok(conjunction(parts))
+}

@@ -1,0 +1,146 @@
+//! The choices: their prompts, their defaults and their members.
+
+ghost use Rattle.std.specs.Prelude.{◌≡◌, ◌<◌, ◌++◌, [], length, map, option_map, IfOk};
+ghost use Rattle.std.specs.List.{filter_map, list_any};
+ghost use Rattle.kc_expr.specs.Form.{form_of};
+ghost use Rattle.kc_read.specs.Blocks.{numbers, bracket, opened};
+ghost use Rattle.kc_read.specs.Reads.{statement_view};
+ghost use Rattle.kc_read.specs.declared.statement.Block.TheVariants as block;
+ghost use Rattle.kc_tree.specs.Choices.{named_view, named_member, member_line, choice_from};
+ghost use Rattle.kc_tree.specs.Facts.{choice_number, choices, is_block, opener_of, same_symbol};
+ghost use Rattle.kc_tree.specs.Passes.{said_by};
+ghost use Rattle.kc_tree.specs.RoundViews.{round_view};
+ghost use Rattle.kc_tree.specs.Rounds.{inside_table};
+ghost use Rattle.kc_tree.specs.Views.{choice_facts_of, condition_of};
+ghost use Rattle.kc_tree.specs.Views as views;
+
+use crate::attributes::attributes;
+use crate::conditions::{dependency, prompt_condition, under};
+use crate::lines::{given_of, single_symbol};
+use crate::members::members;
+use crate::parts::{Choice, Cond};
+use crate::round::{Round, around, next_count, outside};
+use kc_expr::expression::{Expr, SymId};
+use kc_read::line::Line;
+use kc_read::statement::Statement;
+use std::alloc::{AllocError, Global};
+
+/// A member that a default names, and the default's condition.
+#[derive(Clone, Copy)]
+pub struct Named<'a> {
+    pub member: SymId,
+    pub when: Option<&'a Expr>,
+}
+
+// The line opens a choice.
+fn is_choice(statement: &Statement) -> bool
+    ensures { result ≡ is_block block.Choice (opened (bracket (statement_view statement.now))) }
+{
+    match statement {
+        Statement::Choice => true,
+        _ => false,
+    }
+}
+
+// The symbol stands among these.
+fn is_listed(members: &[SymId], symbol: SymId) -> bool
+    ensures { result ≡ list_any (same_symbol symbol) members.now }
+{
+    for member in members {
+        if symbol.0 == member.0 {
+            return true;
+        }
+    }
+    false
+}
+
+// What a default names, where that is a member.
+fn named_member<'a>(statement: &'a Statement, members: &[SymId]) -> Option<Named<'a>>
+    ensures { option_map named_view result ≡ named_member members.now (statement_view statement.now) }
+{
+    match given_of(statement) {
+        Some(given) => match single_symbol(given.value) {
+            Some(symbol) => is_listed(members, symbol).then_some(Named {
+                member: symbol,
+                when: given.when,
+            }),
+            None => None,
+        },
+        None => None,
+    }
+}
+
+// A choice's defaults that name a member.
+fn member_defaults(
+    alloc: Global,
+    own: &[Line],
+    dep: &Cond,
+    members: &[SymId],
+) -> Result<Vec<(SymId, Cond)>, AllocError>
+    ensures { IfOk result (λ v. map views.named_view v.items ≡ filter_map (member_line members.now (condition_of dep.now)) (said_by own.now)) }
+{
+    let mut defaults = Vec::new(alloc);
+    for line in own {
+        if let Some(named) = named_member(&line.statement, members) {
+            let when = under(alloc, dep, named.when)?;
+            defaults.push((named.member, when))?;
+        }
+    }
+    Ok(defaults)
+}
+
+// The choice with these attributes and members.
+fn choice(
+    alloc: Global,
+    own: &[Line],
+    around: &Round,
+    members: &[SymId],
+) -> Result<Choice, AllocError>
+    ensures { IfOk result (λ c. choice_facts_of c ≡ choice_from (round_view around.now) (said_by own.now) members.now) }
+{
+    let dep = dependency(alloc, own, around)?;
+    let prompt = prompt_condition(alloc, own, around, &dep)?;
+    let defaults = member_defaults(alloc, own, &dep, members)?;
+    let members = Vec::from_slice(alloc, members)?;
+    Ok(Choice {
+        prompt,
+        defaults,
+        members,
+    })
+}
+
+// How many choices the lines open.
+fn choice_count(lines: &[Line]) -> usize
+    ensures { result ≡ choice_number (said_by lines.now) (length lines.now) }
+{
+    let mut count = 0;
+    for line in lines {
+        count = next_count(&line.statement, count);
+    }
+    count
+}
+
+/// The choices, in order.
+pub fn choices(
+    alloc: Global,
+    lines: &[Line],
+    openers: &[Option<usize>],
+    insides: &[Round],
+) -> Result<Vec<Choice>, AllocError>
+    requires openers { openers.now ≡ map (opener_of (said_by lines.now)) (numbers (length lines.now)) }
+    requires insides { map round_view insides.now ≡ map (inside_table (said_by lines.now)) (numbers (length lines.now)) }
+    ensures { IfOk result (λ v. map choice_facts_of v.items ≡ choices (said_by lines.now)) }
+{
+    let members = members(alloc, lines, openers, insides, choice_count(lines))?;
+    let mut choices = Vec::new(alloc);
+    let outside = outside(alloc);
+    for (i, line) in lines.iter().enumerate() {
+        if is_choice(&line.statement) {
+            let around = around(openers, insides, &outside, i);
+            let own = attributes(lines, i);
+            let choice = choice(alloc, own, around, &members[choices.len()])?;
+            choices.push(choice)?;
+        }
+    }
+    Ok(choices)
+}

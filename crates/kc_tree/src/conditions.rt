@@ -1,0 +1,147 @@
+//! The conditions of an entry.
+
+ghost use Rattle.std.specs.Prelude.{◌≡◌, ◌++◌, map, option_map, IfOk, OnOk};
+ghost use Rattle.std.specs.List.{filter_map};
+ghost use Rattle.kc_expr.specs.Form.{form_of, leaf_of};
+ghost use Rattle.kc_tree.specs.Conditions.{with_when, with_visible, default_line, range_line, dep_of, prompt_of, shown_of};
+ghost use Rattle.kc_tree.specs.Passes.{said_by};
+ghost use Rattle.kc_tree.specs.RoundViews.{round_view};
+ghost use Rattle.kc_tree.specs.Views.{condition_of, default_view, range_view};
+
+use crate::attributes::{Asks, joined, last_prompt};
+use crate::copies::{expression_copy, operand_copy};
+use crate::lines::{given_of, range_of};
+use crate::parts::Cond;
+use crate::round::{Round, shares, with_part};
+use kc_expr::expression::{Expr, Operand};
+use kc_read::line::Line;
+use std::alloc::{AllocError, Global};
+use std::rc::Rc;
+
+// A copy of an expression that may be there.
+fn optional_copy(alloc: Global, e: Option<&Expr>) -> Result<Option<Expr>, AllocError>
+    ensures { IfOk result (λ o. option_map form_of o ≡ option_map (λ x. form_of x.now) e.entry) }
+{
+    match e {
+        Some(e) => Ok(Some(expression_copy(alloc, e)?)),
+        None => Ok(None),
+    }
+}
+
+/// The condition, and one more part where there is one.
+pub fn under(alloc: Global, base: &Cond, when: Option<&Expr>) -> Result<Cond, AllocError>
+    ensures { IfOk result (λ c. condition_of c ≡ with_when (condition_of base.now) (option_map (λ x. form_of x.now) when.entry)) }
+{
+    let more = optional_copy(alloc, when)?;
+    let parts = with_part(alloc, &base.parts, more)?;
+    Ok(Cond {
+        parts,
+        mode: base.mode,
+    })
+}
+
+// The parts of both.
+fn both(alloc: Global, first: &[Rc<Expr>], second: &[Rc<Expr>]) -> Result<Vec<Rc<Expr>>, AllocError>
+    ensures { IfOk result (λ v. map (λ p. form_of p.value) v.items ≡ map (λ p. form_of p.value) first.now ++ map (λ p. form_of p.value) second.now) }
+{
+    let mut all = shares(alloc, first)?;
+    for part in second {
+        all.push(part.clone()?)?;
+    }
+    Ok(all)
+}
+
+// The condition, and what menus ask of prompts.
+fn seen(alloc: Global, base: &Cond, visible: &[Rc<Expr>]) -> Result<Cond, AllocError>
+    ensures { IfOk result (λ c. condition_of c ≡ with_visible (condition_of base.now) (map (λ p. form_of p.value) visible.now)) }
+{
+    let parts = both(alloc, &base.parts, visible)?;
+    Ok(Cond {
+        parts,
+        mode: base.mode,
+    })
+}
+
+/// What an entry depends on.
+pub fn dependency(alloc: Global, own: &[Line], around: &Round) -> Result<Cond, AllocError>
+    ensures { IfOk result (λ c. condition_of c ≡ dep_of (round_view around.now) (said_by own.now)) }
+{
+    let more = joined(alloc, own, Asks::Depends)?;
+    let parts = with_part(alloc, &around.parts, more)?;
+    Ok(Cond {
+        parts,
+        mode: around.mode,
+    })
+}
+
+/// The condition of an entry's prompt, where it has one.
+pub fn prompt_condition(
+    alloc: Global,
+    own: &[Line],
+    around: &Round,
+    dep: &Cond,
+) -> Result<Option<Cond>, AllocError>
+    requires { condition_of dep.now ≡ dep_of (round_view around.now) (said_by own.now) }
+    ensures { IfOk result (λ o. option_map condition_of o ≡ prompt_of (round_view around.now) (said_by own.now)) }
+{
+    match last_prompt(own) {
+        Some(prompt) => {
+            let base = seen(alloc, dep, &around.visible)?;
+            Ok(Some(under(alloc, &base, prompt.when.as_ref())?))
+        }
+        None => Ok(None),
+    }
+}
+
+/// The condition under which a menu is shown.
+pub fn menu_condition(alloc: Global, own: &[Line], around: &Round) -> Result<Cond, AllocError>
+    ensures { IfOk result (λ c. condition_of c ≡ shown_of (round_view around.now) (said_by own.now)) }
+{
+    let dep = dependency(alloc, own, around)?;
+    let base = seen(alloc, &dep, &around.visible)?;
+    let more = joined(alloc, own, Asks::Visible)?;
+    let parts = with_part(alloc, &base.parts, more)?;
+    Ok(Cond {
+        parts,
+        mode: base.mode,
+    })
+}
+
+/// Adds an entry's defaults.
+pub fn add_defaults(
+    alloc: Global,
+    own: &[Line],
+    dep: &Cond,
+    defaults: &mut Vec<(Expr, Cond)>,
+) -> Result<(), AllocError>
+    ensures { OnOk result (map default_view defaults.new.items ≡ map default_view defaults.old.items ++ filter_map (default_line (condition_of dep.now)) (said_by own.now)) }
+{
+    for line in own {
+        if let Some(given) = given_of(&line.statement) {
+            let when = under(alloc, dep, given.when)?;
+            let value = expression_copy(alloc, given.value)?;
+            defaults.push((value, when))?;
+        }
+    }
+    Ok(())
+}
+
+/// Adds an entry's ranges.
+pub fn add_ranges(
+    alloc: Global,
+    own: &[Line],
+    dep: &Cond,
+    ranges: &mut Vec<(Operand, Operand, Cond)>,
+) -> Result<(), AllocError>
+    ensures { OnOk result (map range_view ranges.new.items ≡ map range_view ranges.old.items ++ filter_map (range_line (condition_of dep.now)) (said_by own.now)) }
+{
+    for line in own {
+        if let Some(range) = range_of(&line.statement) {
+            let when = under(alloc, dep, range.when)?;
+            let low = operand_copy(alloc, range.low)?;
+            let high = operand_copy(alloc, range.high)?;
+            ranges.push((low, high, when))?;
+        }
+    }
+    Ok(())
+}

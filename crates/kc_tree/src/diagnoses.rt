@@ -1,0 +1,54 @@
+//! The warnings about a list of lines, or the refusal that the whole list shows.
+
+ghost use Rattle.std.specs.Prelude.{◌≡◌, length, map, IfOk, Some, None};
+ghost use Rattle.kc_expr.specs.Names.{symbol};
+ghost use Rattle.kc_read.specs.Blocks.{numbers};
+ghost use Rattle.kc_read.specs.Reads.{line_view};
+ghost use Rattle.kc_tree.specs.Facts.{first_of, opener_of, symbol_facts};
+ghost use Rattle.kc_tree.specs.Firsts.{AreBelow};
+ghost use Rattle.kc_tree.specs.Late.{IsDiagnosis};
+ghost use Rattle.kc_tree.specs.Passes.{said_by};
+ghost use Rattle.kc_tree.specs.RoundViews.{round_view};
+ghost use Rattle.kc_tree.specs.Rounds.{inside_table};
+ghost use Rattle.kc_tree.specs.Views.{facts_of};
+
+use crate::known::Marks;
+use crate::late::late_refusal;
+use crate::parts::Symbol;
+use crate::round::Round;
+use crate::warnings::warnings;
+use kc_expr::names::Names;
+use kc_read::line::Line;
+use kc_read::refusal::Refusal;
+use std::alloc::{AllocError, Global};
+
+/// What lines that were read whole have against them: a refusal, or warnings as whole lines.
+#[derive(Debug, Drop)]
+pub enum Diagnosis {
+    Refused(Refusal),
+    Warned(Vec<Vec<u8>>),
+}
+
+/// The first refusal that the whole list of lines shows, and where there is none the warnings about them. The
+/// symbols that are defined are those below `count`; the tables say what the lines say.
+pub fn diagnose(
+    alloc: Global,
+    names: &Names,
+    lines: &[Line],
+    openers: &[Option<usize>],
+    insides: &[Round],
+    symbols: &[Symbol],
+    count: usize,
+) -> Result<Diagnosis, AllocError>
+    requires below { AreBelow count (said_by lines.now) }
+    requires openers { openers.now ≡ map (opener_of (said_by lines.now)) (numbers (length lines.now)) }
+    requires insides { map round_view insides.now ≡ map (inside_table (said_by lines.now)) (numbers (length lines.now)) }
+    requires symbols { map facts_of symbols.now ≡ map (λ s. symbol_facts (said_by lines.now) (symbol s)) (numbers count) }
+    ensures { IfOk result (λ d. IsDiagnosis names.now (map line_view lines.now) d) }
+{
+    let marks = Marks::of(alloc, lines, count)?;
+    match late_refusal(alloc, names, lines, openers, insides, symbols, &marks)? {
+        Some(refusal) => Ok(Diagnosis::Refused(refusal)),
+        None => Ok(Diagnosis::Warned(warnings(alloc, names, lines, symbols, &marks)?)),
+    }
+}

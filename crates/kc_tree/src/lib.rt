@@ -1,0 +1,32 @@
+//! From the statements of a Kconfig tree to its symbols, choices, entries and warnings.
+#![tactic(auto)]
+
+mod assembly;
+mod attributes;
+mod blocks;
+mod build;
+#[cfg(test)]
+mod build_tests;
+mod choices;
+mod collect;
+mod conditions;
+mod copies;
+mod diagnoses;
+mod entries;
+mod firsts;
+mod known;
+mod late;
+pub mod laws;
+mod lines;
+mod marks;
+mod members;
+mod owners;
+pub mod parts;
+mod raises;
+mod round;
+mod symbols;
+#[cfg(test)]
+mod tests;
+pub mod tree;
+mod warning;
+mod warnings;

@@ -1,0 +1,66 @@
+//! The members of each choice.
+
+ghost use Rattle.std.specs.Prelude.{◌≡◌, ◌<◌, [], length, map, option_map, IfOk, OnOk};
+ghost use Rattle.kc_read.specs.Blocks.{numbers};
+ghost use Rattle.kc_tree.specs.Facts.{opener_of, members_of};
+ghost use Rattle.kc_tree.specs.Members.{member_added};
+ghost use Rattle.kc_tree.specs.Passes.{said_by};
+ghost use Rattle.kc_tree.specs.RoundViews.{round_view};
+ghost use Rattle.kc_tree.specs.Rounds.{inside_table};
+
+use crate::lines::symbol_of;
+use crate::parts::ChoiceId;
+use crate::round::{Round, around, outside};
+use kc_expr::expression::SymId;
+use kc_read::line::Line;
+use std::alloc::{AllocError, Global};
+
+// No member yet, for each choice.
+fn no_members(alloc: Global, count: usize) -> Result<Vec<Vec<SymId>>, AllocError>
+    ensures { IfOk result (λ v. map (λ l. l.items) v.items ≡ map (λ _. []) (numbers count)) }
+{
+    let mut members = Vec::new(alloc);
+    for _ in 0..count {
+        members.push(Vec::new(alloc))?;
+    }
+    Ok(members)
+}
+
+// Adds the symbol of a line to the choice round it.
+fn add_member(
+    members: &mut Vec<Vec<SymId>>,
+    symbol: Option<SymId>,
+    choice: Option<ChoiceId>,
+) -> Result<(), AllocError>
+    ensures { OnOk result (map (λ l. l.items) members.new.items ≡ member_added symbol (option_map (λ k. k.0) choice) (map (λ l. l.items) members.old.items)) }
+{
+    if let Some(s) = symbol {
+        if let Some(k) = choice {
+            if k.0 < members.len() {
+                members[k.0].push(s)?;
+            }
+        }
+    }
+    Ok(())
+}
+
+/// The members of each of the first `count` choices, in order.
+pub fn members(
+    alloc: Global,
+    lines: &[Line],
+    openers: &[Option<usize>],
+    insides: &[Round],
+    count: usize,
+) -> Result<Vec<Vec<SymId>>, AllocError>
+    requires openers { openers.now ≡ map (opener_of (said_by lines.now)) (numbers (length lines.now)) }
+    requires insides { map round_view insides.now ≡ map (inside_table (said_by lines.now)) (numbers (length lines.now)) }
+    ensures { IfOk result (λ v. map (λ l. l.items) v.items ≡ map (members_of (said_by lines.now)) (numbers count)) }
+{
+    let mut members = no_members(alloc, count)?;
+    let outside = outside(alloc);
+    for (i, line) in lines.iter().enumerate() {
+        let around = around(openers, insides, &outside, i);
+        add_member(&mut members, symbol_of(&line.statement), around.mode)?;
+    }
+    Ok(members)
+}

@@ -1,0 +1,152 @@
+//! Who selects and implies whom.
+
+ghost use Rattle.std.specs.Prelude.{◌≡◌, ◌<◌, length, map, OnOk, Some};
+ghost use Rattle.kc_read.specs.Blocks as blocks;
+ghost use Rattle.kc_read.specs.Blocks.{numbers};
+ghost use Rattle.kc_read.specs.Reads.{statement_view};
+ghost use Rattle.kc_tree.specs.Definitions.{defined_symbol, raised_symbol};
+ghost use Rattle.kc_tree.specs.Facts.{opener_of, symbol_at, takes_kind};
+ghost use Rattle.kc_tree.specs.Passes.{said_by, change};
+ghost use Rattle.kc_tree.specs.Raises.{is_target, raised_by, with_raiser, raise_lines, raise_entry};
+ghost use Rattle.kc_tree.specs.RoundViews.{round_view};
+ghost use Rattle.kc_tree.specs.Rounds.{inside_table};
+ghost use Rattle.kc_tree.specs.Views.{condition_of, facts_of, named_view};
+
+use crate::attributes::attributes;
+use crate::conditions::{dependency, under};
+use crate::lines::{Raise, symbol_of, target_of};
+use crate::parts::{Cond, Symbol};
+use crate::round::{Round, around, outside};
+use kc_expr::expression::{Kind, SymId};
+use kc_read::line::Line;
+use std::alloc::{AllocError, Global};
+
+// A symbol of this type can be selected.
+fn takes_kind(kind: Kind) -> bool
+    ensures { result ≡ takes_kind kind }
+{
+    match kind {
+        Kind::Undefined => true,
+        Kind::Bool => true,
+        Kind::Tristate => true,
+        Kind::Str => false,
+        Kind::Int => false,
+        Kind::Hex => false,
+    }
+}
+
+// It has an effect to select or imply the symbol.
+fn is_target(symbol: &Symbol) -> bool
+    ensures { result ≡ is_target (facts_of symbol.now) }
+{
+    symbol.choice.is_none() && takes_kind(symbol.kind)
+}
+
+// Adds one that selects or implies the symbol.
+fn add_raiser(
+    symbol: &mut Symbol,
+    raise: Raise,
+    source: SymId,
+    when: Cond,
+) -> Result<(), AllocError>
+    ensures { OnOk result (facts_of symbol.new ≡ with_raiser raise (named_view (source, when)) (facts_of symbol.old)) }
+{
+    match raise {
+        Raise::Select => {
+            symbol.selectors.push((source, when))?;
+            Ok(())
+        }
+        Raise::Imply => {
+            symbol.impliers.push((source, when))?;
+            Ok(())
+        }
+    }
+}
+
+// The same for a symbol that may be no target.
+fn raise_one(symbol: &mut Symbol, raise: Raise, source: SymId, when: Cond) -> Result<(), AllocError>
+    ensures { OnOk result (facts_of symbol.new ≡ raised_by raise (named_view (source, when)) (facts_of symbol.old)) }
+{
+    if is_target(symbol) {
+        add_raiser(symbol, raise, source, when)
+    } else {
+        Ok(())
+    }
+}
+
+// The same for a name that may not be defined.
+fn raise(
+    symbols: &mut Vec<Symbol>,
+    raise: Raise,
+    target: SymId,
+    source: SymId,
+    when: Cond,
+) -> Result<(), AllocError>
+    ensures { OnOk result (map facts_of symbols.new.items ≡ change (raised_by raise (named_view (source, when))) target.0 (map facts_of symbols.old.items)) }
+{
+    if target.0 < symbols.len() {
+        raise_one(&mut symbols[target.0], raise, source, when)?;
+    }
+    Ok(())
+}
+
+// Adds what the lines of one entry select and imply.
+fn raise_lines(
+    alloc: Global,
+    own: &[Line],
+    dep: &Cond,
+    source: SymId,
+    symbols: &mut Vec<Symbol>,
+) -> Result<(), AllocError>
+    ensures { OnOk result (map facts_of symbols.new.items ≡ raise_lines (condition_of dep.now) source (said_by own.now) (map facts_of symbols.old.items)) }
+{
+    for line in own {
+        if let Some(target) = target_of(&line.statement) {
+            let when = under(alloc, dep, target.when)?;
+            raise(symbols, target.raise, target.symbol, source, when)?;
+        }
+    }
+    Ok(())
+}
+
+// Adds what the entry at a place selects and implies, where it is a symbol's.
+fn raise_entry(
+    alloc: Global,
+    lines: &[Line],
+    place: usize,
+    around: &Round,
+    symbols: &mut Vec<Symbol>,
+) -> Result<(), AllocError>
+    requires { place < length lines.now }
+    ensures { OnOk result (map facts_of symbols.new.items ≡ raise_entry (round_view around.now) (blocks.attributes (said_by lines.now) place) (symbol_at (said_by lines.now) place) (map facts_of symbols.old.items)) }
+{
+    match symbol_of(&lines[place].statement) {
+        Some(source) => {
+            let own = attributes(lines, place);
+            let dep = dependency(alloc, own, around)?;
+            raise_lines(alloc, own, &dep, source, symbols)
+        }
+        None => Ok(()),
+    }
+}
+
+/// Adds to the symbols what selects and implies them.
+pub fn raise_all(
+    alloc: Global,
+    lines: &[Line],
+    openers: &[Option<usize>],
+    insides: &[Round],
+    symbols: &mut Vec<Symbol>,
+) -> Result<(), AllocError>
+    requires openers { openers.now ≡ map (opener_of (said_by lines.now)) (numbers (length lines.now)) }
+    requires insides { map round_view insides.now ≡ map (inside_table (said_by lines.now)) (numbers (length lines.now)) }
+    requires defined { map facts_of symbols.old.items ≡ map (defined_symbol (said_by lines.now)) (numbers (length symbols.old.items)) }
+    ensures { OnOk result (map facts_of symbols.new.items ≡ map (raised_symbol (said_by lines.now)) (numbers (length symbols.old.items))) }
+{
+    let outside = outside(alloc);
+    for i in 0..lines.len() {
+        let around = around(openers, insides, &outside, i);
+        raise_entry(alloc, lines, i, around, symbols)?;
+    }
+    Ok(())
+}

@@ -1,0 +1,186 @@
+//! The symbols: their types, their choices and what their definitions say.
+
+ghost use Rattle.std.specs.Prelude.{◌≡◌, ◌<◌, ◌++◌, length, map, option_map, IfOk, OnOk, Some, None};
+ghost use Rattle.std.specs.List.{filter_map};
+ghost use Rattle.std.specs.Option.{option_or};
+ghost use Rattle.kc_expr.specs.Names.{symbol};
+ghost use Rattle.kc_read.specs.Blocks as blocks;
+ghost use Rattle.kc_read.specs.Blocks.{numbers};
+ghost use Rattle.kc_read.specs.Reads.{statement_view};
+ghost use Rattle.kc_tree.specs.Conditions.{defined_by};
+ghost use Rattle.kc_tree.specs.Definitions.{bare_symbol, defined_symbol};
+ghost use Rattle.kc_tree.specs.Facts.{listed, symbol_at, first_of, type_of, attributes_of, choice_of, opener_of};
+ghost use Rattle.kc_tree.specs.Passes.{said_by, changed, type_at};
+ghost use Rattle.kc_tree.specs.RoundViews.{round_view};
+ghost use Rattle.kc_tree.specs.Rounds.{inside_table};
+ghost use Rattle.kc_tree.specs.Views.{condition_of, facts_of};
+
+use crate::attributes::{attributes, first_type};
+use crate::conditions::{add_defaults, add_ranges, dependency, prompt_condition};
+use crate::lines::symbol_of;
+use crate::parts::{ChoiceId, Cond, Symbol};
+use crate::round::{Round, around, outside};
+use kc_expr::expression::{Kind, SymId};
+use kc_read::line::Line;
+use std::alloc::{AllocError, Global};
+
+// Adds a condition where there is one.
+fn push_condition(conditions: &mut Vec<Cond>, more: Option<Cond>) -> Result<(), AllocError>
+    ensures { OnOk result (map condition_of conditions.new.items ≡ map condition_of conditions.old.items ++ listed (option_map condition_of more)) }
+{
+    match more {
+        Some(condition) => {
+            conditions.push(condition)?;
+            Ok(())
+        }
+        None => Ok(()),
+    }
+}
+
+// Adds a definition to a symbol.
+fn define(
+    alloc: Global,
+    own: &[Line],
+    around: &Round,
+    symbol: &mut Symbol,
+) -> Result<(), AllocError>
+    ensures { OnOk result (facts_of symbol.new ≡ defined_by (round_view around.now) (said_by own.now) (facts_of symbol.old)) }
+{
+    let dep = dependency(alloc, own, around)?;
+    let prompt = prompt_condition(alloc, own, around, &dep)?;
+    push_condition(&mut symbol.prompts, prompt)?;
+    add_defaults(alloc, own, &dep, &mut symbol.defaults)?;
+    add_ranges(alloc, own, &dep, &mut symbol.ranges)?;
+    symbol.deps.push(dep)?;
+    Ok(())
+}
+
+// Adds the definition of a line to its symbol, where it defines one.
+fn define_at(
+    alloc: Global,
+    lines: &[Line],
+    place: usize,
+    around: &Round,
+    symbols: &mut Vec<Symbol>,
+) -> Result<(), AllocError>
+    requires { place < length lines.now }
+    ensures { OnOk result (map facts_of symbols.new.items ≡ changed (defined_by (round_view around.now) (blocks.attributes (said_by lines.now) place)) (symbol_at (said_by lines.now) place) (map facts_of symbols.old.items)) }
+{
+    match symbol_of(&lines[place].statement) {
+        Some(s) => {
+            if s.0 < symbols.len() {
+                define(alloc, attributes(lines, place), around, &mut symbols[s.0])?;
+            }
+            Ok(())
+        }
+        None => Ok(()),
+    }
+}
+
+// The type that a line's entry gives its symbol.
+fn type_at(lines: &[Line], place: usize) -> Option<Kind>
+    requires { place < length lines.now }
+    ensures { result ≡ type_at (said_by lines.now) place }
+{
+    match symbol_of(&lines[place].statement) {
+        Some(_) => first_type(attributes(lines, place)),
+        None => None,
+    }
+}
+
+// Keeps what was found first of a symbol.
+fn note_type(types: &mut Vec<Option<Kind>>, symbol: Option<SymId>, found: Option<Kind>)
+    ensures { types.new.items ≡ changed (λ o. option_or o found) symbol types.old.items }
+{
+    if let Some(s) = symbol {
+        if s.0 < types.len() {
+            types[s.0] = types[s.0].or(found);
+        }
+    }
+}
+
+// The same for choices.
+fn note_choice(choices: &mut Vec<Option<ChoiceId>>, symbol: Option<SymId>, found: Option<ChoiceId>)
+    ensures { map (option_map (λ k. k.0)) choices.new.items ≡ changed (λ o. option_or o (option_map (λ k. k.0) found)) symbol (map (option_map (λ k. k.0)) choices.old.items) }
+{
+    if let Some(s) = symbol {
+        if s.0 < choices.len() {
+            choices[s.0] = choices[s.0].or(found);
+        }
+    }
+}
+
+// No type yet, for each symbol.
+fn no_types(alloc: Global, count: usize) -> Result<Vec<Option<Kind>>, AllocError>
+    ensures { IfOk result (λ v. v.items ≡ map (λ _. None) (numbers count)) }
+{
+    let mut types = Vec::new(alloc);
+    for _ in 0..count {
+        types.push(None)?;
+    }
+    Ok(types)
+}
+
+/// The first type of each symbol.
+pub fn types(alloc: Global, lines: &[Line], count: usize) -> Result<Vec<Option<Kind>>, AllocError>
+    ensures { IfOk result (λ v. v.items ≡ map (λ s. first_of (filter_map type_of (attributes_of (said_by lines.now) (symbol s)))) (numbers count)) }
+{
+    let mut types = no_types(alloc, count)?;
+    for (i, line) in lines.iter().enumerate() {
+        note_type(&mut types, symbol_of(&line.statement), type_at(lines, i));
+    }
+    Ok(types)
+}
+
+// No choice yet, for each symbol.
+fn no_choices(alloc: Global, count: usize) -> Result<Vec<Option<ChoiceId>>, AllocError>
+    ensures { IfOk result (λ v. map (option_map (λ k. k.0)) v.items ≡ map (λ _. None) (numbers count)) }
+{
+    let mut choices = Vec::new(alloc);
+    for _ in 0..count {
+        choices.push(None)?;
+    }
+    Ok(choices)
+}
+
+/// The choice of each symbol that is a member.
+pub fn choices(
+    alloc: Global,
+    lines: &[Line],
+    openers: &[Option<usize>],
+    insides: &[Round],
+    count: usize,
+) -> Result<Vec<Option<ChoiceId>>, AllocError>
+    requires openers { openers.now ≡ map (opener_of (said_by lines.now)) (numbers (length lines.now)) }
+    requires insides { map round_view insides.now ≡ map (inside_table (said_by lines.now)) (numbers (length lines.now)) }
+    ensures { IfOk result (λ v. map (option_map (λ k. k.0)) v.items ≡ map (λ s. choice_of (said_by lines.now) (symbol s)) (numbers count)) }
+{
+    let mut choices = no_choices(alloc, count)?;
+    let outside = outside(alloc);
+    for (i, line) in lines.iter().enumerate() {
+        let around = around(openers, insides, &outside, i);
+        note_choice(&mut choices, symbol_of(&line.statement), around.mode);
+    }
+    Ok(choices)
+}
+
+/// Adds to the symbols, of which type and choice are known, what their definitions say.
+pub fn define_all(
+    alloc: Global,
+    lines: &[Line],
+    openers: &[Option<usize>],
+    insides: &[Round],
+    symbols: &mut Vec<Symbol>,
+) -> Result<(), AllocError>
+    requires openers { openers.now ≡ map (opener_of (said_by lines.now)) (numbers (length lines.now)) }
+    requires insides { map round_view insides.now ≡ map (inside_table (said_by lines.now)) (numbers (length lines.now)) }
+    requires bare { map facts_of symbols.old.items ≡ map (bare_symbol (said_by lines.now)) (numbers (length symbols.old.items)) }
+    ensures { OnOk result (map facts_of symbols.new.items ≡ map (defined_symbol (said_by lines.now)) (numbers (length symbols.old.items))) }
+{
+    let outside = outside(alloc);
+    for i in 0..lines.len() {
+        let around = around(openers, insides, &outside, i);
+        define_at(alloc, lines, i, around, symbols)?;
+    }
+    Ok(())
+}

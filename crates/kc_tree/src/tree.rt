@@ -1,0 +1,150 @@
+//! The tree of a Kconfig file.
+
+ghost use Rattle.std.specs.Prelude.{◌≡◌, ◌<◌, length, map, Some, None, slice_get, position, MatchOption};
+ghost use Rattle.std.specs.Option.{option_map};
+ghost use Rattle.kc_expr.specs.Names.{symbol, same_name};
+ghost use Rattle.kc_tree.specs.Assemblies.{tree_of};
+ghost use Rattle.kc_tree.specs.TreeFacts.{IsWellFormed};
+ghost use Rattle.kc_tree.specs.Views.{facts_of, choice_facts_of, shown_of};
+
+use crate::assembly::TreeParts;
+use crate::parts::{Choice, Entry, Symbol};
+use kc_expr::expression::SymId;
+use kc_expr::names::Names;
+use std::marker::Model;
+
+/// The symbols, choices and entries of a Kconfig file and of the files that it sources, and the warnings about them.
+/// The symbols are numbered in the order of their first definition, from 0; the numbers from `symbol_count` on are
+/// those of names that are not defined.
+#[derive(Drop)]
+pub struct Tree {
+    names: Names,
+    symbols: Vec<Symbol>,
+    choices: Vec<Choice>,
+    entries: Vec<Entry>,
+    warnings: Vec<Vec<u8>>,
+    main_menu: Vec<u8>,
+    modules: Option<SymId>,
+}
+
+impl Model for Tree {
+    ghost use Rattle.kc_tree.specs.TreeFacts.{TreeFacts, IsWellFormed};
+    ghost use Rattle.kc_tree.specs.TreeCode.{tree_code};
+
+    ghost Value = { TreeFacts };
+
+    ghost coded = { tree_code };
+
+    ghost use Rattle.kc_tree.specs.TreeView.{tree_of_parts};
+
+    ghost view = { tree_of_parts };
+
+    ghost invariant = { λ t. IsWellFormed (tree_of_parts t) };
+}
+
+impl Tree {
+    /// The tree with these names and parts.
+    pub(crate) fn of(names: Names, parts: TreeParts) -> Tree
+        requires { IsWellFormed (tree_of names parts) }
+        ensures { result ≡ tree_of names parts }
+    {
+        let TreeParts {
+            symbols,
+            choices,
+            entries,
+            warnings,
+            main_menu,
+            modules,
+        } = parts;
+        Tree {
+            names,
+            symbols,
+            choices,
+            entries,
+            warnings,
+            main_menu,
+            modules,
+        }
+    }
+
+    /// How many symbols are defined: 65,535 at most.
+    pub fn symbol_count(&self) -> usize
+        ensures count { result ≡ length self.now.symbols }
+        ensures formed { IsWellFormed self.now }
+    {
+        self.symbols.len()
+    }
+
+    /// The symbol of a number below `symbol_count`, by which the symbols stand in the order of their first definition.
+    pub fn symbol(&self, i: usize) -> SymId
+        requires { i < length self.now.symbols }
+        ensures { result ≡ symbol i }
+    {
+        SymId(i)
+    }
+
+    /// The number of a name that the tree mentions; `None` for another name.
+    pub fn find(&self, name: &[u8]) -> Option<SymId>
+        ensures { result ≡ option_map symbol (position (same_name name.now) self.now.names) }
+    {
+        self.names.find(name)
+    }
+
+    /// How many names the tree mentions: the symbols' and those that are not defined.
+    pub fn name_count(&self) -> usize
+        ensures { result ≡ length self.now.names }
+    {
+        self.names.count()
+    }
+
+    /// The name of a symbol, or of a name that is mentioned and not defined.
+    pub fn name(&self, id: SymId) -> &[u8]
+        requires { id.0 < length self.now.names }
+        ensures { slice_get self.now.names id.0 ≡ Some result.now }
+    {
+        self.names.name(id)
+    }
+
+    /// What the tree says of a symbol; `None` where the name is not defined.
+    pub fn facts(&self, id: SymId) -> Option<&Symbol>
+        ensures { MatchOption result (slice_get self.now.symbols id.0 ≡ None) (λ s. slice_get self.now.symbols id.0 ≡ Some (facts_of s.now)) }
+    {
+        self.symbols.get(id.0)
+    }
+
+    /// What a configuration file shows, in order.
+    pub fn entries(&self) -> &[Entry]
+        ensures shown { map shown_of result.now ≡ self.now.entries }
+        ensures formed { IsWellFormed self.now }
+    {
+        &self.entries
+    }
+
+    /// The choices, in the order in which they open: choice k has number k.
+    pub fn choices(&self) -> &[Choice]
+        ensures { map choice_facts_of result.now ≡ self.now.choices }
+    {
+        &self.choices
+    }
+
+    /// The warnings about the tree, in the order of the lines that they are about, without a line's end.
+    pub fn parse_warnings(&self) -> &[Vec<u8>]
+        ensures { map (λ w. w.items) result.now ≡ self.now.warnings }
+    {
+        &self.warnings
+    }
+
+    /// The title of the main menu: the last `mainmenu` line's, or `Main menu`.
+    pub fn main_menu(&self) -> &[u8]
+        ensures { result.now ≡ self.now.main_menu }
+    {
+        &self.main_menu
+    }
+
+    /// The symbol that stands for modules, where it is defined.
+    pub fn modules_symbol(&self) -> Option<SymId>
+        ensures { result ≡ self.now.modules }
+    {
+        self.modules
+    }
+}
