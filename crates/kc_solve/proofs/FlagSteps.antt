@@ -1,0 +1,58 @@
+-- The selection of one more choice.
+use Rattle.std.proofs.Common.{◌≡◌, ℕ, ◌+◌, ◌<◌, ◌&&◌, not, Bool, Some, List, [], ◌∷◌, ◌++◌, map, length, Option, None, refl, sym, ◌∙◌, ap, arith}
+use Rattle.std.specs.List.{range_with_len}
+use Rattle.std.proofs.lemmas.List.FromFn.{map-range_with_len_more}
+use Rattle.kc_expr.specs.declared.expression.SymId.{SymId}
+use Rattle.kc_tree.specs.TreeFacts.{TreeFacts}
+use Rattle.std.specs.Prelude.{slice_get, slice_index_or}
+use Rattle.std.proofs.lemmas.List.FromFn.{get_or-map-range_with_len}
+use Rattle.kc_expr.specs.Names.{symbol}
+use Rattle.kc_expr.specs.Value.{Known}
+use Rattle.kc_tree.specs.TreeFacts.{SymbolFacts}
+use Rattle.kc_values.specs.Lookups.{facts, choice_at}
+use Rattle.kc_user.specs.Given.{Slot, In, Given}
+use Rattle.kc_values.specs.Solution.{symbol_count, slot_by, slot_of_facts, rhs}
+use Rattle.kc_values.specs.Differs.{same_value, selection, default_selection, differs, differs_at}
+use Rattle.kc_values.specs.Values.{selected, names_symbol, equation, by_choice}
+use Rattle.kc_values.specs.declared.table.Value.{Value}
+use Rattle.kc_solve.specs.Flags.{differs_by}
+use Rattle.kc_solve.specs.Places.{known_in, valuation}
+use Rattle.kc_solve.proofs.WarningSteps.{tables_seen}
+
+one_more : {X : Type 0} (f : ℕ → X) (i : ℕ) (x : X) (old new : List X) → old ≡ map f (range_with_len 0 i) → new ≡ old ++ x ∷ [] → x ≡ f i → new ≡ map f (range_with_len 0 (i + 1))
+one_more f i x old new e n h =
+    n ∙ ap (λ xs. xs ++ x ∷ []) e ∙ ap (λ y. map f (range_with_len 0 i) ++ y ∷ []) h ∙ sym (map-range_with_len_more f 0 i i (omega arith))
+
+pub one_more_selected : (tree : TreeFacts) (values : List (Option Value)) (U : Slot → Option Given) (c : ℕ) (x : Option SymId) (old new : List (Option SymId)) → length values ≡ symbol_count tree → old ≡ map (selection tree U (valuation tree values)) (range_with_len 0 c) → new ≡ old ++ x ∷ [] → x ≡ selected tree (known_in tree values) (choice_at tree c) (U (In c)) → new ≡ map (selection tree U (valuation tree values)) (range_with_len 0 (c + 1))
+one_more_selected tree values U c x old new l e n h =
+    one_more (selection tree U (valuation tree values)) c x old new e n (h ∙ ap (λ k. selected tree k (choice_at tree c) (U (In c))) (tables_seen tree values l))
+
+pub one_more_default : (tree : TreeFacts) (values : List (Option Value)) (U : Slot → Option Given) (c : ℕ) (x : Option SymId) (old new : List (Option SymId)) → length values ≡ symbol_count tree → old ≡ map (default_selection tree U (valuation tree values)) (range_with_len 0 c) → new ≡ old ++ x ∷ [] → x ≡ selected tree (known_in tree values) (choice_at tree c) None → new ≡ map (default_selection tree U (valuation tree values)) (range_with_len 0 (c + 1))
+one_more_default tree values U c x old new l e n h =
+    one_more (default_selection tree U (valuation tree values)) c x old new e n (h ∙ ap (λ k. selected tree k (choice_at tree c) None) (tables_seen tree values l))
+
+module _ (tree : TreeFacts) (values : List (Option Value)) (full : length values ≡ symbol_count tree) (U : Slot → Option Given) (i : ℕ) (f : SymbolFacts) (at : slice_get tree.symbols i ≡ Some f) (chosen defaults : List (Option SymId)) (sel : chosen ≡ map (selection tree U (valuation tree values)) (range_with_len 0 (length tree.choices))) (def : defaults ≡ map (default_selection tree U (valuation tree values)) (range_with_len 0 (length tree.choices))) where
+  abbrev V : ℕ → Known
+  V = valuation tree values
+
+  -- the equation without what was given
+  without : (c : Option ℕ) → f.choice ≡ c → rhs tree i None V ≡ by_choice tree (known_in tree values) (symbol i) f c None
+  without c e =
+      ap (λ k. equation tree k (symbol i) (facts tree (symbol i)) None) (sym (tables_seen tree values full))
+      ∙ ap (λ o. equation tree (known_in tree values) (symbol i) o None) at
+      ∙ ap (λ o. by_choice tree (known_in tree values) (symbol i) f o None) e
+
+  by_slot : (c : Option ℕ) → f.choice ≡ c → ((d : ℕ) → c ≡ Some d → d < length tree.choices) → differs_by tree (known_in tree values) (symbol i) f c chosen defaults ≡ differs_at tree U V i (slot_by i c)
+  by_slot None e below = ap (λ x. not (same_value (V i) x)) (sym (without None e))
+  by_slot (Some c) e below =
+      let l = below c refl in
+      let a : slice_index_or chosen c None ≡ selection tree U V c = ap (λ xs. slice_index_or xs c None) sel ∙ get_or-map-range_with_len (selection tree U V) 0 (length tree.choices) c c None l (omega arith) in
+      let b : slice_index_or defaults c None ≡ default_selection tree U V c = ap (λ xs. slice_index_or xs c None) def ∙ get_or-map-range_with_len (default_selection tree U V) 0 (length tree.choices) c c None l (omega arith) in
+      ap (λ x. names_symbol x (symbol i) && not (names_symbol (slice_index_or defaults c None) (symbol i))) a
+      ∙ ap (λ x. names_symbol (selection tree U V c) (symbol i) && not (names_symbol x (symbol i))) b
+
+  differs_is : ((d : ℕ) → f.choice ≡ Some d → d < length tree.choices) → differs_by tree (known_in tree values) (symbol i) f f.choice chosen defaults ≡ differs tree U V i
+  differs_is below = by_slot f.choice refl below ∙ ap (differs_at tree U V i) (sym (ap (slot_of_facts i) at))
+
+  pub one_more_differs : ((d : ℕ) → f.choice ≡ Some d → d < length tree.choices) → (x : Bool) (old new : List Bool) → old ≡ map (differs tree U V) (range_with_len 0 i) → new ≡ old ++ x ∷ [] → x ≡ differs_by tree (known_in tree values) (symbol i) f f.choice chosen defaults → new ≡ map (differs tree U V) (range_with_len 0 (i + 1))
+  one_more_differs below x old new e n h = one_more (differs tree U V) i x old new e n (h ∙ differs_is below)

@@ -1,0 +1,6 @@
+pub mod FillSteps
+pub mod UserSteps
+pub mod WarningSteps
+pub mod FlagSteps
+pub mod SolvedSteps
+mod SlowSteps

@@ -1,0 +1,176 @@
+-- What a full table tells, as a solution.
+use Rattle.std.proofs.Common.{◌≡◌, ℕ, ◌<◌, Bool, false, not, ◌&&◌, cond, List, [], length, Option, Some, None, refl, sym, ◌∙◌, ap, subst, inl, inr, arith}
+use Rattle.std.specs.Prelude.{slice_index_or}
+use Rattle.std.specs.List.{flat_map, range_with_len}
+use Rattle.std.proofs.lemmas.Bool.{cases_Bool, ltb-true}
+use Rattle.std.proofs.lemmas.List.FromFn.{get_or-map-range_with_len, length-map-range_with_len}
+use Rattle.kc_expr.specs.Names.{symbol}
+use Rattle.kc_expr.specs.Value.{Known, Written, known_of, truth_of_known, text_of_known}
+use Rattle.kc_expr.specs.declared.expression.SymId.{SymId}
+use Rattle.kc_expr.specs.declared.expression.Tri.{Tri}
+use Rattle.kc_expr.specs.declared.expression.Kind.{Kind}
+use Rattle.kc_expr.specs.declared.expression.Kind.TheVariants.{Undefined, Bool as IsBool, Tristate, Str, Int, Hex}
+use Rattle.kc_order.specs.Solution.{Solves, IsOnlySolution}
+use Rattle.kc_tree.specs.TreeFacts.{SymbolFacts, TreeFacts}
+use Rattle.kc_user.specs.Given.{Given, Slot, At, In}
+use Rattle.kc_user.specs.Places.{Places, place_at}
+use Rattle.kc_values.specs.Differs.{differs, differs_at, same_value, selection, default_selection}
+use Rattle.kc_values.specs.Laws.{MinimalRestores, MinimalHasNothingToSpare, SettledWhere as Law, MembersAreTheirs}
+use Rattle.kc_values.specs.Lookups.{choice_at, is_defined, facts, name}
+use Rattle.kc_values.specs.Solution.{equations, rhs, seen, slot, symbol_count}
+use Rattle.kc_values.specs.Table.{kind_in, value_in, tri_in, text_in}
+use Rattle.kc_values.specs.Values.{equation, names_symbol, selected, visibility}
+use Rattle.kc_values.specs.Warnings.{warnings_of}
+use Rattle.kc_values.specs.declared.table.Value.{Value}
+use Rattle.kc_solve.proofs.WarningSteps.{tables_seen}
+use Rattle.kc_solve.specs.Places.{known_in, valuation}
+use Rattle.kc_solve.specs.Solved as solved
+use Rattle.kc_solve.specs.Solved.{IsMinimal, IsSolution, IsSolved, SettledWhere, Solution, TellsKnown, known, solution_in, value_of}
+
+-- what is known, by its type, truth value and text
+shape : (k : Kind) (t : Tri) (x : List ℕ) → known_of k (truth_of_known (known_of k t x)) (text_of_known (known_of k t x)) ≡ known_of k t x
+shape Undefined t x = refl
+shape IsBool t x = refl
+shape Tristate t x = refl
+shape Str t x = refl
+shape Int t x = refl
+shape Hex t x = refl
+
+module _ (tree : TreeFacts) (places : Places) (values : List (Option Value)) where
+  abbrev V : ℕ → Known
+  V = valuation tree values
+
+  abbrev W : ℕ → Known
+  W = value_of (solution_in tree places values)
+
+  same_value_at : (i : ℕ) → i < symbol_count tree → W i ≡ V i
+  same_value_at i l = get_or-map-range_with_len V 0 (symbol_count tree) i i (Written Undefined []) l (omega arith)
+
+  same_seen_at : (s : SymId) → seen tree W s ≡ seen tree V s
+  same_seen_at s =
+      elim (cases_Bool (is_defined tree s)) [
+        | inl t ↦
+            let e = same_value_at s.0 (ltb-true s.0 (symbol_count tree) t) in
+            ap (λ x. cond (is_defined tree s) x (Written Undefined (name tree s))) e
+        | inr f ↦
+            ap (λ b. cond b (W s.0) (Written Undefined (name tree s))) f ∙ sym (ap (λ b. cond b (V s.0) (Written Undefined (name tree s))) f)
+      ]
+
+  pub same_seen : seen tree W ≡ seen tree V
+  same_seen = λ i s. same_seen_at s i
+
+  -- what the table tells is what is known in the solution
+  pub table_tells : length values ≡ symbol_count tree → known_in tree values ≡ known (solution_in tree places values)
+  table_tells full = tables_seen tree values full ∙ sym same_seen
+
+  same_rhs : (i : ℕ) (given : Option Given) → rhs tree i given W ≡ rhs tree i given V
+  same_rhs i given = ap (λ k. equation tree k (symbol i) (facts tree (symbol i)) given) same_seen
+
+  same_differs : (i : ℕ) (p : Slot) → i < symbol_count tree → differs_at tree (place_at places) W i p ≡ differs_at tree (place_at places) V i p
+  same_differs i (At j) l = ap (λ x. not (same_value x (rhs tree i None W))) (same_value_at i l) ∙ ap (λ x. not (same_value (V i) x)) (same_rhs i None)
+  same_differs i (In c) l =
+      ap (λ (k : SymId → Known). names_symbol (selected tree k (choice_at tree c) (place_at places (In c))) (symbol i) && not (names_symbol (selected tree k (choice_at tree c) None) (symbol i))) same_seen
+
+  solves_too : Solves (symbol_count tree) (equations tree (place_at places)) V → Solves (symbol_count tree) (equations tree (place_at places)) W
+  solves_too solves s l = same_value_at s l ∙ solves s l ∙ sym (same_rhs s (place_at places (slot tree s)))
+
+  only_too : IsOnlySolution (symbol_count tree) (equations tree (place_at places)) V → IsOnlySolution (symbol_count tree) (equations tree (place_at places)) W
+  only_too only X solves s l = only X solves s l ∙ sym (same_value_at s l)
+
+  -- these three tell what is known
+  tells : length values ≡ symbol_count tree → TellsKnown (solution_in tree places values)
+  tells full id =
+      subst (λ (k : SymId → Known). known_of (kind_in (facts tree id)) (truth_of_known (k id)) (text_of_known (k id)) ≡ k id) (table_tells full)
+      (shape (kind_in (facts tree id)) (tri_in (value_in values id)) (text_in (value_in values id) (name tree id)))
+
+  -- one thing that the table tells of a symbol, and what it says at a solution that is this one
+  pub told : {X : Type 0} (full : length values ≡ symbol_count tree) (s : Solution) (e : solution_in tree places values ≡ s) (f : TreeFacts → (SymId → Known) → X) (x : X) → x ≡ f tree (known_in tree values) → x ≡ f s.tree (known s)
+  told {X} full s e f x h =
+      subst (λ (y : Solution). x ≡ f y.tree (known y)) e (h ∙ ap (f tree) (table_tells full))
+
+  pub visible_is : (full : length values ≡ symbol_count tree) (s : Solution) (e : solution_in tree places values ≡ s) (id : SymId) (f : SymbolFacts) (t : Tri) → Some f ≡ facts tree id → t ≡ visibility tree (known_in tree values) f → t ≡ solved.visibility s id
+  visible_is full s e id f t at h =
+      subst (λ (y : Solution). t ≡ solved.visibility y id) e
+      (h ∙ ap (λ (k : SymId → Known). visibility tree k f) (table_tells full) ∙ ap (solved.visibility_by (solution_in tree places values)) at)
+
+  module _ (chosen defaults : List (Option SymId)) (differing : List Bool) (lines : List (List ℕ)) (is : IsSolved tree places values chosen defaults differing lines) where
+    pub is_solution : IsSolution (solution_in tree places values)
+    is_solution = record {
+      places = is.user;
+      count = length-map-range_with_len V 0 (symbol_count tree);
+      solves = solves_too is.solves;
+      only = only_too is.only;
+    }
+
+    pub tells_known : TellsKnown (solution_in tree places values)
+    tells_known = tells is.full
+
+    pub is_minimal : MinimalRestores → MinimalHasNothingToSpare → MembersAreTheirs tree → IsMinimal (solution_in tree places values)
+    is_minimal restores nothing members = record {
+      restores = λ keep is_kept. restores tree (place_at places) W keep is.accepted members (solves_too is.solves) is_kept;
+      nothing_to_spare = λ keep is_kept. nothing tree (place_at places) W keep members (solves_too is.solves) is_kept;
+    }
+
+    pub settled : Law → MembersAreTheirs tree → SettledWhere (solution_in tree places values)
+    settled law members allowed = law tree (place_at places) W members allowed (solves_too is.solves)
+
+    pub chosen_at : (c : ℕ) → c < length tree.choices → slice_index_or chosen c None ≡ solved.selection (solution_in tree places values) c
+    chosen_at c l =
+        ap (λ xs. slice_index_or xs c None) is.chosen_are
+        ∙ get_or-map-range_with_len (selection tree (place_at places) V) 0 (length tree.choices) c c None l (omega arith)
+        ∙ ap (λ (k : SymId → Known). selected tree k (choice_at tree c) (place_at places (In c))) (sym same_seen)
+
+    pub default_at : (c : ℕ) → c < length tree.choices → slice_index_or defaults c None ≡ solved.default_selection (solution_in tree places values) c
+    default_at c l =
+        ap (λ xs. slice_index_or xs c None) is.defaults_are
+        ∙ get_or-map-range_with_len (default_selection tree (place_at places) V) 0 (length tree.choices) c c None l (omega arith)
+        ∙ ap (λ (k : SymId → Known). selected tree k (choice_at tree c) None) (sym same_seen)
+
+    pub differing_at : (s : SymId) → s.0 < symbol_count tree → slice_index_or differing s.0 false ≡ solved.differs (solution_in tree places values) s
+    differing_at s l =
+        ap (λ xs. slice_index_or xs s.0 false) is.differing_are
+        ∙ get_or-map-range_with_len (differs tree (place_at places) V) 0 (symbol_count tree) s.0 s.0 false l (omega arith)
+        ∙ sym (same_differs s.0 (slot tree s.0) l)
+
+    pub lines_too : lines ≡ solved.warnings (solution_in tree places values)
+    lines_too =
+        is.lines_are
+        ∙ ap (λ (k : SymId → Known). flat_map (λ i. warnings_of tree k (name tree (symbol i)) (facts tree (symbol i)) (place_at places (At i))) (range_with_len 0 (symbol_count tree))) (sym same_seen)
+
+    pub chosen_long : length chosen ≡ length tree.choices
+    chosen_long = ap length is.chosen_are ∙ length-map-range_with_len (selection tree (place_at places) V) 0 (length tree.choices)
+
+    pub defaults_long : length defaults ≡ length tree.choices
+    defaults_long = ap length is.defaults_are ∙ length-map-range_with_len (default_selection tree (place_at places) V) 0 (length tree.choices)
+
+    pub differing_long : length differing ≡ symbol_count tree
+    differing_long = ap length is.differing_are ∙ length-map-range_with_len (differs tree (place_at places) V) 0 (symbol_count tree)
+
+    -- the same at a solution that is this one
+    module _ (s : Solution) (e : solution_in tree places values ≡ s) where
+      pub chosen_within : (c : ℕ) → c < length s.tree.choices → c < length chosen
+      chosen_within c l = subst (λ n. c < n) (sym chosen_long) (subst (λ (x : Solution). c < length x.tree.choices) (sym e) l)
+
+      pub chosen_is : (c : ℕ) → c < length s.tree.choices → slice_index_or chosen c None ≡ solved.selection s c
+      chosen_is c l =
+          subst (λ (x : Solution). slice_index_or chosen c None ≡ solved.selection x c) e (chosen_at c (subst (λ (x : Solution). c < length x.tree.choices) (sym e) l))
+
+      pub defaults_within : (c : ℕ) → c < length s.tree.choices → c < length defaults
+      defaults_within c l = subst (λ n. c < n) (sym defaults_long) (subst (λ (x : Solution). c < length x.tree.choices) (sym e) l)
+
+      pub default_is : (c : ℕ) → c < length s.tree.choices → slice_index_or defaults c None ≡ solved.default_selection s c
+      default_is c l =
+          subst (λ (x : Solution). slice_index_or defaults c None ≡ solved.default_selection x c) e (default_at c (subst (λ (x : Solution). c < length x.tree.choices) (sym e) l))
+
+      pub differing_within : (i : SymId) → i.0 < symbol_count s.tree → i.0 < length differing
+      differing_within i l = subst (λ n. i.0 < n) (sym differing_long) (subst (λ (x : Solution). i.0 < symbol_count x.tree) (sym e) l)
+
+      pub differing_is : (i : SymId) → i.0 < symbol_count s.tree → slice_index_or differing i.0 false ≡ solved.differs s i
+      differing_is i l =
+          subst (λ (x : Solution). slice_index_or differing i.0 false ≡ solved.differs x i) e (differing_at i (subst (λ (x : Solution). i.0 < symbol_count x.tree) (sym e) l))
+
+-- a solution is the only one for its tree and places
+pub only_here : (s : Solution) (t : TreeFacts) (u : Places) → IsSolution s → s.tree ≡ t → s.places ≡ u → IsOnlySolution (symbol_count t) (equations t (place_at u)) (value_of s)
+only_here s t u is e f =
+    subst (λ (x : TreeFacts). IsOnlySolution (symbol_count x) (equations x (place_at u)) (value_of s)) e
+    (subst (λ (p : Places). IsOnlySolution (symbol_count s.tree) (equations s.tree (place_at p)) (value_of s)) f is.only)

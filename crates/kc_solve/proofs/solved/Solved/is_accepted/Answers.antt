@@ -1,0 +1,7 @@
+use Rattle.std.proofs.Common.{subst}
+use Rattle.kc_solve.specs.Solved.{Solution}
+use Rattle.kc_values.specs.Laws.{IsAccepted}
+use Rattle.kc_solve.proofs.solved.Solved.is_accepted.Goals as goal
+
+pub returns : goal.returns
+returns c = subst (λ (s : Solution). IsAccepted s.tree) c.self.view_is c.self.invariant.accepted

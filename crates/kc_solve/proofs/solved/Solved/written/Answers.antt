@@ -1,0 +1,9 @@
+use Rattle.kc_expr.specs.Value.{Known}
+use Rattle.kc_expr.specs.declared.expression.SymId.{SymId}
+use Rattle.kc_tree.specs.TreeFacts.{TreeFacts}
+use Rattle.kc_values.specs.Written.{written}
+use Rattle.kc_solve.proofs.SolvedSteps.{told}
+use Rattle.kc_solve.proofs.solved.Solved.written.Goals as goal
+
+pub returns : goal.returns
+returns c = told c.self.inside.table.tree.now c.self.inside.user.now c.self.inside.table.values.items c.self.invariant.full _ c.self.view_is (λ (t : TreeFacts) (k : SymId → Known). written t k c.args.id) _ c.written.ensures

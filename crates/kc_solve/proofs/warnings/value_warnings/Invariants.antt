@@ -1,0 +1,10 @@
+use Rattle.std.proofs.Common.{◌≡◌, map}
+use Rattle.std.specs.List.{flat_map, range_with_len}
+use Rattle.kc_values.specs.Warnings.{warnings_at}
+use Rattle.kc_solve.specs.Places.{valuation}
+use Rattle.kc_user.specs.Places.{place_at}
+use Rattle.kc_solve.proofs.warnings.value_warnings.Given as goal
+
+abbrev pub invariant-loop-i : goal.invariant-loop-i
+invariant-loop-i l =
+    map (λ w. w.items) l.lines.items ≡ flat_map (warnings_at l.table.tree.now (place_at l.user) (valuation l.table.tree.now l.table.values.items)) (range_with_len 0 l.i)

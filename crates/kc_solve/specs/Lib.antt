@@ -1,0 +1,6 @@
+pub mod Places
+pub mod LoopText
+pub mod Refused
+pub mod Flags
+pub mod Solved
+pub mod SolutionCode

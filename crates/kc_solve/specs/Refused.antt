@@ -1,0 +1,31 @@
+-- Why a tree has no order.
+use Rattle.std.specs.Prelude.{◌≡◌, ◌≢◌, ℕ, List, length, None}
+use Rattle.kc_order.specs.Needs.{needs_in}
+use Rattle.kc_order.specs.Loop.{IsNamedLoop}
+use Rattle.kc_read.specs.Expansion.{Refused}
+use Rattle.kc_read.specs.Steps.{refusal_view}
+use Rattle.kc_read.specs.declared.refusal.Code.TheVariants as code
+use Rattle.kc_read.specs.declared.refusal.Refusal.{Refusal}
+use Rattle.kc_tree.specs.TreeFacts.{TreeFacts}
+use Rattle.kc_values.specs.Needs.{needs}
+use Rattle.kc_solve.specs.LoopText.{loop_text}
+use Rattle.kc_solve.specs.declared.order.LoopFault.{LoopFault}
+use Rattle.kc_solve.specs.declared.order.LoopFault.TheVariants.{Loop, Memory}
+
+-- the text of the loop that is named of the tree's needs
+abbrev pub IsLoopText : TreeFacts → List ℕ → Type 0
+IsLoopText tree text =
+    (symbols : List ℕ) × IsNamedLoop (length (needs tree)) (needs_in (needs tree)) symbols × (text ≡ loop_text tree symbols)
+
+-- nothing is said of memory
+abbrev pub IsNamed : TreeFacts → LoopFault → Type 0
+IsNamed tree (Loop text) = IsLoopText tree text.items
+IsNamed tree Memory = Unit {0}
+
+-- a loop has no place; its text is the detail
+abbrev pub loop_refused : List ℕ → Refused
+loop_refused text = record { code = code.Loop; place = None; detail = text }
+
+-- where it is not want of memory, the refusal names the loop
+abbrev pub NamesLoop : TreeFacts → Refusal → Type 0
+NamesLoop tree r = r.code ≢ code.Memory → (text : List ℕ) × IsLoopText tree text × (refusal_view r ≡ loop_refused text)

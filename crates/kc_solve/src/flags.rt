@@ -1,0 +1,127 @@
+//! What each choice selects and which symbols differ, under the values of a full table.
+
+ghost use Rattle.std.specs.Prelude.{◌≡◌, ◌<◌, false, length, map, slice_get, slice_index_or, Some, None, IfOk, IfSome};
+ghost use Rattle.std.specs.List.{range_with_len};
+ghost use Rattle.kc_solve.specs.Flags as flag;
+ghost use Rattle.kc_solve.specs.Places.{known_in, valuation};
+ghost use Rattle.kc_user.specs.Places.{IsUserOf, place_at};
+ghost use Rattle.kc_tree.specs.Views.{facts_of};
+ghost use Rattle.kc_values.specs.Differs as spec;
+ghost use Rattle.kc_values.specs.Solution.{symbol_count};
+
+use crate::fill::symbol_facts;
+use kc_expr::expression::SymId;
+use kc_tree::parts::{ChoiceId, Symbol};
+use kc_tree::tree::Tree;
+use kc_user::user::User;
+use kc_values::differs::{member_differs, own_differs};
+use kc_values::members::selected_in;
+use kc_values::table::Table;
+use std::alloc::{AllocError, Global};
+
+// How many choices a tree has.
+fn choice_count(tree: &Tree) -> usize
+    ensures { result ≡ length tree.now.choices }
+{
+    tree.choices().len()
+}
+
+/// The selection of each choice under the values of a full table and a user's places of that tree.
+pub fn selections(
+    alloc: Global,
+    table: &Table,
+    user: &User,
+) -> Result<Vec<Option<SymId>>, AllocError>
+    requires full { length table.now.values.items ≡ symbol_count table.now.tree.now }
+    requires user { IsUserOf table.now.tree.now user.now }
+    ensures { IfOk result (λ v. v.items ≡ map (spec.selection table.now.tree.now (place_at user.now) (valuation table.now.tree.now table.now.values.items)) (range_with_len 0 (length table.now.tree.now.choices))) }
+{
+    let mut selected = Vec::new(alloc);
+    for c in 0..choice_count(table.tree) {
+        let choice = ChoiceId(c);
+        selected.push(selected_in(table.tree, choice, user.selected(choice), table))?;
+    }
+    Ok(selected)
+}
+
+/// The default selection of each choice under the values of a full table: that without the user's member.
+pub fn default_selections(
+    alloc: Global,
+    table: &Table,
+    user: &User,
+) -> Result<Vec<Option<SymId>>, AllocError>
+    requires full { length table.now.values.items ≡ symbol_count table.now.tree.now }
+    ensures { IfOk result (λ v. v.items ≡ map (spec.default_selection table.now.tree.now (place_at user.now) (valuation table.now.tree.now table.now.values.items)) (range_with_len 0 (length table.now.tree.now.choices))) }
+{
+    let _ = user;
+    let mut selected = Vec::new(alloc);
+    for c in 0..choice_count(table.tree) {
+        selected.push(selected_in(table.tree, ChoiceId(c), None, table))?;
+    }
+    Ok(selected)
+}
+
+/// The selection at the place of a choice.
+pub(crate) fn at_choice(selections: &[Option<SymId>], choice: ChoiceId) -> Option<SymId>
+    requires { choice.0 < length selections.now }
+    ensures { result ≡ slice_index_or selections.now choice.0 None }
+{
+    selections[choice.0]
+}
+
+/// The flag at the place of a symbol.
+pub(crate) fn at_symbol(flags: &[bool], id: SymId) -> bool
+    requires { id.0 < length flags.now }
+    ensures { result ≡ slice_index_or flags.now id.0 false }
+{
+    flags[id.0]
+}
+
+// Whether a symbol differs.
+fn symbol_differs(
+    alloc: Global,
+    table: &Table,
+    id: SymId,
+    symbol: &Symbol,
+    selections: &[Option<SymId>],
+    defaults: &[Option<SymId>],
+) -> Result<bool, AllocError>
+    requires facts { slice_get table.now.tree.now.symbols id.0 ≡ Some (facts_of symbol.now) }
+    requires selections { IfSome symbol.now.choice (λ c. c.0 < length selections.now) }
+    requires defaults { IfSome symbol.now.choice (λ c. c.0 < length defaults.now) }
+    ensures { IfOk result (λ b. b ≡ flag.differs_by table.now.tree.now (known_in table.now.tree.now table.now.values.items) id (facts_of symbol.now) (facts_of symbol.now).choice selections.now defaults.now) }
+{
+    match symbol.choice {
+        Some(choice) => Ok(member_differs(
+            at_choice(selections, choice),
+            at_choice(defaults, choice),
+            id,
+        )),
+        None => own_differs(alloc, table.tree, id, symbol, table),
+    }
+}
+
+/// Which symbols differ under the values of a full table and a user's places of that tree, with the selections under
+/// them: for each symbol, by number, whether its value is not what its equation gives without what was given for it; a
+/// member: whether it is selected and is not the default selection.
+pub fn differing(
+    alloc: Global,
+    table: &Table,
+    user: &User,
+    selections: &[Option<SymId>],
+    defaults: &[Option<SymId>],
+) -> Result<Vec<bool>, AllocError>
+    requires full { length table.now.values.items ≡ symbol_count table.now.tree.now }
+    requires selections { selections.now ≡ map (spec.selection table.now.tree.now (place_at user.now) (valuation table.now.tree.now table.now.values.items)) (range_with_len 0 (length table.now.tree.now.choices)) }
+    requires defaults { defaults.now ≡ map (spec.default_selection table.now.tree.now (place_at user.now) (valuation table.now.tree.now table.now.values.items)) (range_with_len 0 (length table.now.tree.now.choices)) }
+    ensures { IfOk result (λ v. v.items ≡ map (spec.differs table.now.tree.now (place_at user.now) (valuation table.now.tree.now table.now.values.items)) (range_with_len 0 (symbol_count table.now.tree.now))) }
+{
+    let _ = user;
+    let mut differ = Vec::new(alloc);
+    for i in 0..table.tree.symbol_count() {
+        let id = SymId(i);
+        let symbol = symbol_facts(table.tree, id);
+        differ.push(symbol_differs(alloc, table, id, symbol, selections, defaults)?)?;
+    }
+    Ok(differ)
+}

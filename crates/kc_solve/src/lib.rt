@@ -1,0 +1,13 @@
+//! The solver: an order of a tree's symbols, and the one valuation that solves the equations under a user's places.
+#![tactic(auto)]
+
+mod fill;
+mod flags;
+pub mod order;
+pub mod slow;
+pub mod solve;
+pub mod solved;
+mod warnings;
+
+pub use order::Order;
+pub use solved::Solved;

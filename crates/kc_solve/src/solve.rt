@@ -1,0 +1,82 @@
+//! The one valuation that solves the equations of a tree.
+
+ghost use Rattle.std.specs.Prelude.{◌≡◌, length, IfOk, OnOk};
+ghost use Rattle.kc_order.specs.Solution.{Solves, IsOnlySolution};
+ghost use Rattle.kc_solve.specs.Places.{valuation};
+ghost use Rattle.kc_solve.specs.Solved.{IsMinimal, SettledWhere, value_of};
+ghost use Rattle.kc_user.specs.Places.{IsUserOf, place_at};
+ghost use Rattle.kc_values.specs.Laws.{IsAccepted};
+ghost use Rattle.kc_values.specs.Needs.{needs};
+ghost use Rattle.kc_values.specs.Solution.{symbol_count, equations};
+
+use crate::fill::fill;
+use crate::flags::{default_selections, differing, selections};
+use crate::order::Order;
+use crate::solved::Solved;
+use crate::warnings::value_warnings;
+use kc_order::ordered_are_accepted;
+use kc_tree::tree::Tree;
+use kc_user::user::User;
+use kc_values::laws::accepted_have_one_solution;
+use kc_values::table::Table;
+use std::alloc::{AllocError, Global};
+
+// The values of the symbols of a tree under a user's places, computed along the order, each once.
+fn full_table<'t>(
+    alloc: Global,
+    tree: &'t Tree,
+    order: &Order,
+    user: &User,
+) -> Result<Table<'t>, AllocError>
+    requires order { order.now ≡ needs tree.now }
+    requires user { IsUserOf tree.now user.now }
+    ensures tree { IfOk result (λ t. t.tree.now ≡ tree.now) }
+    ensures accepted { OnOk result (IsAccepted tree.now) }
+    ensures count { IfOk result (λ t. length t.values.items ≡ symbol_count tree.now) }
+    ensures solves { IfOk result (λ t. Solves (symbol_count tree.now) (equations tree.now (place_at user.now)) (valuation tree.now t.values.items)) }
+    ensures only { IfOk result (λ t. IsOnlySolution (symbol_count tree.now) (equations tree.now (place_at user.now)) (valuation tree.now t.values.items)) }
+{
+    accepted_have_one_solution();
+    ordered_are_accepted();
+    let given = user.symbols();
+    let chosen = user.choices();
+    let table = fill(alloc, tree, order.symbols(), given, chosen)?;
+    Ok(table)
+}
+
+/// Solves a tree under a user's places: the one solution of the equations of its symbols, one for each (the kernel's
+/// kconfig-language document; where that is vague, kconfiglib's documented rules). Each value is computed once, along
+/// the order. The caller owes the order and the places of that tree. Fails for want of memory alone.
+pub fn solve<'a>(
+    alloc: Global,
+    tree: &'a Tree,
+    order: &Order,
+    user: &'a User,
+) -> Result<Solved<'a>, AllocError>
+    requires order { order.now ≡ needs tree.now }
+    requires user { IsUserOf tree.now user.now }
+    ensures tree { IfOk result (λ s. s.tree ≡ tree.now) }
+    ensures places { IfOk result (λ s. s.places ≡ user.now) }
+    ensures solves { IfOk result (λ s. Solves (symbol_count tree.now) (equations tree.now (place_at user.now)) (value_of s)) }
+    ensures only { IfOk result (λ s. IsOnlySolution (symbol_count tree.now) (equations tree.now (place_at user.now)) (value_of s)) }
+    ensures minimal { IfOk result IsMinimal }
+    ensures settled { IfOk result SettledWhere }
+{
+    let table = full_table(alloc, tree, order, user)?;
+    let selections = selections(alloc, &table, user)?;
+    let default_selections = default_selections(alloc, &table, user)?;
+    let differing = differing(alloc, &table, user, &selections, &default_selections)?;
+    let warnings = value_warnings(alloc, &table, user)?;
+    let solved = Solved {
+        table,
+        user,
+        selections,
+        default_selections,
+        differing,
+        warnings,
+    };
+    solved.is_solution();
+    solved.is_minimal();
+    solved.is_settled_where();
+    Ok(solved)
+}

@@ -1,0 +1,203 @@
+//! The solution of a tree's equations under a user's places, and what follows from it.
+
+ghost use Rattle.std.specs.Prelude.{◌≡◌, ◌<◌, length, map};
+ghost use Rattle.kc_expr.specs.Value.{text_of_known};
+ghost use Rattle.kc_solve.specs.Places.{known_in};
+ghost use Rattle.kc_solve.specs.Solved as spec;
+ghost use Rattle.kc_solve.specs.Solved.{IsMinimal, IsSolution, SettledWhere, TellsKnown};
+ghost use Rattle.kc_tree.specs.Views.{condition_of};
+ghost use Rattle.kc_values.specs.Laws.{IsAccepted};
+ghost use Rattle.kc_values.specs.Solution.{symbol_count};
+
+use crate::flags::{at_choice, at_symbol};
+use kc_expr::expression::{Kind, SymId, Tri};
+use kc_expr::values::{Values, tri_text};
+use kc_tree::parts::{ChoiceId, Cond};
+use kc_tree::tree::Tree;
+use kc_user::user::User;
+use kc_values::conditions::condition;
+use kc_values::laws::{choices_stand_alone, minimal_restores, settled_where};
+use kc_values::lookups::facts;
+use kc_values::table::Table;
+use kc_values::truths::{truth_of, visibility};
+use kc_values::written::written;
+use std::marker::Model;
+
+/// The one solution of a tree's equations under a user's places, as [`crate::solve::solve`] finds it, with the flags and
+/// warnings that follow from it. No call takes memory.
+#[derive(Drop)]
+pub struct Solved<'a> {
+    pub(crate) table: Table<'a>,
+    pub(crate) user: &'a User,
+    pub(crate) selections: Vec<Option<SymId>>,
+    pub(crate) default_selections: Vec<Option<SymId>>,
+    pub(crate) differing: Vec<bool>,
+    pub(crate) warnings: Vec<Vec<u8>>,
+}
+
+impl<'a> Model for Solved<'a> {
+    ghost use Rattle.std.specs.Prelude.{◌≡◌, map};
+    ghost use Rattle.kc_solve.specs.Solved.{IsSolved, Solution, solution_in};
+    ghost use Rattle.kc_solve.specs.SolutionCode.{solution_code};
+
+    ghost Value = { Solution };
+
+    ghost coded = { solution_code };
+
+    ghost view = { λ s. solution_in s.table.tree.now s.user.now s.table.values.items };
+
+    ghost invariant = { λ s. IsSolved s.table.tree.now s.user.now s.table.values.items s.selections.items s.default_selections.items s.differing.items (map (λ w. w.items) s.warnings.items) };
+}
+
+impl<'a> Solved<'a> {
+    /// The tree that it is a solution for.
+    pub fn tree(&self) -> &'a Tree
+        ensures { result.now ≡ self.now.tree }
+    {
+        self.table.tree
+    }
+
+    /// The user's places that it was solved from.
+    pub fn user(&self) -> &'a User
+        ensures { result.now ≡ self.now.places }
+    {
+        self.user
+    }
+
+    /// What every solution is: its values solve the equations of its tree under its places, and no others do.
+    pub fn is_solution(&self)
+        ensures { IsSolution self.now }
+    {
+        let _ = &self.table;
+    }
+
+    /// The tree is accepted: no symbol needs itself, through others or not.
+    pub fn is_accepted(&self)
+        ensures { IsAccepted self.now.tree }
+    {
+        let _ = &self.table;
+    }
+
+    /// What it answers as [`Values`] is what its valuation says of each symbol, and of a name that is not defined its own
+    /// text.
+    pub fn tells_known(&self)
+        ensures { TellsKnown self.now }
+    {
+        let _ = &self.table;
+    }
+
+    /// The lines of the symbols that differ give the values again, and no nonempty set of them can go (our own).
+    pub fn is_minimal(&self)
+        ensures { IsMinimal self.now }
+    {
+        minimal_restores();
+        choices_stand_alone();
+        let _count = self.table.tree.symbol_count();
+    }
+
+    /// With the written values that are allowed as the user's, the values solve again exactly where no symbol outside a
+    /// choice has the type tristate, is visible, and is greater than both its visibility and its reverse dependency (our
+    /// own).
+    pub fn is_settled_where(&self)
+        ensures { SettledWhere self.now }
+    {
+        settled_where();
+        choices_stand_alone();
+        let _count = self.table.tree.symbol_count();
+    }
+
+    /// What a condition is worth: the least of its parts and of the mode of the choice around it (the kernel's
+    /// kconfig-language document).
+    pub fn truth(&self, when: &Cond) -> Tri
+        ensures { result ≡ spec.truth self.now (condition_of when.now) }
+    {
+        condition(self.table.tree, when, &self.table)
+    }
+
+    /// The visibility of a symbol: the greatest condition of its prompts, m being y where the symbol can't be m
+    /// (kconfiglib's `visibility`).
+    pub fn visibility(&self, id: SymId) -> Tri
+        ensures { result ≡ spec.visibility self.now id }
+    {
+        match facts(self.table.tree, id) {
+            Some(symbol) => visibility(self.table.tree, symbol, &self.table),
+            None => Tri::N,
+        }
+    }
+
+    /// Whether the symbol has a line in the `.config`: it is visible; or, outside a choice, a bool or tristate whose
+    /// default, reverse dependency, or weak one within its dependency is not n, or a string, int or hex one of whose
+    /// defaults counts. A symbol without a type has none (kconfiglib's `config_string`).
+    pub fn written(&self, id: SymId) -> bool
+        ensures { result ≡ spec.written self.now id }
+    {
+        written(self.table.tree, id, &self.table)
+    }
+
+    /// The selected member of a choice: where its mode is not n the user's member if it is visible, else the default
+    /// selection (kconfiglib's `selection`).
+    pub fn selection(&self, choice: ChoiceId) -> Option<SymId>
+        requires { choice.0 < length self.now.tree.choices }
+        ensures { result ≡ spec.selection self.now choice.0 }
+    {
+        at_choice(&self.selections, choice)
+    }
+
+    /// The selection of a choice without the user's member: the first default whose condition is not n and that names a
+    /// visible member, else the first visible member (the kernel's kconfig-language document on choices).
+    pub fn default_selection(&self, choice: ChoiceId) -> Option<SymId>
+        requires { choice.0 < length self.now.tree.choices }
+        ensures { result ≡ spec.default_selection self.now choice.0 }
+    {
+        at_choice(&self.default_selections, choice)
+    }
+
+    /// Whether the symbol has a line in the minimal file: its value is not what its equation gives without what the user
+    /// gave for it, under the same values of all others; a member: it is selected and is not the default selection (our
+    /// own).
+    pub fn differs(&self, id: SymId) -> bool
+        requires { id.0 < symbol_count self.now.tree }
+        ensures { result ≡ spec.differs self.now id }
+    {
+        at_symbol(&self.differing, id)
+    }
+
+    /// The warnings of the values, whole lines without their end, in the order of the symbols' first definitions: selected
+    /// above its dependency (K11), a visible user value outside the active range (K12), a default that was clamped (K13)
+    /// (our own lines).
+    pub fn value_warnings(&self) -> &[Vec<u8>]
+        ensures { map (λ w. w.items) result.now ≡ spec.warnings self.now }
+    {
+        &self.warnings
+    }
+}
+
+// The text of what is known of a symbol: `n`, `m` or `y` of a bool or tristate.
+fn known_text<'t>(table: &'t Table, id: SymId) -> &'t [u8]
+    ensures { result.now ≡ text_of_known (known_in table.now.tree.now table.now.values.items id) }
+{
+    match table.kind(id) {
+        Kind::Bool | Kind::Tristate => tri_text(table.tri(id)),
+        _ => table.text(id),
+    }
+}
+
+impl<'a> Values for Solved<'a> {
+    ghost tri_of = { spec.tri_of };
+
+    ghost text_of = { spec.text_of };
+
+    ghost kind_of = { spec.kind_of };
+
+    fn tri(&self, id: SymId) -> Tri {
+        truth_of(id, &self.table)
+    }
+
+    fn text(&self, id: SymId) -> &[u8] {
+        known_text(&self.table, id)
+    }
+
+    fn kind(&self, id: SymId) -> Kind {
+        self.table.kind(id)
+    }
+}

@@ -1,0 +1,29 @@
+-- What holds of the places of every tree.
+use Rattle.std.specs.Prelude.{◌≡◌, ◌≤◌, ℕ, true, List, length, None, Some, slice_get, slice_index_or, slice_set}
+use Rattle.std.specs.List.{Contains}
+use Rattle.kc_expr.specs.declared.expression.SymId.{SymId}
+use Rattle.kc_tree.specs.TreeFacts.{TreeFacts}
+use Rattle.kc_user.specs.Given.{Given, Typed}
+use Rattle.kc_user.specs.Places.{Places, ArePlaces, no_places, allowed, members_of}
+
+-- Empty places are places of the tree.
+abbrev pub EmptyArePlaces : Type 0
+EmptyArePlaces = (tree : TreeFacts) → ArePlaces tree (no_places tree)
+
+-- With an allowed value in a symbol's place they are still such places.
+abbrev pub SettingKeepsPlaces : Type 0
+SettingKeepsPlaces =
+    (tree : TreeFacts) (places : Places) (s : SymId) (g : Given) → ArePlaces tree places → allowed tree s g ≡ true →
+    ArePlaces tree (record { symbols = slice_set places.symbols s.0 (Some g); choices = places.choices })
+
+-- With a member of the choice in a choice's place they are still such places.
+abbrev pub SelectingKeepsPlaces : Type 0
+SelectingKeepsPlaces =
+    (tree : TreeFacts) (places : Places) (c : ℕ) (m : SymId) → ArePlaces tree places → Contains (members_of (slice_get tree.choices c)) m →
+    ArePlaces tree (record { symbols = places.symbols; choices = slice_set places.choices c (Some m) })
+
+-- Each text in such places has at most 65,000 bytes.
+abbrev pub TextsAreShort : Type 0
+TextsAreShort =
+    (tree : TreeFacts) (places : Places) (i : ℕ) (text : List ℕ) → ArePlaces tree places → slice_index_or places.symbols i None ≡ Some (Typed text) →
+    length text ≤ 65000

@@ -1,0 +1,98 @@
+-- What stands in the user's places, and what may stand there.
+use Rattle.std.specs.Prelude.{◌≡◌, ℕ, ◌+◌, List, [], length, Bool, true, false, not, ◌&&◌, ◌||◌, ◌==◌, nat_le, Option, Some, None, is_some, slice_get, slice_index_or, replicate}
+use Rattle.std.specs.List.{Contains, list_any}
+use Rattle.kc_text.specs.Escapes.{escape}
+use Rattle.kc_text.specs.Numbers.{int_of, hex_of}
+use Rattle.kc_expr.specs.declared.expression.SymId.{SymId}
+use Rattle.kc_expr.specs.declared.expression.Tri.{Tri}
+use Rattle.kc_expr.specs.declared.expression.Tri.TheVariants.{N, M, Y}
+use Rattle.kc_expr.specs.declared.expression.Kind.{Kind}
+use Rattle.kc_expr.specs.declared.expression.Kind.TheVariants as kind
+use Rattle.kc_expr.specs.Names.{symbol}
+use Rattle.kc_tree.specs.TreeFacts.{TreeFacts, SymbolFacts, ChoiceFacts}
+use Rattle.kc_user.specs.Given.{Given, Chosen, Typed, Member, Slot, At, In}
+
+-- one place for each symbol and one for each choice, by their numbers
+pub record Places : Type 0 where
+  pub symbols : List (Option Given)
+  pub choices : List (Option SymId)
+
+-- the member in a choice's place
+abbrev pub member_place : Option SymId → Option Given
+member_place None = None
+member_place (Some m) = Some (Member m)
+
+abbrev pub place_at : Places → Slot → Option Given
+place_at places (At i) = slice_index_or places.symbols i None
+place_at places (In c) = member_place (slice_index_or places.choices c None)
+
+-- the places are those of the tree: one a symbol, one a choice
+pub record IsUserOf (tree : TreeFacts) (places : Places) : Type 0 where
+  pub symbols : length places.symbols ≡ length tree.symbols
+  pub choices : length places.choices ≡ length tree.choices
+
+-- every place of a tree is there and empty
+abbrev pub no_places : TreeFacts → Places
+no_places tree = record {
+  symbols = replicate (length tree.symbols) None;
+  choices = replicate (length tree.choices) None;
+}
+
+-- Allowed: exactly the values that some set or unset line of a .config gives.
+abbrev pub is_line_feed : ℕ → Bool
+is_line_feed b = b == 10
+
+-- `"` and `\`
+abbrev pub is_special : ℕ → Bool
+is_special b = b == 34 || b == 92
+
+-- `"TEXT"` with a `\` before each `"` and `\` has at most 65,000 bytes, and no line end stands in it
+abbrev pub fits_quoted : List ℕ → Bool
+fits_quoted text = nat_le (length (escape text) + 2) 65000 && not (list_any is_line_feed text)
+
+abbrev pub is_short : List ℕ → Bool
+is_short text = nat_le (length text) 65000
+
+abbrev pub is_m : Tri → Bool
+is_m N = false
+is_m M = true
+is_m Y = false
+
+abbrev pub allowed_truth : Kind → Tri → Bool
+allowed_truth kind.Undefined t = false
+allowed_truth kind.Bool t = not (is_m t)
+allowed_truth kind.Tristate t = true
+allowed_truth kind.Str t = false
+allowed_truth kind.Int t = false
+allowed_truth kind.Hex t = false
+
+abbrev pub allowed_text : Kind → List ℕ → Bool
+allowed_text kind.Undefined t = false
+allowed_text kind.Bool t = false
+allowed_text kind.Tristate t = false
+allowed_text kind.Str t = fits_quoted t
+allowed_text kind.Int t = is_short t && is_some (int_of t)
+allowed_text kind.Hex t = is_short t && is_some (hex_of t)
+
+abbrev pub allowed_by : Kind → Given → Bool
+allowed_by k (Chosen t) = allowed_truth k t
+allowed_by k (Typed t) = allowed_text k t
+allowed_by k (Member m) = false
+
+abbrev pub allowed_for : Option SymbolFacts → Given → Bool
+allowed_for None given = false
+allowed_for (Some facts) given = allowed_by facts.kind given
+
+-- a value of a symbol's own place
+abbrev pub allowed : TreeFacts → SymId → Given → Bool
+allowed tree s given = allowed_for (slice_get tree.symbols s.0) given
+
+abbrev pub members_of : Option ChoiceFacts → List SymId
+members_of None = []
+members_of (Some c) = c.members
+
+-- The places of a tree, where what was given is allowed, and a chosen symbol is a member of its choice.
+pub record ArePlaces (tree : TreeFacts) (places : Places) : Type 0 where
+  pub there : IsUserOf tree places
+  pub allowed_all : (i : ℕ) (g : Given) → slice_index_or places.symbols i None ≡ Some g → allowed tree (symbol i) g ≡ true
+  pub members : (c : ℕ) (m : SymId) → slice_index_or places.choices c None ≡ Some m → Contains (members_of (slice_get tree.choices c)) m

@@ -1,0 +1,9 @@
+-- What the fields of a user's places say.
+use Rattle.std.specs.Prelude.{map}
+use Rattle.std.specs.Option.{option_map}
+use Rattle.kc_user.specs.Places.{Places}
+use Rattle.kc_user.specs.ValueView.{given_of_value}
+use Rattle.kc_user.specs.declared.user.User.TheInside.{Inside}
+
+abbrev pub places_of : Inside → Places
+places_of user = record { symbols = map (option_map given_of_value) user.symbols.items; choices = user.choices.items }

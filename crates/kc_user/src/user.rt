@@ -1,0 +1,101 @@
+//! The user's places.
+ghost use Rattle.std.specs.Prelude.{◌≡◌, ◌<◌, length, map, slice_set, slice_index_or, Some, None, IfOk, replicate};
+ghost use Rattle.std.specs.Option.{option_map};
+ghost use Rattle.kc_user.specs.Places as spec;
+ghost use Rattle.kc_user.specs.ValueView.{given_of_value};
+
+use crate::value::UserValue;
+use kc_expr::expression::SymId;
+use kc_tree::parts::ChoiceId;
+use kc_tree::tree::Tree;
+use std::alloc::{AllocError, Global};
+use std::marker::Model;
+
+/// What a user gives for the symbols and choices of a tree: one place for each, empty or filled. Places that get only values
+/// that `allowed` accepts and members of their choices hold only such ([`crate::laws::places_hold_what_is_allowed`]). (Our
+/// own; the user's values of kconfiglib's documentation.)
+#[derive(Drop)]
+pub struct User {
+    symbols: Vec<Option<UserValue>>,
+    choices: Vec<Option<SymId>>,
+}
+
+impl Model for User {
+    ghost use Rattle.kc_user.specs.Places.{Places};
+
+    ghost Value = { Places };
+
+    ghost use Rattle.kc_user.specs.UserView.{places_of};
+
+    ghost view = { places_of };
+}
+
+impl User {
+    /// The places of a tree, every one empty. Only want of memory is an error, which leaves nothing; no other call takes memory.
+    pub fn new(alloc: Global, tree: &Tree) -> Result<User, AllocError>
+        ensures { IfOk result (λ user. user ≡ spec.no_places tree.now) }
+    {
+        let symbols = empty_places(alloc, tree.symbol_count())?;
+        let choices = empty_places(alloc, tree.choices().len())?;
+        Ok(User { symbols, choices })
+    }
+
+    /// Puts the value into the symbol's place, whatever stood there; all other places stay. The laws of the minimal file and
+    /// of a rerun want a value that `allowed` accepts.
+    pub fn set(&mut self, id: SymId, value: UserValue)
+        requires { id.0 < length self.old.symbols }
+        ensures { self.new ≡ record self.old { symbols = slice_set self.old.symbols id.0 (Some (given_of_value value)) } }
+    {
+        self.symbols[id.0] = Some(value);
+    }
+
+    /// Puts the member into the choice's place, whatever stood there; all other places stay. What is no visible member of that
+    /// choice counts as an empty place.
+    pub fn select(&mut self, choice: ChoiceId, member: SymId)
+        requires { choice.0 < length self.old.choices }
+        ensures { self.new ≡ record self.old { choices = slice_set self.old.choices choice.0 (Some member) } }
+    {
+        self.choices[choice.0] = Some(member);
+    }
+
+    /// What stands in the symbol's place, if it is filled (kconfiglib's `user_value`).
+    pub fn get(&self, id: SymId) -> Option<&UserValue>
+        requires { id.0 < length self.now.symbols }
+        ensures { option_map (λ value. given_of_value value.now) result ≡ slice_index_or self.now.symbols id.0 None }
+    {
+        self.symbols[id.0].as_ref()
+    }
+
+    /// The member in the choice's place, if it is filled (kconfiglib's `user_selection`).
+    pub fn selected(&self, choice: ChoiceId) -> Option<SymId>
+        requires { choice.0 < length self.now.choices }
+        ensures { result ≡ slice_index_or self.now.choices choice.0 None }
+    {
+        self.choices[choice.0]
+    }
+
+    /// The symbols' places, by number.
+    pub fn symbols(&self) -> &[Option<UserValue>]
+        ensures { map (option_map given_of_value) result.now ≡ self.now.symbols }
+    {
+        &self.symbols
+    }
+
+    /// The choices' places, by number.
+    pub fn choices(&self) -> &[Option<SymId>]
+        ensures { result.now ≡ self.now.choices }
+    {
+        &self.choices
+    }
+}
+
+// This many empty places.
+fn empty_places<T: Drop>(alloc: Global, count: usize) -> Result<Vec<Option<T>>, AllocError>
+    ensures { IfOk result (λ places. places.items ≡ replicate count None) }
+{
+    let mut places = Vec::new(alloc);
+    for _ in 0..count {
+        places.push(None)?;
+    }
+    Ok(places)
+}

@@ -1,0 +1,97 @@
+//! What a user may give for one symbol.
+ghost use Rattle.std.specs.Prelude.{◌≡◌, ◌+◌, length, nat_le, count_by};
+ghost use Rattle.std.specs.List.{list_any};
+ghost use Rattle.kc_text.specs.Escapes.{escape};
+ghost use Rattle.kc_user.specs.Places as spec;
+ghost use Rattle.kc_user.specs.ValueView.{given_of_value};
+
+use kc_expr::expression::{Kind, SymId, Tri};
+use kc_text::{read_hex, read_int};
+use kc_tree::tree::Tree;
+
+/// The most bytes that may stand right of a `.config` line's `=` (our own limit).
+pub const LONGEST: usize = 65000;
+
+/// A value that a user gives for one symbol (kconfiglib's `user_value`).
+#[derive(Debug, Drop)]
+pub enum UserValue {
+    /// Of a bool or tristate.
+    Tri(Tri),
+    /// Of a string, without its quotes and backslashes, or of an int or hex, as it is spelled.
+    Text(Vec<u8>),
+}
+
+/// Whether some line of a `.config` gives the symbol this value: n and y for a bool, n, m and y for a tristate; for a
+/// string a text without a line end that has at most 65,000 bytes once it is quoted and escaped; for an int or hex a
+/// number of that type with at most 65,000 bytes; nothing for a symbol that has no type or is not defined. (Our own
+/// limits.)
+pub fn allowed(tree: &Tree, id: SymId, value: &UserValue) -> bool
+    ensures { result ≡ spec.allowed tree.now id (given_of_value value.now) }
+{
+    match tree.facts(id) {
+        Some(symbol) => is_allowed(symbol.kind, value),
+        None => false,
+    }
+}
+
+// Whether a line gives a symbol of this type the value.
+fn is_allowed(kind: Kind, value: &UserValue) -> bool
+    ensures { result ≡ spec.allowed_by kind (given_of_value value.now) }
+{
+    match value {
+        UserValue::Tri(tri) => is_allowed_tri(kind, *tri),
+        UserValue::Text(text) => is_allowed_text(kind, text),
+    }
+}
+
+fn is_allowed_tri(kind: Kind, tri: Tri) -> bool
+    ensures { result ≡ spec.allowed_truth kind tri }
+{
+    match kind {
+        Kind::Bool => match tri {
+            Tri::M => false,
+            Tri::N | Tri::Y => true,
+        },
+        Kind::Tristate => true,
+        Kind::Undefined | Kind::Str | Kind::Int | Kind::Hex => false,
+    }
+}
+
+fn is_allowed_text(kind: Kind, text: &[u8]) -> bool
+    ensures { result ≡ spec.allowed_text kind text.now }
+{
+    match kind {
+        Kind::Str => fits_quoted(text),
+        Kind::Int => text.len() <= LONGEST && read_int(text).is_some(),
+        Kind::Hex => text.len() <= LONGEST && read_hex(text).is_some(),
+        Kind::Undefined | Kind::Bool | Kind::Tristate => false,
+    }
+}
+
+// How many bytes get a `\` before them.
+fn special_count(text: &[u8]) -> usize
+    ensures count { result ≡ count_by spec.is_special text.now }
+{
+    text.iter().filter(|b| **b == b'"' || **b == b'\\').count()
+}
+
+// Whether a line end stands in the text.
+fn has_line_feed(text: &[u8]) -> bool
+    ensures { result ≡ list_any spec.is_line_feed text.now }
+{
+    text.iter().any(|b| *b == b'\n')
+}
+
+// Whether the text has at most 65,000 bytes once it is quoted and escaped.
+fn is_short_quoted(text: &[u8]) -> bool
+    ensures { result ≡ nat_le (length (escape text.now) + 2) 65000 }
+{
+    text.len() <= LONGEST && text.len() + special_count(text) + 2 <= LONGEST
+}
+
+// Whether the text, quoted and escaped, may stand right of a line's `=`.
+fn fits_quoted(text: &[u8]) -> bool
+    ensures { result ≡ spec.fits_quoted text.now }
+{
+    is_short_quoted(text) && !has_line_feed(text)
+}

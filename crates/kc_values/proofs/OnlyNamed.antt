@@ -1,0 +1,320 @@
+-- An equation reads only what it names.
+use Rattle.std.proofs.Common.{◌≡◌, ℕ, Bool, true, false, List, [], ◌∷◌, ◌++◌, refl, sym, ◌∙◌, ap, map, not, Option, None, Some, ◌&&◌, cond, ◌||◌, inl, inr, arith, suc}
+use Rattle.std.specs.List.{AllByRecursion, flat_map, list_any, filter, Contains}
+use Rattle.std.proofs.lemmas.Bool.{cases_Bool, true≢false}
+use Rattle.std.proofs.lemmas.List.Elements.{All-from_recursion}
+use Rattle.kc_expr.specs.declared.expression.SymId.{SymId}
+use Rattle.kc_expr.specs.declared.expression.Tri.{Tri}
+use Rattle.kc_expr.specs.declared.expression.Tri.TheVariants.{N, M, Y}
+use Rattle.kc_expr.specs.declared.expression.Kind.{Kind}
+use Rattle.kc_expr.specs.declared.expression.Kind.TheVariants.{Undefined, Bool as IsBool, Tristate, Str, Int, Hex}
+use Rattle.kc_expr.specs.Form.{Form, Leaf, Text, Symbol, Single, Related, Negated, Every, Some_of, symbols, leaf_symbols}
+use Rattle.kc_expr.specs.Value.{Known, Truth, Written, value, text, least, greatest, lesser, greater, truth_of_known, text_of_known, DependsOnSymbols}
+use Rattle.kc_tree.specs.TreeFacts.{Condition, Guarded, Bounds, SymbolFacts, ChoiceFacts, TreeFacts}
+use Rattle.kc_expr.specs.Names.{symbol}
+use Rattle.kc_values.specs.declared.intervals.Interval.{Interval}
+use Rattle.kc_values.specs.Lookups.{facts, name, choice_at, is_defined}
+use Rattle.kc_values.specs.Numbers.{counted}
+use Rattle.kc_values.specs.Values as v
+use Rattle.kc_user.specs.Given.{Given, Chosen, Typed, Member, Slot}
+use Rattle.kc_values.specs.Values.{is_n, up, names_symbol}
+use Rattle.kc_values.specs.Needs as n
+use Rattle.kc_values.specs.Needs.{needs_of}
+use Rattle.kc_values.specs.Solution.{slot, seen, equations}
+use Rattle.kc_order.specs.Solution.{ReadsNeeds}
+use Rattle.kc_values.proofs.Same.{front_of, back_of, map_same, found_same, same_symbol-true}
+
+module _ (law : DependsOnSymbols) (tree : TreeFacts) (k l : SymId → Known) where
+  abbrev Same : SymId → Type 0
+  Same s = k s ≡ l s
+
+  abbrev Sames : List SymId → Type 0
+  Sames ss = AllByRecursion Same ss
+
+  front : (xs ys : List SymId) → Sames (xs ++ ys) → Sames xs
+  front xs ys h = front_of Same xs ys h
+
+  back : (xs ys : List SymId) → Sames (xs ++ ys) → Sames ys
+  back xs ys h = back_of Same xs ys h
+
+  same_value : (f : Form) → Sames (symbols f) → value k f ≡ value l f
+  same_value f h = law k l f (All-from_recursion Same (symbols f) h)
+
+  same_text : (o : Leaf) → Sames (leaf_symbols o) → text k o ≡ text l o
+  same_text (Text bytes) h = refl
+  same_text (Symbol s) h = ap text_of_known h.0
+
+  same_all_hold : (parts : List Form) → Sames (flat_map symbols parts) → v.all_hold k parts ≡ v.all_hold l parts
+  same_all_hold parts h = ap least (map_same Same symbols (value k) (value l) same_value parts h)
+
+  same_prompt : (p : Option Condition) → Sames (n.parts_names p) → v.prompt_value k p ≡ v.prompt_value l p
+  same_prompt None h = refl
+  same_prompt (Some c) h = same_all_hold c.parts h
+
+  same_mode : (c : Option ChoiceFacts) → Sames (n.prompt_names c) → v.mode_of k c ≡ v.mode_of l c
+  same_mode None h = refl
+  same_mode (Some c) h = ap up (same_prompt c.prompt h)
+
+  same_mode_value : (m : Option ℕ) → Sames (n.mode_names tree m) → v.mode_value tree k m ≡ v.mode_value tree l m
+  same_mode_value None h = refl
+  same_mode_value (Some c) h = same_mode (choice_at tree c) h
+
+  same_condition : (c : Condition) → Sames (n.condition_names tree c) → v.condition tree k c ≡ v.condition tree l c
+  same_condition c h =
+      let a = same_all_hold c.parts (front (flat_map symbols c.parts) (n.mode_names tree c.mode) h) in
+      let b = same_mode_value c.mode (back (flat_map symbols c.parts) (n.mode_names tree c.mode) h) in
+      cc
+
+  same_conditions : (cs : List Condition) → Sames (flat_map (n.condition_names tree) cs) → v.conditions tree k cs ≡ v.conditions tree l cs
+  same_conditions cs h = ap greatest (map_same Same (n.condition_names tree) (v.condition tree k) (v.condition tree l) same_condition cs h)
+
+  -- what is made of the first whose condition is not n
+  same_first : {X Z : Type 0} (names : X → List SymId) (F G : Option (Guarded X) → Z) → F None ≡ G None → ((g : Guarded X) → Sames (names g.what) → Sames (n.condition_names tree g.when) → F (Some g) ≡ G (Some g)) → (gs : List (Guarded X)) → Sames (n.guarded_names tree names gs) → F (v.first_open tree k gs) ≡ G (v.first_open tree l gs)
+  same_first {X} names F G none each gs h =
+      let both = λ (g : Guarded X). names g.what ++ n.condition_names tree g.when in
+      found_same Same both (λ g. not (is_n (v.condition tree k g.when))) (λ g. not (is_n (v.condition tree l g.when))) F G none
+      (λ g hs. ap (λ t. not (is_n t)) (same_condition g.when (back (names g.what) (n.condition_names tree g.when) hs)))
+      (λ g hs. each g (front (names g.what) (n.condition_names tree g.when) hs) (back (names g.what) (n.condition_names tree g.when) hs))
+      gs h
+
+  same_modules : (m : Option SymId) → Sames (n.modules_names m) → v.modules_value tree k m ≡ v.modules_value tree l m
+  same_modules None h = refl
+  same_modules (Some m) h = ap truth_of_known h.0
+
+  same_raised : (kind : Kind) → Sames (n.kind_names tree kind) → (t u : Tri) → t ≡ u → v.raised tree k kind t ≡ v.raised tree l kind u
+  same_raised Undefined h t u e = ap up e
+  same_raised IsBool h t u e = ap up e
+  same_raised Tristate h t u e = let m = same_modules tree.modules h in cc
+  same_raised Str h t u e = ap up e
+  same_raised Int h t u e = ap up e
+  same_raised Hex h t u e = ap up e
+
+  -- raising does not change whether a value is n
+  is_n-up : (t : Tri) → is_n (up t) ≡ is_n t
+  is_n-up N = refl
+  is_n-up M = refl
+  is_n-up Y = refl
+
+  is_n-if : (b : Bool) (t : Tri) → is_n (cond b (up t) t) ≡ is_n t
+  is_n-if true t = is_n-up t
+  is_n-if false t = refl
+
+  is_n-raised : (known : SymId → Known) (kind : Kind) (t : Tri) → is_n (v.raised tree known kind t) ≡ is_n t
+  is_n-raised known Undefined t = is_n-up t
+  is_n-raised known IsBool t = is_n-up t
+  is_n-raised known Tristate t = is_n-if (is_n (v.modules_value tree known tree.modules)) t
+  is_n-raised known Str t = is_n-up t
+  is_n-raised known Int t = is_n-up t
+  is_n-raised known Hex t = is_n-up t
+
+  typed-is_n : (user : Option Given) (t u : Tri) → is_n t ≡ is_n u → v.typed user t ≡ v.typed user u
+  typed-is_n None t u e = refl
+  typed-is_n (Some (Chosen x)) t u e = refl
+  typed-is_n (Some (Member m)) t u e = refl
+  typed-is_n (Some (Typed bytes)) t u e = ap (λ b. cond b None (Some bytes)) e
+
+  same_typed : (f : SymbolFacts) (user : Option Given) → Sames (flat_map (n.condition_names tree) f.prompts) → v.typed user (v.visibility tree k f) ≡ v.typed user (v.visibility tree l f)
+  same_typed f user h =
+      typed-is_n user (v.visibility tree k f) (v.visibility tree l f)
+      (is_n-raised k f.kind (v.conditions tree k f.prompts) ∙ ap is_n (same_conditions f.prompts h) ∙ sym (is_n-raised l f.kind (v.conditions tree l f.prompts)))
+
+  same_pulled : (gs : List (Guarded SymId)) → Sames (n.guarded_names tree (n.one_name) gs) → v.pulled tree k gs ≡ v.pulled tree l gs
+  same_pulled gs h =
+      ap greatest
+      (map_same Same (λ (g : Guarded SymId). n.one_name g.what ++ n.condition_names tree g.when)
+      (λ g. lesser (truth_of_known (k g.what)) (v.condition tree k g.when))
+      (λ g. lesser (truth_of_known (l g.what)) (v.condition tree l g.when))
+      (λ g hs. let a = ap truth_of_known hs.0 in let b = same_condition g.when hs.1 in cc)
+      gs h)
+
+  same_default : (f : SymbolFacts) → Sames (n.guarded_names tree symbols f.defaults) → v.default_value tree k (v.first_open tree k f.defaults) ≡ v.default_value tree l (v.first_open tree l f.defaults)
+  same_default f h =
+      same_first symbols (v.default_value tree k) (v.default_value tree l) refl
+      (λ g a b. let x = same_value g.what a in let y = same_condition g.when b in cc)
+      f.defaults h
+
+  same_single : (f : Form) → Sames (symbols f) → v.single_text k f ≡ v.single_text l f
+  same_single (Single o) h = same_text o h
+  same_single (Related op a b) h = refl
+  same_single (Negated f) h = refl
+  same_single (Every fs) h = refl
+  same_single (Some_of fs) h = refl
+
+  same_default_text : (f : SymbolFacts) → Sames (n.guarded_names tree symbols f.defaults) → v.default_text k (v.first_open tree k f.defaults) ≡ v.default_text l (v.first_open tree l f.defaults)
+  same_default_text f h =
+      same_first symbols (v.default_text k) (v.default_text l) refl (λ g a b. same_single g.what a) f.defaults h
+
+  same_base : (user : Option Given) (vis vis' d d' weak weak' dir dir' rev rev' : Tri) → vis ≡ vis' → d ≡ d' → weak ≡ weak' → dir ≡ dir' → rev ≡ rev' → greater (v.based user vis (v.implied d weak dir)) rev ≡ greater (v.based user vis' (v.implied d' weak' dir')) rev'
+  same_base None vis vis' d d' weak weak' dir dir' rev rev' a b c e g = cc
+  same_base (Some (Chosen u)) vis vis' d d' weak weak' dir dir' rev rev' a b c e g = cc
+  same_base (Some (Typed t)) vis vis' d d' weak weak' dir dir' rev rev' a b c e g = cc
+  same_base (Some (Member m)) vis vis' d d' weak weak' dir dir' rev rev' a b c e g = cc
+
+  same_interval : (kind : Kind) (g : Guarded Bounds) → Sames (n.bounds_names g.what) → v.interval k kind (Some g) ≡ v.interval l kind (Some g)
+  same_interval kind g h =
+      let a = same_text g.what.low (front (leaf_symbols g.what.low) (leaf_symbols g.what.high) h) in
+      let b = same_text g.what.high (back (leaf_symbols g.what.low) (leaf_symbols g.what.high) h) in
+      let made : List ℕ → List ℕ → Option Interval = λ x y. Some (record { low = counted kind x; high = counted kind y }) in
+      ap (λ x. made x (text k g.what.high)) a ∙ ap (made (text l g.what.low)) b
+
+  same_active : (f : SymbolFacts) → Sames (n.guarded_names tree n.bounds_names f.ranges) → v.active_range tree k f ≡ v.active_range tree l f
+  same_active f h =
+      same_first n.bounds_names (v.interval k f.kind) (v.interval l f.kind) refl (λ g a b. same_interval f.kind g a) f.ranges h
+
+  module _ (f : SymbolFacts) where
+    abbrev Prompts : List SymId
+    Prompts = flat_map (n.condition_names tree) f.prompts
+
+    abbrev Defaults : List SymId
+    Defaults = n.guarded_names tree symbols f.defaults
+
+    abbrev Deps : List SymId
+    Deps = flat_map (n.condition_names tree) f.deps
+
+    abbrev Selectors : List SymId
+    Selectors = n.guarded_names tree (n.one_name) f.selectors
+
+    abbrev Impliers : List SymId
+    Impliers = n.guarded_names tree (n.one_name) f.impliers
+
+    abbrev Own : List SymId
+    Own = n.kind_names tree f.kind
+
+    abbrev Ranges : List SymId
+    Ranges = n.guarded_names tree (n.bounds_names) f.ranges
+
+    same_text_equation : (user : Option Given) → Sames (n.names_of_all tree f) → v.text_equation tree k f user ≡ v.text_equation tree l f user
+    same_text_equation user h =
+        let a = same_typed f user (front Prompts Defaults h) in
+        let b = same_default_text f (back Prompts Defaults h) in
+        cc
+
+    same_truth_equation : (user : Option Given) → Sames (n.names_of_truth tree f) → v.truth_equation tree k f user ≡ v.truth_equation tree l f user
+    same_truth_equation user h =
+        let all = front (Prompts ++ Defaults) (Deps ++ (Selectors ++ (Impliers ++ Own))) h in
+        let more1 = back (Prompts ++ Defaults) (Deps ++ (Selectors ++ (Impliers ++ Own))) h in
+        let more2 = back Deps (Selectors ++ (Impliers ++ Own)) more1 in
+        let more3 = back Selectors (Impliers ++ Own) more2 in
+        let own = back Impliers Own more3 in
+        let vis = same_raised f.kind own _ _ (same_conditions f.prompts (front Prompts Defaults all)) in
+        let dir = same_raised f.kind own _ _ (same_conditions f.deps (front Deps (Selectors ++ (Impliers ++ Own)) more1)) in
+        let rev = same_raised f.kind own _ _ (same_pulled f.selectors (front Selectors (Impliers ++ Own) more2)) in
+        let weak = same_raised f.kind own _ _ (same_pulled f.impliers (front Impliers Own more3)) in
+        let d = same_default f (back Prompts Defaults all) in
+        same_raised f.kind own _ _ (same_base user _ _ _ _ _ _ _ _ _ _ vis d weak dir rev)
+
+    pub same_number_equation : (user : Option Given) → Sames (n.names_of_number tree f) → v.number_equation tree k f user ≡ v.number_equation tree l f user
+    same_number_equation user h =
+        let all = front (Prompts ++ Defaults) Ranges h in
+        let a = same_typed f user (front Prompts Defaults all) in
+        let b = same_default_text f (back Prompts Defaults all) in
+        let r = same_active f (back (Prompts ++ Defaults) Ranges h) in
+        cc
+
+  -- Choices.
+  same_visible_facts : (f : Option SymbolFacts) → Sames (n.prompts_names tree f) → v.visible_facts tree k f ≡ v.visible_facts tree l f
+  same_visible_facts None h = refl
+  same_visible_facts (Some f) h = ap (λ t. not (is_n t)) (same_conditions f.prompts h)
+
+  same_visible : (m : SymId) → Sames (n.prompts_names tree (facts tree m)) → v.visible tree k m ≡ v.visible tree l m
+  same_visible m h = same_visible_facts (facts tree m) h
+
+  same_among : (m : SymId) (ms : List SymId) → Sames (flat_map (λ m. n.prompts_names tree (facts tree m)) ms) → (list_any (v.same_symbol m) ms && v.visible tree k m) ≡ (list_any (v.same_symbol m) ms && v.visible tree l m)
+  same_among m [] h = refl
+  same_among m (x ∷ ms) h =
+      let here = front (n.prompts_names tree (facts tree x)) (flat_map (λ m. n.prompts_names tree (facts tree m)) ms) h in
+      let there = back (n.prompts_names tree (facts tree x)) (flat_map (λ m. n.prompts_names tree (facts tree m)) ms) h in
+      elim (cases_Bool (v.same_symbol m x)) [
+        | inl t ↦
+            let e = same_symbol-true m x t in
+            let w = ap (v.visible tree k) e ∙ same_visible x here ∙ ap (v.visible tree l) (sym e) in
+            ap (λ b. (list_any (v.same_symbol m) (x ∷ ms)) && b) w
+        | inr f ↦
+            let r = same_among m ms there in
+            ap (λ b. (b || list_any (v.same_symbol m) ms) && v.visible tree k m) f ∙ r ∙ sym (ap (λ b. (b || list_any (v.same_symbol m) ms) && v.visible tree l m) f)
+      ]
+
+  module _ (c : ChoiceFacts) where
+    abbrev Shown : List SymId
+    Shown = flat_map (λ m. n.prompts_names tree (facts tree m)) c.members
+
+    same_visible_member : Sames Shown → (m : SymId) → v.visible_member tree k c m ≡ v.visible_member tree l c m
+    same_visible_member h m = same_among m c.members h
+
+    same_unselected : Sames Shown → Sames (n.guarded_names tree (n.no_name) c.defaults) → v.unselected tree k c ≡ v.unselected tree l c
+    same_unselected h d =
+        let first =
+        found_same Same (λ (g : Guarded SymId). n.no_name g.what ++ n.condition_names tree g.when)
+        (λ g. not (is_n (v.condition tree k g.when)) && v.visible_member tree k c g.what)
+        (λ g. not (is_n (v.condition tree l g.when)) && v.visible_member tree l c g.what)
+        (v.what_of) (v.what_of) refl
+        (λ g hs. let a = same_condition g.when hs in let b = same_visible_member h g.what in cc)
+        (λ g hs. refl)
+        c.defaults d
+        in
+        let any =
+        found_same Same (λ m. n.prompts_names tree (facts tree m)) (v.visible tree k) (v.visible tree l) (λ o. o) (λ o. o) refl same_visible (λ m hs. refl) c.members h
+        in
+        cc
+
+    same_chosen_member : Sames Shown → (user : Option Given) → v.chosen_member tree k c user ≡ v.chosen_member tree l c user
+    same_chosen_member h None = refl
+    same_chosen_member h (Some (Chosen t)) = refl
+    same_chosen_member h (Some (Typed t)) = refl
+    same_chosen_member h (Some (Member m)) = ap (λ b. cond b (Some m) None) (same_visible_member h m)
+
+  pub same_selected : (c : Option ChoiceFacts) (user : Option Given) → Sames (n.names_of_choice tree c) → v.selected tree k c user ≡ v.selected tree l c user
+  same_selected None user h = refl
+  same_selected (Some c) user h =
+      let Own = n.parts_names c.prompt in
+      let Defaults = n.guarded_names tree (n.no_name) c.defaults in
+      let shown = front (Shown c) (Own ++ Defaults) h in
+      let more1 = back (Shown c) (Own ++ Defaults) h in
+      let mode = same_prompt c.prompt (front Own Defaults more1) in
+      let un = same_unselected c shown (back Own Defaults more1) in
+      let ch = same_chosen_member c shown user in
+      cc
+
+  same_by_kind : (s : SymId) (f : SymbolFacts) (kind : Kind) (user : Option Given) → Sames (n.names_by_kind tree f kind) → v.by_kind tree k s f kind user ≡ v.by_kind tree l s f kind user
+  same_by_kind s f Undefined user h = refl
+  same_by_kind s f IsBool user h = ap Truth (same_truth_equation f user h)
+  same_by_kind s f Tristate user h = ap Truth (same_truth_equation f user h)
+  same_by_kind s f Str user h = ap (Written Str) (same_text_equation f user h)
+  same_by_kind s f Int user h = ap (Written Int) (same_number_equation f user h)
+  same_by_kind s f Hex user h = ap (Written Hex) (same_number_equation f user h)
+
+  same_by_choice : (s : SymId) (f : SymbolFacts) (c : Option ℕ) (user : Option Given) → Sames (n.names_by_choice tree f c) → v.by_choice tree k s f c user ≡ v.by_choice tree l s f c user
+  same_by_choice s f None user h = same_by_kind s f f.kind user h
+  same_by_choice s f (Some c) user h =
+      ap (λ o. Truth (cond (v.names_symbol o s) Y N)) (same_selected (choice_at tree c) user h)
+
+  pub same_equation : (s : SymId) (f : Option SymbolFacts) (user : Option Given) → Sames (n.names_of tree f) → v.equation tree k s f user ≡ v.equation tree l s f user
+  same_equation s None user h = refl
+  same_equation s (Some f) user h = same_by_choice s f f.choice user h
+
+-- names that are not defined are known alike
+seen_defined : (b : Bool) (x y u : Known) → (b ≡ true → x ≡ y) → cond b x u ≡ cond b y u
+seen_defined true x y u h = h refl
+seen_defined false x y u h = refl
+
+-- the numbers of what passes
+kept_first : {X : Type 0} (g : X → ℕ) (b : Bool) (x : X) (r : List X) → b ≡ true → Contains (map g (cond b (x ∷ r) r)) (g x)
+kept_first g true x r e = (0, omega arith, refl)
+kept_first g false x r e = absurd (true≢false (sym e))
+
+kept_more : {X : Type 0} (g : X → ℕ) (b : Bool) (x : X) (t : ℕ) (r : List X) → Contains (map g r) t → Contains (map g (cond b (x ∷ r) r)) t
+kept_more g false x t r c = c
+kept_more g true x t r c = (suc c.0, omega (arith, c.1), c.2)
+
+module _ (tree : TreeFacts) (V W : ℕ → Known) where
+  pub same_seen : (all : List SymId) → ((t : ℕ) → Contains (n.defined_numbers tree all) t → V t ≡ W t) → AllByRecursion (λ s. seen tree V s ≡ seen tree W s) all
+  same_seen [] h = tt
+  same_seen (s ∷ all) h =
+      let number = λ (x : SymId). x.0 in (
+        seen_defined (is_defined tree s) (V s.0) (W s.0) (Written Undefined (name tree s)) (λ d. h s.0 (kept_first number (is_defined tree s) s (filter (is_defined tree) all) d)),
+        same_seen all (λ t i. h t (kept_more number (is_defined tree s) s t (filter (is_defined tree) all) i)),
+      )
+
+pub reads_needs : DependsOnSymbols → (tree : TreeFacts) (user : Slot → Option Given) → ReadsNeeds (needs_of tree) (equations tree user)
+reads_needs law tree user s V W h =
+    same_equation law tree (seen tree V) (seen tree W) (symbol s) (facts tree (symbol s)) (user (slot tree s)) (same_seen tree V W (n.names_of tree (facts tree (symbol s))) h)

@@ -1,0 +1,47 @@
+-- Lists whose symbols are known alike give the same.
+use Rattle.std.proofs.Common.{◌≡◌, Bool, true, false, List, [], ◌∷◌, ◌++◌, refl, sym, ap, map, Option, None, Some, cond, ℕ}
+use Rattle.std.specs.List.{AllByRecursion, flat_map, find}
+use Rattle.std.proofs.lemmas.Bool.{true≢false, eqb-true, eq-eqb}
+use Rattle.kc_expr.specs.declared.expression.SymId.{SymId}
+use Rattle.kc_values.specs.Values.{same_symbol}
+
+-- P of each element
+pub front_of : {X : Type 0} (P : X → Type 0) (xs ys : List X) → AllByRecursion P (xs ++ ys) → AllByRecursion P xs
+front_of P [] ys h = tt
+front_of P (x ∷ xs) ys h = (h.0, front_of P xs ys h.1)
+
+pub back_of : {X : Type 0} (P : X → Type 0) (xs ys : List X) → AllByRecursion P (xs ++ ys) → AllByRecursion P ys
+back_of P [] ys h = h
+back_of P (x ∷ xs) ys h = back_of P xs ys h.1
+
+module _ {S X Z : Type 0} (P : S → Type 0) (names : X → List S) where
+  pub map_same : (f g : X → Z) → ((x : X) → AllByRecursion P (names x) → f x ≡ g x) → (xs : List X) → AllByRecursion P (flat_map names xs) → map f xs ≡ map g xs
+  map_same f g each [] h = refl
+  map_same f g each (x ∷ xs) h =
+      let e = each x (front_of P (names x) (flat_map names xs) h) in
+      let r = map_same f g each xs (back_of P (names x) (flat_map names xs) h) in
+      cc
+
+  either_same : (F G : Option X → Z) (x : X) (b c : Bool) (r q : Option X) → b ≡ c → F (Some x) ≡ G (Some x) → F r ≡ G q → F (cond b (Some x) r) ≡ G (cond c (Some x) q)
+  either_same F G x true true r q e s t = s
+  either_same F G x false false r q e s t = t
+  either_same F G x true false r q e s t = absurd (true≢false e)
+  either_same F G x false true r q e s t = absurd (true≢false (sym e))
+
+  -- what is made of the first that passes
+  pub found_same : (p q : X → Bool) (F G : Option X → Z) → F None ≡ G None → ((x : X) → AllByRecursion P (names x) → p x ≡ q x) → ((x : X) → AllByRecursion P (names x) → F (Some x) ≡ G (Some x)) → (xs : List X) → AllByRecursion P (flat_map names xs) → F (find p xs) ≡ G (find q xs)
+  found_same p q F G none test each [] h = none
+  found_same p q F G none test each (x ∷ xs) h =
+      let here = front_of P (names x) (flat_map names xs) h in
+      either_same F G x (p x) (q x) (find p xs) (find q xs) (test x here) (each x here)
+      (found_same p q F G none test each xs (back_of P (names x) (flat_map names xs) h))
+
+abbrev numbered : ℕ → SymId
+numbered n = record { 0 = n }
+
+-- the same number is the same symbol
+pub same_symbol-true : (a b : SymId) → same_symbol a b ≡ true → a ≡ b
+same_symbol-true a b e = ap numbered (eqb-true a.0 b.0 e)
+
+pub same_symbol_itself : (a : SymId) → same_symbol a a ≡ true
+same_symbol_itself a = eq-eqb a.0 a.0 refl

@@ -1,0 +1,50 @@
+-- The numbers of texts are below 2^64.
+use Rattle.std.proofs.Common.{◌≡◌, ℕ, zero, suc, ◌<◌, ◌+◌, ◌^◌, Bool, true, false, ◌&&◌, cond, List, drop, Option, Some, None, pos, unwrap_or, refl, arith}
+use Rattle.std.specs.Prelude.{unsigned_abs, nat_lt}
+use Rattle.std.specs.Option.{option_map}
+use Rattle.std.specs.Str.Parse.{digits_value, starts_with_minus}
+use Rattle.std.proofs.lemmas.Bool.{and_parts, ltb-true}
+use Rattle.kc_text.specs.Numbers.{natural_of, is_numeral, negated, without_hex_prefix}
+use Rattle.kc_expr.specs.declared.expression.Kind.{Kind}
+use Rattle.kc_expr.specs.declared.expression.Kind.TheVariants.{Undefined, Bool as IsBool, Tristate, Str, Int, Hex}
+use Rattle.kc_values.specs.Numbers.{counted}
+
+below_if : (b : Bool) (n limit : ℕ) → 0 < limit → (b ≡ true → n < limit) → unwrap_or (cond b (Some n) None) 0 < limit
+below_if true n limit l h = h refl
+below_if false n limit l h = l
+
+natural_below : (radix limit : ℕ) (ds : List ℕ) → 0 < limit → unwrap_or (natural_of radix limit ds) 0 < limit
+unfolding natural_of
+natural_below radix limit ds l =
+    below_if (is_numeral radix ds && nat_lt (digits_value radix ds) limit) (digits_value radix ds) limit l
+    (λ e. ltb-true (digits_value radix ds) limit (and_parts (is_numeral radix ds) (nat_lt (digits_value radix ds) limit) e).1)
+
+of_pos : (o : Option ℕ) → unsigned_abs (unwrap_or (option_map pos o) (pos 0)) ≡ unwrap_or o 0
+of_pos None = refl
+of_pos (Some n) = refl
+
+of_negated : (o : Option ℕ) → unsigned_abs (unwrap_or (option_map negated o) (pos 0)) ≡ unwrap_or o 0
+of_negated None = refl
+of_negated (Some zero) = refl
+of_negated (Some (suc n)) = refl
+
+int_below : (b : Bool) (text : List ℕ) → unsigned_abs (unwrap_or (cond b (option_map negated (natural_of 10 (2 ^ 63 + 1) (drop 1 text))) (option_map pos (natural_of 10 (2 ^ 63) text))) (pos 0)) < 2 ^ 64
+int_below true text =
+    let l = natural_below 10 (2 ^ 63 + 1) (drop 1 text) (omega arith) in
+    let e = of_negated (natural_of 10 (2 ^ 63 + 1) (drop 1 text)) in
+    omega (arith, l, e)
+int_below false text =
+    let l = natural_below 10 (2 ^ 63) text (omega arith) in
+    let e = of_pos (natural_of 10 (2 ^ 63) text) in
+    omega (arith, l, e)
+
+pub counted_below : (kind : Kind) (text : List ℕ) → unsigned_abs (counted kind text) < 2 ^ 64
+counted_below Int text = int_below (starts_with_minus text) text
+counted_below Hex text =
+    let l = natural_below 16 (2 ^ 64) (without_hex_prefix text) (omega arith) in
+    let e = of_pos (natural_of 16 (2 ^ 64) (without_hex_prefix text)) in
+    omega (arith, l, e)
+counted_below Undefined text = omega arith
+counted_below IsBool text = omega arith
+counted_below Tristate text = omega arith
+counted_below Str text = omega arith

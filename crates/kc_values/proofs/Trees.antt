@@ -1,0 +1,88 @@
+-- Small trees for the worked rows, and what is computed of them.
+use Rattle.std.proofs.Common.{ℕ, Bool, List, [], ◌∷◌, map, Option, Some, None, length}
+use Rattle.std.specs.Prelude.{slice_index_or}
+use Rattle.std.specs.List.{range_with_len}
+use Rattle.kc_expr.specs.declared.expression.SymId.{SymId}
+use Rattle.kc_expr.specs.declared.expression.Tri.TheVariants.{N}
+use Rattle.kc_expr.specs.declared.expression.Kind.{Kind}
+use Rattle.kc_expr.specs.declared.expression.Kind.TheVariants.{Bool as IsBool}
+use Rattle.kc_expr.specs.Form.{Form, Leaf, Single, Text, Symbol}
+use Rattle.kc_expr.specs.Names.{symbol}
+use Rattle.kc_expr.specs.Value.{Known, Truth}
+use Rattle.kc_tree.specs.TreeFacts.{Condition, Guarded, Bounds, SymbolFacts, ChoiceFacts, TreeFacts}
+use Rattle.kc_user.specs.Given.{Given, Member, Slot, At, In}
+use Rattle.kc_values.specs.Needs.{needs}
+use Rattle.kc_values.specs.Solution.{equations, seen}
+use Rattle.kc_values.specs.Written.{written}
+use Rattle.kc_values.specs.Differs.{differs}
+use Rattle.kc_values.specs.Warnings.{value_warnings}
+
+abbrev pub always : Condition
+always = record { parts = []; mode = None }
+
+abbrev pub if_of : Form → Condition
+if_of f = record { parts = f ∷ []; mode = None }
+
+-- in the choice 0
+abbrev pub in_choice : List Form → Condition
+in_choice fs = record { parts = fs; mode = Some 0 }
+
+abbrev pub named : ℕ → Form
+named i = Single (Symbol (symbol i))
+
+abbrev pub constant : List ℕ → Form
+constant t = Single (Text t)
+
+abbrev pub line : {X : Type 0} → X → Guarded X
+line x = record { what = x; when = always }
+
+abbrev pub from_to : Leaf → Leaf → Guarded Bounds
+from_to a b = line (record { low = a; high = b })
+
+abbrev pub by : ℕ → Guarded SymId
+by i = line (symbol i)
+
+-- of a type, with prompts and defaults
+abbrev pub plain : Kind → List Condition → List (Guarded Form) → SymbolFacts
+plain k ps ds = record { kind = k; choice = None; deps = always ∷ []; prompts = ps; defaults = ds; ranges = []; selectors = []; impliers = [] }
+
+abbrev pub member : List Condition → SymbolFacts
+member ps = record { kind = IsBool; choice = Some 0; deps = in_choice [] ∷ []; prompts = ps; defaults = []; ranges = []; selectors = []; impliers = [] }
+
+abbrev pub tree : List (List ℕ) → List SymbolFacts → List ChoiceFacts → Option SymId → TreeFacts
+tree ns ss cs m = record { names = ns; symbols = ss; choices = cs; entries = []; warnings = []; main_menu = []; modules = m }
+
+-- nothing was given
+abbrev pub nothing : Slot → Option Given
+nothing p = None
+
+abbrev pub at_place : List (Option Given) → Slot → Option Given
+at_place given (At i) = slice_index_or given i None
+at_place given (In c) = None
+
+abbrev pub in_first : SymId → Slot → Option Given
+in_first m (At i) = None
+in_first m (In c) = Some (Member m)
+
+module _ (t : TreeFacts) (user : Slot → Option Given) (values : List Known) where
+  abbrev pub V : ℕ → Known
+  V i = slice_index_or values i (Truth N)
+
+  abbrev pub All : List ℕ
+  All = range_with_len 0 (length values)
+
+  -- what the equations give under the values: the values, where they solve
+  abbrev pub given_by : List Known
+  given_by = map (λ i. equations t user i V) All
+
+  abbrev pub written_now : List Bool
+  written_now = map (λ i. written t (seen t V) (symbol i)) All
+
+  abbrev pub differing : List Bool
+  differing = map (differs t user V) All
+
+  abbrev pub warned : List (List ℕ)
+  warned = value_warnings t user V
+
+  abbrev pub needed : List (List ℕ)
+  needed = needs t

@@ -1,0 +1,14 @@
+pub mod Lookups
+pub mod Numbers
+pub mod Values
+pub mod Needs
+pub mod Solution
+pub mod Written
+pub mod Differs
+pub mod Warnings
+pub mod Laws
+pub mod User
+pub mod Small
+pub mod Selections
+pub mod Table
+pub mod NeedRows

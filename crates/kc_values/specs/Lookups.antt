@@ -1,0 +1,17 @@
+-- What a tree says of a symbol and of a choice, by its number.
+use Rattle.std.specs.Prelude.{ℕ, Bool, List, [], Option, length, nat_lt, slice_get, slice_index_or}
+use Rattle.kc_expr.specs.declared.expression.SymId.{SymId}
+use Rattle.kc_tree.specs.TreeFacts.{SymbolFacts, ChoiceFacts, TreeFacts}
+
+-- the defined symbols have the first numbers
+abbrev pub is_defined : TreeFacts → SymId → Bool
+is_defined tree s = nat_lt s.0 (length tree.symbols)
+
+abbrev pub facts : TreeFacts → SymId → Option SymbolFacts
+facts tree s = slice_get tree.symbols s.0
+
+abbrev pub name : TreeFacts → SymId → List ℕ
+name tree s = slice_index_or tree.names s.0 []
+
+abbrev pub choice_at : TreeFacts → ℕ → Option ChoiceFacts
+choice_at tree c = slice_get tree.choices c

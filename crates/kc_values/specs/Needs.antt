@@ -1,0 +1,104 @@
+-- What the equation of a symbol reads: the symbols that it needs.
+use Rattle.std.specs.Prelude.{ℕ, List, [], ◌∷◌, ◌++◌, map, length, Option, Some, None}
+use Rattle.std.specs.List.{filter, flat_map, range_with_len}
+use Rattle.kc_expr.specs.Form.{symbols, leaf_symbols}
+use Rattle.kc_expr.specs.Names.{symbol}
+use Rattle.kc_expr.specs.declared.expression.SymId.{SymId}
+use Rattle.kc_expr.specs.declared.expression.Kind.{Kind}
+use Rattle.kc_expr.specs.declared.expression.Kind.TheVariants.{Undefined, Bool as IsBool, Tristate, Str, Int, Hex}
+use Rattle.kc_tree.specs.TreeFacts.{Condition, Guarded, Bounds, SymbolFacts, ChoiceFacts, TreeFacts}
+use Rattle.kc_values.specs.Lookups.{is_defined, facts, choice_at}
+
+abbrev pub one_name : SymId → List SymId
+one_name s = s ∷ []
+
+abbrev pub no_name : SymId → List SymId
+no_name s = []
+
+abbrev pub bounds_names : Bounds → List SymId
+bounds_names r = leaf_symbols r.low ++ leaf_symbols r.high
+
+abbrev pub parts_names : Option Condition → List SymId
+parts_names None = []
+parts_names (Some c) = flat_map symbols c.parts
+
+-- a mode names what the choice's prompt condition names
+abbrev pub prompt_names : Option ChoiceFacts → List SymId
+prompt_names None = []
+prompt_names (Some c) = parts_names c.prompt
+
+abbrev pub modules_names : Option SymId → List SymId
+modules_names None = []
+modules_names (Some m) = m ∷ []
+
+module _ (tree : TreeFacts) where
+  abbrev pub mode_names : Option ℕ → List SymId
+  mode_names None = []
+  mode_names (Some c) = prompt_names (choice_at tree c)
+
+  abbrev pub condition_names : Condition → List SymId
+  condition_names c = flat_map symbols c.parts ++ mode_names c.mode
+
+  abbrev pub guarded_names : {X : Type 0} → (X → List SymId) → List (Guarded X) → List SymId
+  guarded_names names gs = flat_map (λ g. names g.what ++ condition_names g.when) gs
+
+  abbrev pub prompts_names : Option SymbolFacts → List SymId
+  prompts_names None = []
+  prompts_names (Some f) = flat_map condition_names f.prompts
+
+  -- a tristate type names the modules symbol
+  abbrev pub kind_names : Kind → List SymId
+  kind_names Undefined = []
+  kind_names IsBool = []
+  kind_names Tristate = modules_names tree.modules
+  kind_names Str = []
+  kind_names Int = []
+  kind_names Hex = []
+
+  -- the conditions of its prompts, the values and conditions of its defaults
+  abbrev pub names_of_all : SymbolFacts → List SymId
+  names_of_all f = flat_map condition_names f.prompts ++ guarded_names symbols f.defaults
+
+  -- bool and tristate: also the dependencies, and each symbol that selects or implies it with the condition of that line
+  abbrev pub names_of_truth : SymbolFacts → List SymId
+  names_of_truth f =
+      names_of_all f ++ (flat_map condition_names f.deps ++ (guarded_names one_name f.selectors ++ (guarded_names one_name f.impliers ++ kind_names f.kind)))
+
+  -- int and hex: also the bounds and conditions of its ranges
+  abbrev pub names_of_number : SymbolFacts → List SymId
+  names_of_number f = names_of_all f ++ guarded_names bounds_names f.ranges
+
+  -- a member, instead: the prompt conditions of all members, the choice's prompt condition, the conditions of its defaults
+  abbrev pub names_of_choice : Option ChoiceFacts → List SymId
+  names_of_choice None = []
+  names_of_choice (Some c) =
+      flat_map (λ m. prompts_names (facts tree m)) c.members ++ (parts_names c.prompt ++ guarded_names no_name c.defaults)
+
+  -- without a type nothing
+  abbrev pub names_by_kind : SymbolFacts → Kind → List SymId
+  names_by_kind f Undefined = []
+  names_by_kind f IsBool = names_of_truth f
+  names_by_kind f Tristate = names_of_truth f
+  names_by_kind f Str = names_of_all f
+  names_by_kind f Int = names_of_number f
+  names_by_kind f Hex = names_of_number f
+
+  abbrev pub names_by_choice : SymbolFacts → Option ℕ → List SymId
+  names_by_choice f (Some c) = names_of_choice (choice_at tree c)
+  names_by_choice f None = names_by_kind f f.kind
+
+  abbrev pub names_of : Option SymbolFacts → List SymId
+  names_of None = []
+  names_of (Some f) = names_by_choice f f.choice
+
+  -- the numbers of the defined symbols in a list
+  abbrev pub defined_numbers : List SymId → List ℕ
+  defined_numbers ss = map (λ (s : SymId). s.0) (filter (is_defined tree) ss)
+
+  -- What the symbol of a number needs: the defined symbols among what its equation names.
+  abbrev pub needs_of : ℕ → List ℕ
+  needs_of i = defined_numbers (names_of (facts tree (symbol i)))
+
+  -- The needs of each symbol, by number.
+  abbrev pub needs : List (List ℕ)
+  needs = map needs_of (range_with_len 0 (length tree.symbols))

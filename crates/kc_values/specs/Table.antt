@@ -1,0 +1,39 @@
+-- A table of values by the numbers of the symbols, of which some places may be empty.
+use Rattle.std.specs.Prelude.{ℕ, List, Option, Some, None, slice_index_or}
+use Rattle.std.specs.Borrow.{Bor}
+use Rattle.kc_expr.specs.Value.{Known, Truth, Written}
+use Rattle.kc_expr.specs.declared.expression.SymId.{SymId}
+use Rattle.kc_expr.specs.declared.expression.Tri.TheVariants.{N}
+use Rattle.kc_expr.specs.declared.expression.Tri as tri
+use Rattle.kc_expr.specs.declared.expression.Kind.{Kind}
+use Rattle.kc_expr.specs.declared.expression.Kind.TheVariants.{Undefined}
+use Rattle.kc_tree.specs.TreeFacts.{SymbolFacts}
+use Rattle.kc_values.specs.declared.table.Value.{Value}
+use Rattle.kc_values.specs.declared.table.Value.TheVariants as value
+
+abbrev pub kind_in : Option SymbolFacts → Kind
+kind_in None = Undefined
+kind_in (Some f) = f.kind
+
+abbrev pub value_in : List (Option Value) → SymId → Option Value
+value_in values s = slice_index_or values s.0 None
+
+abbrev pub value_at : Option (Bor Value) → Option Value
+value_at None = None
+value_at (Some v) = Some v.now
+
+-- an empty place is n, and as a text its name
+abbrev pub tri_in : Option Value → tri.Tri
+tri_in None = N
+tri_in (Some (value.Truth t)) = t
+tri_in (Some (value.Text v)) = N
+
+abbrev pub text_in : Option Value → List ℕ → List ℕ
+text_in None name = name
+text_in (Some (value.Truth t)) name = name
+text_in (Some (value.Text v)) name = v.items
+
+-- what a value of the code is, at a type
+abbrev pub known_value : Kind → Value → Known
+known_value kind (value.Truth t) = Truth t
+known_value kind (value.Text v) = Written kind v.items

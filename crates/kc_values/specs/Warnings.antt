@@ -1,0 +1,94 @@
+-- What the values are warned of: whole lines, without the line feed (our own).
+use Rattle.std.specs.Prelude.{ℕ, if◌then◌else◌, List, [], ◌∷◌, ◌++◌, codes, Option, Some, None}
+use Rattle.std.specs.List.{flat_map, range_with_len}
+use Rattle.kc_expr.specs.Form.{Form}
+use Rattle.kc_expr.specs.Names.{symbol}
+use Rattle.kc_expr.specs.Value.{Known, tri_text}
+use Rattle.kc_expr.specs.declared.expression.SymId.{SymId}
+use Rattle.kc_expr.specs.declared.expression.Tri.{Tri}
+use Rattle.kc_expr.specs.declared.expression.Kind.{Kind}
+use Rattle.kc_expr.specs.declared.expression.Kind.TheVariants.{Undefined, Bool as IsBool, Tristate, Str, Int, Hex}
+use Rattle.kc_tree.specs.TreeFacts.{Guarded, SymbolFacts, TreeFacts}
+use Rattle.kc_values.specs.Lookups.{facts, name}
+use Rattle.kc_values.specs.Numbers.{number_text, is_inside, clamped, if_inside}
+use Rattle.kc_user.specs.Given.{Given, Slot, At}
+use Rattle.kc_values.specs.Values.{first_open, direct, rev, visibility, typed, single_text, active_range}
+use Rattle.kc_values.specs.Written.{above}
+use Rattle.kc_values.specs.Solution.{seen, symbol_count}
+use Rattle.kc_values.specs.declared.intervals.Interval.{Interval}
+
+-- `NAME is selected to REV while its dependency is DIRECT`
+abbrev pub selected_line : List ℕ → Tri → Tri → List ℕ
+selected_line name rev direct =
+    codes "warning K11: " ++ name ++ codes " is selected to " ++ tri_text rev ++ codes " while its dependency is " ++ tri_text direct
+
+-- ` of NAME is outside LOW to HIGH` after what stands before it
+abbrev pub outside_line : List ℕ → Kind → Interval → List ℕ → List ℕ
+outside_line begin kind r name =
+    begin ++ codes " of " ++ name ++ codes " is outside " ++ number_text kind r.low ++ codes " to " ++ number_text kind r.high
+
+-- `user value TEXT of NAME is outside LOW to HIGH`
+abbrev pub user_line : Kind → Interval → List ℕ → List ℕ → List ℕ
+user_line kind r name t = outside_line (codes "warning K12: user value " ++ t) kind r name
+
+-- `default TEXT of NAME is outside LOW to HIGH, VALUE is used`
+abbrev pub default_line : Kind → Interval → List ℕ → List ℕ → List ℕ
+default_line kind r name t =
+    outside_line (codes "warning K13: default " ++ t) kind r name ++ codes ", " ++ clamped kind (Some r) t ++ codes " is used"
+
+-- a visible user value outside the active range
+abbrev pub user_warnings : Kind → List ℕ → Option Interval → Option (List ℕ) → List (List ℕ)
+user_warnings kind name None t = []
+user_warnings kind name (Some r) None = []
+user_warnings kind name (Some r) (Some t) = if is_inside kind (Some r) t then [] else user_line kind r name t ∷ []
+
+-- a default that applied, since no user value was used, and was clamped
+abbrev pub default_warnings : Kind → List ℕ → Option Interval → Option (List ℕ) → Option (List ℕ) → List (List ℕ)
+default_warnings kind name r (Some used) d = []
+default_warnings kind name None None d = []
+default_warnings kind name (Some r) None None = []
+default_warnings kind name (Some r) None (Some t) = if is_inside kind (Some r) t then [] else default_line kind r name t ∷ []
+
+module _ (tree : TreeFacts) (known : SymId → Known) where
+  -- selected above its dependency
+  abbrev pub select_warnings : List ℕ → SymbolFacts → List (List ℕ)
+  select_warnings name f =
+      if above (rev tree known f) (direct tree known f) then selected_line name (rev tree known f) (direct tree known f) ∷ [] else []
+
+  -- the text of the default that counts, if there is one
+  abbrev pub open_text : Option (Guarded Form) → Option (List ℕ)
+  open_text None = None
+  open_text (Some g) = Some (single_text known g.what)
+
+  abbrev pub range_warnings : List ℕ → SymbolFacts → Option Given → List (List ℕ)
+  range_warnings name f user =
+      let range = active_range tree known f in
+      let given = typed user (visibility tree known f) in
+      user_warnings f.kind name range given
+      ++ default_warnings f.kind name range (if_inside f.kind range given) (open_text (first_open tree known f.defaults))
+
+  abbrev pub warnings_by_kind : List ℕ → SymbolFacts → Kind → Option Given → List (List ℕ)
+  warnings_by_kind name f Undefined user = []
+  warnings_by_kind name f IsBool user = select_warnings name f
+  warnings_by_kind name f Tristate user = select_warnings name f
+  warnings_by_kind name f Str user = []
+  warnings_by_kind name f Int user = range_warnings name f user
+  warnings_by_kind name f Hex user = range_warnings name f user
+
+  -- a member is not warned of
+  abbrev pub warnings_by_choice : List ℕ → SymbolFacts → Option ℕ → Option Given → List (List ℕ)
+  warnings_by_choice name f (Some c) user = []
+  warnings_by_choice name f None user = warnings_by_kind name f f.kind user
+
+  -- The warnings of one symbol, by number.
+  abbrev pub warnings_of : List ℕ → Option SymbolFacts → Option Given → List (List ℕ)
+  warnings_of name None user = []
+  warnings_of name (Some f) user = warnings_by_choice name f f.choice user
+
+module _ (tree : TreeFacts) (user : Slot → Option Given) (V : ℕ → Known) where
+  abbrev pub warnings_at : ℕ → List (List ℕ)
+  warnings_at i = warnings_of tree (seen tree V) (name tree (symbol i)) (facts tree (symbol i)) (user (At i))
+
+  -- In order of first definition.
+  abbrev pub value_warnings : List (List ℕ)
+  value_warnings = flat_map warnings_at (range_with_len 0 (symbol_count tree))

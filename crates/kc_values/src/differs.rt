@@ -1,0 +1,64 @@
+//! Which symbols differ from what they would be without the user.
+
+ghost use Rattle.std.specs.Prelude.{◌≡◌, ◌&&◌, not, IfOk};
+ghost use Rattle.kc_tree.specs.Views.{facts_of};
+ghost use Rattle.kc_values.specs.Differs.{same_value};
+ghost use Rattle.kc_expr.specs.Value.{known_by};
+ghost use Rattle.kc_values.specs.Values as value;
+
+use crate::lookups::name;
+use crate::numbers::number_equation;
+use crate::texts::text_equation;
+use crate::truths::truth_equation;
+use kc_expr::expression::{Kind, SymId};
+use kc_expr::values::Values;
+use kc_tree::parts::Symbol;
+use kc_tree::tree::Tree;
+use std::alloc::{AllocError, Global};
+
+/// Whether the value of a symbol outside a choice is not what its equation gives without what the user gave for it.
+pub fn own_differs<V: Values>(
+    alloc: Global,
+    tree: &Tree,
+    id: SymId,
+    symbol: &Symbol,
+    values: &V,
+) -> Result<bool, AllocError>
+    requires { V.kind_of values.now id ≡ symbol.now.kind }
+    ensures { IfOk result (λ b. b ≡ not (same_value (known_by (V.kind_of values.now) (V.tri_of values.now) (V.text_of values.now) id) (value.by_kind tree.now (known_by (V.kind_of values.now) (V.tri_of values.now) (V.text_of values.now)) id (facts_of symbol.now) symbol.now.kind None))) }
+{
+    match symbol.kind {
+        Kind::Bool => Ok(values.tri(id) != truth_equation(tree, symbol, None, values)),
+        Kind::Tristate => Ok(values.tri(id) != truth_equation(tree, symbol, None, values)),
+        Kind::Str => {
+            let without = text_equation(alloc, tree, symbol, None, values)?;
+            Ok(values.text(id) != without.as_slice())
+        }
+        Kind::Int => {
+            let without = number_equation(alloc, tree, symbol, None, values)?;
+            Ok(values.text(id) != without.as_slice())
+        }
+        Kind::Hex => {
+            let without = number_equation(alloc, tree, symbol, None, values)?;
+            Ok(values.text(id) != without.as_slice())
+        }
+        Kind::Undefined => Ok(values.text(id) != name(tree, id)),
+    }
+}
+
+// Whether a selection is the symbol.
+fn selects(selection: Option<SymId>, id: SymId) -> bool
+    ensures { result ≡ value.names_symbol selection id }
+{
+    match selection {
+        Some(member) => member.0 == id.0,
+        None => false,
+    }
+}
+
+/// Whether a member is selected, and is not the default selection.
+pub fn member_differs(selection: Option<SymId>, default: Option<SymId>, id: SymId) -> bool
+    ensures { result ≡ (value.names_symbol selection id && not (value.names_symbol default id)) }
+{
+    selects(selection, id) && !selects(default, id)
+}

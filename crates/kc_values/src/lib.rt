@@ -1,0 +1,20 @@
+//! What the symbols of a tree are worth: the equations of the language, one for each symbol, and what holds of them.
+#![tactic(auto, using(crate::proofs::Assoc::assoc))]
+
+pub mod choices;
+pub mod conditions;
+pub mod differs;
+pub mod equation;
+pub mod intervals;
+pub mod laws;
+pub mod lookups;
+pub mod members;
+pub mod needs;
+pub mod numbers;
+pub mod table;
+#[cfg(test)]
+mod tests;
+pub mod texts;
+pub mod truths;
+pub mod warnings;
+pub mod written;

@@ -1,0 +1,34 @@
+//! What a tree says of a symbol or a choice.
+
+ghost use Rattle.std.specs.Prelude.{◌≡◌};
+ghost use Rattle.kc_values.specs.Lookups as spec;
+ghost use Rattle.kc_values.specs.User.{facts_at, choice_facts_at};
+
+use kc_expr::expression::SymId;
+use kc_tree::parts::{Choice, ChoiceId, Symbol};
+use kc_tree::tree::Tree;
+
+/// What the lines of a defined symbol say.
+pub fn facts(tree: &Tree, id: SymId) -> Option<&Symbol>
+    ensures { facts_at result ≡ spec.facts tree.now id }
+{
+    tree.facts(id)
+}
+
+/// What the lines of a choice say, where there is one of that number.
+pub fn choice(tree: &Tree, id: ChoiceId) -> Option<&Choice>
+    ensures { choice_facts_at result ≡ spec.choice_at tree.now id.0 }
+{
+    tree.choices().get(id.0)
+}
+
+/// The name of a number, or nothing where the tree has no such name.
+pub fn name(tree: &Tree, id: SymId) -> &[u8]
+    ensures { result.now ≡ spec.name tree.now id }
+{
+    if id.0 < tree.name_count() {
+        tree.name(id)
+    } else {
+        b""
+    }
+}

@@ -1,0 +1,123 @@
+//! Rows of numbers, ranges and conditions, with the values that the rules give. Rows over whole trees are tested where
+//! trees are built.
+
+ghost use Rattle.std.specs.Prelude.{[]};
+ghost use Rattle.kc_expr.specs.declared.expression.Kind.TheVariants as kind;
+
+use crate::conditions::{all_hold, mode_of};
+use crate::differs::member_differs;
+use crate::intervals::Interval;
+use crate::numbers::{clamped, if_inside, is_inside, number_text};
+use crate::texts::single_text;
+use kc_expr::expression::{Expr, Kind, Operand, SymId, Tri};
+use kc_expr::values::Values;
+use kc_tree::parts::{Choice, Cond};
+use std::alloc::{AllocError, Global};
+use std::rc::Rc;
+
+// Every symbol is a bool of one value.
+struct Alike(Tri);
+
+impl Values for Alike {
+    ghost tri_of = { λ a s. a.0 };
+
+    ghost text_of = { λ a s. [] };
+
+    ghost kind_of = { λ a s. kind.Bool };
+
+    fn tri(&self, _id: SymId) -> Tri {
+        self.0
+    }
+
+    fn text(&self, _id: SymId) -> &[u8] {
+        b""
+    }
+
+    fn kind(&self, _id: SymId) -> Kind {
+        Kind::Bool
+    }
+}
+
+fn named(alloc: Global, symbol: usize) -> Result<Vec<Rc<Expr>>, AllocError> {
+    let part = Rc::new(alloc, Expr::One(Operand::Sym(SymId(symbol)))).map_err(|_| AllocError)?;
+    let parts = vec![in alloc; part]?;
+    Ok(parts)
+}
+
+#[test]
+fn numbers_are_written_by_type(rt: HostRuntime) {
+    let rows: [(Kind, i128, &[u8]); 5] = [
+        (Kind::Int, 10, b"10"),
+        (Kind::Int, -5, b"-5"),
+        (
+            Kind::Int,
+            -9_223_372_036_854_775_808,
+            b"-9223372036854775808",
+        ),
+        (Kind::Hex, 31, b"0x1f"),
+        (Kind::Hex, 0, b"0x0"),
+    ];
+    for (kind, number, want) in rows {
+        let text = number_text(rt.alloc(), kind, number).expect(&rt, "memory");
+        assert_eq!(rt; text.as_slice(), want);
+    }
+}
+
+#[test]
+fn a_number_outside_becomes_the_bound(rt: HostRuntime) {
+    let rows: [(Kind, i128, i128, &[u8], &[u8]); 7] = [
+        (Kind::Int, 5, 10, b"20", b"10"),
+        (Kind::Int, 5, 10, b"010", b"010"),
+        (Kind::Int, -5, -2, b"FOO", b"-2"),
+        (Kind::Int, -5, 5, b"FOO", b"FOO"),
+        (Kind::Int, 10, 5, b"7", b"10"),
+        (Kind::Int, 10, 5, b"11", b"5"),
+        (Kind::Hex, 16, 31, b"", b"0x10"),
+    ];
+    for (kind, low, high, text, want) in rows {
+        let value = clamped(rt.alloc(), kind, Some(Interval { low, high }), text).expect(
+            &rt, "memory",
+        );
+        assert_eq!(rt; value.as_slice(), want);
+    }
+}
+
+#[test]
+fn what_is_inside_counts(rt: HostRuntime) {
+    let range = Some(Interval { low: 16, high: 31 });
+    assert!(rt; is_inside(Kind::Hex, range, b"0X1f"));
+    assert!(rt; !is_inside(Kind::Hex, range, b"20"));
+    assert!(rt; is_inside(Kind::Hex, None, b"20"));
+    assert!(rt; if_inside(Kind::Int, range, Some(b"3".as_slice())).is_none());
+}
+
+#[test]
+fn a_prompt_that_is_m_gives_the_mode_y(rt: HostRuntime) {
+    let parts = named(rt.alloc(), 3).expect(&rt, "memory");
+    assert_eq!(rt; all_hold(&parts, &Alike(Tri::M)), Tri::M);
+    let choice = Choice {
+        prompt: Some(Cond { parts, mode: None }),
+        defaults: Vec::new(rt.alloc()),
+        members: Vec::new(rt.alloc()),
+    };
+    assert_eq!(rt; mode_of(&choice, &Alike(Tri::M)), Tri::Y);
+    assert_eq!(rt; mode_of(&choice, &Alike(Tri::N)), Tri::N);
+}
+
+#[test]
+fn a_default_is_one_operand(rt: HostRuntime) {
+    let text = Vec::from_slice(rt.alloc(), b"a b").expect(&rt, "memory");
+    let constant = Expr::One(Operand::Const(text));
+    assert_eq!(rt; single_text(&constant, &Alike(Tri::N)), b"a b".as_slice());
+    let symbol = Expr::One(Operand::Sym(SymId(0)));
+    assert_eq!(rt; single_text(&symbol, &Alike(Tri::M)), b"m".as_slice());
+}
+
+#[test]
+fn the_selected_member_differs_from_the_default_one(rt: HostRuntime) {
+    let (a, b) = (SymId(0), SymId(1));
+    assert!(rt; member_differs(Some(a), Some(b), a));
+    assert!(rt; !member_differs(Some(b), Some(b), b));
+    assert!(rt; !member_differs(Some(a), Some(b), b));
+    assert!(rt; member_differs(Some(a), None, a));
+}

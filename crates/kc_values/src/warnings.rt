@@ -1,0 +1,283 @@
+//! What the values of a tree are warned of.
+
+ghost use Rattle.std.specs.Prelude.{◌≡◌, ◌++◌, codes, Some, map, IfOk, IfSome, OnOk};
+ghost use Rattle.kc_tree.specs.Views.{facts_of, default_view};
+ghost use Rattle.kc_values.specs.Lookups as lookup;
+ghost use Rattle.kc_values.specs.Numbers.{number_text};
+ghost use Rattle.kc_values.specs.Small.{IsSmall};
+ghost use Rattle.kc_expr.specs.Value.{known_by};
+ghost use Rattle.kc_values.specs.User.{place, text_at};
+ghost use Rattle.kc_values.specs.Values as value;
+ghost use Rattle.kc_values.specs.Warnings as spec;
+ghost use Rattle.kc_values.specs.Written.{above};
+
+use crate::conditions::{condition, is_n};
+use crate::intervals::Interval;
+use crate::lookups::name;
+use crate::numbers::{active_range, clamped, if_inside, is_inside, number_text};
+use crate::texts::{single_text, typed};
+use crate::truths::{direct, reverse, visibility};
+use kc_expr::expression::{Expr, Kind, SymId, Tri};
+use kc_expr::values::{Values, tri_text};
+use kc_tree::parts::{Cond, Symbol};
+use kc_tree::tree::Tree;
+use kc_user::value::UserValue;
+use std::alloc::{AllocError, Global};
+
+// Whether one truth is greater than another.
+fn is_above(a: Tri, b: Tri) -> bool
+    ensures { result ≡ above a b }
+{
+    match (a, b) {
+        (Tri::N, _) => false,
+        (Tri::M, Tri::N) => true,
+        (Tri::M, _) => false,
+        (Tri::Y, Tri::Y) => false,
+        (Tri::Y, _) => true,
+    }
+}
+
+// The line of a symbol that is selected above its dependency.
+fn selected_line(
+    alloc: Global,
+    name: &[u8],
+    reverse: Tri,
+    direct: Tri,
+) -> Result<Vec<u8>, AllocError>
+    ensures { IfOk result (λ v. v.items ≡ spec.selected_line name.now reverse direct) }
+{
+    let mut line = Vec::from_slice(alloc, b"warning K11: ")?;
+    line.extend_from_slice(name)?;
+    line.extend_from_slice(b" is selected to ")?;
+    line.extend_from_slice(tri_text(reverse))?;
+    line.extend_from_slice(b" while its dependency is ")?;
+    line.extend_from_slice(tri_text(direct))?;
+    Ok(line)
+}
+
+// The low bound as it is written.
+fn low_text(alloc: Global, kind: Kind, range: Interval) -> Result<Vec<u8>, AllocError>
+    requires { IsSmall range }
+    ensures { IfOk result (λ v. v.items ≡ number_text kind range.low) }
+{
+    let text = number_text(alloc, kind, range.low)?;
+    Ok(text)
+}
+
+// The high bound as it is written.
+fn high_text(alloc: Global, kind: Kind, range: Interval) -> Result<Vec<u8>, AllocError>
+    requires { IsSmall range }
+    ensures { IfOk result (λ v. v.items ≡ number_text kind range.high) }
+{
+    let text = number_text(alloc, kind, range.high)?;
+    Ok(text)
+}
+
+// `LOW to HIGH` behind what stands in the line.
+fn bounds_into(low: &[u8], high: &[u8], line: &mut Vec<u8>) -> Result<(), AllocError>
+    ensures { OnOk result (line.new.items ≡ line.old.items ++ low.now ++ codes " to " ++ high.now) }
+{
+    line.extend_from_slice(low)?;
+    line.extend_from_slice(b" to ")?;
+    line.extend_from_slice(high)?;
+    Ok(())
+}
+
+// ` of NAME is outside LOW to HIGH` behind what stands in the line.
+fn outside_into(
+    alloc: Global,
+    kind: Kind,
+    range: Interval,
+    name: &[u8],
+    line: &mut Vec<u8>,
+) -> Result<(), AllocError>
+    requires { IsSmall range }
+    ensures { OnOk result (line.new.items ≡ spec.outside_line line.old.items kind range name.now) }
+{
+    let low = low_text(alloc, kind, range)?;
+    let high = high_text(alloc, kind, range)?;
+    line.extend_from_slice(b" of ")?;
+    line.extend_from_slice(name)?;
+    line.extend_from_slice(b" is outside ")?;
+    bounds_into(&low, &high, line)?;
+    Ok(())
+}
+
+// The line of a user's text outside the range.
+fn user_line(
+    alloc: Global,
+    kind: Kind,
+    range: Interval,
+    name: &[u8],
+    text: &[u8],
+) -> Result<Vec<u8>, AllocError>
+    requires { IsSmall range }
+    ensures { IfOk result (λ v. v.items ≡ spec.user_line kind range name.now text.now) }
+{
+    let mut line = Vec::from_slice(alloc, b"warning K12: user value ")?;
+    line.extend_from_slice(text)?;
+    outside_into(alloc, kind, range, name, &mut line)?;
+    Ok(line)
+}
+
+// The line of a default outside the range.
+fn default_line(
+    alloc: Global,
+    kind: Kind,
+    range: Interval,
+    name: &[u8],
+    text: &[u8],
+) -> Result<Vec<u8>, AllocError>
+    requires { IsSmall range }
+    ensures { IfOk result (λ v. v.items ≡ spec.default_line kind range name.now text.now) }
+{
+    let used = clamped(alloc, kind, Some(range), text)?;
+    let mut line = Vec::from_slice(alloc, b"warning K13: default ")?;
+    line.extend_from_slice(text)?;
+    outside_into(alloc, kind, range, name, &mut line)?;
+    line.extend_from_slice(b", ")?;
+    line.extend_from_slice(&used)?;
+    line.extend_from_slice(b" is used")?;
+    Ok(line)
+}
+
+// The warning of a visible user value outside the active range.
+fn user_warning(
+    alloc: Global,
+    kind: Kind,
+    name: &[u8],
+    range: Option<Interval>,
+    given: Option<&[u8]>,
+    out: &mut Vec<Vec<u8>>,
+) -> Result<(), AllocError>
+    requires { IfSome range IsSmall }
+    ensures { OnOk result (map (λ w. w.items) out.new.items ≡ map (λ w. w.items) out.old.items ++ spec.user_warnings kind name.now range (text_at given.entry)) }
+{
+    let Some(bounds) = range else {
+        return Ok(());
+    };
+    let Some(text) = given else {
+        return Ok(());
+    };
+    if is_inside(kind, Some(bounds), text) {
+        return Ok(());
+    }
+    let line = user_line(alloc, kind, bounds, name, text)?;
+    out.push(line)?;
+    Ok(())
+}
+
+// The warning of a default that applied and was clamped.
+fn default_warning(
+    alloc: Global,
+    kind: Kind,
+    name: &[u8],
+    range: Option<Interval>,
+    used: Option<&[u8]>,
+    default: Option<&[u8]>,
+    out: &mut Vec<Vec<u8>>,
+) -> Result<(), AllocError>
+    requires { IfSome range IsSmall }
+    ensures { OnOk result (map (λ w. w.items) out.new.items ≡ map (λ w. w.items) out.old.items ++ spec.default_warnings kind name.now range (text_at used.entry) (text_at default.entry)) }
+{
+    if used.is_some() {
+        return Ok(());
+    }
+    let Some(bounds) = range else {
+        return Ok(());
+    };
+    let Some(text) = default else {
+        return Ok(());
+    };
+    if is_inside(kind, Some(bounds), text) {
+        return Ok(());
+    }
+    let line = default_line(alloc, kind, bounds, name, text)?;
+    out.push(line)?;
+    Ok(())
+}
+
+// The text of the first default whose condition is not n.
+fn open_text<'a, V: Values>(
+    tree: &Tree,
+    defaults: &'a [(Expr, Cond)],
+    values: &'a V,
+) -> Option<&'a [u8]>
+    ensures { text_at result ≡ spec.open_text tree.now (known_by (V.kind_of values.now) (V.tri_of values.now) (V.text_of values.now)) (value.first_open tree.now (known_by (V.kind_of values.now) (V.tri_of values.now) (V.text_of values.now)) (map default_view defaults.now)) }
+{
+    for default in defaults {
+        if !is_n(condition(tree, &default.1, values)) {
+            return Some(single_text(&default.0, values));
+        }
+    }
+    None
+}
+
+// The warnings of an int or hex symbol.
+fn range_warnings<V: Values>(
+    alloc: Global,
+    tree: &Tree,
+    name: &[u8],
+    symbol: &Symbol,
+    user: Option<&UserValue>,
+    values: &V,
+    out: &mut Vec<Vec<u8>>,
+) -> Result<(), AllocError>
+    ensures { OnOk result (map (λ w. w.items) out.new.items ≡ map (λ w. w.items) out.old.items ++ spec.range_warnings tree.now (known_by (V.kind_of values.now) (V.tri_of values.now) (V.text_of values.now)) name.now (facts_of symbol.now) (place user.entry)) }
+{
+    let range = active_range(tree, symbol, values);
+    let shown = visibility(tree, symbol, values);
+    let given = typed(user, shown);
+    let used = if_inside(symbol.kind, range, given);
+    let default = open_text(tree, &symbol.defaults, values);
+    user_warning(alloc, symbol.kind, name, range, given, out)?;
+    default_warning(alloc, symbol.kind, name, range, used, default, out)?;
+    Ok(())
+}
+
+// The warning of a bool or tristate symbol.
+fn select_warnings<V: Values>(
+    alloc: Global,
+    tree: &Tree,
+    name: &[u8],
+    symbol: &Symbol,
+    values: &V,
+    out: &mut Vec<Vec<u8>>,
+) -> Result<(), AllocError>
+    ensures { OnOk result (map (λ w. w.items) out.new.items ≡ map (λ w. w.items) out.old.items ++ spec.select_warnings tree.now (known_by (V.kind_of values.now) (V.tri_of values.now) (V.text_of values.now)) name.now (facts_of symbol.now)) }
+{
+    let reverse = reverse(tree, symbol, values);
+    let direct = direct(tree, symbol, values);
+    if !is_above(reverse, direct) {
+        return Ok(());
+    }
+    let line = selected_line(alloc, name, reverse, direct)?;
+    out.push(line)?;
+    Ok(())
+}
+
+/// The warnings of one symbol under these values, behind those that are there: whole lines without their end.
+pub fn warnings_into<V: Values>(
+    alloc: Global,
+    tree: &Tree,
+    id: SymId,
+    symbol: &Symbol,
+    user: Option<&UserValue>,
+    values: &V,
+    out: &mut Vec<Vec<u8>>,
+) -> Result<(), AllocError>
+    ensures { OnOk result (map (λ w. w.items) out.new.items ≡ map (λ w. w.items) out.old.items ++ spec.warnings_of tree.now (known_by (V.kind_of values.now) (V.tri_of values.now) (V.text_of values.now)) (lookup.name tree.now id) (Some (facts_of symbol.now)) (place user.entry)) }
+{
+    if symbol.choice.is_some() {
+        return Ok(());
+    }
+    let name = name(tree, id);
+    match symbol.kind {
+        Kind::Undefined => Ok(()),
+        Kind::Bool => select_warnings(alloc, tree, name, symbol, values, out),
+        Kind::Tristate => select_warnings(alloc, tree, name, symbol, values, out),
+        Kind::Str => Ok(()),
+        Kind::Int => range_warnings(alloc, tree, name, symbol, user, values, out),
+        Kind::Hex => range_warnings(alloc, tree, name, symbol, user, values, out),
+    }
+}
