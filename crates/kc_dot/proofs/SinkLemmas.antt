@@ -22,3 +22,7 @@ extended-nothing (Some before) = ap Some (sym (append-nil before))
 
 pub HandsOut-take : (text : List ℕ) (old new : Option (List ℕ)) (at : ℕ) → new ≡ extended old (take at text) → HandsOut text old new
 HandsOut-take text old new at is = (take at text, (drop at text, sym (take-append-drop at text)), is)
+
+pub OnOk-weaker_both : {T E : Type 0} → (r : Result T E) (P Q R : Type 0) → (P → Q → R) → OnOk r P → OnOk r Q → OnOk r R
+OnOk-weaker_both (Ok x) P Q R f p q = f p q
+OnOk-weaker_both (Err e) P Q R f p q = tt

@@ -1,6 +1,24 @@
-//! The `.config` and the files written: where text goes.
+//! The `.config` reader and the writers of the three files.
 #![tactic(auto)]
 
-mod sink;
+mod around;
+pub mod config;
+mod cursor;
+pub mod effect;
+pub mod fault;
+pub mod header;
+pub mod laws;
+pub mod line;
+pub mod parts;
+pub mod prefix;
+pub mod reader;
+pub mod sink;
+pub mod solution;
+mod step;
+mod symbol_line;
+#[cfg(test)]
+mod tests;
+pub mod value;
+mod words;
 
 pub use sink::{Fault, Sink, put};

@@ -1,0 +1,73 @@
+-- What bstr's finds say of blanks at the end of a line, and of the first `=`.
+use Rattle.std.proofs.Common.{◌≡◌, ◌≢◌, ℕ, ◌+◌, ◌-◌, ◌<◌, List, [], ◌∷◌, Bool, true, false, length, take, drop, ltb, cond, sym, refl, ap, ◌∙◌, arith, Option, Some, None}
+use Rattle.std.specs.Prelude.{not, ◌||◌, ◌&&◌, ◌==◌}
+use Rattle.std.specs.List.{position_or_len, suffix_len}
+use Rattle.std.proofs.lemmas.Bool.{not-true, true_from_ne_false, not_from_false, false_from_ne_true, lt-ltb, le-ltb}
+use Rattle.std.proofs.lemmas.List.{take_rest}
+use Rattle.std.proofs.lemmas.List.Sums.{suffix_len_is, position_or_len_is}
+use Rattle.bstr.specs.Bytes.{is_in, not_in}
+use Rattle.bstr.specs.Find.{NoneAfter, NoneBefore, Nowhere, Passes, is_byte}
+use Rattle.kc_text.specs.Lexemes.{is_blank}
+use Rattle.kc_dot.specs.ConfigLine.{trimmed, sides, is_equals}
+
+abbrev blanks : List ℕ
+blanks = 32 ∷ 9 ∷ []
+
+not_in_is : (b : ℕ) → not_in blanks b ≡ not (is_blank b)
+unfolding is_in
+not_in_is b = ap not (same (b == 32) (b == 9))
+  where
+    same : (x y : Bool) → (x || (y || false)) ≡ (x || y)
+    same true y = refl
+    same false true = refl
+    same false false = refl
+
+passes_not : (b : ℕ) → not_in blanks b ≡ true → is_blank b ≡ false
+passes_not b e = not-true _ (sym (not_in_is b) ∙ e)
+
+fails_not : (b : ℕ) → (not_in blanks b ≡ true → ⊥) → is_blank b ≡ true
+fails_not b h = true_from_ne_false _ (λ e. h (not_in_is b ∙ not_from_false _ e))
+
+-- the last byte that is no blank ends the line
+pub trimmed_to : (bytes : List ℕ) (last : ℕ) → NoneAfter (Passes (not_in blanks) bytes) 0 (length bytes) last → Passes (not_in blanks) bytes last → take (last + 1) bytes ≡ trimmed bytes
+trimmed_to bytes last after here =
+    let high : last < length bytes = after.high in
+    let back : (last + 1) - 1 ≡ last = omega arith in
+    let n : suffix_len is_blank bytes ≡ length bytes - (last + 1) =
+    suffix_len_is is_blank bytes (last + 1) 0 (omega arith) (λ k low lt. fails_not _ (after.after k low lt)) (λ _. rw back (passes_not _ here)) in
+    let left : length bytes - (length bytes - (last + 1)) ≡ last + 1 = omega arith in
+    rw (n, left) refl
+
+-- a line of blanks alone is empty
+pub trimmed_none : (bytes : List ℕ) → Nowhere (Passes (not_in blanks) bytes) 0 (length bytes) → [] ≡ trimmed bytes
+trimmed_none bytes none =
+    let n : suffix_len is_blank bytes ≡ length bytes - 0 =
+    suffix_len_is is_blank bytes 0 0 (omega arith) (λ k low lt. fails_not _ (none k low lt)) (λ (h : 0 < 0). absurd (omega arith)) in
+    let left : length bytes - (length bytes - 0) ≡ 0 = omega arith in
+    rw (n, left) refl
+
+-- where the first `=` stands
+found_at : (text : List ℕ) (at : ℕ) → NoneBefore (Passes (is_byte 61) text) 0 (length text) at → Passes (is_byte 61) text at → position_or_len is_equals text ≡ at
+found_at text at before here =
+    let high : at < length text = before.high in
+    position_or_len_is is_equals text at 0 (omega arith) (λ k lt. false_from_ne_true _ (before.before k (omega arith) lt)) (λ _. here)
+
+pub sides_at : (text : List ℕ) (at : ℕ) → at ≢ 0 → NoneBefore (Passes (is_byte 61) text) 0 (length text) at → Passes (is_byte 61) text at →
+    Some (take at text, take (length text - (at + 1)) (drop (at + 1) text)) ≡ sides text
+sides_at text at some before here =
+    let high : at < length text = before.high in
+    let low : 0 < at = omega arith in
+    rw (found_at text at before here, lt-ltb 0 at low, lt-ltb at (length text) high, take_rest) refl
+
+pub sides_front : (text : List ℕ) (at : ℕ) → at ≡ 0 → NoneBefore (Passes (is_byte 61) text) 0 (length text) at → Passes (is_byte 61) text at → None ≡ sides text
+sides_front text at none before here = rw (found_at text at before here, le-ltb 0 at (omega arith)) refl
+
+no_side : {A : Type 0} (b : Bool) (x : Option A) → None ≡ cond (b && false) x None
+no_side true x = refl
+no_side false x = refl
+
+pub sides_none : (text : List ℕ) → Nowhere (Passes (is_byte 61) text) 0 (length text) → None ≡ sides text
+sides_none text none =
+    let at : position_or_len is_equals text ≡ length text =
+    position_or_len_is is_equals text (length text) 0 (omega arith) (λ k lt. false_from_ne_true _ (none k (omega arith) lt)) (λ (h : length text < length text). absurd (omega arith)) in
+    rw (at, le-ltb (length text) (length text) (omega arith)) (no_side (ltb 0 (length text)) _)

@@ -1,0 +1,124 @@
+-- Where a reader stands after some bytes.
+use Rattle.std.proofs.Common.{◌≡◌, ℕ, ◌+◌, ◌-◌, ◌^◌, ◌<◌, ◌≤◌, List, [], ◌∷◌, ◌++◌, Bool, true, false, length, get_or, refl, sym, ap, ◌∙◌, arith, min, append_assoc, append-nil, length-append, count_by, cond, zero, suc, inl, inr}
+use Rattle.std.specs.Prelude.{not, ◌==◌}
+use Rattle.std.specs.List.{after_last, suffix_len}
+use Rattle.std.proofs.lemmas.Bool.{not_from_true, not_from_false, cases_Bool, eqb-true, eqb-false}
+use Rattle.std.proofs.lemmas.List.{reverse-append, drop-append-le, drop_all}
+use Rattle.std.proofs.lemmas.List.Elements.{All-get_or, All-append, All-from_get_or}
+use Rattle.std.proofs.lemmas.List.Sums.{suffix_len_is, suffix_len-le-length, sum_by-append}
+use Rattle.kc_dot.specs.Feeding.{Spot, IsOpen, fed, number_after}
+use Rattle.kc_dot.specs.Reading.{is_lf, next_number}
+use Rattle.kc_dot.proofs.LineLemmas.{HasNoLf}
+
+abbrev other : ℕ → Bool
+other b = not (is_lf b)
+
+suffix_push : (bytes : List ℕ) (b : ℕ) → suffix_len other (bytes ++ b ∷ []) ≡ cond (other b) (1 + suffix_len other bytes) 0
+suffix_push bytes b = rw reverse-append refl
+
+length_push : (bytes : List ℕ) (b : ℕ) → length (bytes ++ b ∷ []) ≡ length bytes + 1
+length_push bytes b = length-append bytes (b ∷ [])
+
+-- another byte waits behind the others
+pub after_last-other : (bytes : List ℕ) (b : ℕ) → is_lf b ≡ false → after_last is_lf (bytes ++ b ∷ []) ≡ after_last is_lf bytes ++ b ∷ []
+after_last-other bytes b is =
+    let s : suffix_len other (bytes ++ b ∷ []) ≡ 1 + suffix_len other bytes = suffix_push bytes b ∙ rw (not_from_false _ is) refl in
+    let le : suffix_len other bytes ≤ length bytes = suffix_len-le-length other bytes in
+    let k : length (bytes ++ b ∷ []) - (1 + suffix_len other bytes) ≡ length bytes - suffix_len other bytes = omega (arith, length_push bytes b) in
+    let within : length bytes - suffix_len other bytes ≤ length bytes = omega arith in
+    rw (s, k) (drop-append-le (length bytes - suffix_len other bytes) bytes (b ∷ []) within)
+
+-- nothing waits behind an LF
+pub after_last-lf : (bytes : List ℕ) (b : ℕ) → is_lf b ≡ true → after_last is_lf (bytes ++ b ∷ []) ≡ []
+after_last-lf bytes b is =
+    let s : suffix_len other (bytes ++ b ∷ []) ≡ 0 = suffix_push bytes b ∙ rw (not_from_true _ is) refl in
+    rw s (drop_all (length (bytes ++ b ∷ []) - 0) (bytes ++ b ∷ []) (omega arith))
+
+-- without an LF all wait
+pub after_last-none : (bytes : List ℕ) → HasNoLf bytes → after_last is_lf bytes ≡ bytes
+after_last-none bytes one =
+    let s : suffix_len other bytes ≡ length bytes - 0 =
+    suffix_len_is other bytes 0 0 (omega arith) (λ k low lt. not_from_false _ (All-get_or (λ b. is_lf b ≡ false) bytes k 0 lt one)) (λ (h : 0 < 0). absurd (omega arith)) in
+    let k : length bytes - (length bytes - 0) ≡ 0 = omega arith in
+    rw (s, k) refl
+
+number-other : (n b : ℕ) → n < 2 ^ 64 → is_lf b ≡ false → number_after n (b ∷ []) ≡ n
+number-other n b small is =
+    let e : n + 0 ≡ n = omega arith in
+    let m : min n (2 ^ 64 - 1) ≡ n = omega arith in
+    rw (is, e, m) refl
+
+number-lf : (n b : ℕ) → is_lf b ≡ true → number_after n (b ∷ []) ≡ next_number n
+number-lf n b is = rw is refl
+
+number-append : (n : ℕ) (a b : List ℕ) → number_after n (a ++ b) ≡ number_after (number_after n a) b
+number-append n a b =
+    let c : count_by is_lf (a ++ b) ≡ count_by is_lf a + count_by is_lf b = sum_by-append (λ x. cond (is_lf x) 1 0) a b in
+    rw c (omega arith)
+
+pub fed-other : (b : ℕ) (old : Spot) → IsOpen old → is_lf b ≡ false → let new : Spot = record { number = old.number; pending = old.pending ++ b ∷ [] } in new ≡ fed (b ∷ []) old
+fed-other b old opened is =
+    rw (number-other old.number b opened.numbered is, after_last-other old.pending b is, after_last-none old.pending opened.one_line) refl
+
+pub fed-lf : (b : ℕ) (old : Spot) → is_lf b ≡ true → let new : Spot = record { number = next_number old.number; pending = [] } in new ≡ fed (b ∷ []) old
+fed-lf b old is = rw (number-lf old.number b is, after_last-lf old.pending b is) refl
+
+-- nothing was fed
+pub fed-nothing : (old : Spot) → IsOpen old → old ≡ fed [] old
+fed-nothing old opened =
+    let n : min (old.number + 0) (2 ^ 64 - 1) ≡ old.number = let small = opened.numbered in omega arith in
+    rw (n, append-nil, after_last-none old.pending opened.one_line) refl
+
+-- one byte more
+pub fed-append : (a : List ℕ) (b : ℕ) (old mid : Spot) → IsOpen mid → mid ≡ fed a old → fed (b ∷ []) mid ≡ fed (a ++ b ∷ []) old
+fed-append a b old mid opened is = elim (cases_Bool (is_lf b)) [
+  | inl e ↦
+      let p : after_last is_lf (mid.pending ++ b ∷ []) ≡ after_last is_lf (old.pending ++ (a ++ b ∷ [])) =
+      after_last-lf mid.pending b e ∙ sym (rw (← append_assoc) (after_last-lf (old.pending ++ a) b e)) in
+      both p
+  | inr e ↦
+      let p : after_last is_lf (mid.pending ++ b ∷ []) ≡ after_last is_lf (old.pending ++ (a ++ b ∷ [])) =
+      after_last-other mid.pending b e ∙ ap (λ t. t ++ b ∷ []) (after_last-none mid.pending opened.one_line ∙ ap (λ (s : Spot). s.pending) is)
+      ∙ sym (rw (← append_assoc) (after_last-other (old.pending ++ a) b e)) in
+      both p
+]
+  where
+    n : number_after mid.number (b ∷ []) ≡ number_after old.number (a ++ b ∷ [])
+    n = ap (λ (s : Spot). number_after s.number (b ∷ [])) is ∙ sym (number-append old.number a (b ∷ []))
+
+    both : after_last is_lf (mid.pending ++ b ∷ []) ≡ after_last is_lf (old.pending ++ (a ++ b ∷ [])) → fed (b ∷ []) mid ≡ fed (a ++ b ∷ []) old
+    both p = rw (n, p) refl
+
+-- the bytes of one line that is not too long wait
+pub IsOpen-other : (b : ℕ) (old : Spot) → IsOpen old → is_lf b ≡ false → length old.pending < 65535 → IsOpen (record { number = old.number; pending = old.pending ++ b ∷ [] })
+IsOpen-other b old opened is short = record {
+  numbered = opened.numbered;
+  within = omega (arith, length_push old.pending b);
+  one_line = All-append (λ x. is_lf x ≡ false) old.pending (b ∷ []) opened.one_line (All-from_get_or (λ x. is_lf x ≡ false) (b ∷ []) b (λ i lt. first i lt));
+}
+  where
+    first : (i : ℕ) → i < length (b ∷ []) → is_lf (get_or (b ∷ []) i b) ≡ false
+    first zero lt = is
+    first (suc i) lt = absurd (omega arith)
+
+pub IsOpen-nothing : (n : ℕ) → n < 2 ^ 64 → IsOpen (record { number = n; pending = [] })
+IsOpen-nothing n small = record {
+  numbered = small;
+  within = omega arith;
+  one_line = λ k d lt. absurd (omega arith);
+}
+
+pub next_number-small : (n : ℕ) → next_number n < 2 ^ 64
+next_number-small n = omega arith
+
+no_length : (bytes : List ℕ) → length bytes ≡ 0 → bytes ≡ []
+no_length [] none = refl
+no_length (b ∷ bytes) none = absurd (omega arith)
+
+pub no_bytes : (bytes : List ℕ) (n : ℕ) → length bytes ≡ n → true ≡ (n == 0) → bytes ≡ []
+no_bytes bytes n count none = no_length bytes (count ∙ eqb-true n 0 (sym none))
+
+pub some_bytes : (bytes : List ℕ) (n : ℕ) → length bytes ≡ n → false ≡ (n == 0) → 0 < length bytes
+some_bytes bytes n count some =
+    let e = eqb-false n 0 (sym some) in
+    omega arith

@@ -1,0 +1,145 @@
+-- Feeding in pieces is reading at once.
+use Rattle.std.proofs.Common.{◌≡◌, ℕ, ◌+◌, ◌<◌, ◌≤◌, List, [], ◌∷◌, ◌++◌, true, false, length, take, drop, get_or, refl, sym, ap, ◌∙◌, arith, append_assoc, Option, Result, Ok, Err, OnOk}
+use Rattle.std.specs.Prelude.{◌==◌}
+use Rattle.std.proofs.lemmas.Bool.{ne_eqb}
+use Rattle.std.proofs.lemmas.List.{take-append-drop, drop_more}
+use Rattle.kc_tree.specs.TreeFacts.{TreeFacts}
+use Rattle.kc_user.specs.Places.{Places}
+use Rattle.kc_dot.specs.declared.fault.DotFault.{DotFault}
+use Rattle.kc_dot.specs.declared.fault.DotFault.TheVariants.{ConfigLineTooLong, Sink, Memory}
+use Rattle.kc_dot.specs.Feeding.{Spot, IsOpen, to_come, Goes, Feeds, Because, StopsAt, Refuses, Finishes, FailsToEnd}
+use Rattle.kc_dot.specs.LineSteps.{FailsIn}
+use Rattle.kc_dot.specs.Reading.{line, is_lf, next_number, lines_from, reading, told, places_after, warning}
+use Rattle.kc_dot.specs.Sink.{extended, BeginsWith}
+use Rattle.kc_dot.proofs.LineLemmas.{lines_from-lf, lines_from-last, is_within-line}
+use Rattle.kc_dot.proofs.LongLineLemmas.{Stops-long, Stops-longer}
+use Rattle.kc_dot.proofs.ReadingLemmas.{told-told, reading_within}
+use Rattle.kc_dot.proofs.SinkLemmas.{extended-extended, extended-nothing}
+
+module _ (tree : TreeFacts) (prefix name : List ℕ) where
+  pub Goes-nothing : (spot : Spot) (places : Places) → Goes tree prefix name [] spot spot places places []
+  Goes-nothing spot places rest more = refl
+
+  -- two pieces are one
+  pub Goes-append : (a b : List ℕ) (old mid new : Spot) (before middle after : Places) (w v : List ℕ) →
+      Goes tree prefix name a old mid before middle w → Goes tree prefix name b mid new middle after v → Goes tree prefix name (a ++ b) old new before after (w ++ v)
+  Goes-append a b old mid new before middle after w v first second rest more =
+      rw append_assoc (first (b ++ rest) more ∙ ap (told w) (second rest more) ∙ told-told w v (reading tree prefix after (to_come tree prefix name new rest more)))
+
+  pub Feeds-nothing : (spot : Spot) (places : Places) (taken : Option (List ℕ)) → Feeds tree prefix name [] spot spot places places taken taken
+  Feeds-nothing spot places taken = ([], extended-nothing taken, Goes-nothing spot places)
+
+  pub Feeds-append : (a b : List ℕ) (old mid new : Spot) (before middle after : Places) (taken taken_mid taken_after : Option (List ℕ)) →
+      Feeds tree prefix name a old mid before middle taken taken_mid → Feeds tree prefix name b mid new middle after taken_mid taken_after → Feeds tree prefix name (a ++ b) old new before after taken taken_after
+  Feeds-append a b old mid new before middle after taken taken_mid taken_after (w, t, k) (v, u, l) =
+      (w ++ v, u ∙ ap (λ o. extended o v) t ∙ extended-extended taken w v, Goes-append a b old mid new before middle after w v k l)
+
+  -- a byte that is no LF waits for the end of its line
+  pub Feeds-byte : (b : ℕ) (old : Spot) (places : Places) (taken : Option (List ℕ)) →
+      Feeds tree prefix name (b ∷ []) old (record { number = old.number; pending = old.pending ++ b ∷ [] }) places places taken taken
+  Feeds-byte b old places taken = ([], extended-nothing taken, λ rest more. rw append_assoc refl)
+
+  -- an LF ends the line
+  pub Goes-lf : (b : ℕ) (old : Spot) (before : Places) → IsOpen old → is_lf b ≡ true →
+      let l = line name old.number old.pending true in
+      Goes tree prefix name (b ∷ []) old (record { number = next_number old.number; pending = [] }) before (places_after tree prefix before (l ∷ [])) (warning tree prefix before l)
+  Goes-lf b old before open' lf rest more =
+      let l = line name old.number old.pending true in
+      let e : lines_from name old.number (old.pending ++ b ∷ rest) ≡ l ∷ lines_from name (next_number old.number) rest = lines_from-lf name old.number old.pending b rest open'.one_line lf in
+      rw e (reading_within tree prefix before l (lines_from name (next_number old.number) rest ++ more) (is_within-line name old.number old.pending true open'.within))
+
+  -- the warning of the next line broke off
+  pub Because-lf : (b : ℕ) (old : Spot) (places : Places) (front : List ℕ) → IsOpen old → is_lf b ≡ true →
+      BeginsWith (warning tree prefix places (line name old.number old.pending true)) front → Because tree prefix name Sink (b ∷ []) old places front
+  Because-lf b old places front open' lf (more_text, is) rest more =
+      let l = line name old.number old.pending true in
+      let after = reading tree prefix (places_after tree prefix places (l ∷ [])) (lines_from name (next_number old.number) rest ++ more) in
+      rw (Goes-lf b old places open' lf rest more) (more_text ++ after.warned, rw is (append_assoc front more_text after.warned))
+
+  pub StopsAt-lf : (fault : DotFault) (b : ℕ) (old : Spot) (places : Places) (taken taken_after : Option (List ℕ)) → IsOpen old → is_lf b ≡ true →
+      FailsIn (warning tree prefix places (line name old.number old.pending true)) fault taken taken_after → StopsAt tree prefix name fault (b ∷ []) old places taken taken_after
+  StopsAt-lf (ConfigLineTooLong n) b old places taken taken_after open' lf never = absurd never
+  StopsAt-lf Sink b old places taken taken_after open' lf (front, begins, handed) = (front, handed, Because-lf b old places front open' lf begins)
+  StopsAt-lf Memory b old places taken taken_after open' lf same = ([], same ∙ extended-nothing taken, refl)
+
+  -- the 65,536th byte of a line
+  pub StopsAt-long : (b : ℕ) (old : Spot) (places : Places) (taken : Option (List ℕ)) → IsOpen old → is_lf b ≡ false → 65535 ≤ length old.pending →
+      StopsAt tree prefix name (ConfigLineTooLong old.number) (b ∷ []) old places taken taken
+  StopsAt-long b old places taken open' other long =
+      let within = open'.within in
+      ([], extended-nothing taken, (refl, refl, omega arith, (b, [], refl, other), Stops-long tree prefix name b old places open' other long))
+
+  -- whatever else follows in the piece
+  Because-longer : (fault : DotFault) (a b : List ℕ) (spot : Spot) (places : Places) (front : List ℕ) → Because tree prefix name fault a spot places front → Because tree prefix name fault (a ++ b) spot places front
+  Because-longer (ConfigLineTooLong n) a b spot places front (nothing, number, long, (x, rest, is, other), stops) =
+      (nothing, number, long, (x, rest ++ b, ap (λ t. t ++ b) is, other), Stops-longer tree prefix name a b spot places stops)
+  Because-longer Sink a b spot places front begins = λ rest more. rw append_assoc (begins (b ++ rest) more)
+  Because-longer Memory a b spot places front nothing = nothing
+
+  -- a refusal at one byte of the piece
+  pub Refuses-at : (fault : DotFault) (piece : List ℕ) (at : ℕ) (old new : Spot) (before after : Places) (taken taken_mid taken_after : Option (List ℕ)) → at < length piece →
+      Feeds tree prefix name (take at piece) old new before after taken taken_mid → StopsAt tree prefix name fault (get_or piece at 0 ∷ []) new after taken_mid taken_after →
+      Refuses tree prefix name fault piece old new before after taken taken_after
+  Refuses-at fault piece at old new before after taken taken_mid taken_after within (w, t, k) (front, handed, because) =
+      record {
+        done = take at piece;
+        left = drop at piece;
+        warned = w;
+        front = front;
+        split = sym (take-append-drop at piece);
+        goes = k;
+        handed = handed ∙ ap (λ o. extended o front) t ∙ extended-extended taken w front;
+        because = rw (drop_more piece at 0 within) (Because-longer fault (get_or piece at 0 ∷ []) (drop (at + 1) piece) new after front because);
+      }
+
+  -- an LF's warning was handed out
+  pub Feeds-lf : (b : ℕ) (old new : Spot) (before after : Places) (taken taken_after : Option (List ℕ)) → IsOpen old → is_lf b ≡ true →
+      after ≡ places_after tree prefix before (line name old.number old.pending true ∷ []) →
+      taken_after ≡ extended taken (warning tree prefix before (line name old.number old.pending true)) →
+      new ≡ record { number = next_number old.number; pending = [] } →
+      Feeds tree prefix name (b ∷ []) old new before after taken taken_after
+  Feeds-lf b old new before after taken taken_after open' lf places handed next =
+      (warning tree prefix before (line name old.number old.pending true), handed, λ rest more. rw (places, next) (Goes-lf b old before open' lf rest more))
+
+pub OnOk-three : {T E : Type 0} → (r : Result T E) (P Q R S : Type 0) → (P → Q → R → S) → OnOk r P → OnOk r Q → OnOk r R → OnOk r S
+OnOk-three (Ok x) P Q R S f p q r = f p q r
+OnOk-three (Err e) P Q R S f p q r = tt
+
+module _ (tree : TreeFacts) (prefix name : List ℕ) where
+  -- there is no last line
+  pub Finishes-nothing : (spot : Spot) (places : Places) (taken : Option (List ℕ)) → spot.pending ≡ [] → Finishes tree prefix name spot places places taken taken
+  Finishes-nothing spot places taken empty =
+      ([], extended-nothing taken, λ more. rw (empty, lines_from-last name spot.number [] (λ k d lt. absurd (omega arith))) refl)
+
+  last_is : (spot : Spot) → IsOpen spot → 0 < length spot.pending → lines_from name spot.number spot.pending ≡ line name spot.number spot.pending false ∷ []
+  last_is spot opened some =
+      let e : (length spot.pending == 0) ≡ false = ne_eqb (length spot.pending) 0 (omega arith) in
+      lines_from-last name spot.number spot.pending opened.one_line ∙ rw e refl
+
+  -- the last line was read
+  pub Finishes-line : (spot : Spot) (before after : Places) (taken taken_after : Option (List ℕ)) → IsOpen spot → 0 < length spot.pending →
+      after ≡ places_after tree prefix before (line name spot.number spot.pending false ∷ []) →
+      taken_after ≡ extended taken (warning tree prefix before (line name spot.number spot.pending false)) →
+      Finishes tree prefix name spot before after taken taken_after
+  Finishes-line spot before after taken taken_after opened some places handed =
+      let l = line name spot.number spot.pending false in (
+        warning tree prefix before l,
+        handed,
+        λ more. rw (last_is spot opened some, places)
+            (reading_within tree prefix before l more (is_within-line name spot.number spot.pending false opened.within)),
+      )
+
+  -- the warning of the last line broke off
+  pub FailsToEnd-line : (fault : DotFault) (spot : Spot) (places : Places) (taken taken_after : Option (List ℕ)) → IsOpen spot → 0 < length spot.pending →
+      FailsIn (warning tree prefix places (line name spot.number spot.pending false)) fault taken taken_after → FailsToEnd tree prefix name fault spot places taken taken_after
+  FailsToEnd-line (ConfigLineTooLong n) spot places taken taken_after opened some never = never
+  FailsToEnd-line Sink spot places taken taken_after opened some (front, (rest, begins), handed) =
+      let l = line name spot.number spot.pending false in (
+        front,
+        handed,
+        λ more.
+            let after = reading tree prefix (places_after tree prefix places (l ∷ [])) more in
+            rw (last_is spot opened some, reading_within tree prefix places l more (is_within-line name spot.number spot.pending false opened.within))
+            (rest ++ after.warned, rw begins (append_assoc front rest after.warned)),
+      )
+  FailsToEnd-line Memory spot places taken taken_after opened some same = same

@@ -1,0 +1,61 @@
+-- What the lines of a text give to the places, wherever it stands in a stream.
+use Rattle.std.proofs.Common.{◌≡◌, ℕ, ◌+◌, ◌<◌, ◌≤◌, suc, List, [], ◌∷◌, ◌++◌, true, false, length, refl, sym, ap, ◌∙◌, Option, Some, None, append_assoc, append-nil, arith}
+use Rattle.std.specs.List.{cons_option, flat_map, Contains}
+use Rattle.std.specs.Str.Lines.{strip_carriage_return}
+use Rattle.kc_tree.specs.TreeFacts.{TreeFacts}
+use Rattle.kc_user.specs.Places.{Places}
+use Rattle.kc_dot.specs.ConfigLine.{says}
+use Rattle.kc_dot.specs.Effects.{effect_of}
+use Rattle.kc_dot.specs.Reading.{Line, Read, Assignment, line, next_number, lines_from, reading, told, warning, places_given, places_after, effect, assignment_of}
+use Rattle.kc_dot.proofs.LineLemmas.{HasNoLf, lines_from-lf, lines_from-last, is_within-line}
+use Rattle.kc_dot.proofs.PlaceLemmas.{places_given-append, places_given-nothing}
+use Rattle.kc_dot.proofs.ReadingLemmas.{reading_within, reading-nothing, told-told}
+
+module _ (tree : TreeFacts) (prefix stream : List ℕ) where
+  -- wherever the text stands, reading it makes these assignments and goes on behind it
+  abbrev pub Gives : List ℕ → List Assignment → Type 0
+  Gives text given =
+      (n : ℕ) (rest : List ℕ) (places : Places) →
+      (next : ℕ) × (warned : List ℕ) × (reading tree prefix places (lines_from stream n (text ++ rest)) ≡ told warned (reading tree prefix (places_given tree places given) (lines_from stream next rest)))
+
+  pub gives_nothing : Gives [] []
+  gives_nothing n rest places = (n, [], rw (places_given-nothing tree places) refl)
+
+  pub gives_append : (a b : List ℕ) (g h : List Assignment) → Gives a g → Gives b h → Gives (a ++ b) (g ++ h)
+  gives_append a b g h first second n rest places =
+      let (mid, w, is) = first n (b ++ rest) places in
+      let (next, v, then_) = second mid rest (places_given tree places g) in (
+        next,
+        w ++ v,
+        rw (append_assoc, places_given-append tree places g h) (is ∙ ap (told w) then_ ∙ told-told w v (reading tree prefix (places_given tree (places_given tree places g) h) (lines_from stream next rest))),
+      )
+
+  -- one line
+  pub gives_line : (body : List ℕ) (o : Option Assignment) → HasNoLf body → length body ≤ 65535 → assignment_of (effect_of tree (says prefix (strip_carriage_return body))) ≡ o → Gives (body ++ 10 ∷ []) (cons_option o [])
+  unfolding effect
+  gives_line body o none short is n rest places =
+      let l = line stream n body true in
+      let e : (body ++ 10 ∷ []) ++ rest ≡ body ++ 10 ∷ rest = append_assoc body (10 ∷ []) rest in
+      let after : places_after tree prefix places (l ∷ []) ≡ places_given tree places (cons_option o []) = ap (λ x. places_given tree places (cons_option x [])) is in (
+        next_number n,
+        warning tree prefix places l,
+        rw (e, lines_from-lf stream n body 10 rest none refl, reading_within tree prefix places l (lines_from stream (next_number n) rest) (is_within-line stream n body true short), after) refl,
+      )
+
+  -- one after another
+  pub gives_all : {X : Type 0} (text : X → List ℕ) (given : X → List Assignment) (xs : List X) → ((x : X) → Contains xs x → Gives (text x) (given x)) → Gives (flat_map text xs) (flat_map given xs)
+  gives_all text given [] each = gives_nothing
+  gives_all text given (x ∷ xs) each =
+      gives_append (text x) (flat_map text xs) (given x) (flat_map given xs) (each x (0, omega arith, refl))
+      (gives_all text given xs (λ y (n, l, e). each y (suc n, omega arith, e)))
+
+  -- the whole text
+  pub gives_whole : (text : List ℕ) (given : List Assignment) (places : Places) → Gives text given →
+      (warned : List ℕ) × (reading tree prefix places (lines_from stream 1 text) ≡ record { places = places_given tree places given; warned = warned; stopped = None })
+  gives_whole text given places gives =
+      let (next, w, is) = gives 1 [] places in
+      let last : lines_from stream next [] ≡ [] = lines_from-last stream next [] (λ k d lt. absurd (no lt)) in
+      (w ++ [], sym (ap (λ t. reading tree prefix places (lines_from stream 1 t)) (append-nil text)) ∙ is ∙ rw (last, reading-nothing tree prefix (places_given tree places given)) refl)
+    where
+      no : {k : ℕ} → k < length {A = ℕ} [] → ⊥
+      no lt = absurd (omega arith)

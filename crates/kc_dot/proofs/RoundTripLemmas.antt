@@ -1,0 +1,156 @@
+-- What is written, read again.
+use Rattle.std.proofs.Common.{◌≡◌, ℕ, ◌+◌, ◌-◌, ◌<◌, ◌≤◌, suc, List, [], ◌∷◌, ◌++◌, true, false, length, get_or, eqb, refl, sym, ap, ◌∙◌, arith, inl, inr, Some, None, append_assoc, length-append, codes}
+use Rattle.std.specs.Prelude.{◌||◌, ◌==◌, All}
+use Rattle.std.specs.List.{list_any, suffix_len, position_or_len}
+use Rattle.std.specs.Option.{option_and_then}
+use Rattle.std.specs.Str.{bytes_eq}
+use Rattle.std.proofs.Math.Seq.{take-append_seam, drop-append_seam, drop-append-add}
+use Rattle.std.proofs.lemmas.Bool.{ne_eqb, lt-ltb, le-leb, and_parts, or_from, cases_Bool, or_parts}
+use Rattle.std.proofs.lemmas.List.{reverse-append, take_all}
+use Rattle.std.proofs.lemmas.List.Elements.{All-append}
+use Rattle.std.proofs.lemmas.List.Folds.{list_any_none}
+use Rattle.std.proofs.lemmas.List.Sums.{AllPass-from_list_all}
+use Rattle.std.proofs.lemmas.Slice.Eq.{bytes_eq-Decides}
+use Rattle.kc_expr.specs.Value.{Known, Truth, Written}
+use Rattle.kc_expr.specs.declared.expression.Tri.TheVariants.{N, M, Y}
+use Rattle.kc_expr.specs.declared.expression.Kind.TheVariants as kind
+use Rattle.kc_dot.specs.SymbolLines.{config_line}
+use Rattle.kc_text.specs.Escapes.{escape}
+use Rattle.kc_text.specs.Lexemes.{is_blank}
+use Rattle.kc_text.proofs.Unescaping.{unescape_law}
+use Rattle.kc_dot.specs.ConfigLine.{trimmed, behind, ahead_of, plain, unset_name, is_equals, sides, set_parts, is_comment}
+use Rattle.kc_dot.specs.LineValue.{inside, with_front}
+use Rattle.kc_dot.specs.Prefixes.{is_prefix, is_name_byte}
+use Rattle.kc_dot.specs.RoundTrip.{IsName, IsShortText, UnsetLineReadAgain, SetLineReadAgain, StringReadAgain}
+
+same_bytes : (bytes : List ℕ) → bytes_eq bytes bytes ≡ true
+same_bytes bytes = let d = bytes_eq-Decides bytes bytes in d.1 refl
+
+behind-front : (front rest : List ℕ) → behind front (front ++ rest) ≡ Some rest
+behind-front front rest = rw (take-append_seam front rest, same_bytes front, drop-append_seam front rest) refl
+
+ahead_of-end : (front end : List ℕ) → ahead_of end (front ++ end) ≡ Some front
+ahead_of-end front end =
+    let k : length (front ++ end) - length end ≡ length front = omega (arith, length-append front end) in
+    rw (k, drop-append_seam front end, same_bytes end, take-append_seam front end) refl
+
+-- a byte of a name is not this other byte
+pub name_not : (b c : ℕ) → is_name_byte c ≡ false → is_name_byte b ≡ true → eqb b c ≡ false
+name_not b c other named = ne_eqb b c (λ e. let f = ap is_name_byte e in cc)
+
+pub name_no_blank : (b : ℕ) → is_name_byte b ≡ true → is_blank b ≡ false
+name_no_blank b named = or_from (eqb b 32) (eqb b 9) (name_not b 32 refl named) (name_not b 9 refl named)
+
+plain-name : (name : List ℕ) → IsName name → plain name ≡ Some name
+plain-name name is =
+    let some : 0 < length name = is.some in
+    let none : list_any is_blank name ≡ false = list_any_none is_blank name (λ k d lt. name_no_blank (get_or name k d) (is.bytes k d lt)) in
+    rw (lt-ltb 0 (length name) some, none) refl
+
+-- no blank ends the line
+pub trimmed-solid : (front : List ℕ) (b : ℕ) → is_blank b ≡ false → trimmed (front ++ b ∷ []) ≡ front ++ b ∷ []
+trimmed-solid front b solid =
+    let s : suffix_len is_blank (front ++ b ∷ []) ≡ 0 = rw (reverse-append, solid) refl in
+    rw s (take_all (length (front ++ b ∷ []) - 0) (front ++ b ∷ []) (omega arith))
+
+regroup : (a p n t : List ℕ) → (a ++ (p ++ n)) ++ t ≡ a ++ (p ++ (n ++ t))
+regroup a p n t = simp append_assoc
+
+-- the name between these words
+unset_by : (hash prefix name tail : List ℕ) → IsName name →
+    option_and_then plain (option_and_then (ahead_of tail) (option_and_then (behind prefix) (behind hash ((hash ++ (prefix ++ name)) ++ tail)))) ≡ Some name
+unset_by hash prefix name tail is =
+    rw (regroup hash prefix name tail, behind-front hash (prefix ++ (name ++ tail)), behind-front prefix (name ++ tail), ahead_of-end name tail) (plain-name name is)
+
+pub unset_read_again : UnsetLineReadAgain
+unset_read_again prefix name is =
+    let front : List ℕ = (codes "# " ++ (prefix ++ name)) ++ codes " is not se" in
+    let e : (codes "# " ++ (prefix ++ name)) ++ codes " is not set" ≡ front ++ 116 ∷ [] = sym (append_assoc (codes "# " ++ (prefix ++ name)) (codes " is not se") (116 ∷ [])) in
+    let whole : trimmed ((codes "# " ++ (prefix ++ name)) ++ codes " is not set") ≡ (codes "# " ++ (prefix ++ name)) ++ codes " is not set" =
+    ap trimmed e ∙ trimmed-solid front 116 refl ∙ sym e in
+    let unset : unset_name prefix ((codes "# " ++ (prefix ++ name)) ++ codes " is not set") ≡ Some name = unset_by (codes "# ") prefix name (codes " is not set") is in
+    let long : (length ((codes "# " ++ (prefix ++ name)) ++ codes " is not set") == 0) ≡ false =
+    ne_eqb (length ((codes "# " ++ (prefix ++ name)) ++ codes " is not set")) 0 (let l = length-append (codes "# " ++ (prefix ++ name)) (codes " is not set") in omega arith) in
+    rw (whole, long, unset) refl
+
+first_byte : (all : List ℕ) → 0 < length all → All (λ b. is_name_byte b ≡ true) all → (b : ℕ) × (rest : List ℕ) × (all ≡ b ∷ rest) × (is_name_byte b ≡ true)
+first_byte [] some named = absurd (omega arith)
+first_byte (b ∷ rest) some named = (b, rest, refl, named 0 b (omega arith))
+
+position-equals : (name value : List ℕ) → All (λ b. is_name_byte b ≡ true) name → position_or_len is_equals (name ++ 61 ∷ value) ≡ length name
+position-equals [] value named = refl
+position-equals (b ∷ name) value named =
+    let other : eqb b 61 ≡ false = name_not b 61 refl (named 0 b (omega arith)) in
+    let later : position_or_len is_equals (name ++ 61 ∷ value) ≡ length name = position-equals name value (λ k d lt. named (suc k) d (omega arith)) in
+    rw (other, later) (omega arith)
+
+sides-name : (name value : List ℕ) → IsName name → sides (name ++ 61 ∷ value) ≡ Some (name, value)
+sides-name name value is =
+    let some : 0 < length name = is.some in
+    let within : length name < length (name ++ 61 ∷ value) = omega (arith, length-append name (61 ∷ value)) in
+    rw (position-equals name value is.bytes, lt-ltb 0 (length name) some, lt-ltb (length name) (length (name ++ 61 ∷ value)) within, take-append_seam name (61 ∷ value), drop-append-add name (61 ∷ value) 1) refl
+
+pub prefix_bytes : (prefix : List ℕ) → is_prefix prefix ≡ true → All (λ b. is_name_byte b ≡ true) prefix
+prefix_bytes prefix is =
+    let (front, rest) = and_parts _ _ is in
+    let (short, named) = and_parts _ _ rest in
+    AllPass-from_list_all is_name_byte prefix named
+
+-- a line that begins with a byte of a name is none of the others
+not_other : (prefix : List ℕ) (b : ℕ) (rest : List ℕ) → is_name_byte b ≡ true → (unset_name prefix (b ∷ rest) ≡ None) × (is_comment (b ∷ rest) ≡ false)
+not_other prefix b rest named =
+    let hash : eqb b 35 ≡ false = name_not b 35 refl named in
+    let solid : is_blank b ≡ false = name_no_blank b named in
+    (rw hash refl, rw (solid, hash) refl)
+
+pub set_read_again : SetLineReadAgain
+set_read_again prefix name value is_pre is whole =
+    let both : All (λ b. is_name_byte b ≡ true) (prefix ++ name) = All-append (λ b. is_name_byte b ≡ true) prefix name (prefix_bytes prefix is_pre) is.bytes in
+    let some : 0 < length (prefix ++ name) = let n = is.some in omega (arith, length-append prefix name) in
+    let (b, rest, begins, named) = first_byte (prefix ++ name) some both in
+    let text : (prefix ++ name) ++ 61 ∷ value ≡ b ∷ (rest ++ 61 ∷ value) = ap (λ t. t ++ 61 ∷ value) begins in
+    let (no_unset, no_comment) = not_other prefix b (rest ++ 61 ∷ value) named in
+    let unset : unset_name prefix ((prefix ++ name) ++ 61 ∷ value) ≡ None = rw text no_unset in
+    let comment : is_comment ((prefix ++ name) ++ 61 ∷ value) ≡ false = rw text no_comment in
+    let parts : set_parts prefix ((prefix ++ name) ++ 61 ∷ value) ≡ Some (name, value) =
+    rw (append_assoc prefix name (61 ∷ value), behind-front prefix (name ++ 61 ∷ value)) (sides-name name value is) in
+    let long : (length ((prefix ++ name) ++ 61 ∷ value) == 0) ≡ false = ne_eqb (length ((prefix ++ name) ++ 61 ∷ value)) 0 (let l = length-append (prefix ++ name) (61 ∷ value) in omega arith) in
+    rw (whole, long, unset, comment, parts) refl
+
+-- an escaped text ends at the quote after it
+inside-escaped : (text : List ℕ) → inside (escape text ++ 34 ∷ []) ≡ Some (escape text)
+inside-escaped [] = refl
+inside-escaped (b ∷ text) = elim (cases_Bool (eqb b 34 || eqb b 92)) [
+  | inl e ↦ rw e (ap (with_front (92 ∷ b ∷ [])) (inside-escaped text))
+  | inr e ↦ rw e (plain_byte b (escape text ++ 34 ∷ []) (or_parts _ _ e).0 (or_parts _ _ e).1 ∙ ap (with_front (b ∷ [])) (inside-escaped text))
+]
+  where
+    plain_byte : (c : ℕ) (rest : List ℕ) → eqb c 34 ≡ false → eqb c 92 ≡ false → inside (c ∷ rest) ≡ with_front (c ∷ []) (inside rest)
+    plain_byte c [] quote slash = rw quote refl
+    plain_byte c (d ∷ rest) quote slash = rw (quote, slash) refl
+
+pub string_read_again : StringReadAgain
+string_read_again text short =
+    let within : length (34 ∷ escape text ++ 34 ∷ []) ≤ 65000 = omega (arith, length-append (escape text) (34 ∷ [])) in
+    rw (le-leb (length (34 ∷ escape text ++ 34 ∷ [])) 65000 within, inside-escaped text, unescape_law text) refl
+
+module _ (prefix name : List ℕ) (few : length prefix ≤ 64) (short : length name ≤ 255) where
+  whole_name : length (prefix ++ name) ≤ 319
+  whole_name = omega (arith, length-append prefix name)
+
+  ends_short : (n : ℕ) (text : List ℕ) → length text ≤ n → length ((prefix ++ name) ++ text) ≤ 319 + n
+  ends_short n text le = omega (arith, length-append (prefix ++ name) text, whole_name)
+
+  pub written_short : (known : Known) → IsShortText known → length (config_line (prefix ++ name) known) ≤ 65323
+  written_short (Truth N) fits = omega (arith, length-append (codes "# ") (prefix ++ name), length-append (codes "# " ++ (prefix ++ name)) (codes " is not set\n"), whole_name)
+  written_short (Truth M) fits = omega (arith, length-append (prefix ++ name) (codes "=m\n"), whole_name)
+  written_short (Truth Y) fits = omega (arith, length-append (prefix ++ name) (codes "=y\n"), whole_name)
+  written_short (Written kind.Undefined text) fits = omega arith
+  written_short (Written kind.Bool text) fits = omega arith
+  written_short (Written kind.Tristate text) fits = omega arith
+  written_short (Written kind.Str text) fits =
+      omega (arith, length-append ((prefix ++ name) ++ codes "=\"" ++ escape text) (codes "\"\n"), length-append ((prefix ++ name) ++ codes "=\"") (escape text), length-append (prefix ++ name) (codes "=\""), whole_name)
+  written_short (Written kind.Int text) fits =
+      omega (arith, length-append ((prefix ++ name) ++ codes "=" ++ text) (codes "\n"), length-append ((prefix ++ name) ++ codes "=") text, length-append (prefix ++ name) (codes "="), whole_name)
+  written_short (Written kind.Hex text) fits =
+      omega (arith, length-append ((prefix ++ name) ++ codes "=" ++ text) (codes "\n"), length-append ((prefix ++ name) ++ codes "=") text, length-append (prefix ++ name) (codes "="), whole_name)

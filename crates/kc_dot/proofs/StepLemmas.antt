@@ -1,0 +1,69 @@
+-- What one line does to the places.
+use Rattle.std.proofs.Common.{◌≡◌, ℕ, ◌<◌, List, [], ◌∷◌, true, false, length, refl, sym, ap, Option, Some, None, slice_set}
+use Rattle.std.specs.Prelude.{slice_get, IfSome}
+use Rattle.std.specs.Option.{option_map}
+use Rattle.std.proofs.lemmas.Option.{slice_get_within}
+use Rattle.kc_expr.specs.declared.expression.SymId.{SymId}
+use Rattle.kc_expr.specs.declared.expression.Kind.{Kind}
+use Rattle.kc_expr.specs.declared.expression.Kind.TheVariants as kind
+use Rattle.kc_tree.specs.TreeFacts.{TreeFacts, SymbolFacts, IsWellFormed}
+use Rattle.kc_tree.specs.Views.{facts_of}
+use Rattle.kc_tree.specs.declared.parts.Symbol.{Symbol}
+use Rattle.kc_tree.specs.declared.parts.ChoiceId.{ChoiceId}
+use Rattle.kc_user.specs.Given.{Given}
+use Rattle.kc_user.specs.Places.{Places}
+use Rattle.kc_dot.specs.Effects.{set_effect, set_by_kind, assigned_or, kind_in}
+use Rattle.kc_dot.specs.LineValue.{line_value}
+use Rattle.kc_dot.specs.LineSteps.{AssignsDefined, with_member}
+use Rattle.kc_dot.specs.Reading.{places_given, is_yes, choice_of}
+use Rattle.kc_dot.proofs.PlaceLemmas.{places_given-one}
+
+by_value : (tree : TreeFacts) (name : List ℕ) (s : SymId) (found : Option Given) → s.0 < length tree.symbols → AssignsDefined tree (assigned_or name s found)
+by_value tree name s None defined = tt
+by_value tree name s (Some given) defined = defined
+
+by_kind : (tree : TreeFacts) (name : List ℕ) (s : SymId) (text : List ℕ) (k : Kind) → s.0 < length tree.symbols → AssignsDefined tree (set_by_kind name s text k)
+by_kind tree name s text kind.Undefined defined = tt
+by_kind tree name s text kind.Bool defined = by_value tree name s (line_value kind.Bool text) defined
+by_kind tree name s text kind.Tristate defined = by_value tree name s (line_value kind.Tristate text) defined
+by_kind tree name s text kind.Str defined = by_value tree name s (line_value kind.Str text) defined
+by_kind tree name s text kind.Int defined = by_value tree name s (line_value kind.Int text) defined
+by_kind tree name s text kind.Hex defined = by_value tree name s (line_value kind.Hex text) defined
+
+by_facts : (tree : TreeFacts) (name : List ℕ) (s : SymId) (text : List ℕ) (o : Option SymbolFacts) → slice_get tree.symbols s.0 ≡ o → AssignsDefined tree (set_by_kind name s text (kind_in o))
+by_facts tree name s text None is = tt
+by_facts tree name s text (Some facts) is = by_kind tree name s text facts.kind (slice_get_within tree.symbols s.0 facts is)
+
+-- a set line gives a value to a defined symbol alone
+pub set_defined : (tree : TreeFacts) (name text : List ℕ) (found : Option SymId) → AssignsDefined tree (set_effect tree name text found)
+set_defined tree name text None = tt
+set_defined tree name text (Some s) = by_facts tree name s text (slice_get tree.symbols s.0) refl
+
+-- a member's choice is one of the tree's
+pub choice_there : (tree : TreeFacts) (i : ℕ) (symbol : Symbol) → IsWellFormed tree → slice_get tree.symbols i ≡ Some (facts_of symbol) → IfSome symbol.choice (λ choice. choice.0 < length tree.choices)
+choice_there tree i symbol formed found = go symbol.choice refl
+  where
+    go : (o : Option ChoiceId) → symbol.choice ≡ o → IfSome o (λ choice. choice.0 < length tree.choices)
+    go None is = tt
+    go (Some k) is =
+        let (c, listed, member) = formed.members_listed i (facts_of symbol) found k.0 (ap (option_map (λ (x : ChoiceId). x.0)) is) in
+        slice_get_within tree.choices k.0 c listed
+
+-- the places after an assignment, whose symbol's choice was seen to before
+pub assigned : (tree : TreeFacts) (old mid new : Places) (s : SymId) (given : Given) →
+    mid ≡ record { symbols = old.symbols; choices = with_member (is_yes given) (choice_of tree s) s old.choices } →
+    new ≡ record { symbols = slice_set mid.symbols s.0 (Some given); choices = mid.choices } →
+    new ≡ places_given tree old (record { symbol = s; given = given } ∷ [])
+assigned tree old mid new s given chosen set =
+    rw (set, chosen) (sym (places_given-one tree old s given))
+
+pub assigned_yes : (tree : TreeFacts) (old mid new : Places) (s : SymId) (given : Given) → is_yes given ≡ true →
+    mid ≡ record { symbols = old.symbols; choices = with_member true (choice_of tree s) s old.choices } →
+    new ≡ record { symbols = slice_set mid.symbols s.0 (Some given); choices = mid.choices } →
+    new ≡ places_given tree old (record { symbol = s; given = given } ∷ [])
+assigned_yes tree old mid new s given is_y chosen set = assigned tree old mid new s given (rw is_y chosen) set
+
+pub assigned_no : (tree : TreeFacts) (old mid new : Places) (s : SymId) (given : Given) → is_yes given ≡ false → mid ≡ old →
+    new ≡ record { symbols = slice_set mid.symbols s.0 (Some given); choices = mid.choices } →
+    new ≡ places_given tree old (record { symbol = s; given = given } ∷ [])
+assigned_no tree old mid new s given is_other same set = assigned tree old mid new s given (rw is_other same) set

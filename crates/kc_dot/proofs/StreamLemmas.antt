@@ -1,0 +1,234 @@
+-- Streams handed in pieces are read as they are at once, and reading keeps places that hold what is allowed.
+use Rattle.std.proofs.Common.{◌≡◌, ℕ, ◌+◌, ◌-◌, ◌<◌, ◌≤◌, zero, suc, List, [], ◌∷◌, ◌++◌, Bool, true, false, not, length, map, drop, reverse, replicate, get_or, cond, refl, sym, ap, ◌∙◌, subst, arith, inl, inr, ◌⊎◌, Option, Some, None, append_assoc, append-nil, slice_set}
+use Rattle.std.specs.Prelude.{◌==◌, All, slice_get}
+use Rattle.std.specs.List.{Contains, AllByRecursion, after_last, concat, cons_option, filter_map, onto_first, prefix_len, slice_split, suffix_len, take_while}
+use Rattle.std.specs.Option.{option_and_then}
+use Rattle.std.proofs.lemmas.Bool.{cases_Bool, not-true, true≢false, lt-leb, ne_eqb}
+use Rattle.std.proofs.lemmas.List.{get_or-replicate, length-append, length-replicate, get_or-reverse, length-reverse, length-drop, get_or-drop}
+use Rattle.std.proofs.lemmas.List.Elements.{All-append, All-cons, All-nil}
+use Rattle.std.proofs.lemmas.List.Sums.{suffix_len-le-length, prefix_len_passes, take_while-cons}
+use Rattle.std.specs.Str.Lines.{strip_carriage_return}
+use Rattle.std.proofs.lemmas.List.Splits.{slice_split-cons_no, slice_split-cons_yes}
+use Rattle.kc_expr.specs.declared.expression.SymId.{SymId}
+use Rattle.kc_tree.specs.TreeFacts.{TreeFacts, SymbolFacts, IsWellFormed}
+use Rattle.kc_user.specs.Given.{Given}
+use Rattle.kc_user.specs.Laws.{SettingKeepsPlaces, SelectingKeepsPlaces}
+use Rattle.kc_user.specs.Places.{ArePlaces, Places, allowed, members_of}
+use Rattle.kc_dot.specs.Calls.{Call, Feed, Finish, NextStream, Answers, Run, rest_of, more_of, lines_fed, CallsJoin}
+use Rattle.kc_dot.specs.ConfigLine.{says}
+use Rattle.kc_dot.specs.Effects.{Effect, Silent, Warns, Assigns, effect_of}
+use Rattle.kc_dot.specs.Feeding.{Spot, fed, ended, first_spot, Goes, Ends}
+use Rattle.kc_dot.specs.LineSteps.{with_member}
+use Rattle.kc_dot.specs.ReaderState.{ReaderState}
+use Rattle.kc_dot.specs.Reading.{Assignment, Line, Read, Stream, assignment_of, assignments, choice_of, counted, effect, is_lf, is_within, is_yes, last_line, line, lines_from, lines_of, lines_of_parts, next_number, places_given, reading, reading_of, text_of, told}
+use Rattle.kc_dot.specs.Streams.{Pieces, stream_of, feeds, calls_after, StreamsAreRead, ReadingKeepsPlaces}
+use Rattle.kc_dot.proofs.AllowedLemmas.{assigned_allowed, strip_no_lf}
+use Rattle.kc_dot.proofs.CallLemmas.{calls_join}
+use Rattle.kc_dot.proofs.LineLemmas.{HasNoLf, lines_from-last}
+use Rattle.kc_dot.proofs.MinimalTextLemmas.{there}
+use Rattle.kc_dot.proofs.PlaceLemmas.{places_given-append, places_given-nothing, places_given-one}
+use Rattle.kc_dot.proofs.ReadingLemmas.{reading-nothing, reading_long, told-nothing}
+
+-- The lines that the calls feed are those of the streams.
+no_lines : (name : List ℕ) (n : ℕ) → lines_from name n [] ≡ []
+no_lines name n = lines_from-last name n [] (All-nil (λ b. is_lf b ≡ false))
+
+rest_of_feeds : (pieces : List (List ℕ)) (calls : List Call) → rest_of (feeds pieces ++ calls) ≡ concat pieces ++ rest_of calls
+rest_of_feeds [] calls = refl
+rest_of_feeds (piece ∷ pieces) calls = ap (λ t. piece ++ t) (rest_of_feeds pieces calls) ∙ sym (append_assoc piece (concat pieces) (rest_of calls))
+
+rest_of_after : (streams : List Pieces) → rest_of (calls_after streams) ≡ []
+rest_of_after [] = refl
+rest_of_after (s ∷ streams) = refl
+
+feed_more : (pieces : List (List ℕ)) (name : List ℕ) (spot : Spot) (calls : List Call) (lines : List Line) → ((later : Spot) → more_of name later calls ≡ lines) → more_of name spot (feeds pieces ++ calls) ≡ lines
+feed_more [] name spot calls lines is = is spot
+feed_more (piece ∷ pieces) name spot calls lines is = feed_more pieces name (fed piece spot) calls lines is
+
+more_of_after : (streams : List Pieces) (name : List ℕ) (spot : Spot) → more_of name spot (calls_after streams) ≡ lines_of (map stream_of streams)
+more_of_after [] name spot = rw (no_lines name (ended spot).number) refl
+more_of_after (s ∷ streams) name spot =
+    let e : rest_of (feeds s.pieces ++ calls_after streams) ≡ concat s.pieces = rest_of_feeds s.pieces (calls_after streams) ∙ ap (λ t. concat s.pieces ++ t) (rest_of_after streams) ∙ append-nil (concat s.pieces) in
+    let m : more_of s.name first_spot (feeds s.pieces ++ calls_after streams) ≡ lines_of (map stream_of streams) = feed_more s.pieces s.name first_spot (calls_after streams) (lines_of (map stream_of streams)) (more_of_after streams s.name) in
+    rw (e, m) refl
+
+more_of_feeds : (pieces : List (List ℕ)) (name : List ℕ) (spot : Spot) (streams : List Pieces) → more_of name spot (feeds pieces ++ calls_after streams) ≡ lines_of (map stream_of streams)
+more_of_feeds pieces name spot streams = feed_more pieces name spot (calls_after streams) (lines_of (map stream_of streams)) (more_of_after streams name)
+
+-- the last call ends the stream
+ends_empty : (calls : List Call) (old new : ReaderState) (before after : Places) (warned : List ℕ) → Run (calls ++ Finish ∷ []) old new before after warned → new.spot.pending ≡ []
+ends_empty [] old new before after warned (mid, middle, first, later, (is, ends), (same, places, nothing), joined) =
+    ap (λ (r : ReaderState). r.spot.pending) same ∙ ap (λ (r : ReaderState). r.spot.pending) is
+ends_empty (call ∷ calls) old new before after warned (mid, middle, first, later, answers, run, joined) = ends_empty calls mid new middle after later run
+
+ends_with_finish : (streams : List Pieces) → (calls : List Call) × (calls_after streams ≡ calls ++ Finish ∷ [])
+ends_with_finish [] = ([], refl)
+ends_with_finish (s ∷ streams) =
+    let (calls, is) = ends_with_finish streams in
+    (NextStream s.name ∷ (feeds s.pieces ++ calls), ap (λ t. NextStream s.name ∷ (feeds s.pieces ++ t)) is ∙ ap (λ t. NextStream s.name ∷ t) (sym (append_assoc (feeds s.pieces) calls (Finish ∷ []))))
+
+pub streams_are_read : StreamsAreRead
+streams_are_read first streams old new before after warned named fresh run =
+    let all = feeds first.pieces ++ calls_after streams in
+    let joined = calls_join all old new before after warned run in
+    let (calls, is) = ends_with_finish streams in
+    let split : all ≡ (feeds first.pieces ++ calls) ++ Finish ∷ [] = ap (λ t. feeds first.pieces ++ t) is ∙ sym (append_assoc (feeds first.pieces) calls (Finish ∷ [])) in
+    let empty : new.spot.pending ≡ [] = ends_empty (feeds first.pieces ++ calls) old new before after warned (subst (λ c. Run c old new before after warned) split run) in
+    let rest : rest_of all ≡ concat first.pieces = rest_of_feeds first.pieces (calls_after streams) ∙ ap (λ t. concat first.pieces ++ t) (rest_of_after streams) ∙ append-nil (concat first.pieces) in
+    let fed_lines : lines_fed old all ≡ lines_of (map stream_of (first ∷ streams)) =
+    rw (named, fresh, rest, more_of_feeds first.pieces first.name first_spot streams) refl in
+    let nothing : lines_from new.name new.spot.number new.spot.pending ≡ [] = ap (lines_from new.name new.spot.number) empty ∙ no_lines new.name new.spot.number in
+    ap (reading old.tree old.prefix before) (sym fed_lines) ∙ joined
+    ∙ ap (λ lines. told warned (reading old.tree old.prefix after lines)) nothing ∙ ap (told warned) (reading-nothing old.tree old.prefix after)
+    ∙ told_end after warned
+  where
+    told_end : (after : Places) (warned : List ℕ) → told warned (record { places = after; warned = []; stopped = None }) ≡ record { places = after; warned = warned; stopped = None }
+    told_end after warned = rw (append-nil warned) refl
+
+-- Places that hold what is allowed.
+module _ (tree : TreeFacts) (prefix : List ℕ) (formed : IsWellFormed tree) (setting : SettingKeepsPlaces) (selecting : SelectingKeepsPlaces) where
+  abbrev IsAllowed : Assignment → Type 0
+  IsAllowed a = allowed tree a.symbol a.given ≡ true
+
+  member_of_choice : (s : SymId) (c : ℕ) (o : Option SymbolFacts) → slice_get tree.symbols s.0 ≡ o → option_and_then (λ (f : SymbolFacts). f.choice) o ≡ Some c → Contains (members_of (slice_get tree.choices c)) s
+  member_of_choice s c None at e = cc
+  member_of_choice s c (Some f) at e =
+      let (cf, found, member) = formed.members_listed s.0 f at c e in
+      subst (λ o. Contains (members_of o) s) (sym found) member
+
+  chosen_keeps : (symbols : List (Option Given)) (choices : List (Option SymId)) (s : SymId) (yes_now : Bool) (choice : Option ℕ) → choice_of tree s ≡ choice →
+      ArePlaces tree (record { symbols = symbols; choices = choices }) → ArePlaces tree (record { symbols = symbols; choices = with_member yes_now choice s choices })
+  chosen_keeps symbols choices s false choice is old = old
+  chosen_keeps symbols choices s true None is old = old
+  chosen_keeps symbols choices s true (Some c) is old =
+      selecting tree (record { symbols = symbols; choices = choices }) c s old (member_of_choice s c (slice_get tree.symbols s.0) refl is)
+
+  one_keeps : (places : Places) (a : Assignment) → IsAllowed a → ArePlaces tree places → ArePlaces tree (places_given tree places (a ∷ []))
+  one_keeps places a ok old =
+      rw (places_given-one tree places a.symbol a.given)
+      (chosen_keeps (slice_set places.symbols a.symbol.0 (Some a.given)) places.choices a.symbol (is_yes a.given) (choice_of tree a.symbol) refl (setting tree places a.symbol a.given old ok))
+
+  all_keep : (given : List Assignment) (places : Places) → AllByRecursion IsAllowed given → ArePlaces tree places → ArePlaces tree (places_given tree places given)
+  all_keep [] places ok old = rw (places_given-nothing tree places) old
+  all_keep (a ∷ given) places ok old =
+      rw (places_given-append tree places (a ∷ []) given) (all_keep given (places_given tree places (a ∷ [])) ok.1 (one_keeps places a ok.0 old))
+
+  abbrev OneLine : Line → Type 0
+  OneLine l = HasNoLf l.bytes
+
+  line_no_lf : (l : Line) → OneLine l → HasNoLf (text_of l)
+  line_no_lf l none = by l.ended
+    where
+      by : (b : Bool) → HasNoLf (cond b (strip_carriage_return l.bytes) l.bytes)
+      by true = strip_no_lf l.bytes none
+      by false = none
+
+  effect_allowed : (l : Line) → OneLine l → (e : Effect) → effect_of tree (says prefix (text_of l)) ≡ e → (rest : List Assignment) → AllByRecursion IsAllowed rest → AllByRecursion IsAllowed (cons_option (assignment_of e) rest)
+  effect_allowed l none Silent is rest ok = ok
+  effect_allowed l none (Warns trouble) is rest ok = ok
+  effect_allowed l none (Assigns s given) is rest ok = (assigned_allowed tree prefix (text_of l) s given (line_no_lf l none) is, ok)
+
+  lines_allowed : (lines : List Line) → AllByRecursion OneLine lines → AllByRecursion IsAllowed (assignments tree prefix lines)
+  unfolding effect
+  lines_allowed [] none = tt
+  lines_allowed (l ∷ lines) none = effect_allowed l none.0 (effect_of tree (says prefix (text_of l))) refl (assignments tree prefix lines) (lines_allowed lines none.1)
+
+  counted_lines : (lines : List Line) → AllByRecursion OneLine lines → AllByRecursion OneLine (counted tree prefix lines)
+  counted_lines [] none = tt
+  counted_lines (l ∷ lines) none = rw (take_while-cons is_within l lines) (by (is_within l) (counted_lines lines none.1))
+    where
+      by : (b : Bool) → AllByRecursion OneLine (counted tree prefix lines) → AllByRecursion OneLine (cond b (l ∷ counted tree prefix lines) [])
+      by true rest = (none.0, rest)
+      by false rest = tt
+
+  reading_keeps : (lines : List Line) (places : Places) → AllByRecursion OneLine lines → ArePlaces tree places → ArePlaces tree (reading tree prefix places lines).places
+  unfolding reading
+  reading_keeps lines places none old = all_keep (assignments tree prefix (counted tree prefix lines)) places (lines_allowed (counted tree prefix lines) (counted_lines lines none)) old
+
+-- The lines of a stream hold no line feed.
+parts_no_lf : (bytes : List ℕ) → AllByRecursion HasNoLf (slice_split is_lf bytes)
+parts_no_lf [] = (All-nil (λ b. is_lf b ≡ false), tt)
+parts_no_lf (b ∷ bytes) = by (is_lf b) refl (parts_no_lf bytes)
+  where
+    onto : is_lf b ≡ false → (parts : List (List ℕ)) → AllByRecursion HasNoLf parts → AllByRecursion HasNoLf (onto_first b parts)
+    onto other [] ok = (All-cons (λ x. is_lf x ≡ false) b [] other (All-nil (λ x. is_lf x ≡ false)), tt)
+    onto other (part ∷ parts) ok = (All-cons (λ x. is_lf x ≡ false) b part other ok.0, ok.1)
+
+    by : (c : Bool) → is_lf b ≡ c → AllByRecursion HasNoLf (slice_split is_lf bytes) → AllByRecursion HasNoLf (cond c ([] ∷ slice_split is_lf bytes) (onto_first b (slice_split is_lf bytes)))
+    by true is ok = (All-nil (λ x. is_lf x ≡ false), ok)
+    by false is ok = onto is (slice_split is_lf bytes) ok
+
+last_line_no_lf : (stream : List ℕ) (n : ℕ) (bytes : List ℕ) → HasNoLf bytes → AllByRecursion (λ (l : Line). HasNoLf l.bytes) (last_line stream n bytes)
+last_line_no_lf stream n bytes none = by (length bytes == 0)
+  where
+    by : (b : Bool) → AllByRecursion (λ (l : Line). HasNoLf l.bytes) (cond b [] (line stream n bytes false ∷ []))
+    by true = tt
+    by false = (none, tt)
+
+part_lines : (stream : List ℕ) (n : ℕ) (parts : List (List ℕ)) → AllByRecursion HasNoLf parts → AllByRecursion (λ (l : Line). HasNoLf l.bytes) (lines_of_parts stream n parts)
+part_lines stream n [] ok = tt
+part_lines stream n (part ∷ []) ok = last_line_no_lf stream n part ok.0
+part_lines stream n (part ∷ next ∷ parts) ok = (ok.0, part_lines stream (next_number n) (next ∷ parts) ok.1)
+
+pub stream_lines : (stream : List ℕ) (n : ℕ) (bytes : List ℕ) → AllByRecursion (λ (l : Line). HasNoLf l.bytes) (lines_from stream n bytes)
+unfolding lines_from
+stream_lines stream n bytes = part_lines stream n (slice_split is_lf bytes) (parts_no_lf bytes)
+
+-- what waits behind the last line feed holds none
+pub waiting_no_lf : (bytes : List ℕ) → HasNoLf (after_last is_lf bytes)
+waiting_no_lf bytes k d lt =
+    let p : ℕ → Bool = λ b. not (is_lf b) in
+    let s : suffix_len p bytes ≤ length bytes = suffix_len-le-length p bytes in
+    let n : ℕ = length bytes - suffix_len p bytes in
+    let long : length (drop n bytes) ≡ length bytes - n = length-drop n bytes in
+    let j : ℕ = length bytes - 1 - (n + k) in
+    let within : j < suffix_len p bytes = omega (arith, lt, long, s) in
+    let back : length (reverse bytes) - 1 - j ≡ n + k = omega (arith, lt, long, s, length-reverse bytes) in
+    let at : get_or (reverse bytes) j d ≡ get_or bytes (n + k) d = get_or-reverse bytes j d (omega (arith, lt, long, s)) ∙ ap (λ m. get_or bytes m d) (omega (arith, lt, long, s)) in
+    let passes : p (get_or (reverse bytes) j d) ≡ true = prefix_len_passes p (reverse bytes) j d within in
+    not-true (is_lf (get_or (drop n bytes) k d)) (ap p (get_or-drop n bytes k d ∙ sym at) ∙ passes)
+
+-- A call leaves places that hold what is allowed.
+module _ (setting : SettingKeepsPlaces) (selecting : SelectingKeepsPlaces) where
+  no_more_lines : (name : List ℕ) (n : ℕ) (bytes : List ℕ) → AllByRecursion (λ (l : Line). HasNoLf l.bytes) (lines_from name n bytes ++ [])
+  no_more_lines name n bytes = subst (λ lines. AllByRecursion (λ (l : Line). HasNoLf l.bytes) lines) (sym (append-nil (lines_from name n bytes))) (stream_lines name n bytes)
+
+  end_keeps : (tree : TreeFacts) (prefix name : List ℕ) (spot : Spot) (before after : Places) (warned : List ℕ) → IsWellFormed tree → Ends tree prefix name spot before after warned → ArePlaces tree before → ArePlaces tree after
+  end_keeps tree prefix name spot before after warned formed ends old =
+      let is : (reading tree prefix before (lines_from name spot.number spot.pending ++ [])).places ≡ after = ap (λ (r : Read). r.places) (ends [] ∙ ap (told warned) (reading-nothing tree prefix after)) in
+      subst (ArePlaces tree) is (reading_keeps tree prefix formed setting selecting (lines_from name spot.number spot.pending ++ []) before (no_more_lines name spot.number spot.pending) old)
+
+  -- a line that is too long changes nothing
+  long_line : (tree : TreeFacts) (prefix name : List ℕ) (spot : Spot) (after : Places) (n : ℕ) → 65535 < n → HasNoLf spot.pending → (reading tree prefix after (lines_from name spot.number (spot.pending ++ replicate n 120) ++ [])).places ≡ after
+  long_line tree prefix name spot after n far none =
+      let bytes : List ℕ = spot.pending ++ replicate n 120 in
+      let size : length bytes ≡ length spot.pending + n = length-append spot.pending (replicate n 120) ∙ ap (λ k. length spot.pending + k) (length-replicate n 120) in
+      let one : HasNoLf bytes = All-append (λ b. is_lf b ≡ false) spot.pending (replicate n 120) none (λ k d lt. ap is_lf (get_or-replicate n k 120 d (subst (λ m. k < m) (length-replicate n 120) lt))) in
+      let some : (length bytes == 0) ≡ false = ne_eqb (length bytes) 0 (λ e. absurd (omega arith)) in
+      let lines : lines_from name spot.number bytes ++ [] ≡ line name spot.number bytes false ∷ [] = append-nil (lines_from name spot.number bytes) ∙ lines_from-last name spot.number bytes one ∙ ap (λ b. cond b [] (line name spot.number bytes false ∷ [])) some in
+      let long : is_within (line name spot.number bytes false) ≡ false = lt-leb (length bytes) 65535 (omega arith) in
+      ap (λ (r : Read). r.places) (ap (reading tree prefix after) lines ∙ reading_long tree prefix after (line name spot.number bytes false) [] long)
+
+  feed_keeps : (tree : TreeFacts) (prefix name piece : List ℕ) (old new : Spot) (before after : Places) (warned : List ℕ) (n : ℕ) → 65535 < n → IsWellFormed tree → HasNoLf new.pending → Goes tree prefix name piece old new before after warned → ArePlaces tree before → ArePlaces tree after
+  feed_keeps tree prefix name piece old new before after warned n far formed none goes held =
+      let is : (reading tree prefix before (lines_from name old.number (old.pending ++ (piece ++ replicate n 120)) ++ [])).places ≡ after =
+      ap (λ (r : Read). r.places) (goes (replicate n 120) []) ∙ long_line tree prefix name new after n far none in
+      subst (ArePlaces tree) is (reading_keeps tree prefix formed setting selecting (lines_from name old.number (old.pending ++ (piece ++ replicate n 120)) ++ []) before (no_more_lines name old.number (old.pending ++ (piece ++ replicate n 120))) held)
+
+  call_keeps : (call : Call) (old new : ReaderState) (before after : Places) (warned : List ℕ) → IsWellFormed old.tree → Answers call old new before after warned → ArePlaces old.tree before → (new.tree ≡ old.tree) × ArePlaces old.tree after
+  call_keeps (Feed piece) old new before after warned formed (is, goes) held = (
+    ap (λ (r : ReaderState). r.tree) is,
+    feed_keeps old.tree old.prefix old.name piece old.spot new.spot before after warned 65536 (omega arith) formed
+        (subst HasNoLf (sym (ap (λ (r : ReaderState). r.spot.pending) is)) (waiting_no_lf (old.spot.pending ++ piece))) goes held,
+  )
+  call_keeps Finish old new before after warned formed (is, ends) held =
+      (ap (λ (r : ReaderState). r.tree) is, end_keeps old.tree old.prefix old.name old.spot before after warned formed ends held)
+  call_keeps (NextStream name) old new before after warned formed (is, ends) held =
+      (ap (λ (r : ReaderState). r.tree) is, end_keeps old.tree old.prefix old.name old.spot before after warned formed ends held)
+
+  pub calls_keep : ReadingKeepsPlaces
+  calls_keep [] old new before after warned formed (same, places, nothing) held = subst (ArePlaces old.tree) (sym places) held
+  calls_keep (call ∷ calls) old new before after warned formed (mid, middle, first, later, answers, run, joined) held =
+      let (same, there_now) = call_keeps call old mid before middle first formed answers held in
+      subst (λ t. ArePlaces t after) same
+      (calls_keep calls mid new middle after later (subst IsWellFormed (sym same) formed) run (subst (λ t. ArePlaces t middle) (sym same) there_now))

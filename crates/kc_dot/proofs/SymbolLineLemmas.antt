@@ -1,0 +1,289 @@
+-- The line of a symbol, read again.
+use Rattle.std.proofs.Common.{◌≡◌, ℕ, ◌+◌, ◌-◌, ◌<◌, ◌≤◌, zero, suc, List, [], ◌∷◌, ◌++◌, Bool, true, false, not, length, take, get_or, eqb, cond, refl, sym, ap, ◌∙◌, subst, arith, inl, inr, ◌⊎◌, Option, Some, None, append_assoc, codes}
+use Rattle.std.specs.Prelude.{◌||◌, ◌==◌, ◌&&◌, All, is_some, nat_le, nat_lt, slice_get, slice_index, position}
+use Rattle.std.specs.List.{list_any, list_all, cons_option, position_or_len}
+use Rattle.std.specs.Option.{option_map}
+use Rattle.std.specs.Str.Lines.{strip_carriage_return}
+use Rattle.std.specs.Cmp.Lexicographic.{same_text}
+use Rattle.std.proofs.Math.Seq.{get_or-append_seam}
+use Rattle.std.proofs.lemmas.Bool.{ne_eqb, lt-ltb, le-leb, leb-true, leb-false, cases_Bool, or_parts, and_parts, not-true, false_from_ne_true}
+use Rattle.std.proofs.lemmas.Option.{slice_get-get_or, get_or_from_slice_get}
+use Rattle.std.proofs.lemmas.List.{length-append}
+use Rattle.std.proofs.lemmas.List.Elements.{All-append, All-cons, All-nil}
+use Rattle.std.proofs.lemmas.List.Folds.{list_any_none}
+use Rattle.std.proofs.lemmas.List.Sums.{AllPass-from_list_all, position_or_len_is}
+use Rattle.std.proofs.lemmas.Slice.Eq.{bytes_eq-Decides}
+use Rattle.kc_text.specs.Escapes.{escape}
+use Rattle.kc_text.specs.Numbers.{int_of, hex_of}
+use Rattle.kc_expr.specs.declared.expression.SymId.{SymId}
+use Rattle.kc_expr.specs.declared.expression.Tri.{Tri}
+use Rattle.kc_expr.specs.declared.expression.Tri.TheVariants.{N, M, Y}
+use Rattle.kc_expr.specs.declared.expression.Kind.{Kind}
+use Rattle.kc_expr.specs.declared.expression.Kind.TheVariants as kind
+use Rattle.kc_expr.specs.Names.{symbol, same_name}
+use Rattle.kc_expr.specs.Value.{Known, Truth, Written}
+use Rattle.kc_tree.specs.TreeFacts.{TreeFacts, SymbolFacts, IsWellFormed}
+use Rattle.kc_user.specs.Given.{Given, Chosen, Typed}
+use Rattle.kc_user.specs.Places.{allowed, allowed_by, allowed_for, fits_quoted, is_line_feed}
+use Rattle.kc_values.specs.Differs.{given_of}
+use Rattle.kc_dot.specs.ConfigLine.{Set, Unset, says, trimmed}
+use Rattle.kc_dot.specs.Effects.{Effect, Silent, Warns, Assigns, NotAllowed, effect_of, set_effect, unset_effect, set_by_kind, unset_by_kind, assigned_or, kind_in, kind_of, symbol_named, name_of}
+use Rattle.kc_dot.specs.LineValue.{line_value, number_value}
+use Rattle.kc_dot.specs.Prefixes.{is_prefix, is_name_byte}
+use Rattle.kc_dot.specs.Reading.{Assignment, assignment_of, is_lf}
+use Rattle.kc_dot.specs.Plain.{is_end_byte, EndsPlainly}
+use Rattle.kc_dot.specs.TreeTexts.{HasNames}
+use Rattle.kc_dot.specs.RoundTrip.{IsName, IsShortText}
+use Rattle.kc_dot.specs.SymbolLines.{config_line}
+use Rattle.kc_dot.proofs.GivesLemmas.{Gives, gives_line, gives_nothing}
+use Rattle.kc_dot.proofs.LineLemmas.{HasNoLf}
+use Rattle.kc_dot.proofs.RoundTripLemmas.{trimmed-solid, prefix_bytes, unset_read_again, set_read_again, string_read_again, written_short}
+use Rattle.kc_dot.proofs.TextBytes.{no_lf_by, escape_no_lf}
+
+-- A text as its front and its last byte.
+pub last_cases : (text : List ℕ) → (text ≡ []) ⊎ ((front : List ℕ) × (b : ℕ) × (text ≡ front ++ b ∷ []))
+last_cases [] = inl refl
+last_cases (x ∷ text) = elim (last_cases text) [
+  | inl e ↦ inr ([], x, ap (λ t. x ∷ t) e)
+  | inr (front, b, e) ↦ inr (x ∷ front, b, ap (λ t. x ∷ t) e)
+]
+
+pub strip_solid : (front : List ℕ) (b : ℕ) → eqb b 13 ≡ false → strip_carriage_return (front ++ b ∷ []) ≡ front ++ b ∷ []
+strip_solid front b other =
+    let n : length (front ++ b ∷ []) - 1 ≡ length front = omega (arith, length-append front (b ∷ [])) in
+    rw (n, get_or-append_seam front b [] 0, other) refl
+
+-- a line that ends plainly keeps all of its bytes
+record Whole (text : List ℕ) : Type 0 where
+  trimmed_is : trimmed text ≡ text
+  strip_is : strip_carriage_return text ≡ text
+
+whole_by : (front : List ℕ) (b : ℕ) (text : List ℕ) → text ≡ front ++ b ∷ [] → is_end_byte b ≡ false → Whole text
+whole_by front b text is plain =
+    let (blank, return) = or_parts _ _ plain in
+    subst Whole (sym is) (record { trimmed_is = trimmed-solid front b blank; strip_is = strip_solid front b return })
+
+whole_set : (front value : List ℕ) → EndsPlainly value → Whole (front ++ 61 ∷ value)
+whole_set front value plain = elim (last_cases value) [
+  | inl e ↦ whole_by front 61 (front ++ 61 ∷ value) (ap (λ t. front ++ 61 ∷ t) e) refl
+  | inr (init, b, e) ↦ whole_by (front ++ 61 ∷ init) b (front ++ 61 ∷ value) (ap (λ t. front ++ 61 ∷ t) e ∙ sym (append_assoc front (61 ∷ init) (b ∷ []))) (plain init b e)
+]
+
+-- Names.
+get_name : (tree : TreeFacts) (i : ℕ) → i < length tree.names → slice_get tree.names i ≡ Some (get_or tree.names i [])
+get_name tree i lt = slice_get-get_or tree.names i [] lt
+
+same_itself : (name : List ℕ) → same_name name name ≡ true
+same_itself name = let d = bytes_eq-Decides name name in d.1 refl
+
+pub named_itself : (tree : TreeFacts) (s : SymId) → IsWellFormed tree → s.0 < length tree.symbols → symbol_named tree (name_of tree s) ≡ Some s
+named_itself tree s formed defined =
+    let known = formed.names_known in
+    let lt : s.0 < length tree.names = omega arith in
+    let at : position_or_len (same_name (name_of tree s)) tree.names ≡ s.0 =
+    position_or_len_is (same_name (name_of tree s)) tree.names s.0 [] (omega arith)
+    (λ k low. false_from_ne_true _ (λ e.
+    let same : name_of tree s ≡ get_or tree.names k [] = same_text (name_of tree s) (get_or tree.names k []) (sym e) in
+    let k_is : k ≡ s.0 = formed.names_differ k s.0 (get_or tree.names k []) (get_name tree k (omega arith)) (get_name tree s.0 lt ∙ ap Some same) in
+    omega arith))
+    (λ _. same_itself (name_of tree s))
+    in
+    rw (at, lt-ltb s.0 (length tree.names) lt) refl
+
+-- Values of a symbol of a type.
+abbrev pub IsOf : Kind → Known → Type 0
+IsOf kind.Undefined (Truth t) = ⊥
+IsOf kind.Undefined (Written l text) = ⊥
+IsOf kind.Bool (Truth t) = Unit {0}
+IsOf kind.Bool (Written l text) = ⊥
+IsOf kind.Tristate (Truth t) = Unit {0}
+IsOf kind.Tristate (Written l text) = ⊥
+IsOf kind.Str (Truth t) = ⊥
+IsOf kind.Str (Written l text) = l ≡ kind.Str
+IsOf kind.Int (Truth t) = ⊥
+IsOf kind.Int (Written l text) = l ≡ kind.Int
+IsOf kind.Hex (Truth t) = ⊥
+IsOf kind.Hex (Written l text) = l ≡ kind.Hex
+
+-- the text fits a line: it holds no line feed, is not too long, and a number ends plainly
+abbrev pub FitsLine : Known → Type 0
+FitsLine (Truth t) = Unit {0}
+FitsLine (Written kind.Undefined text) = Unit {0}
+FitsLine (Written kind.Bool text) = Unit {0}
+FitsLine (Written kind.Tristate text) = Unit {0}
+FitsLine (Written kind.Str text) = HasNoLf text × (length (escape text) ≤ 65000)
+FitsLine (Written kind.Int text) = HasNoLf text × (length text ≤ 65000) × EndsPlainly text
+FitsLine (Written kind.Hex text) = HasNoLf text × (length text ≤ 65000) × EndsPlainly text
+
+pub no_lf_check : (xs : List ℕ) → list_all (λ b. not (is_lf b)) xs ≡ true → HasNoLf xs
+no_lf_check xs all = λ k d lt. not-true _ (AllPass-from_list_all (λ b. not (is_lf b)) xs all k d lt)
+
+pub last_byte : (xs ys : List ℕ) (a b : ℕ) → xs ++ a ∷ [] ≡ ys ++ b ∷ [] → a ≡ b
+last_byte [] [] a b e = cc
+last_byte [] (y ∷ []) a b e = cc
+last_byte [] (y ∷ z ∷ ys) a b e = cc
+last_byte (x ∷ []) [] a b e = cc
+last_byte (x ∷ z ∷ xs) [] a b e = cc
+last_byte (x ∷ xs) (y ∷ ys) a b e = last_byte xs ys a b cc
+
+plain_quote : (text : List ℕ) → EndsPlainly (34 ∷ escape text ++ 34 ∷ [])
+plain_quote text front b is = rw (← last_byte (34 ∷ escape text) front 34 b is) refl
+
+plain_one : (c : ℕ) → is_end_byte c ≡ false → EndsPlainly (c ∷ [])
+plain_one c plain front b is = rw (← last_byte [] front c b is) plain
+
+-- The line of one symbol.
+module _ (tree : TreeFacts) (prefix stream : List ℕ) (is_pre : is_prefix prefix ≡ true) (formed : IsWellFormed tree) (named : HasNames tree) (s : SymId) (f : SymbolFacts) (at : slice_get tree.symbols s.0 ≡ Some f) (defined : s.0 < length tree.symbols) where
+  abbrev full : List ℕ
+  full = prefix ++ name_of tree s
+
+  full_bytes : All (λ b. is_name_byte b ≡ true) full
+  full_bytes = let n = named s defined in All-append (λ b. is_name_byte b ≡ true) prefix (name_of tree s) (prefix_bytes prefix is_pre) n.0.bytes
+
+  full_no_lf : HasNoLf full
+  full_no_lf = no_lf_by is_name_byte full refl full_bytes
+
+  set_says : (value : List ℕ) → EndsPlainly value → effect_of tree (says prefix (strip_carriage_return (full ++ 61 ∷ value))) ≡ set_by_kind (name_of tree s) s value f.kind
+  set_says value plain =
+      let whole = whole_set full value plain in
+      let n = named s defined in
+      let said : says prefix (full ++ 61 ∷ value) ≡ Set (name_of tree s) value = set_read_again prefix (name_of tree s) value is_pre n.0 whole.trimmed_is in
+      rw (whole.strip_is, said, named_itself tree s formed defined, at) refl
+
+  unset_says : effect_of tree (says prefix (strip_carriage_return ((codes "# " ++ full) ++ codes " is not set"))) ≡ unset_by_kind (name_of tree s) s f.kind
+  unset_says =
+      let front : List ℕ = (codes "# " ++ full) ++ codes " is not se" in
+      let e : (codes "# " ++ full) ++ codes " is not set" ≡ front ++ 116 ∷ [] = sym (append_assoc (codes "# " ++ full) (codes " is not se") (116 ∷ [])) in
+      let whole = whole_by front 116 ((codes "# " ++ full) ++ codes " is not set") e refl in
+      let n = named s defined in
+      let said : says prefix ((codes "# " ++ full) ++ codes " is not set") ≡ Unset (name_of tree s) = unset_read_again prefix (name_of tree s) n.0 in
+      rw (whole.strip_is, said, named_itself tree s formed defined, at) refl
+
+  -- the value's own assignment, where it is allowed
+  abbrev pub assignment : Known → Assignment
+  assignment known = record { symbol = s; given = given_of known }
+
+  abbrev own_if : Bool → Known → Option Assignment
+  own_if ok known = cond ok (Some (assignment known)) None
+
+  abbrev pub own : Known → Option Assignment
+  own known = own_if (allowed tree s (given_of known)) known
+
+  assigned_if : (ok : Bool) (known : Known) → assignment_of (assigned_or (name_of tree s) s (cond ok (Some (given_of known)) None)) ≡ own_if ok known
+  assigned_if true known = refl
+  assigned_if false known = refl
+
+  set_no_lf : (value : List ℕ) → HasNoLf value → HasNoLf (full ++ 61 ∷ value)
+  set_no_lf value none = All-append (λ b. is_lf b ≡ false) full (61 ∷ value) full_no_lf (All-cons (λ b. is_lf b ≡ false) 61 value refl none)
+
+  unset_no_lf : HasNoLf ((codes "# " ++ full) ++ codes " is not set")
+  unset_no_lf =
+      All-append (λ b. is_lf b ≡ false) (codes "# " ++ full) (codes " is not set") (All-append (λ b. is_lf b ≡ false) (codes "# ") full (no_lf_check (codes "# ") refl) full_no_lf) (no_lf_check (codes " is not set") refl)
+
+  short_prefix : length prefix ≤ 64
+  short_prefix =
+      let (front, rest) = and_parts _ _ is_pre in
+      let (short, bytes) = and_parts (nat_le (length prefix) 64) _ rest in
+      leb-true (length prefix) 64 short
+
+  short_line : (body : List ℕ) (known : Known) → IsShortText known → config_line full known ≡ body ++ 10 ∷ [] → length body ≤ 65535
+  short_line body known fits is =
+      let n = named s defined in
+      let all : length (config_line full known) ≤ 65323 = written_short prefix (name_of tree s) short_prefix n.1 known fits in
+      let same : length (config_line full known) ≡ length (body ++ 10 ∷ []) = ap length is in
+      omega (arith, all, same, length-append body (10 ∷ []))
+
+  -- a line that sets the symbol
+  gives_set : (known : Known) (value : List ℕ) → HasNoLf value → EndsPlainly value → IsShortText known → config_line full known ≡ (full ++ 61 ∷ value) ++ 10 ∷ [] →
+      assignment_of (set_by_kind (name_of tree s) s value f.kind) ≡ own known → Gives tree prefix stream (config_line full known) (cons_option (own known) [])
+  gives_set known value none plain fits is means =
+      let body = full ++ 61 ∷ value in
+      rw is (gives_line tree prefix stream body (own known) (set_no_lf value none) (short_line body known fits is) (ap assignment_of (set_says value plain) ∙ means))
+
+  -- a line that unsets it
+  gives_unset : assignment_of (unset_by_kind (name_of tree s) s f.kind) ≡ own (Truth N) → Gives tree prefix stream (config_line full (Truth N)) (cons_option (own (Truth N)) [])
+  gives_unset means =
+      let body : List ℕ = (codes "# " ++ full) ++ codes " is not set" in
+      let is : config_line full (Truth N) ≡ body ++ 10 ∷ [] = sym (append_assoc (codes "# " ++ full) (codes " is not set") (10 ∷ [])) in
+      subst (λ t. Gives tree prefix stream t (cons_option (own (Truth N)) [])) (sym is)
+      (gives_line tree prefix stream body (own (Truth N)) unset_no_lf (short_line body (Truth N) tt is) (ap assignment_of unset_says ∙ means))
+
+  allowed_is : (g : Given) → allowed tree s g ≡ allowed_by f.kind g
+  allowed_is g = ap (λ o. allowed_for o g) at
+
+  -- what a line of a truth value does
+  truth_means : (kd : Kind) → kd ≡ f.kind → IsOf kd (Truth N) →
+      (assignment_of (unset_by_kind (name_of tree s) s kd) ≡ own_if (allowed_by kd (Chosen N)) (Truth N))
+      × (assignment_of (set_by_kind (name_of tree s) s (109 ∷ []) kd) ≡ own_if (allowed_by kd (Chosen M)) (Truth M))
+      × (assignment_of (set_by_kind (name_of tree s) s (121 ∷ []) kd) ≡ own_if (allowed_by kd (Chosen Y)) (Truth Y))
+  truth_means kind.Undefined is of = absurd of
+  truth_means kind.Bool is of = (refl, refl, refl)
+  truth_means kind.Tristate is of = (refl, refl, refl)
+  truth_means kind.Str is of = absurd of
+  truth_means kind.Int is of = absurd of
+  truth_means kind.Hex is of = absurd of
+
+  any_truth : (kd : Kind) (t : Tri) → IsOf kd (Truth t) → IsOf kd (Truth N)
+  any_truth kind.Undefined t of = absurd of
+  any_truth kind.Bool t of = tt
+  any_truth kind.Tristate t of = tt
+  any_truth kind.Str t of = absurd of
+  any_truth kind.Int t of = absurd of
+  any_truth kind.Hex t of = absurd of
+
+  truth_gives : (t : Tri) → IsOf f.kind (Truth t) → Gives tree prefix stream (config_line full (Truth t)) (cons_option (own (Truth t)) [])
+  truth_gives N of = let means = truth_means f.kind refl (any_truth f.kind N of) in gives_unset (rw allowed_is means.0)
+  truth_gives M of =
+      let means = truth_means f.kind refl (any_truth f.kind M of) in
+      gives_set (Truth M) (109 ∷ []) (no_lf_check (109 ∷ []) refl) (plain_one 109 refl) tt (sym (append_assoc full (61 ∷ 109 ∷ []) (10 ∷ []))) (rw allowed_is means.1)
+  truth_gives Y of =
+      let means = truth_means f.kind refl (any_truth f.kind Y of) in
+      gives_set (Truth Y) (121 ∷ []) (no_lf_check (121 ∷ []) refl) (plain_one 121 refl) tt (sym (append_assoc full (61 ∷ 121 ∷ []) (10 ∷ []))) (rw allowed_is means.2)
+
+  -- a string's line gives it where it is not too long
+  quoted_value : (text : List ℕ) → HasNoLf text → line_value kind.Str (34 ∷ escape text ++ 34 ∷ []) ≡ cond (fits_quoted text) (Some (Typed text)) None
+  quoted_value text none =
+      let one : list_any is_line_feed text ≡ false = list_any_none is_line_feed text none in
+      let n : length (34 ∷ escape text ++ 34 ∷ []) ≡ length (escape text) + 2 = omega (arith, length-append (34 ∷ escape text) (34 ∷ [])) in
+      elim (cases_Bool (nat_le (length (escape text) + 2) 65000)) [
+        | inl short ↦ rw (short, one) (string_read_again text (leb-true (length (escape text) + 2) 65000 short))
+        | inr long ↦ let far : nat_le (length (34 ∷ escape text ++ 34 ∷ [])) 65000 ≡ false = ap (λ k. nat_le k 65000) n ∙ long in rw (far, long) refl
+      ]
+
+  number_value_if : (short is_number : Bool) (text : List ℕ) → cond short (number_value text is_number) None ≡ cond (short && is_number) (Some (Typed text)) None
+  number_value_if true is_number text = refl
+  number_value_if false is_number text = refl
+
+  str_gives : (kd : Kind) (text : List ℕ) → kd ≡ f.kind → kd ≡ kind.Str → FitsLine (Written kind.Str text) → Gives tree prefix stream (config_line full (Written kind.Str text)) (cons_option (own (Written kind.Str text)) [])
+  str_gives kd text is str (none, short) =
+      let k : f.kind ≡ kind.Str = sym is ∙ str in
+      let line_is : config_line full (Written kind.Str text) ≡ (full ++ 61 ∷ (34 ∷ escape text ++ 34 ∷ [])) ++ 10 ∷ [] = simp append_assoc in
+      let no_lf : HasNoLf (34 ∷ escape text ++ 34 ∷ []) = All-append (λ b. is_lf b ≡ false) (34 ∷ escape text) (34 ∷ []) (All-cons (λ b. is_lf b ≡ false) 34 (escape text) refl (escape_no_lf text none)) (no_lf_check (34 ∷ []) refl) in
+      gives_set (Written kind.Str text) (34 ∷ escape text ++ 34 ∷ []) no_lf (plain_quote text) short line_is
+      (rw (allowed_is, k, quoted_value text none) (assigned_if (fits_quoted text) (Written kind.Str text)))
+
+  int_gives : (text : List ℕ) → f.kind ≡ kind.Int → FitsLine (Written kind.Int text) → Gives tree prefix stream (config_line full (Written kind.Int text)) (cons_option (own (Written kind.Int text)) [])
+  int_gives text k (none, short, plain) =
+      gives_set (Written kind.Int text) text none plain short (simp append_assoc)
+      (rw (allowed_is, k, number_value_if (nat_le (length text) 65000) (is_some (int_of text)) text) (assigned_if (nat_le (length text) 65000 && is_some (int_of text)) (Written kind.Int text)))
+
+  hex_gives : (text : List ℕ) → f.kind ≡ kind.Hex → FitsLine (Written kind.Hex text) → Gives tree prefix stream (config_line full (Written kind.Hex text)) (cons_option (own (Written kind.Hex text)) [])
+  hex_gives text k (none, short, plain) =
+      gives_set (Written kind.Hex text) text none plain short (simp append_assoc)
+      (rw (allowed_is, k, number_value_if (nat_le (length text) 65000) (is_some (hex_of text)) text) (assigned_if (nat_le (length text) 65000 && is_some (hex_of text)) (Written kind.Hex text)))
+
+  written_gives : (kd l : Kind) (text : List ℕ) → kd ≡ f.kind → IsOf kd (Written l text) → FitsLine (Written l text) → Gives tree prefix stream (config_line full (Written l text)) (cons_option (own (Written l text)) [])
+  written_gives kind.Undefined l text is of fits = absurd of
+  written_gives kind.Bool l text is of fits = absurd of
+  written_gives kind.Tristate l text is of fits = absurd of
+  written_gives kind.Str l text is of fits =
+      subst (λ x. FitsLine (Written x text) → Gives tree prefix stream (config_line full (Written x text)) (cons_option (own (Written x text)) [])) (sym of) (str_gives kind.Str text is refl) fits
+  written_gives kind.Int l text is of fits =
+      subst (λ x. FitsLine (Written x text) → Gives tree prefix stream (config_line full (Written x text)) (cons_option (own (Written x text)) [])) (sym of) (int_gives text (sym is)) fits
+  written_gives kind.Hex l text is of fits =
+      subst (λ x. FitsLine (Written x text) → Gives tree prefix stream (config_line full (Written x text)) (cons_option (own (Written x text)) [])) (sym of) (hex_gives text (sym is)) fits
+
+  -- the line of the symbol gives it its value where that is allowed, and nothing else
+  pub symbol_gives : (known : Known) → IsOf f.kind known → FitsLine known → Gives tree prefix stream (config_line full known) (cons_option (own known) [])
+  symbol_gives (Truth t) of fits = truth_gives t of
+  symbol_gives (Written l text) of fits = written_gives f.kind l text refl of fits

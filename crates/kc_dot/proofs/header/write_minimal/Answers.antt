@@ -1,0 +1,13 @@
+use Rattle.kc_solve.specs.Solved.{value_of}
+use Rattle.kc_dot.proofs.SolutionLemmas.{solution_of}
+use Rattle.kc_dot.proofs.header.write_minimal.Goals as goal
+
+pub returns-clause-restores : goal.returns-clause-restores
+returns-clause-restores g c held =
+    let is = solution_of c.args.solved.now c.args.tree.now c.requires c.symbol_count-count.ensures.formed c.is_accepted.ensures c.is_solution.ensures held in
+    c.minimal_gives_back.ensures.restores c.args.tree.now c.args.prefix.now c.args.solved.now.places (value_of c.args.solved.now) c.as_bytes-prefix.ensures.prefix is
+
+pub returns-clause-nothing_to_spare : goal.returns-clause-nothing_to_spare
+returns-clause-nothing_to_spare g c held =
+    let is = solution_of c.args.solved.now c.args.tree.now c.requires c.symbol_count-count.ensures.formed c.is_accepted.ensures c.is_solution.ensures held in
+    c.minimal_gives_back.ensures.nothing_to_spare c.args.tree.now c.args.prefix.now c.args.solved.now.places (value_of c.args.solved.now) c.as_bytes-prefix.ensures.prefix is

@@ -1,0 +1,18 @@
+-- What an effect stands for.
+use Rattle.kc_user.specs.ValueView.{given_of_value}
+use Rattle.kc_dot.specs.Effects as spec
+use Rattle.kc_dot.specs.declared.effect.Trouble.{Trouble}
+use Rattle.kc_dot.specs.declared.effect.Trouble.TheVariants.{UnknownSymbol, NotAllowed, MalformedLine, SetAgain}
+use Rattle.kc_dot.specs.declared.effect.Effect.{Effect}
+use Rattle.kc_dot.specs.declared.effect.Effect.TheVariants.{Silent, Warns, Assigns}
+
+abbrev pub trouble_of : Trouble → spec.Trouble
+trouble_of (UnknownSymbol name) = spec.UnknownSymbol name.now
+trouble_of (NotAllowed name) = spec.NotAllowed name.now
+trouble_of MalformedLine = spec.MalformedLine
+trouble_of (SetAgain name) = spec.SetAgain name.now
+
+abbrev pub effect_view : Effect → spec.Effect
+effect_view Silent = spec.Silent
+effect_view (Warns trouble) = spec.Warns (trouble_of trouble)
+effect_view (Assigns s value) = spec.Assigns s (given_of_value value)

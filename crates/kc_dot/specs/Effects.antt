@@ -1,0 +1,85 @@
+-- What a line does for a tree: nothing, a warning, or an assignment.
+use Rattle.std.specs.Prelude.{ℕ, ◌++◌, List, [], position, Option, Some, None, slice_get, slice_index_or, codes, decimal}
+use Rattle.std.specs.Option.{option_map}
+use Rattle.kc_expr.specs.declared.expression.SymId.{SymId}
+use Rattle.kc_expr.specs.declared.expression.Tri.TheVariants.{N}
+use Rattle.kc_expr.specs.declared.expression.Kind.{Kind}
+use Rattle.kc_expr.specs.declared.expression.Kind.TheVariants as kind
+use Rattle.kc_expr.specs.Names.{symbol, same_name}
+use Rattle.kc_tree.specs.TreeFacts.{TreeFacts, SymbolFacts}
+use Rattle.kc_user.specs.Given.{Given, Chosen}
+use Rattle.kc_dot.specs.ConfigLine.{Said, Nothing, Unset, Set, Malformed}
+use Rattle.kc_dot.specs.LineValue.{line_value}
+
+-- what a warning tells
+pub data Trouble : Type 0 where
+  UnknownSymbol : List ℕ → Trouble
+  NotAllowed : List ℕ → Trouble
+  MalformedLine : Trouble
+  SetAgain : List ℕ → Trouble
+
+pub data Effect : Type 0 where
+  Silent : Effect
+  Warns : Trouble → Effect
+  Assigns : SymId → Given → Effect
+
+abbrev pub kind_in : Option SymbolFacts → Kind
+kind_in None = kind.Undefined
+kind_in (Some facts) = facts.kind
+
+-- the type of a symbol; a name that is not defined has none
+abbrev pub kind_of : TreeFacts → SymId → Kind
+kind_of tree s = kind_in (slice_get tree.symbols s.0)
+
+abbrev pub symbol_named : TreeFacts → List ℕ → Option SymId
+symbol_named tree name = option_map symbol (position (same_name name) tree.names)
+
+abbrev pub name_of : TreeFacts → SymId → List ℕ
+name_of tree s = slice_index_or tree.names s.0 []
+
+abbrev pub assigned_or : List ℕ → SymId → Option Given → Effect
+assigned_or name s None = Warns (NotAllowed name)
+assigned_or name s (Some given) = Assigns s given
+
+abbrev pub set_by_kind : List ℕ → SymId → List ℕ → Kind → Effect
+set_by_kind name s text kind.Undefined = Warns (UnknownSymbol name)
+set_by_kind name s text kind.Bool = assigned_or name s (line_value kind.Bool text)
+set_by_kind name s text kind.Tristate = assigned_or name s (line_value kind.Tristate text)
+set_by_kind name s text kind.Str = assigned_or name s (line_value kind.Str text)
+set_by_kind name s text kind.Int = assigned_or name s (line_value kind.Int text)
+set_by_kind name s text kind.Hex = assigned_or name s (line_value kind.Hex text)
+
+-- an unset line makes a bool or tristate n; a symbol of another type it leaves alone
+abbrev pub unset_by_kind : List ℕ → SymId → Kind → Effect
+unset_by_kind name s kind.Undefined = Warns (UnknownSymbol name)
+unset_by_kind name s kind.Bool = Assigns s (Chosen N)
+unset_by_kind name s kind.Tristate = Assigns s (Chosen N)
+unset_by_kind name s kind.Str = Silent
+unset_by_kind name s kind.Int = Silent
+unset_by_kind name s kind.Hex = Silent
+
+abbrev pub set_effect : TreeFacts → List ℕ → List ℕ → Option SymId → Effect
+set_effect tree name text None = Warns (UnknownSymbol name)
+set_effect tree name text (Some s) = set_by_kind name s text (kind_of tree s)
+
+abbrev pub unset_effect : TreeFacts → List ℕ → Option SymId → Effect
+unset_effect tree name None = Warns (UnknownSymbol name)
+unset_effect tree name (Some s) = unset_by_kind name s (kind_of tree s)
+
+abbrev pub effect_of : TreeFacts → Said → Effect
+effect_of tree Nothing = Silent
+effect_of tree (Unset name) = unset_effect tree name (symbol_named tree name)
+effect_of tree (Set name text) = set_effect tree name text (symbol_named tree name)
+effect_of tree Malformed = Warns MalformedLine
+
+-- Warnings.
+abbrev pub trouble_text : Trouble → List ℕ
+trouble_text (UnknownSymbol name) = codes "K7: unknown symbol " ++ name
+trouble_text (NotAllowed name) = codes "K8: value not allowed for " ++ name
+trouble_text MalformedLine = codes "K9: malformed line"
+trouble_text (SetAgain name) = codes "K10: " ++ name ++ codes " is set again"
+
+-- the whole line: the stream's name and the line's number stand first
+abbrev pub warning_line : List ℕ → ℕ → Trouble → List ℕ
+warning_line stream number trouble =
+    stream ++ codes ":" ++ decimal number ++ codes ": warning " ++ trouble_text trouble ++ codes "\n"

@@ -1,0 +1,112 @@
+-- What a reader does with the bytes that it is fed, whatever follows them.
+use Rattle.std.specs.Prelude.{◌≡◌, ℕ, ◌+◌, ◌-◌, ◌^◌, ◌<◌, ◌≤◌, ◌++◌, List, [], ◌∷◌, length, min, count_by, All, Option, Some, false, if◌then◌else◌, ◌==◌}
+use Rattle.std.specs.List.{after_last}
+use Rattle.kc_tree.specs.TreeFacts.{TreeFacts}
+use Rattle.kc_user.specs.Places.{Places}
+use Rattle.kc_dot.specs.declared.fault.DotFault.{DotFault}
+use Rattle.kc_dot.specs.declared.fault.DotFault.TheVariants.{ConfigLineTooLong, Sink, Memory}
+use Rattle.kc_dot.specs.Reading.{Line, is_lf, next_number, lines_from, reading, told}
+use Rattle.kc_dot.specs.Sink.{extended, next_failure, BeginsWith}
+
+-- where a reader stands in its stream: the number of the line not yet ended, and its bytes so far
+pub record Spot : Type 0 where
+  pub number : ℕ
+  pub pending : List ℕ
+
+-- the beginning of a stream
+abbrev pub first_spot : Spot
+first_spot = record { number = 1; pending = [] }
+
+-- the pending bytes are those of one line that is not too long
+pub record IsOpen (spot : Spot) : Type 0 where
+  pub numbered : spot.number < 2 ^ 64
+  pub within : length spot.pending ≤ 65535
+  pub one_line : All (λ b. is_lf b ≡ false) spot.pending
+
+-- the line's number after these bytes: one more for each LF
+abbrev pub number_after : ℕ → List ℕ → ℕ
+number_after n bytes = min (n + count_by is_lf bytes) (2 ^ 64 - 1)
+
+-- where the reader stands after a piece: the bytes after its last LF are pending, or all where it has none
+abbrev pub fed : List ℕ → Spot → Spot
+fed piece spot = record { number = number_after spot.number piece; pending = after_last is_lf (spot.pending ++ piece) }
+
+-- where it stands once the last line is ended
+abbrev pub ended : Spot → Spot
+ended spot = record { number = if length spot.pending == 0 then spot.number else next_number spot.number; pending = [] }
+
+-- a count of failures after a fault: the sink's alone counts
+abbrev pub counted_fault : DotFault → ℕ → ℕ
+counted_fault (ConfigLineTooLong n) count = count
+counted_fault Sink count = next_failure count
+counted_fault Memory count = count
+
+-- another byte than an LF comes next
+abbrev pub GoesOn : List ℕ → Type 0
+GoesOn bytes = (b : ℕ) × (rest : List ℕ) × (bytes ≡ b ∷ rest) × (is_lf b ≡ false)
+
+module _ (tree : TreeFacts) (prefix name : List ℕ) where
+  -- the lines that are still to come: those of the pending bytes and the rest, and more of other streams
+  abbrev pub to_come : Spot → List ℕ → List Line → List Line
+  to_come spot rest more = lines_from name spot.number (spot.pending ++ rest) ++ more
+
+  -- Whatever follows: reading the piece and it from the old spot and places is these warnings, and then reading it
+  -- from the new spot and places.
+  abbrev pub Goes : List ℕ → Spot → Spot → Places → Places → List ℕ → Type 0
+  Goes piece old new before after warned =
+      (rest : List ℕ) (more : List Line) →
+      reading tree prefix before (to_come old (piece ++ rest) more) ≡ told warned (reading tree prefix after (to_come new rest more))
+
+  -- the warnings of the piece were handed out
+  abbrev pub Feeds : List ℕ → Spot → Spot → Places → Places → Option (List ℕ) → Option (List ℕ) → Type 0
+  Feeds piece old new before after taken taken_after =
+      (warned : List ℕ) × (taken_after ≡ extended taken warned) × Goes piece old new before after warned
+
+  -- Whatever follows: the line at this spot is too long.
+  abbrev pub Stops : List ℕ → Spot → Places → Type 0
+  Stops left spot places =
+      (rest : List ℕ) (more : List Line) →
+      reading tree prefix places (to_come spot (left ++ rest) more)
+      ≡ record { places = places; warned = []; stopped = Some (record { stream = name; number = spot.number }) }
+
+  -- why a reader stops before what is left, with a beginning of the next line's warning handed out
+  abbrev pub Because : DotFault → List ℕ → Spot → Places → List ℕ → Type 0
+  Because (ConfigLineTooLong n) left spot places front =
+      (front ≡ []) × (n ≡ spot.number) × (length spot.pending ≡ 65535) × GoesOn left × Stops left spot places
+  Because Sink left spot places front =
+      (rest : List ℕ) (more : List Line) → BeginsWith (reading tree prefix places (to_come spot (left ++ rest) more)).warned front
+  Because Memory left spot places front = front ≡ []
+
+  -- nothing of it was taken but a beginning of the next line's warning
+  abbrev pub StopsAt : DotFault → List ℕ → Spot → Places → Option (List ℕ) → Option (List ℕ) → Type 0
+  StopsAt fault left spot places taken taken_after =
+      (front : List ℕ) × (taken_after ≡ extended taken front) × Because fault left spot places front
+
+  -- The lines before the refused one are read, and their warnings handed out; there the reader stands.
+  pub record Refuses (fault : DotFault) (piece : List ℕ) (old new : Spot) (before after : Places) (taken taken_after : Option (List ℕ)) : Type 0 where
+    pub done : List ℕ
+    pub left : List ℕ
+    pub warned : List ℕ
+    pub front : List ℕ
+    pub split : piece ≡ done ++ left
+    pub goes : Goes done old new before after warned
+    pub handed : taken_after ≡ extended taken (warned ++ front)
+    pub because : Because fault left new after front
+
+  -- Whatever lines follow: the last line is ended, with its warning.
+  abbrev pub Ends : Spot → Places → Places → List ℕ → Type 0
+  Ends old before after warned =
+      (more : List Line) →
+      reading tree prefix before (lines_from name old.number old.pending ++ more) ≡ told warned (reading tree prefix after more)
+
+  abbrev pub Finishes : Spot → Places → Places → Option (List ℕ) → Option (List ℕ) → Type 0
+  Finishes old before after taken taken_after =
+      (warned : List ℕ) × (taken_after ≡ extended taken warned) × Ends old before after warned
+
+  -- the last line could not be ended: a beginning of its warning was handed out
+  abbrev pub FailsToEnd : DotFault → Spot → Places → Option (List ℕ) → Option (List ℕ) → Type 0
+  FailsToEnd (ConfigLineTooLong n) spot places taken taken_after = ⊥
+  FailsToEnd Sink spot places taken taken_after =
+      (front : List ℕ) × (taken_after ≡ extended taken front)
+      × ((more : List Line) → BeginsWith (reading tree prefix places (lines_from name spot.number spot.pending ++ more)).warned front)
+  FailsToEnd Memory spot places taken taken_after = taken_after ≡ taken

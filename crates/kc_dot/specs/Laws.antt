@@ -1,0 +1,69 @@
+-- What holds of the texts that are written, and of reading, for every tree and every prefix.
+use Rattle.std.specs.Prelude.{◌≡◌, ℕ, ◌<◌, ◌↔◌, List, Bool, true, false, None, All}
+use Rattle.kc_expr.specs.declared.expression.SymId.{SymId}
+use Rattle.kc_expr.specs.Value.{Known}
+use Rattle.kc_order.specs.Solution.{Solves}
+use Rattle.kc_tree.specs.TreeFacts.{TreeFacts, IsWellFormed}
+use Rattle.kc_user.specs.Given.{Given}
+use Rattle.kc_user.specs.Places.{ArePlaces, Places, allowed, place_at}
+use Rattle.kc_values.specs.Differs.{differs, is_unsettled}
+use Rattle.kc_values.specs.Laws.{IsAccepted}
+use Rattle.kc_values.specs.Solution.{equations, symbol_count}
+use Rattle.kc_dot.specs.ConfigLine.{says}
+use Rattle.kc_dot.specs.Effects.{Assigns, effect_of}
+use Rattle.kc_dot.specs.Plain.{HasPlainNumbers, HasPlainTitles}
+use Rattle.kc_dot.specs.Prefixes.{is_prefix}
+use Rattle.kc_dot.specs.Reading.{is_lf}
+use Rattle.kc_dot.specs.Reread.{HasOtherSolution, IsOneSolution, kept_lines, read_alone, told_by}
+use Rattle.kc_dot.specs.Texts.{config_text, minimal_text}
+use Rattle.kc_dot.specs.TreeTexts.{HasTexts}
+
+-- What a line assigns to a symbol is allowed for it.
+abbrev pub AssignedAreAllowed : Type 0
+AssignedAreAllowed =
+    (tree : TreeFacts) (prefix bytes : List ℕ) (s : SymId) (given : Given) → All (λ b. is_lf b ≡ false) bytes →
+    effect_of tree (says prefix bytes) ≡ Assigns s given → allowed tree s given ≡ true
+
+-- the values of an accepted tree solve its equations under places that hold what is allowed
+pub record IsSolutionOf (tree : TreeFacts) (places : Places) (V : ℕ → Known) : Type 0 where
+  pub formed : IsWellFormed tree
+  pub accepted : IsAccepted tree
+  pub held : ArePlaces tree places
+  pub solves : Solves (symbol_count tree) (equations tree (place_at places)) V
+
+-- Reading the minimal file, from empty places, leaves places of which the values that were written are the one solution.
+abbrev pub MinimalGivesBack : TreeFacts → List ℕ → Places → (ℕ → Known) → Type 0
+MinimalGivesBack tree prefix places V =
+    (name : List ℕ) →
+    let read = read_alone tree prefix name (minimal_text tree prefix (told_by tree (place_at places) V)) in
+    (read.stopped ≡ None) × IsOneSolution tree read.places V
+
+-- With the line of any symbol that differs left out, and any others, they are not.
+abbrev pub MinimalNeedsEach : TreeFacts → List ℕ → Places → (ℕ → Known) → Type 0
+MinimalNeedsEach tree prefix places V =
+    (name : List ℕ) (keep : SymId → Bool) (s : SymId) → s.0 < symbol_count tree → differs tree (place_at places) V s.0 ≡ true → keep s ≡ false →
+    let read = read_alone tree prefix name (kept_lines tree prefix (told_by tree (place_at places) V) keep) in
+    (read.stopped ≡ None) × HasOtherSolution tree read.places V
+
+-- Reading the .config, from empty places, leaves places of which they are the one solution exactly where no visible
+-- tristate symbol outside a choice stands above both its visibility and its reverse dependency.
+abbrev pub ConfigGivesBack : TreeFacts → List ℕ → Places → (ℕ → Known) → Type 0
+ConfigGivesBack tree prefix places V =
+    HasPlainNumbers tree V → HasPlainTitles tree prefix → (name : List ℕ) →
+    let read = read_alone tree prefix name (config_text tree prefix (told_by tree (place_at places) V)) in
+    (read.stopped ≡ None) × (IsOneSolution tree read.places V ↔ ((i : ℕ) → i < symbol_count tree → is_unsettled tree V i ≡ false))
+
+abbrev pub MinimalRestores : Type 0
+MinimalRestores =
+    (tree : TreeFacts) (prefix : List ℕ) (places : Places) (V : ℕ → Known) → is_prefix prefix ≡ true →
+    IsSolutionOf tree places V → MinimalGivesBack tree prefix places V
+
+abbrev pub MinimalHasNothingToSpare : Type 0
+MinimalHasNothingToSpare =
+    (tree : TreeFacts) (prefix : List ℕ) (places : Places) (V : ℕ → Known) → is_prefix prefix ≡ true →
+    IsSolutionOf tree places V → MinimalNeedsEach tree prefix places V
+
+abbrev pub ConfigSettles : Type 0
+ConfigSettles =
+    (tree : TreeFacts) (prefix : List ℕ) (places : Places) (V : ℕ → Known) → is_prefix prefix ≡ true →
+    HasTexts tree → IsSolutionOf tree places V → ConfigGivesBack tree prefix places V

@@ -1,0 +1,168 @@
+-- What reading named streams of .config text gives: the user's places and the warnings.
+use Rattle.std.specs.Prelude.{ℕ, ◌+◌, ◌-◌, ◌^◌, ◌++◌, List, [], ◌∷◌, length, min, Bool, true, false, not, ◌&&◌, ◌==◌, nat_le, find, take_while, Option, Some, None, is_some, slice_get, if◌then◌else◌}
+use Rattle.std.specs.Option.{option_map, option_and_then}
+use Rattle.std.specs.List.{slice_split, filter_map, flat_map, last_or}
+use Rattle.std.specs.Str.Lines.{strip_carriage_return}
+use Rattle.kc_expr.specs.declared.expression.SymId.{SymId}
+use Rattle.kc_expr.specs.declared.expression.Tri.TheVariants.{N, M, Y}
+use Rattle.kc_tree.specs.TreeFacts.{TreeFacts}
+use Rattle.kc_user.specs.Given.{Given, Chosen, Typed, Member, At}
+use Rattle.kc_user.specs.Places.{Places, place_at}
+use Rattle.kc_dot.specs.ConfigLine.{says}
+use Rattle.kc_dot.specs.Effects.{Effect, Silent, Warns, Assigns, Trouble, SetAgain, effect_of, name_of, warning_line}
+
+-- A line of a stream: its bytes before the LF, and whether an LF ended it.
+pub record Line : Type 0 where
+  pub stream : List ℕ
+  pub number : ℕ
+  pub bytes : List ℕ
+  pub ended : Bool
+
+abbrev pub is_lf : ℕ → Bool
+is_lf b = b == 10
+
+-- the number of the line after line n; a number that reaches the greatest u64 stays there
+abbrev pub next_number : ℕ → ℕ
+next_number n = min (n + 1) (2 ^ 64 - 1)
+
+abbrev pub line : List ℕ → ℕ → List ℕ → Bool → Line
+line stream number bytes ended = record { stream = stream; number = number; bytes = bytes; ended = ended }
+
+-- a last part without LF is a line where it is not empty
+abbrev pub last_line : List ℕ → ℕ → List ℕ → List Line
+last_line stream n bytes = if length bytes == 0 then [] else line stream n bytes false ∷ []
+
+abbrev pub lines_of_parts : List ℕ → ℕ → List (List ℕ) → List Line
+lines_of_parts stream n [] = []
+lines_of_parts stream n (last ∷ []) = last_line stream n last
+lines_of_parts stream n (part ∷ next ∷ parts) = line stream n part true ∷ lines_of_parts stream (next_number n) (next ∷ parts)
+
+-- the lines of these bytes of a stream, of which the first has number n
+unfoldable pub lines_from : List ℕ → ℕ → List ℕ → List Line
+lines_from stream n bytes = lines_of_parts stream n (slice_split is_lf bytes)
+
+-- One carriage return directly before the LF belongs to the line's end.
+abbrev pub text_of : Line → List ℕ
+text_of l = if l.ended then strip_carriage_return l.bytes else l.bytes
+
+-- at most 65,535 bytes stand before the LF
+abbrev pub is_within : Line → Bool
+is_within l = nat_le (length l.bytes) 65535
+
+-- a value for a symbol
+pub record Assignment : Type 0 where
+  pub symbol : SymId
+  pub given : Given
+
+abbrev pub assignment_of : Effect → Option Assignment
+assignment_of Silent = None
+assignment_of (Warns trouble) = None
+assignment_of (Assigns s given) = Some (record { symbol = s; given = given })
+
+abbrev pub is_yes : Given → Bool
+is_yes (Chosen N) = false
+is_yes (Chosen M) = false
+is_yes (Chosen Y) = true
+is_yes (Typed text) = false
+is_yes (Member m) = false
+
+abbrev pub is_choice : ℕ → Option ℕ → Bool
+is_choice c None = false
+is_choice c (Some d) = d == c
+
+-- the choice that a symbol is a member of
+abbrev pub choice_of : TreeFacts → SymId → Option ℕ
+choice_of tree s = option_and_then (λ facts. facts.choice) (slice_get tree.symbols s.0)
+
+-- the value that an assignment gives to symbol i
+abbrev pub given_to : ℕ → Assignment → Option Given
+given_to i a = if a.symbol.0 == i then Some a.given else None
+
+-- the member of choice c that an assignment makes y
+abbrev pub chosen_in : TreeFacts → ℕ → Assignment → Option SymId
+chosen_in tree c a = if is_yes a.given && is_choice c (choice_of tree a.symbol) then Some a.symbol else None
+
+-- each element under its index from n on
+abbrev pub each_from : {A B : Type 0} → (ℕ → A → B) → ℕ → List A → List B
+each_from f n [] = []
+each_from f n (x ∷ xs) = f n x ∷ each_from f (n + 1) xs
+
+-- each symbol has the last value that it was given, each choice the member that was last made y; else what was there
+unfoldable pub places_given : TreeFacts → Places → List Assignment → Places
+places_given tree places given = record {
+  symbols = each_from (λ i old. last_or old (filter_map (given_to i) given)) 0 places.symbols;
+  choices = each_from (λ c old. last_or old (filter_map (chosen_in tree c) given)) 0 places.choices;
+}
+
+-- what a reading gives: the places, the warnings' lines, and the stream and number of the line that is too long
+pub record Stop : Type 0 where
+  pub stream : List ℕ
+  pub number : ℕ
+
+pub record Read : Type 0 where
+  pub places : Places
+  pub warned : List ℕ
+  pub stopped : Option Stop
+
+abbrev pub told : List ℕ → Read → Read
+told warned read = record { places = read.places; warned = warned ++ read.warned; stopped = read.stopped }
+
+abbrev pub stop_at : Line → Stop
+stop_at l = record { stream = l.stream; number = l.number }
+
+-- the symbol's place is filled already
+abbrev pub again : TreeFacts → Places → SymId → Option Trouble
+again tree places s = if is_some (place_at places (At s.0)) then Some (SetAgain (name_of tree s)) else None
+
+abbrev pub trouble_of : TreeFacts → Places → Effect → Option Trouble
+trouble_of tree places Silent = None
+trouble_of tree places (Warns trouble) = Some trouble
+trouble_of tree places (Assigns s given) = again tree places s
+
+abbrev pub warning_words : List ℕ → ℕ → Option Trouble → List ℕ
+warning_words stream number None = []
+warning_words stream number (Some trouble) = warning_line stream number trouble
+
+-- For a tree and a prefix.
+module _ (tree : TreeFacts) (prefix : List ℕ) where
+  unfoldable pub effect : Line → Effect
+  effect l = effect_of tree (says prefix (text_of l))
+
+  -- the valid assignments of the lines, in order
+  abbrev pub assignments : List Line → List Assignment
+  assignments lines = filter_map (λ l. assignment_of (effect l)) lines
+
+  abbrev pub places_after : Places → List Line → Places
+  places_after places lines = places_given tree places (assignments lines)
+
+  -- what a line warns of, given the places before it
+  unfoldable pub warning : Places → Line → List ℕ
+  warning places l = warning_words l.stream l.number (trouble_of tree places (effect l))
+
+  -- what the lines warn of, given the places before all of them and the lines before these
+  unfoldable pub warnings : Places → List Line → List Line → List ℕ
+  warnings places before [] = []
+  warnings places before (l ∷ lines) = warning (places_after places before) l ++ warnings places (before ++ l ∷ []) lines
+
+  -- the lines before the first that is too long count
+  abbrev pub counted : List Line → List Line
+  counted lines = take_while is_within lines
+
+  unfoldable pub reading : Places → List Line → Read
+  reading places lines = record {
+    places = places_after places (counted lines);
+    warned = warnings places [] (counted lines);
+    stopped = option_map stop_at (find (λ l. not (is_within l)) lines);
+  }
+
+-- a stream of bytes under a name
+pub record Stream : Type 0 where
+  pub name : List ℕ
+  pub bytes : List ℕ
+
+abbrev pub lines_of : List Stream → List Line
+lines_of streams = flat_map (λ s. lines_from s.name 1 s.bytes) streams
+
+-- what reading the streams gives, from these places: each stream ends its own last line
+abbrev pub reading_of : TreeFacts → List ℕ → Places → List Stream → Read
+reading_of tree prefix places streams = reading tree prefix places (lines_of streams)

@@ -1,0 +1,38 @@
+-- Streams that are handed to a reader in pieces of any size.
+use Rattle.std.specs.Prelude.{◌≡◌, ℕ, List, [], ◌∷◌, ◌++◌, map, None}
+use Rattle.std.specs.List.{concat}
+use Rattle.kc_user.specs.Places.{ArePlaces, Places}
+use Rattle.kc_tree.specs.TreeFacts.{TreeFacts, IsWellFormed}
+use Rattle.kc_dot.specs.Calls.{Call, Feed, Finish, NextStream, Run}
+use Rattle.kc_dot.specs.Feeding.{first_spot}
+use Rattle.kc_dot.specs.ReaderState.{ReaderState}
+use Rattle.kc_dot.specs.Reading.{Read, Stream, reading_of}
+
+-- a stream's name, and its bytes as they are handed in
+pub record Pieces : Type 0 where
+  pub name : List ℕ
+  pub pieces : List (List ℕ)
+
+abbrev pub stream_of : Pieces → Stream
+stream_of s = record { name = s.name; bytes = concat s.pieces }
+
+abbrev pub feeds : List (List ℕ) → List Call
+feeds pieces = map Feed pieces
+
+-- the calls that hand in the streams after the first, and end the last
+abbrev pub calls_after : List Pieces → List Call
+calls_after [] = Finish ∷ []
+calls_after (s ∷ streams) = NextStream s.name ∷ (feeds s.pieces ++ calls_after streams)
+
+-- The calls of a new reader that hand in all streams give what reading them at once gives.
+abbrev pub StreamsAreRead : Type 0
+StreamsAreRead =
+    (first : Pieces) (streams : List Pieces) (old new : ReaderState) (before after : Places) (warned : List ℕ) →
+    old.name ≡ first.name → old.spot ≡ first_spot → Run (feeds first.pieces ++ calls_after streams) old new before after warned →
+    reading_of old.tree old.prefix before (map stream_of (first ∷ streams)) ≡ record { places = after; warned = warned; stopped = None }
+
+-- Places that hold what is allowed still do after any calls.
+abbrev pub ReadingKeepsPlaces : Type 0
+ReadingKeepsPlaces =
+    (calls : List Call) (old new : ReaderState) (before after : Places) (warned : List ℕ) → IsWellFormed old.tree →
+    Run calls old new before after warned → ArePlaces old.tree before → ArePlaces old.tree after

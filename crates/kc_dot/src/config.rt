@@ -1,0 +1,277 @@
+//! The writer of the `.config`.
+ghost use Rattle.std.specs.Prelude.{◌≡◌, ◌++◌, ◌<◌, length, map as map_list, slice_get, Some, true, false, OnOk, OnErr, IfOk, IfErr, if◌then◌else◌};
+ghost use Rattle.std.specs.Option.{option_copied};
+ghost use Rattle.kc_expr.specs.declared.expression.SymId.{SymId};
+ghost use Rattle.kc_tree.specs.TreeFacts.{IsWellFormed, SymbolShown};
+ghost use Rattle.kc_tree.specs.Views.{condition_of, shown_of};
+ghost use Rattle.kc_dot.specs.Laws.{ConfigGivesBack};
+ghost use Rattle.kc_dot.specs.Sink.{extended, next_failure, HandsOut};
+ghost use Rattle.kc_dot.specs.SolutionTold.{told_of};
+ghost use Rattle.kc_dot.specs.Texts.{title_if, end_if, gap, is_title, shown_title, entry_text, ends_after, entries_text, config_heading, config_text};
+ghost use Rattle.kc_dot.specs.Told.{is_shown};
+ghost use Rattle.kc_dot.specs.TreeTexts.{HasTexts};
+ghost use Rattle.kc_dot.specs.Writing.{counted_write, MayAsk};
+ghost use Rattle.kc_solve.specs.Solved.{value_of};
+ghost use Rattle.kc_user.specs.Places.{ArePlaces};
+
+use crate::fault::WriteFault;
+use crate::laws::config_settles;
+use crate::parts::put_parts;
+use crate::prefix::Prefix;
+use crate::sink::{Fault, Sink, put};
+use crate::solution::Solution;
+use crate::symbol_line::put_config_line;
+use kc_expr::expression::{SymId, Tri};
+use kc_solve::solved::Solved;
+use kc_tree::parts::Entry;
+use kc_tree::tree::Tree;
+use std::alloc::Global;
+
+// Whether the value is not n.
+fn is_shown(tri: Tri) -> bool
+    ensures { result ≡ is_shown tri }
+{
+    match tri {
+        Tri::N => false,
+        Tri::M | Tri::Y => true,
+    }
+}
+
+// Hands out an empty line, the title and the lines around it, where it is shown.
+fn put_title_if<S: Sink>(shown: bool, text: &[u8], sink: &mut S) -> Result<(), Fault>
+    ensures whole { OnOk result (S.taken sink.new ≡ extended (S.taken sink.old) (title_if shown text.now)) }
+    ensures quiet { OnOk result (S.failures sink.new ≡ S.failures sink.old) }
+    ensures beginning { OnErr result (HandsOut (title_if shown text.now) (S.taken sink.old) (S.taken sink.new)) }
+    ensures counted { OnErr result (S.failures sink.new ≡ next_failure (S.failures sink.old)) }
+    ensures keeps { S.goes_to sink.old sink.new }
+{
+    if !shown {
+        return Ok(());
+    }
+    put_parts(&[b"\n#\n# ", text, b"\n#\n"], sink)
+}
+
+// Hands out the end line of a menu, where its title is shown.
+fn put_end_if<S: Sink>(title: Option<&[u8]>, sink: &mut S) -> Result<(), Fault>
+    ensures whole { OnOk result (S.taken sink.new ≡ extended (S.taken sink.old) (end_if (option_copied title.entry))) }
+    ensures quiet { OnOk result (S.failures sink.new ≡ S.failures sink.old) }
+    ensures beginning { OnErr result (HandsOut (end_if (option_copied title.entry)) (S.taken sink.old) (S.taken sink.new)) }
+    ensures counted { OnErr result (S.failures sink.new ≡ next_failure (S.failures sink.old)) }
+    ensures keeps { S.goes_to sink.old sink.new }
+{
+    match title {
+        None => Ok(()),
+        Some(text) => put_parts(&[b"# end of ", text, b"\n"], sink),
+    }
+}
+
+// Hands out an empty line after an end line.
+fn put_gap<S: Sink>(after_end: bool, sink: &mut S) -> Result<(), Fault>
+    ensures whole { OnOk result (S.taken sink.new ≡ extended (S.taken sink.old) (gap after_end)) }
+    ensures quiet { OnOk result (S.failures sink.new ≡ S.failures sink.old) }
+    ensures beginning { OnErr result (HandsOut (gap after_end) (S.taken sink.old) (S.taken sink.new)) }
+    ensures counted { OnErr result (S.failures sink.new ≡ next_failure (S.failures sink.old)) }
+    ensures keeps { S.goes_to sink.old sink.new }
+{
+    put(if after_end { b"\n" } else { b"" }, sink)
+}
+
+// The title of the menu at this place among the entries, where it is shown.
+fn shown_title<'a, V: Solution>(tree: &'a Tree, solution: &V, menu: usize) -> Option<&'a [u8]>
+    ensures { option_copied result ≡ shown_title (V.told solution.now) (slice_get tree.now.entries menu) }
+{
+    match tree.entries().get(menu) {
+        Some(Entry::Menu { text, when }) => {
+            if is_shown(solution.truth(when)) {
+                return Some(text);
+            }
+            None
+        }
+        Some(Entry::Symbol(_) | Entry::End { .. } | Entry::Comment { .. }) => None,
+        None => None,
+    }
+}
+
+// Hands out the symbol's line where it is written, after an empty line where an end line stands before it. Answers
+// whether the last line is an end line now.
+fn put_symbol_if<V: Solution, S: Sink>(
+    alloc: Global,
+    tree: &Tree,
+    solution: &V,
+    prefix: &Prefix,
+    id: SymId,
+    after_end: bool,
+    sink: &mut S,
+) -> Result<bool, WriteFault>
+    requires named { id.0 < length tree.now.names }
+    requires known { V.knows solution.now id }
+    ensures whole { OnOk result (S.taken sink.new ≡ extended (S.taken sink.old) (entry_text tree.now prefix.now (V.told solution.now) after_end (SymbolShown id))) }
+    ensures next { IfOk result (λ next. next ≡ ends_after tree.now (V.told solution.now) after_end (SymbolShown id)) }
+    ensures quiet { OnOk result (S.failures sink.new ≡ S.failures sink.old) }
+    ensures beginning { OnErr result (HandsOut (entry_text tree.now prefix.now (V.told solution.now) after_end (SymbolShown id)) (S.taken sink.old) (S.taken sink.new)) }
+    ensures counted { IfErr result (λ fault. S.failures sink.new ≡ counted_write fault (S.failures sink.old)) }
+    ensures keeps { S.goes_to sink.old sink.new }
+{
+    if !solution.written(id) {
+        return Ok(after_end);
+    }
+    put_gap(after_end, sink)?;
+    put_config_line(alloc, prefix, tree.name(id), solution.value(id), sink)?;
+    Ok(false)
+}
+
+// Hands out the title where it is shown. Answers whether the last line is an end line now.
+fn put_title<S: Sink>(
+    shown: bool,
+    text: &[u8],
+    after_end: bool,
+    sink: &mut S,
+) -> Result<bool, WriteFault>
+    ensures whole { OnOk result (S.taken sink.new ≡ extended (S.taken sink.old) (title_if shown text.now)) }
+    ensures next { IfOk result (λ next. next ≡ (if shown then false else after_end)) }
+    ensures quiet { OnOk result (S.failures sink.new ≡ S.failures sink.old) }
+    ensures beginning { OnErr result (HandsOut (title_if shown text.now) (S.taken sink.old) (S.taken sink.new)) }
+    ensures counted { IfErr result (λ fault. S.failures sink.new ≡ counted_write fault (S.failures sink.old)) }
+    ensures keeps { S.goes_to sink.old sink.new }
+{
+    put_title_if(shown, text, sink)?;
+    Ok(!shown && after_end)
+}
+
+// Hands out the end line where there is a title. Answers whether the last line is an end line now.
+fn put_end<S: Sink>(title: Option<&[u8]>, after_end: bool, sink: &mut S) -> Result<bool, WriteFault>
+    ensures whole { OnOk result (S.taken sink.new ≡ extended (S.taken sink.old) (end_if (option_copied title.entry))) }
+    ensures next { IfOk result (λ next. next ≡ (if is_title (option_copied title.entry) then true else after_end)) }
+    ensures quiet { OnOk result (S.failures sink.new ≡ S.failures sink.old) }
+    ensures beginning { OnErr result (HandsOut (end_if (option_copied title.entry)) (S.taken sink.old) (S.taken sink.new)) }
+    ensures counted { IfErr result (λ fault. S.failures sink.new ≡ counted_write fault (S.failures sink.old)) }
+    ensures keeps { S.goes_to sink.old sink.new }
+{
+    put_end_if(title, sink)?;
+    Ok(title.is_some() || after_end)
+}
+
+// Hands out what an entry gives. Answers whether the last line is an end line now.
+fn put_entry<V: Solution, S: Sink>(
+    alloc: Global,
+    tree: &Tree,
+    solution: &V,
+    prefix: &Prefix,
+    entry: &Entry,
+    after_end: bool,
+    sink: &mut S,
+) -> Result<bool, WriteFault>
+    requires { MayAsk tree.now (V.knows solution.now) (shown_of entry.now) }
+    ensures whole { OnOk result (S.taken sink.new ≡ extended (S.taken sink.old) (entry_text tree.now prefix.now (V.told solution.now) after_end (shown_of entry.now))) }
+    ensures next { IfOk result (λ next. next ≡ ends_after tree.now (V.told solution.now) after_end (shown_of entry.now)) }
+    ensures quiet { OnOk result (S.failures sink.new ≡ S.failures sink.old) }
+    ensures beginning { OnErr result (HandsOut (entry_text tree.now prefix.now (V.told solution.now) after_end (shown_of entry.now)) (S.taken sink.old) (S.taken sink.new)) }
+    ensures counted { IfErr result (λ fault. S.failures sink.new ≡ counted_write fault (S.failures sink.old)) }
+    ensures keeps { S.goes_to sink.old sink.new }
+{
+    match entry {
+        Entry::Symbol(id) => put_symbol_if(alloc, tree, solution, prefix, *id, after_end, sink),
+        Entry::Menu { text, when } => {
+            put_title(is_shown(solution.truth(when)), text, after_end, sink)
+        }
+        Entry::Comment { text, when } => {
+            put_title(is_shown(solution.truth(when)), text, after_end, sink)
+        }
+        Entry::End { menu } => put_end(shown_title(tree, solution, *menu), after_end, sink),
+    }
+}
+
+// Hands out what the entries give.
+fn put_entries<V: Solution, S: Sink>(
+    alloc: Global,
+    tree: &Tree,
+    solution: &V,
+    prefix: &Prefix,
+    sink: &mut S,
+) -> Result<(), WriteFault>
+    requires { (id : SymId) → id.0 < length tree.now.symbols → V.knows solution.now id }
+    ensures whole { OnOk result (S.taken sink.new ≡ extended (S.taken sink.old) (entries_text tree.now prefix.now (V.told solution.now) false tree.now.entries)) }
+    ensures quiet { OnOk result (S.failures sink.new ≡ S.failures sink.old) }
+    ensures beginning { OnErr result (HandsOut (entries_text tree.now prefix.now (V.told solution.now) false tree.now.entries) (S.taken sink.old) (S.taken sink.new)) }
+    ensures counted { IfErr result (λ fault. S.failures sink.new ≡ counted_write fault (S.failures sink.old)) }
+    ensures keeps { S.goes_to sink.old sink.new }
+{
+    // The entries name symbols of the tree alone: `symbol_count` says so.
+    let _ = tree.symbol_count();
+    let entries = tree.entries();
+    let mut after_end = false;
+    for entry in entries {
+        after_end = put_entry(alloc, tree, solution, prefix, entry, after_end, sink)?;
+    }
+    Ok(())
+}
+
+// Hands out the heading.
+fn put_heading<S: Sink>(title: &[u8], sink: &mut S) -> Result<(), Fault>
+    ensures whole { OnOk result (S.taken sink.new ≡ extended (S.taken sink.old) (config_heading title.now)) }
+    ensures quiet { OnOk result (S.failures sink.new ≡ S.failures sink.old) }
+    ensures beginning { OnErr result (HandsOut (config_heading title.now) (S.taken sink.old) (S.taken sink.new)) }
+    ensures counted { OnErr result (S.failures sink.new ≡ next_failure (S.failures sink.old)) }
+    ensures keeps { S.goes_to sink.old sink.new }
+{
+    put_parts(
+        &[
+            b"#\n# Automatically generated file; DO NOT EDIT.\n# ",
+            title,
+            b"\n#\n",
+        ],
+        sink,
+    )
+}
+
+// Hands out the full `.config`.
+fn put_config<V: Solution, S: Sink>(
+    alloc: Global,
+    tree: &Tree,
+    solution: &V,
+    prefix: &Prefix,
+    sink: &mut S,
+) -> Result<(), WriteFault>
+    requires { (id : SymId) → id.0 < length tree.now.symbols → V.knows solution.now id }
+    ensures whole { OnOk result (S.taken sink.new ≡ extended (S.taken sink.old) (config_text tree.now prefix.now (V.told solution.now))) }
+    ensures quiet { OnOk result (S.failures sink.new ≡ S.failures sink.old) }
+    ensures beginning { OnErr result (HandsOut (config_text tree.now prefix.now (V.told solution.now)) (S.taken sink.old) (S.taken sink.new)) }
+    ensures counted { IfErr result (λ fault. S.failures sink.new ≡ counted_write fault (S.failures sink.old)) }
+    ensures keeps { S.goes_to sink.old sink.new }
+{
+    put_heading(tree.main_menu(), sink)?;
+    put_entries(alloc, tree, solution, prefix, sink)
+}
+
+/// Hands out the full `.config`: the heading, then in the order of the entries the line of each written symbol at its
+/// first definition, the titles of the menus and comments that are shown, and `# end of` lines of these menus; an
+/// empty line stands where a symbol's line directly follows such an end line. (Our own layout, in the manner of the
+/// kernel's conf and of kconfiglib.) The caller owes the solution of that tree. After an
+/// error the sink took a beginning of it.
+///
+/// With the places that reading it leaves, from empty places, the one solution is the one that was written exactly where
+/// no visible tristate symbol outside a choice stands above both its visibility and its reverse dependency. This asks
+/// that the user's places hold what is allowed, that no int or hex value ends in a blank or a carriage return, and that
+/// no title is written as a line that reads as an unset line.
+pub fn write_config<S: Sink>(
+    alloc: Global,
+    tree: &Tree,
+    solved: &Solved<'_>,
+    prefix: &Prefix,
+    sink: &mut S,
+) -> Result<(), WriteFault>
+    requires { solved.now.tree ≡ tree.now }
+    ensures whole { OnOk result (S.taken sink.new ≡ extended (S.taken sink.old) (config_text tree.now prefix.now (told_of solved.now))) }
+    ensures quiet { OnOk result (S.failures sink.new ≡ S.failures sink.old) }
+    ensures beginning { OnErr result (HandsOut (config_text tree.now prefix.now (told_of solved.now)) (S.taken sink.old) (S.taken sink.new)) }
+    ensures counted { IfErr result (λ fault. S.failures sink.new ≡ counted_write fault (S.failures sink.old)) }
+    ensures keeps { S.goes_to sink.old sink.new }
+    ensures settles { HasTexts tree.now → ArePlaces tree.now solved.now.places → ConfigGivesBack tree.now prefix.now solved.now.places (value_of solved.now) }
+{
+    config_settles();
+    solved.is_solution();
+    solved.is_accepted();
+    let _prefix = prefix.as_bytes();
+    let _count = tree.symbol_count();
+    put_config(alloc, tree, solved, prefix, sink)
+}

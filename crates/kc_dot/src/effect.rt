@@ -1,0 +1,156 @@
+//! What a line does for a tree: nothing, a warning, or an assignment.
+ghost use Rattle.std.specs.Prelude.{◌≡◌, ◌++◌, OnOk, OnErr, IfOk, flat_map, slice_get, Some};
+ghost use Rattle.std.specs.Option.{option_map};
+ghost use Rattle.kc_user.specs.ValueView.{given_of_value};
+ghost use Rattle.kc_dot.specs.ConfigLine.{said};
+ghost use Rattle.kc_dot.specs.Effects as spec;
+ghost use Rattle.kc_dot.specs.EffectView.{trouble_of, effect_view};
+ghost use Rattle.kc_dot.specs.LineSteps.{AssignsDefined};
+ghost use Rattle.kc_dot.specs.Sink.{extended, next_failure, HandsOut};
+
+use crate::line::ConfigLine;
+use crate::parts::put_parts;
+use crate::sink::{Fault, Sink};
+use crate::value::line_value;
+use itoa::Buffer;
+use kc_expr::expression::{Kind, SymId, Tri};
+use kc_tree::tree::Tree;
+use kc_user::value::UserValue;
+use std::alloc::{AllocError, Global};
+
+/// What a warning tells, with the name that it tells it of.
+#[derive(Clone, Copy, Debug, PartialEq, Eq)]
+pub enum Trouble<'a> {
+    /// No symbol of this name is defined and has a type (K7).
+    UnknownSymbol(&'a [u8]),
+    /// The symbol may not have the value (K8).
+    NotAllowed(&'a [u8]),
+    /// The line is none of those that a `.config` has (K9).
+    MalformedLine,
+    /// The symbol was given a value before (K10).
+    SetAgain(&'a [u8]),
+}
+
+/// What a line does.
+#[derive(Debug, Drop)]
+pub enum Effect<'a> {
+    Silent,
+    Warns(Trouble<'a>),
+    Assigns(SymId, UserValue),
+}
+
+/// What the line does: an unset line gives n to a bool or tristate and leaves another symbol alone, a set line gives
+/// the value that its text spells, where it is allowed. Only want of memory is an error.
+pub fn line_effect<'a>(
+    alloc: Global,
+    tree: &Tree,
+    line: ConfigLine<'a>,
+) -> Result<Effect<'a>, AllocError>
+    ensures effect { IfOk result (λ effect. effect_view effect ≡ spec.effect_of tree.now (said line.entry)) }
+    ensures defined { IfOk result (λ effect. AssignsDefined tree.now (effect_view effect)) }
+{
+    match line {
+        ConfigLine::Nothing => Ok(Effect::Silent),
+        ConfigLine::Unset(name) => Ok(unset_effect(tree, name)),
+        ConfigLine::Set(name, text) => set_effect(alloc, tree, name, text),
+        ConfigLine::Malformed => Ok(Effect::Warns(Trouble::MalformedLine)),
+    }
+}
+
+// The type of a symbol; a name that is not defined has none.
+fn kind_of(tree: &Tree, id: SymId) -> Kind
+    ensures { result ≡ spec.kind_of tree.now id }
+{
+    match tree.facts(id) {
+        Some(symbol) => symbol.kind,
+        None => Kind::Undefined,
+    }
+}
+
+fn unset_effect<'a>(tree: &Tree, name: &'a [u8]) -> Effect<'a>
+    ensures { effect_view result ≡ spec.unset_effect tree.now name.now (spec.symbol_named tree.now name.now) }
+{
+    match tree.find(name) {
+        None => Effect::Warns(Trouble::UnknownSymbol(name)),
+        Some(id) => match kind_of(tree, id) {
+            Kind::Undefined => Effect::Warns(Trouble::UnknownSymbol(name)),
+            Kind::Bool | Kind::Tristate => Effect::Assigns(id, UserValue::Tri(Tri::N)),
+            Kind::Str | Kind::Int | Kind::Hex => Effect::Silent,
+        },
+    }
+}
+
+fn set_effect<'a>(
+    alloc: Global,
+    tree: &Tree,
+    name: &'a [u8],
+    text: &[u8],
+) -> Result<Effect<'a>, AllocError>
+    ensures { IfOk result (λ effect. effect_view effect ≡ spec.set_effect tree.now name.now text.now (spec.symbol_named tree.now name.now)) }
+{
+    match tree.find(name) {
+        None => Ok(Effect::Warns(Trouble::UnknownSymbol(name))),
+        Some(id) => set_by_kind(alloc, name, id, text, kind_of(tree, id)),
+    }
+}
+
+fn set_by_kind<'a>(
+    alloc: Global,
+    name: &'a [u8],
+    id: SymId,
+    text: &[u8],
+    kind: Kind,
+) -> Result<Effect<'a>, AllocError>
+    ensures { IfOk result (λ effect. effect_view effect ≡ spec.set_by_kind name.now id text.now kind) }
+{
+    if kind == Kind::Undefined {
+        return Ok(Effect::Warns(Trouble::UnknownSymbol(name)));
+    }
+    match line_value(alloc, kind, text)? {
+        Some(value) => Ok(Effect::Assigns(id, value)),
+        None => Ok(Effect::Warns(Trouble::NotAllowed(name))),
+    }
+}
+
+// What stands before the name that a warning tells, the name, and what stands after it.
+fn words<'a>(trouble: Trouble<'a>) -> (&'a [u8], &'a [u8], &'a [u8])
+    ensures { result.0.now ++ result.1.now ++ result.2.now ≡ spec.trouble_text (trouble_of trouble.entry) }
+{
+    match trouble {
+        Trouble::UnknownSymbol(name) => (b"K7: unknown symbol ", name, b""),
+        Trouble::NotAllowed(name) => (b"K8: value not allowed for ", name, b""),
+        Trouble::MalformedLine => (b"K9: malformed line", b"", b""),
+        Trouble::SetAgain(name) => (b"K10: ", name, b" is set again"),
+    }
+}
+
+/// Hands out the warning's whole line: the stream's name, the number of the line, the code and the text.
+pub fn warn<S: Sink>(
+    stream: &[u8],
+    number: u64,
+    trouble: Trouble<'_>,
+    sink: &mut S,
+) -> Result<(), Fault>
+    ensures whole { OnOk result (S.taken sink.new ≡ extended (S.taken sink.old) (spec.warning_line stream.now number (trouble_of trouble.entry))) }
+    ensures quiet { OnOk result (S.failures sink.new ≡ S.failures sink.old) }
+    ensures beginning { OnErr result (HandsOut (spec.warning_line stream.now number (trouble_of trouble.entry)) (S.taken sink.old) (S.taken sink.new)) }
+    ensures counted { OnErr result (S.failures sink.new ≡ next_failure (S.failures sink.old)) }
+    ensures keeps { S.goes_to sink.old sink.new }
+{
+    let mut buffer = Buffer::new();
+    let digits = buffer.format(number).as_bytes();
+    let (before, name, after) = words(trouble);
+    put_parts(
+        &[
+            stream,
+            b":",
+            digits,
+            b": warning ",
+            before,
+            name,
+            after,
+            b"\n",
+        ],
+        sink,
+    )
+}

@@ -1,0 +1,196 @@
+//! The writers of the header and of the minimal file.
+ghost use Rattle.std.specs.Prelude.{◌≡◌, ◌<◌, length, OnOk, OnErr, IfErr, flat_map};
+ghost use Rattle.kc_expr.specs.declared.expression.SymId.{SymId};
+ghost use Rattle.kc_dot.specs.Laws.{MinimalGivesBack, MinimalNeedsEach};
+ghost use Rattle.kc_dot.specs.Sink.{extended, next_failure, HandsOut};
+ghost use Rattle.kc_dot.specs.Texts.{header_heading, header_text, minimal_text, header_if, minimal_if, symbols_of};
+ghost use Rattle.kc_dot.specs.SolutionTold.{told_of};
+ghost use Rattle.kc_dot.specs.Writing.{counted_write};
+ghost use Rattle.kc_solve.specs.Solved.{value_of};
+ghost use Rattle.kc_user.specs.Places.{ArePlaces};
+
+use crate::fault::WriteFault;
+use crate::laws::minimal_gives_back;
+use crate::parts::put_parts;
+use crate::prefix::Prefix;
+use crate::sink::{Fault, Sink};
+use crate::solution::Solution;
+use crate::symbol_line::{put_config_line, put_header_line};
+use kc_expr::expression::SymId;
+use kc_solve::solved::Solved;
+use kc_tree::tree::Tree;
+use std::alloc::Global;
+
+// Hands out the symbol's header line where it is written.
+fn put_header_if<V: Solution, S: Sink>(
+    alloc: Global,
+    tree: &Tree,
+    solution: &V,
+    prefix: &Prefix,
+    id: SymId,
+    sink: &mut S,
+) -> Result<(), WriteFault>
+    requires named { id.0 < length tree.now.names }
+    requires known { V.knows solution.now id }
+    ensures whole { OnOk result (S.taken sink.new ≡ extended (S.taken sink.old) (header_if tree.now prefix.now (V.told solution.now) id)) }
+    ensures quiet { OnOk result (S.failures sink.new ≡ S.failures sink.old) }
+    ensures beginning { OnErr result (HandsOut (header_if tree.now prefix.now (V.told solution.now) id) (S.taken sink.old) (S.taken sink.new)) }
+    ensures counted { IfErr result (λ fault. S.failures sink.new ≡ counted_write fault (S.failures sink.old)) }
+    ensures keeps { S.goes_to sink.old sink.new }
+{
+    if !solution.written(id) {
+        return Ok(());
+    }
+    put_header_line(alloc, prefix, tree.name(id), solution.value(id), sink)
+}
+
+// Hands out the symbol's line where it differs.
+fn put_minimal_if<V: Solution, S: Sink>(
+    alloc: Global,
+    tree: &Tree,
+    solution: &V,
+    prefix: &Prefix,
+    id: SymId,
+    sink: &mut S,
+) -> Result<(), WriteFault>
+    requires named { id.0 < length tree.now.names }
+    requires known { V.knows solution.now id }
+    ensures whole { OnOk result (S.taken sink.new ≡ extended (S.taken sink.old) (minimal_if tree.now prefix.now (V.told solution.now) id)) }
+    ensures quiet { OnOk result (S.failures sink.new ≡ S.failures sink.old) }
+    ensures beginning { OnErr result (HandsOut (minimal_if tree.now prefix.now (V.told solution.now) id) (S.taken sink.old) (S.taken sink.new)) }
+    ensures counted { IfErr result (λ fault. S.failures sink.new ≡ counted_write fault (S.failures sink.old)) }
+    ensures keeps { S.goes_to sink.old sink.new }
+{
+    if !solution.differs(id) {
+        return Ok(());
+    }
+    put_config_line(alloc, prefix, tree.name(id), solution.value(id), sink)
+}
+
+// Hands out the header lines of the written symbols.
+fn put_header_lines<V: Solution, S: Sink>(
+    alloc: Global,
+    tree: &Tree,
+    solution: &V,
+    prefix: &Prefix,
+    sink: &mut S,
+) -> Result<(), WriteFault>
+    requires { (id : SymId) → id.0 < length tree.now.symbols → V.knows solution.now id }
+    ensures whole { OnOk result (S.taken sink.new ≡ extended (S.taken sink.old) (flat_map (header_if tree.now prefix.now (V.told solution.now)) (symbols_of tree.now))) }
+    ensures quiet { OnOk result (S.failures sink.new ≡ S.failures sink.old) }
+    ensures beginning { OnErr result (HandsOut (flat_map (header_if tree.now prefix.now (V.told solution.now)) (symbols_of tree.now)) (S.taken sink.old) (S.taken sink.new)) }
+    ensures counted { IfErr result (λ fault. S.failures sink.new ≡ counted_write fault (S.failures sink.old)) }
+    ensures keeps { S.goes_to sink.old sink.new }
+{
+    for i in 0..tree.symbol_count() {
+        put_header_if(alloc, tree, solution, prefix, tree.symbol(i), sink)?;
+    }
+    Ok(())
+}
+
+// Hands out the heading.
+fn put_heading<S: Sink>(title: &[u8], sink: &mut S) -> Result<(), Fault>
+    ensures whole { OnOk result (S.taken sink.new ≡ extended (S.taken sink.old) (header_heading title.now)) }
+    ensures quiet { OnOk result (S.failures sink.new ≡ S.failures sink.old) }
+    ensures beginning { OnErr result (HandsOut (header_heading title.now) (S.taken sink.old) (S.taken sink.new)) }
+    ensures counted { OnErr result (S.failures sink.new ≡ next_failure (S.failures sink.old)) }
+    ensures keeps { S.goes_to sink.old sink.new }
+{
+    put_parts(
+        &[
+            b"/*\n * Automatically generated file; DO NOT EDIT.\n * ",
+            title,
+            b"\n */\n",
+        ],
+        sink,
+    )
+}
+
+// Hands out the header.
+fn put_header<V: Solution, S: Sink>(
+    alloc: Global,
+    tree: &Tree,
+    solution: &V,
+    prefix: &Prefix,
+    sink: &mut S,
+) -> Result<(), WriteFault>
+    requires { (id : SymId) → id.0 < length tree.now.symbols → V.knows solution.now id }
+    ensures whole { OnOk result (S.taken sink.new ≡ extended (S.taken sink.old) (header_text tree.now prefix.now (V.told solution.now))) }
+    ensures quiet { OnOk result (S.failures sink.new ≡ S.failures sink.old) }
+    ensures beginning { OnErr result (HandsOut (header_text tree.now prefix.now (V.told solution.now)) (S.taken sink.old) (S.taken sink.new)) }
+    ensures counted { IfErr result (λ fault. S.failures sink.new ≡ counted_write fault (S.failures sink.old)) }
+    ensures keeps { S.goes_to sink.old sink.new }
+{
+    put_heading(tree.main_menu(), sink)?;
+    put_header_lines(alloc, tree, solution, prefix, sink)
+}
+
+// Hands out the minimal file.
+fn put_minimal<V: Solution, S: Sink>(
+    alloc: Global,
+    tree: &Tree,
+    solution: &V,
+    prefix: &Prefix,
+    sink: &mut S,
+) -> Result<(), WriteFault>
+    requires { (id : SymId) → id.0 < length tree.now.symbols → V.knows solution.now id }
+    ensures whole { OnOk result (S.taken sink.new ≡ extended (S.taken sink.old) (minimal_text tree.now prefix.now (V.told solution.now))) }
+    ensures quiet { OnOk result (S.failures sink.new ≡ S.failures sink.old) }
+    ensures beginning { OnErr result (HandsOut (minimal_text tree.now prefix.now (V.told solution.now)) (S.taken sink.old) (S.taken sink.new)) }
+    ensures counted { IfErr result (λ fault. S.failures sink.new ≡ counted_write fault (S.failures sink.old)) }
+    ensures keeps { S.goes_to sink.old sink.new }
+{
+    for i in 0..tree.symbol_count() {
+        put_minimal_if(alloc, tree, solution, prefix, tree.symbol(i), sink)?;
+    }
+    Ok(())
+}
+
+/// Hands out the header: the heading, and a `#define` line for each written symbol, in the order of their first
+/// definition. (The kernel's conf writes such lines; the heading is our own.) The caller owes the solution of that
+/// tree. After an error the sink took a beginning of it.
+pub fn write_header<S: Sink>(
+    alloc: Global,
+    tree: &Tree,
+    solved: &Solved<'_>,
+    prefix: &Prefix,
+    sink: &mut S,
+) -> Result<(), WriteFault>
+    requires { solved.now.tree ≡ tree.now }
+    ensures whole { OnOk result (S.taken sink.new ≡ extended (S.taken sink.old) (header_text tree.now prefix.now (told_of solved.now))) }
+    ensures quiet { OnOk result (S.failures sink.new ≡ S.failures sink.old) }
+    ensures beginning { OnErr result (HandsOut (header_text tree.now prefix.now (told_of solved.now)) (S.taken sink.old) (S.taken sink.new)) }
+    ensures counted { IfErr result (λ fault. S.failures sink.new ≡ counted_write fault (S.failures sink.old)) }
+    ensures keeps { S.goes_to sink.old sink.new }
+{
+    put_header(alloc, tree, solved, prefix, sink)
+}
+
+/// Hands out the minimal file: the lines of the symbols that differ, in the order of their first definition. (Our own
+/// form.) The caller owes the solution of that tree. After an error the sink took a beginning of it.
+///
+/// With the places that reading it leaves, from empty places, the one solution is the one that was written. With any
+/// nonempty set of its lines left out it is not. Both ask that the user's places hold what is allowed.
+pub fn write_minimal<S: Sink>(
+    alloc: Global,
+    tree: &Tree,
+    solved: &Solved<'_>,
+    prefix: &Prefix,
+    sink: &mut S,
+) -> Result<(), WriteFault>
+    requires { solved.now.tree ≡ tree.now }
+    ensures whole { OnOk result (S.taken sink.new ≡ extended (S.taken sink.old) (minimal_text tree.now prefix.now (told_of solved.now))) }
+    ensures quiet { OnOk result (S.failures sink.new ≡ S.failures sink.old) }
+    ensures beginning { OnErr result (HandsOut (minimal_text tree.now prefix.now (told_of solved.now)) (S.taken sink.old) (S.taken sink.new)) }
+    ensures counted { IfErr result (λ fault. S.failures sink.new ≡ counted_write fault (S.failures sink.old)) }
+    ensures keeps { S.goes_to sink.old sink.new }
+    ensures restores { ArePlaces tree.now solved.now.places → MinimalGivesBack tree.now prefix.now solved.now.places (value_of solved.now) }
+    ensures nothing_to_spare { ArePlaces tree.now solved.now.places → MinimalNeedsEach tree.now prefix.now solved.now.places (value_of solved.now) }
+{
+    minimal_gives_back();
+    solved.is_solution();
+    solved.is_accepted();
+    let _prefix = prefix.as_bytes();
+    let _count = tree.symbol_count();
+    put_minimal(alloc, tree, solved, prefix, sink)
+}

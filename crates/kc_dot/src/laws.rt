@@ -1,0 +1,83 @@
+//! What holds of reading, stated as the contracts of functions that do nothing.
+ghost use Rattle.kc_dot.specs.Calls.{CallsJoin};
+ghost use Rattle.kc_dot.specs.Laws.{AssignedAreAllowed, ConfigSettles, MinimalHasNothingToSpare, MinimalRestores};
+ghost use Rattle.kc_dot.specs.RoundTrip.{UnsetLineReadAgain, SetLineReadAgain, StringReadAgain, WrittenLinesAreShort};
+ghost use Rattle.kc_dot.specs.Streams.{ReadingKeepsPlaces, StreamsAreRead};
+
+use kc_user::laws::places_hold_what_is_allowed;
+use kc_values::laws::{
+    accepted_have_one_solution, choices_stand_alone, differing_are_allowed, equations_read_needs,
+    minimal_restores, needs_are_defined, settled_where,
+};
+
+/// Any list of calls of a reader, each answered Ok, is one reading: of the lines of all bytes that were fed, each
+/// stretch between two ends of a stream cut into lines by itself, the warnings are those that the calls handed out,
+/// one after another, and the places those that they left.
+pub fn calls_join()
+    ensures { CallsJoin }
+{}
+
+/// Streams that a new reader is handed in pieces of any size, one after another and the last one ended, are read as they
+/// are at once: each stream ends its own last line.
+pub fn streams_are_read()
+    ensures { StreamsAreRead }
+{}
+
+/// Places that hold only what is allowed, and members of their choices, hold only such after any list of calls of a
+/// reader, each answered Ok.
+pub fn reading_keeps_places()
+    ensures { ReadingKeepsPlaces }
+{
+    places_hold_what_is_allowed();
+}
+
+/// An unset line that is written is read again as that.
+pub fn unset_line_read_again()
+    ensures { UnsetLineReadAgain }
+{}
+
+/// A set line that is written is read again as that.
+pub fn set_line_read_again()
+    ensures { SetLineReadAgain }
+{}
+
+/// A string's text, quoted and escaped, is read as that text.
+pub fn string_read_again()
+    ensures { StringReadAgain }
+{}
+
+/// A written line has at most 65,322 bytes before its LF, so that reading it again never meets a line that is too
+/// long.
+pub fn written_lines_are_short()
+    ensures { WrittenLinesAreShort }
+{}
+
+/// What a line assigns to a symbol is a value that is allowed for it.
+pub fn assigned_are_allowed()
+    ensures { AssignedAreAllowed }
+{}
+
+/// The minimal file gives the values back: with the places that reading it leaves, from empty places, they are the one
+/// solution. With any nonempty set of its lines left out they are not. (Our own.)
+pub fn minimal_gives_back()
+    ensures restores { MinimalRestores }
+    ensures nothing_to_spare { MinimalHasNothingToSpare }
+{
+    minimal_restores();
+    differing_are_allowed();
+    choices_stand_alone();
+}
+
+/// With the places that reading the written `.config` leaves, from empty places, the values are the one solution exactly
+/// where no visible tristate symbol outside a choice stands above both its visibility and its reverse dependency. This
+/// asks that no int or hex value ends in a blank or a carriage return, and that no title is written as a line that reads
+/// as an unset line. (Our own.)
+pub fn config_settles()
+    ensures { ConfigSettles }
+{
+    accepted_have_one_solution();
+    equations_read_needs();
+    needs_are_defined();
+    settled_where();
+    choices_stand_alone();
+}

@@ -1,0 +1,80 @@
+//! What stands before the name of a symbol in the files that are read and written.
+ghost use Rattle.std.specs.Prelude.{◌≡◌, true, IfOk};
+ghost use Rattle.std.specs.List.{list_all};
+ghost use Rattle.kc_dot.specs.Prefixes as spec;
+
+use std::alloc::{AllocError, Global};
+use std::marker::Model;
+
+/// The most bytes of a prefix.
+const LONGEST: usize = 64;
+
+/// What stands before each name, as `CONFIG_`: 0 to 64 of the bytes `A` to `Z`, `a` to `z`, `0` to `9` and `_`, of
+/// which the first is no digit. (Our own rule; the kernel's tools and kconfiglib take any text.)
+#[derive(Debug, Drop)]
+pub struct Prefix {
+    bytes: Vec<u8>,
+}
+
+impl Model for Prefix {
+    ghost use Rattle.std.specs.Prelude.{◌≡◌, true, ℕ, List};
+    ghost use Rattle.kc_dot.specs.Prefixes.{is_prefix};
+
+    ghost Value = { List ℕ };
+
+    ghost view = { λ p. p.bytes.items };
+
+    ghost invariant = { λ p. is_prefix p.bytes.items ≡ true };
+}
+
+impl Prefix {
+    /// The text as a prefix, or None where it is none. Only want of memory is an error.
+    pub fn new(alloc: Global, text: &[u8]) -> Result<Option<Prefix>, AllocError>
+        ensures { IfOk result (λ found. found ≡ spec.prefix_of text.now) }
+    {
+        if !is_prefix(text) {
+            return Ok(None);
+        }
+        let bytes = Vec::from_slice(alloc, text)?;
+        Ok(Some(Prefix { bytes }))
+    }
+
+    /// The bytes of the prefix.
+    pub fn as_bytes(&self) -> &[u8]
+        ensures bytes { result.now ≡ self.now }
+        ensures prefix { spec.is_prefix self.now ≡ true }
+    {
+        &self.bytes
+    }
+}
+
+// Whether the byte may stand in a name.
+fn is_name_byte(byte: u8) -> bool
+    ensures { result ≡ spec.is_name_byte byte }
+{
+    byte.is_ascii_alphanumeric() || byte == b'_'
+}
+
+// Whether the first byte is a digit.
+fn begins_with_digit(text: &[u8]) -> bool
+    ensures { result ≡ spec.begins_with_digit text.now }
+{
+    match text {
+        [first, ..] => first.is_ascii_digit(),
+        [] => false,
+    }
+}
+
+// Whether each byte may stand in a name.
+fn has_name_bytes(text: &[u8]) -> bool
+    ensures { result ≡ list_all spec.is_name_byte text.now }
+{
+    text.iter().all(|b| is_name_byte(*b))
+}
+
+// Whether the text is a prefix.
+fn is_prefix(text: &[u8]) -> bool
+    ensures { result ≡ spec.is_prefix text.now }
+{
+    !begins_with_digit(text) && text.len() <= LONGEST && has_name_bytes(text)
+}
