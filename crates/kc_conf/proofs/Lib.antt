@@ -1,8 +1,7 @@
-pub mod WordLemmas
-pub mod FileLemmas
-pub mod LineLemmas
-pub mod SymbolLemmas
-pub mod SettingLemmas
+pub mod ListLemmas
 pub mod PlacesLemmas
+pub mod OutcomeLemmas
 pub mod Once
+pub mod ReadsLemmas
 pub mod RunLemmas
+pub mod StreamLemmas

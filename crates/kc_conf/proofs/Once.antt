@@ -1,121 +1,118 @@
--- A map has one tree, and a run one outcome.
-use Rattle.std.proofs.Common.{◌≡◌, ℕ, List, [], ◌∷◌, Option, Some, None, Result, Ok, Err, inl, inr, refl, sym, ap, subst, ◌∙◌, arith}
-use Rattle.std.specs.Prelude.{string_bytes}
-use Rattle.kc_text.specs.Lines.{Left, left, TakesLine, IsTooLong, Next, Ended, Taken, TooLong, GoesOn}
-use Rattle.kc_text.proofs.Joins.{one_next_line_law}
-use Rattle.kc_text.proofs.Once.{one_cutting_law}
-use Rattle.kc_conf.specs.Statements.{Said, Cause}
-use Rattle.kc_conf.specs.Tree.{Line, Stop, Symbol, Refused, Says, lexemes, outcome_of_line, TakesStatement, IsRefusedLine, AreLines, IsLinesTree, IsTreeOf, OneTree, tree_of}
-use Rattle.kc_conf.specs.Outcome.{OneOutcome, outcome_of}
+-- A run has one outcome.
+use Rattle.std.proofs.Common.{◌≡◌, ℕ, ◌<◌, List, [], ◌++◌, length, Option, Some, None, Result, Ok, Err, true, false, refl, sym, ap, subst, ◌∙◌, slice_index}
+use Rattle.std.specs.Prelude.{slice_index_or}
+use Rattle.kc_read.specs.Expansion.{Refused}
+use Rattle.kc_read.specs.Files.{Files}
+use Rattle.kc_tree.specs.TreeFacts.{TreeFacts}
+use Rattle.kc_tree.specs.Trees.{IsTreeOf, OneTree}
+use Rattle.kc_user.specs.Places.{Places, place_at}
+use Rattle.kc_expr.specs.Value.{Written}
+use Rattle.kc_expr.specs.declared.expression.Kind.TheVariants.{Undefined}
+use Rattle.kc_order.specs.Laws.{OneNamedLoop}
+use Rattle.kc_order.specs.Loop.{IsNamedLoop}
+use Rattle.kc_order.specs.Needs.{needs_in}
+use Rattle.kc_order.specs.Solution.{Solves}
+use Rattle.kc_values.specs.Laws.{IsAccepted}
+use Rattle.kc_values.specs.Needs.{needs}
+use Rattle.kc_values.specs.Solution.{equations, symbol_count}
+use Rattle.kc_solve.specs.LoopText.{loop_text}
+use Rattle.kc_solve.specs.Refused.{IsLoopText, loop_refused}
+use Rattle.kc_solve.specs.Solved.{Solution, IsSolution, value_of}
+use Rattle.kc_dot.specs.Reading.{Read, Stop}
+use Rattle.kc_words.specs.declared.options.Options.{Options}
+use Rattle.kc_conf.specs.ErrorLines.{refusal_line, too_long_line}
+use Rattle.kc_conf.specs.Outcome.{Outcome, OneAnswer, OneOutcome, noted, lines_text, refused, outcome_of, read_of, root_of, IsRefusedTree, no_tree, looped, IsAcceptedTree, IsSolutionFor, IsOutcome, refused_tree, accepted_tree, IsOutcomeOfReading, long_line, whole}
+use Rattle.std.proofs.lemmas.List.{ext_get_or}
 
--- a text says one thing
-one_saying : (text : List ℕ) (r s : Result Said Cause) → Says text r → Says text s → r ≡ s
-one_saying text r s (ts, out, cut, is) (us, other, cut', is') =
-    let same = one_cutting_law text ts us out other cut cut' in
-    is ∙ ap (λ xs. outcome_of_line (lexemes xs) out) same.0 ∙ ap (outcome_of_line (lexemes us)) same.1 ∙ sym is'
+-- ---- trees
 
--- a file goes on in one way
-same_next : (old : Left) (a b : Next) → GoesOn old a → GoesOn old b → a ≡ b
-same_next old a b p q =
-    let law = one_next_line_law old in
-    sym (law.2 a p) ∙ law.2 b q
+abbrev ok_or : {A E : Type 0} → A → Result A E → A
+ok_or d (Ok x) = x
+ok_or d (Err e) = d
 
-abbrev left_of : Left → Next → Left
-left_of d Ended = d
-left_of d (Taken new text) = new
-left_of d TooLong = d
+abbrev err_or : {A E : Type 0} → E → Result A E → E
+err_or d (Ok x) = d
+err_or d (Err e) = e
 
-abbrev text_of : Next → List ℕ
-text_of Ended = []
-text_of (Taken new text) = text
-text_of TooLong = []
+one_loop_text : OneNamedLoop → (tree : TreeFacts) (a b : List ℕ) → IsLoopText tree a → IsLoopText tree b → a ≡ b
+one_loop_text law tree a b (loop, named, is) (other, named', is') = is ∙ ap (loop_text tree) (law (needs tree) loop other named named') ∙ sym is'
 
-same_left : (old a b : Left) (s t : List ℕ) → TakesLine old a s → TakesLine old b t → a ≡ b
-same_left old a b s t p q = ap (left_of old) (same_next old (Taken a s) (Taken b t) p q)
+-- a loop is named only where some symbol is stuck
+never_both : (tree : TreeFacts) (text : List ℕ) → IsLoopText tree text → IsAccepted tree → ⊥
+never_both tree text (loop, named, is) accepted =
+    let first = named.walk.begins in
+    let none = accepted (slice_index (named.lead ++ loop ++ _) 0) first.below in
+    absurd (let e : true ≡ false = sym first.stuck ∙ none in cc)
 
-same_text : (old a b : Left) (s t : List ℕ) → TakesLine old a s → TakesLine old b t → s ≡ t
-same_text old a b s t p q = ap text_of (same_next old (Taken a s) (Taken b t) p q)
+module _ (law : OneTree) (loops : OneNamedLoop) (files : Files) (root : List ℕ) where
+  same_tree : (tree other : TreeFacts) → IsTreeOf files root (Ok tree) → IsTreeOf files root (Ok other) → tree ≡ other
+  same_tree tree other a b = ap (ok_or tree) (law files root (Ok tree) (Ok other) a b)
 
-not_both_taken : (old new : Left) (text : List ℕ) → TakesLine old new text → IsTooLong old → ⊥
-not_both_taken old new text p q = absurd (let e : Taken new text ≡ TooLong = same_next old (Taken new text) TooLong p q in cc)
+  never : (tree : TreeFacts) (r : Refused) → IsTreeOf files root (Ok tree) → IsTreeOf files root (Err r) → ⊥
+  never tree r a b = absurd (let e : Ok tree ≡ Err r = law files root (Ok tree) (Err r) a b in cc)
 
-not_taken_at_end : (old new : Left) (text : List ℕ) → TakesLine old new text → old.lines ≡ [] → ⊥
-not_taken_at_end old new text p q = absurd (let e : Taken new text ≡ Ended = same_next old (Taken new text) Ended p q in cc)
+  one_refusal_law : (r s : Refused) → IsRefusedTree files root r → IsRefusedTree files root s → r ≡ s
+  one_refusal_law r s (no_tree a) (no_tree b) = ap (err_or r) (law files root (Err r) (Err s) a b)
+  one_refusal_law r s (no_tree a) (looped tree text b named is) = absurd (never tree r b a)
+  one_refusal_law r s (looped tree text a named is) (no_tree b) = absurd (never tree s a b)
+  one_refusal_law r s (looped tree text a named is) (looped other text' b named' is') =
+      let named_too = subst (λ t. IsLoopText t text) (same_tree tree other a b) named in
+      is ∙ ap loop_refused (one_loop_text loops other text text' named_too named') ∙ sym is'
 
-not_long_at_end : (old : Left) → IsTooLong old → old.lines ≡ [] → ⊥
-not_long_at_end old p q = absurd (let e : TooLong ≡ Ended = same_next old TooLong Ended p q in cc)
+  one_accepted_law : (tree other : TreeFacts) → IsAcceptedTree files root tree → IsAcceptedTree files root other → tree ≡ other
+  one_accepted_law tree other a b = same_tree tree other a.built b.built
 
-not_refused_at_end : (old : Left) (stop : Stop) → IsRefusedLine old stop → old.lines ≡ [] → ⊥
-not_refused_at_end old stop (number, inl (long, why)) q = not_long_at_end old long q
-not_refused_at_end old stop (number, inr (new, text, takes, says)) q = not_taken_at_end old new text takes q
+  not_both_law : (r : Refused) (tree : TreeFacts) → IsRefusedTree files root r → IsAcceptedTree files root tree → ⊥
+  not_both_law r tree (no_tree a) b = never tree r b.built a
+  not_both_law r tree (looped other text a named is) b =
+      never_both tree text (subst (λ t. IsLoopText t text) (same_tree other tree a b.built) named) b.accepted
 
--- a line is not both taken and refused
-not_refused_too : (old new : Left) (l : Line) (stop : Stop) → TakesStatement old new l → IsRefusedLine old stop → ⊥
-not_refused_too old new l stop (text, takes, says, number) (number', inl (long, why)) = not_both_taken old new text takes long
-not_refused_too old new l stop (text, takes, says, number) (number', inr (new', text', takes', says')) =
-    let same : text ≡ text' = same_text old new new' text text' takes takes' in
-    let e : Ok l.said ≡ Err stop.cause = one_saying text' (Ok l.said) (Err stop.cause) (subst (λ t. Says t (Ok l.said)) same says) says' in
-    absurd cc
+pub one_answer_law : OneTree → OneNamedLoop → OneAnswer
+one_answer_law law loops = record {
+  one_refusal = one_refusal_law law loops;
+  one_accepted = one_accepted_law law loops;
+  not_both = not_both_law law loops;
+}
 
-same_stop : (s t : Stop) → s.number ≡ t.number → s.cause ≡ t.cause → s ≡ t
-same_stop s t n c = λ i. record { number = n i; cause = c i }
+-- ---- solutions
 
-same_line : (l m : Line) → l.number ≡ m.number → l.said ≡ m.said → l ≡ m
-same_line l m n s = λ i. record { number = n i; said = s i }
+same_record : (s t : Solution) → s.tree ≡ t.tree → s.places ≡ t.places → s.values ≡ t.values → s ≡ t
+same_record s t a b c = λ i. record { tree = a i; places = b i; values = c i }
 
-from_err : Cause → Result Said Cause → Cause
-from_err d (Ok s) = d
-from_err d (Err c) = c
+-- two solutions for the same places are one
+pub one_solution : (tree : TreeFacts) (places : Places) (s t : Solution) → IsSolutionFor tree places s → IsSolutionFor tree places t → s ≡ t
+one_solution tree places s t a b =
+    let trees : t.tree ≡ s.tree = b.tree_is ∙ sym a.tree_is in
+    let user : t.places ≡ s.places = b.places_are ∙ sym a.places_are in
+    let counts : length t.values ≡ length s.values = b.solves.count ∙ ap symbol_count trees ∙ sym a.solves.count in
+    let first : Solves (symbol_count s.tree) (equations s.tree (place_at t.places)) (value_of t) =
+    subst (λ (f : TreeFacts). Solves (symbol_count f) (equations f (place_at t.places)) (value_of t)) trees b.solves.solves in
+    let solves : Solves (symbol_count s.tree) (equations s.tree (place_at s.places)) (value_of t) =
+    subst (λ (p : Places). Solves (symbol_count s.tree) (equations s.tree (place_at p)) (value_of t)) user first in
+    let agree = a.solves.only (value_of t) solves in
+    same_record s t (sym trees) (sym user) (sym (ext_get_or (Written Undefined []) t.values s.values counts (λ i lt. agree i (subst (λ n. i < n) (b.solves.count ∙ ap symbol_count trees) lt))))
 
-from_ok : Said → Result Said Cause → Said
-from_ok d (Ok s) = s
-from_ok d (Err c) = d
+-- ---- outcomes
 
-one_refused_line : (old : Left) (s t : Stop) → IsRefusedLine old s → IsRefusedLine old t → s ≡ t
-one_refused_line old s t (n, inl (long, why)) (m, inl (long', why')) = same_stop s t (n ∙ sym m) (why ∙ sym why')
-one_refused_line old s t (n, inl (long, why)) (m, inr (new, text, takes, says)) = absurd (not_both_taken old new text takes long)
-one_refused_line old s t (n, inr (new, text, takes, says)) (m, inl (long, why)) = absurd (not_both_taken old new text takes long)
-one_refused_line old s t (n, inr (new, text, takes, says)) (m, inr (new', text', takes', says')) =
-    let same : text ≡ text' = same_text old new new' text text' takes takes' in
-    let e : Err s.cause ≡ Err t.cause = one_saying text' (Err s.cause) (Err t.cause) (subst (λ x. Says x (Err s.cause)) same says) says' in
-    same_stop s t (n ∙ sym m) (cc)
+abbrev some_or : {A : Type 0} → A → Option A → A
+some_or d None = d
+some_or d (Some x) = x
 
-one_statement : (old new new' : Left) (l m : Line) → TakesStatement old new l → TakesStatement old new' m → (new ≡ new') × (l ≡ m)
-one_statement old new new' l m (text, takes, says, number) (text', takes', says', number') =
-    let same : text ≡ text' = same_text old new new' text text' takes takes' in
-    let e : Ok l.said ≡ Ok m.said = one_saying text' (Ok l.said) (Ok m.said) (subst (λ x. Says x (Ok l.said)) same says) says' in
-    (same_left old new new' text text' takes takes', same_line l m (number ∙ sym number') (cc))
+one_rest : (options : Options) (tree : TreeFacts) (read : Read) (a b : Outcome) → IsOutcomeOfReading options tree read a → IsOutcomeOfReading options tree read b → a ≡ b
+one_rest options tree read a b (long_line stop long is) (long_line other long' is') =
+    is ∙ ap (λ s. noted read.warned (refused (too_long_line s))) (ap (some_or stop) (sym long ∙ long')) ∙ sym is'
+one_rest options tree read a b (long_line stop long is) (whole s none solves is') = absurd (let e : Some stop ≡ None = sym long ∙ none in cc)
+one_rest options tree read a b (whole s none solves is) (long_line stop long is') = absurd (let e : Some stop ≡ None = sym long ∙ none in cc)
+one_rest options tree read a b (whole s none solves is) (whole t none' solves' is') =
+    is ∙ ap (λ x. noted read.warned (outcome_of options tree x)) (one_solution tree read.places s t solves solves') ∙ sym is'
 
--- what is left of a file has one list of lines
-one_lines : (old : Left) (ls ms : List Line) (s t : Option Stop) → AreLines old ls s → AreLines old ms t → (ls ≡ ms) × (s ≡ t)
-one_lines old [] [] None None p q = (refl, refl)
-one_lines old [] [] None (Some t) p q = absurd (not_refused_at_end old t q p)
-one_lines old [] [] (Some s) None p q = absurd (not_refused_at_end old s p q)
-one_lines old [] [] (Some s) (Some t) p q = (refl, ap Some (one_refused_line old s t p q))
-one_lines old [] (m ∷ ms) None t p (new, (text, takes, says, number), more) = absurd (not_taken_at_end old new text takes p)
-one_lines old [] (m ∷ ms) (Some s) t p (new, takes, more) = absurd (not_refused_too old new m s takes p)
-one_lines old (l ∷ ls) [] s None (new, (text, takes, says, number), more) q = absurd (not_taken_at_end old new text takes q)
-one_lines old (l ∷ ls) [] s (Some t) (new, takes, more) q = absurd (not_refused_too old new l t takes q)
-one_lines old (l ∷ ls) (m ∷ ms) s t (new, takes, more) (new', takes', more') =
-    let same = one_statement old new new' l m takes takes' in
-    let rest = one_lines new' ls ms s t (subst (λ o. AreLines o ls s) same.0 more) more' in
-    (ap (λ x. x ∷ ls) same.1 ∙ ap (λ xs. m ∷ xs) rest.0, rest.1)
-
-one_lines_tree : (file bytes : List ℕ) (r s : Result (List Symbol) Refused) → IsLinesTree file bytes r → IsLinesTree file bytes s → r ≡ s
-one_lines_tree file bytes r s (ls, stop, are, is) (ms, other, are', is') =
-    let same = one_lines (left bytes 1) ls ms stop other are are' in
-    is ∙ ap (λ xs. tree_of file xs stop) same.0 ∙ ap (tree_of file ms) same.1 ∙ sym is'
-
-one_tree_of : (file : List ℕ) (bytes : Option (List ℕ)) (r s : Result (List Symbol) Refused) → IsTreeOf file bytes r → IsTreeOf file bytes s → r ≡ s
-one_tree_of file None r s p q = p ∙ sym q
-one_tree_of file (Some bytes) r s (inl (many, is)) (inl (many', is')) = is ∙ sym is'
-one_tree_of file (Some bytes) r s (inl (many, is)) (inr (few, is')) = absurd (omega (arith, many, few))
-one_tree_of file (Some bytes) r s (inr (few, is)) (inl (many, is')) = absurd (omega (arith, many, few))
-one_tree_of file (Some bytes) r s (inr (few, is)) (inr (few', is')) = one_lines_tree file bytes r s is is'
-
-pub one_tree_law : OneTree
-one_tree_law files root r s p q = one_tree_of root (files root) r s p q
-
-pub one_outcome_law : OneOutcome
-one_outcome_law files options bytes a b (tree, is_tree, is) (other, is_other, is') =
-    is ∙ ap (outcome_of options bytes) (one_tree_law files (string_bytes options.kconfig) tree other is_tree is_other) ∙ sym is'
+pub one_outcome_law : OneAnswer → OneOutcome
+one_outcome_law law files options all a b (refused_tree r first is) (refused_tree s second is') =
+    is ∙ ap (λ x. refused (refusal_line x)) (law.one_refusal files (root_of options) r s first second) ∙ sym is'
+one_outcome_law law files options all a b (refused_tree r first is) (accepted_tree tree second rest) = absurd (law.not_both files (root_of options) r tree first second)
+one_outcome_law law files options all a b (accepted_tree tree first rest) (refused_tree r second is) = absurd (law.not_both files (root_of options) r tree second first)
+one_outcome_law law files options all a b (accepted_tree tree first (rest, part, is)) (accepted_tree other second (more, part', is')) =
+    let same : other ≡ tree = law.one_accepted files (root_of options) other tree second first in
+    let part'' : IsOutcomeOfReading options tree (read_of options tree all) more = subst (λ t. IsOutcomeOfReading options t (read_of options t all) more) same part' in
+    is ∙ ap (noted (lines_text tree.warnings)) (one_rest options tree (read_of options tree all) rest more part part'')
+    ∙ ap (λ (t : TreeFacts). noted (lines_text t.warnings) more) (sym same) ∙ sym is'

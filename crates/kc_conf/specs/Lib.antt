@@ -1,9 +1,6 @@
-pub mod Files
-pub mod Statements
-pub mod Tree
-pub mod Settings
-pub mod ConfigText
 pub mod Places
 pub mod Given
+pub mod ErrorLines
 pub mod Outcome
-pub mod Views
+pub mod Reads
+pub mod Faults

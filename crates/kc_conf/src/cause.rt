@@ -5,10 +5,11 @@ ghost use Rattle.kc_conf.specs.declared.cause.Cause.TheVariants.{Memory};
 use crate::outputs::Which;
 use std::alloc::AllocError;
 
-/// What ends a run before its end: the input failed, that output failed, or no memory was to be had (our own).
+/// What ends a run before its end: that input failed (0 is the `.config`, n the n-th fragment), that output failed, or no
+/// memory was to be had (our own).
 #[derive(Clone, Copy, Debug, PartialEq, Eq)]
 pub enum Cause {
-    Read,
+    Read(usize),
     Write(Which),
     Memory,
 }

@@ -1,15 +1,20 @@
 //! What a run writes to the notes.
-ghost use Rattle.std.specs.Prelude.{◌≡◌, ◌++◌, codes, OnOk, OnErr, flat_map};
-ghost use Rattle.kc_conf.specs.Outcome.{error_at, refusal_line, too_long_line, words_before, words_behind, NotesLine, Reports};
+ghost use Rattle.std.specs.Prelude.{◌≡◌, ◌++◌, codes, OnOk, OnErr, flat_map, map as map_list};
+ghost use Rattle.kc_read.specs.Steps.{refusal_view};
+ghost use Rattle.kc_conf.specs.ErrorLines.{error_at, refusal_line, too_long_line, words_before, words_behind};
+ghost use Rattle.kc_conf.specs.Faults.{NotesLine, Reports};
+ghost use Rattle.kc_conf.specs.Outcome.{lines_text};
 ghost use Rattle.kc_conf.specs.Places.{written, Broke};
-ghost use Rattle.kc_conf.specs.Views.{refused_of};
+ghost use Rattle.kc_conf.specs.Reads.{stop_of};
 
 use crate::cause::Cause;
-use crate::options::{Options, name_of};
+use crate::options::{name_of, stream_name};
 use crate::outputs::{Outputs, Which, put_to};
-use crate::refusal::{Code, Refusal};
+use crate::reading::LongLine;
 use itoa::Buffer;
 use kc_dot::Fault;
+use kc_read::refusal::{Code, Refusal};
+use kc_words::Options;
 
 // Writes the parts to the notes, one after another.
 fn note_parts<O: Outputs>(outputs: &mut O, parts: &[&[u8]]) -> Result<(), Fault>
@@ -22,20 +27,37 @@ fn note_parts<O: Outputs>(outputs: &mut O, parts: &[&[u8]]) -> Result<(), Fault>
     Ok(())
 }
 
+// Writes each line, with its LF, to the notes.
+pub fn note_lines<O: Outputs>(outputs: &mut O, lines: &[Vec<u8>]) -> Result<(), Fault>
+    ensures ok { OnOk result (O.seen outputs.new ≡ written Which.Notes (lines_text (map_list (λ line. line.items) lines.now)) (O.seen outputs.old)) }
+    ensures err { OnErr result (Broke Which.Notes (lines_text (map_list (λ line. line.items) lines.now)) (O.seen outputs.old) (O.seen outputs.new)) }
+{
+    for line in lines {
+        note_parts(outputs, &[line, b"\n"])?;
+    }
+    Ok(())
+}
+
 // What an error line says of a refusal, before the word or the name that it is about.
 fn words_before(code: Code) -> &'static [u8]
     ensures { result.now ≡ words_before code }
 {
     match code {
         Code::NoFile => b"E1: no file ",
+        Code::InclusionLoop => b"E2: file ",
         Code::TooManyLines => b"E3: more than 1000000 lines",
         Code::LineTooLong => b"E4: line longer than 8191 bytes",
         Code::BadToken => b"E5: bad token",
         Code::Macro => b"E6: macro",
         Code::LeftOut => b"E7: ",
         Code::Syntax => b"E8: syntax",
+        Code::Block => b"E9: unbalanced block",
         Code::Misplaced => b"E10: misplaced",
         Code::BadName => b"E11: bad name ",
+        Code::TooDeep => b"E12: too deep",
+        Code::ChoiceMember => b"E13: choice member ",
+        Code::BadDefault => b"E14: bad default of ",
+        Code::Loop => b"E15: dependency loop: ",
         Code::TooManySymbols => b"E16: more than 65535 symbols",
         Code::Memory => b"E20: out of memory",
     }
@@ -46,6 +68,7 @@ fn words_behind(code: Code) -> &'static [u8]
     ensures { result.now ≡ words_behind code }
 {
     match code {
+        Code::InclusionLoop => b" includes itself\n",
         Code::LeftOut => b" is left out\n",
         Code::NoFile
         | Code::TooManyLines
@@ -53,8 +76,13 @@ fn words_behind(code: Code) -> &'static [u8]
         | Code::BadToken
         | Code::Macro
         | Code::Syntax
+        | Code::Block
         | Code::Misplaced
         | Code::BadName
+        | Code::TooDeep
+        | Code::ChoiceMember
+        | Code::BadDefault
+        | Code::Loop
         | Code::TooManySymbols
         | Code::Memory => b"\n",
     }
@@ -95,8 +123,8 @@ fn note_unplaced<'a, O: Outputs>(
 
 // Writes the error line of a refused tree.
 pub fn note_refusal<O: Outputs>(outputs: &mut O, refusal: &Refusal) -> Result<(), Fault>
-    ensures ok { OnOk result (O.seen outputs.new ≡ written Which.Notes (refusal_line (refused_of refusal.now)) (O.seen outputs.old)) }
-    ensures err { OnErr result (Broke Which.Notes (refusal_line (refused_of refusal.now)) (O.seen outputs.old) (O.seen outputs.new)) }
+    ensures ok { OnOk result (O.seen outputs.new ≡ written Which.Notes (refusal_line (refusal_view refusal.now)) (O.seen outputs.old)) }
+    ensures err { OnErr result (Broke Which.Notes (refusal_line (refusal_view refusal.now)) (O.seen outputs.old) (O.seen outputs.new)) }
 {
     let before = words_before(refusal.code);
     let behind = words_behind(refusal.code);
@@ -113,16 +141,15 @@ pub fn note_refusal<O: Outputs>(outputs: &mut O, refusal: &Refusal) -> Result<()
     }
 }
 
-// Writes the error line of a `.config` line that is too long.
-pub fn note_too_long<O: Outputs>(outputs: &mut O, options: &Options, line: u64) -> Result<(), Fault>
-    ensures ok { OnOk result (O.seen outputs.new ≡ written Which.Notes (too_long_line options.now line) (O.seen outputs.old)) }
-    ensures err { OnErr result (Broke Which.Notes (too_long_line options.now line) (O.seen outputs.old) (O.seen outputs.new)) }
+// Writes the error line of a line of a stream that is too long.
+pub fn note_too_long<O: Outputs>(outputs: &mut O, long: &LongLine<'_>) -> Result<(), Fault>
+    ensures ok { OnOk result (O.seen outputs.new ≡ written Which.Notes (too_long_line (stop_of long.now)) (O.seen outputs.old)) }
+    ensures err { OnErr result (Broke Which.Notes (too_long_line (stop_of long.now)) (O.seen outputs.old) (O.seen outputs.new)) }
 {
-    let config = options.config.as_bytes();
     note_at(
         outputs,
-        config,
-        line,
+        long.stream,
+        long.number,
         b"E17: line longer than 65535 bytes",
         b"",
         b"\n",
@@ -144,9 +171,13 @@ pub fn report<O: Outputs>(options: &Options, cause: Cause, outputs: &mut O)
     ensures { Reports options.now cause (O.seen outputs.old) (O.seen outputs.new) }
 {
     match cause {
-        Cause::Read => note_line(
+        Cause::Read(input) => note_line(
             outputs,
-            &[b"error E18: cannot read ", options.config.as_bytes(), b"\n"],
+            &[
+                b"error E18: cannot read ",
+                stream_name(options, input),
+                b"\n",
+            ],
         ),
         Cause::Write(Which::Notes) => {}
         Cause::Write(which) => note_line(

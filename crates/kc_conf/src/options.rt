@@ -1,32 +1,17 @@
-//! What is asked of a run, and how it ends.
-ghost use Rattle.std.specs.Prelude.{◌≡◌};
-ghost use Rattle.kc_conf.specs.Outcome.{name_of};
+//! How a run ends, and the names that its error lines tell.
+ghost use Rattle.std.specs.Prelude.{◌≡◌, ◌<◌, ◌+◌, length, slice_get, Some};
+ghost use Rattle.kc_conf.specs.Faults.{name_of, stream_name};
+ghost use Rattle.kc_conf.specs.Outcome.{names_of};
 
 use crate::outputs::Which;
-
-/// What is asked of a run (our own).
-#[derive(Debug, Drop)]
-pub struct Options {
-    /// The folder of the Kconfig files. `run` does not read it: the map holds the files.
-    pub root: String,
-    /// The name of the `.config` that is read, for error lines.
-    pub config: String,
-    /// The name of the `.config` that is written, for error lines.
-    pub out: String,
-    /// The root file's name in the map.
-    pub kconfig: String,
-    /// The name of the C header, where one is wanted. None is written yet.
-    pub header: Option<String>,
-    /// The name of the minimal file, where one is wanted. None is written yet.
-    pub minimal: Option<String>,
-}
+use kc_words::Options;
 
 /// How a run ends (our own).
 #[derive(Clone, Copy, Debug, PartialEq, Eq)]
 pub enum Status {
     /// The files are written.
     Done,
-    /// The tree or the `.config` is refused, and nothing was begun.
+    /// The tree or a line of a stream is refused, and nothing was begun.
     Refused,
     /// The command line is bad. `run` never answers it.
     Usage,
@@ -49,5 +34,18 @@ pub fn name_of(options: &Options, which: Which) -> &[u8]
             None => b"",
         },
         Which::Notes => b"",
+    }
+}
+
+// The name of a stream: 0 is the `.config`, n the n-th fragment.
+pub fn stream_name(options: &Options, input: usize) -> &[u8]
+    ensures { result.now ≡ stream_name options.now input }
+{
+    match input {
+        0 => options.config.as_bytes(),
+        n => match options.fragments.get(n - 1) {
+            Some(name) => name.as_bytes(),
+            None => b"",
+        },
     }
 }

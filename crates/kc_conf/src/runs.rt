@@ -1,46 +1,58 @@
 //! The run over devices.
-ghost use Rattle.std.specs.Prelude.{◌≡◌, ◌≢◌, List, ℕ, OnOk, IfErr, IfOk, Ok, string_bytes};
-ghost use Rattle.kc_conf.specs.ConfigText.{config_text};
-ghost use Rattle.kc_conf.specs.Files.{bytes_in};
-ghost use Rattle.kc_conf.specs.Given.{AreToCome};
-ghost use Rattle.kc_conf.specs.Outcome.{Outcome, outcome_of, refused, refusal_line, IsOutcome, OneOutcome, IsRefusedTree, Finishes, Broken, BreaksFile, IsOfOutputs, counted_input, Faults};
-ghost use Rattle.kc_conf.specs.Places.{made, Only};
-ghost use Rattle.kc_conf.specs.Tree.{symbols};
-ghost use Rattle.kc_conf.specs.Views.{lines_of, refused_of};
+ghost use Rattle.std.specs.Prelude.{◌≡◌, ◌≢◌, ◌+◌, List, ℕ, length, map, OnOk, IfErr, IfOk};
+ghost use Rattle.kc_read.specs.Expansion.{Refused};
+ghost use Rattle.kc_read.specs.Files.{bytes_in};
+ghost use Rattle.kc_read.specs.Steps.{refusal_view};
+ghost use Rattle.kc_read.specs.declared.refusal.Code.TheVariants.{Memory};
+ghost use Rattle.kc_user.specs.Places.{IsUserOf};
+ghost use Rattle.kc_values.specs.Needs.{needs};
+ghost use Rattle.kc_solve.specs.Solved.{Solution};
+ghost use Rattle.kc_conf.specs.ErrorLines.{refusal_line, too_long_line};
+ghost use Rattle.kc_conf.specs.Faults.{Finishes, Broken, IsOfOutputs, CountsInputs, Faults};
+ghost use Rattle.kc_conf.specs.Given.{AreAllToCome};
+ghost use Rattle.kc_conf.specs.Outcome.{Outcome, outcome_of, refused, root_of, read_of, IsAcceptedTree, IsRefusedTree, IsSolutionFor, IsOutcome, IsOutcomeOfReading, IsOutcomeOfTree, OneAnswer, OneOutcome};
+ghost use Rattle.kc_conf.specs.Places.{Only};
+ghost use Rattle.kc_conf.specs.Reads.{stop_of};
 ghost use Rattle.kc_conf.specs.declared.cause.Cause.{Cause};
 
 use crate::cause::Cause;
-use crate::file_map::FileMap;
 use crate::input::Input;
-use crate::notes::{note_refusal, note_too_long, report};
-use crate::options::{Options, Status};
-use crate::outputs::{Outputs, Which, put_to};
-use crate::reading::read_to_end;
-use crate::refusal::{Code, Refusal};
-use crate::settings::{first_long, settings};
-use crate::tree::{Tree, build};
-use crate::writing::config_text;
+use crate::notes::{note_lines, note_refusal, note_too_long, report};
+use crate::options::Status;
+use crate::outputs::{Outputs, Which};
+use crate::reading::{LongLine, read_streams};
+use crate::writing::make_files;
 use kc_dot::Fault;
+use kc_order::one_named_loop;
+use kc_read::file_map::FileMap;
+use kc_read::refusal::{Code, Refusal};
+use kc_solve::order::Order;
+use kc_solve::solve::solve;
+use kc_tree::laws::one_tree;
+use kc_tree::tree::Tree;
+use kc_user::user::User;
+use kc_words::Options;
 use std::alloc::Global;
 
-// Begins and writes Config.
-fn make_config<O: Outputs>(outputs: &mut O, text: &[u8]) -> Result<(), Cause>
-    ensures ok { OnOk result (O.seen outputs.new ≡ made Which.Config text.now (O.seen outputs.old)) }
-    ensures err { IfErr result (λ cause. BreaksFile Which.Config text.now cause (O.seen outputs.old) (O.seen outputs.new)) }
+// The tree of the root file and an order of its symbols, or why no tree is accepted.
+fn accepted(alloc: Global, files: &FileMap, root: &[u8]) -> Result<(Tree, Order), Refusal>
+    ensures ok { IfOk result (λ both. IsAcceptedTree (bytes_in files.now) root.now both.0) }
+    ensures order { IfOk result (λ both. both.1 ≡ needs both.0) }
+    ensures refused { IfErr result (λ r. r.code ≢ Memory → IsRefusedTree (bytes_in files.now) root.now (refusal_view r)) }
 {
-    if let Err(Fault) = outputs.begin(Which::Config) {
-        return Err(Cause::Write(Which::Config));
-    }
-    match put_to(outputs, Which::Config, text) {
-        Ok(()) => Ok(()),
-        Err(Fault) => Err(Cause::Write(Which::Config)),
+    match Tree::build(alloc, files, root) {
+        Ok(tree) => match Order::of(alloc, &tree) {
+            Ok(order) => Ok((tree, order)),
+            Err(refusal) => Err(refusal),
+        },
+        Err(refusal) => Err(refusal),
     }
 }
 
 // Writes the refusal of a tree.
-fn refuse<O: Outputs>(outputs: &mut O, refusal: &Refusal) -> Result<Status, Cause>
-    ensures ok { IfOk result (λ status. Finishes (refused (refusal_line (refused_of refusal.now))) status (O.seen outputs.old) (O.seen outputs.new)) }
-    ensures err { IfErr result (λ cause. Broken (refused (refusal_line (refused_of refusal.now))) cause (O.seen outputs.old) (O.seen outputs.new)) }
+fn refuse_tree<O: Outputs>(outputs: &mut O, refusal: &Refusal) -> Result<Status, Cause>
+    ensures ok { IfOk result (λ status. Finishes (refused (refusal_line (refusal_view refusal.now))) status (O.seen outputs.old) (O.seen outputs.new)) }
+    ensures err { IfErr result (λ cause. Broken (refused (refusal_line (refusal_view refusal.now))) cause (O.seen outputs.old) (O.seen outputs.new)) }
     ensures cause { IfErr result IsOfOutputs }
     ensures only { Only Which.Notes (O.seen outputs.old) (O.seen outputs.new) }
 {
@@ -50,108 +62,162 @@ fn refuse<O: Outputs>(outputs: &mut O, refusal: &Refusal) -> Result<Status, Caus
     }
 }
 
-// After the `.config` is read.
-fn run_read<O: Outputs>(
+// Writes the refusal of a line that is too long.
+fn refuse_line<O: Outputs>(outputs: &mut O, long: &LongLine<'_>) -> Result<Status, Cause>
+    ensures ok { IfOk result (λ status. Finishes (refused (too_long_line (stop_of long.now))) status (O.seen outputs.old) (O.seen outputs.new)) }
+    ensures err { IfErr result (λ cause. Broken (refused (too_long_line (stop_of long.now))) cause (O.seen outputs.old) (O.seen outputs.new)) }
+    ensures cause { IfErr result IsOfOutputs }
+{
+    match note_too_long(outputs, long) {
+        Ok(()) => Ok(Status::Refused),
+        Err(Fault) => Err(Cause::Write(Which::Notes)),
+    }
+}
+
+// Solves the tree for the user's places, and writes the values' warnings and the files.
+fn run_solved<O: Outputs>(
     alloc: Global,
     options: &Options,
     tree: &Tree,
-    bytes: &[u8],
+    order: &Order,
+    user: &User,
     outputs: &mut O,
 ) -> Result<Status, Cause>
-    ensures ok { IfOk result (λ status. Finishes (outcome_of options.now bytes.now (Ok (symbols (lines_of tree.now.lines.items)))) status (O.seen outputs.old) (O.seen outputs.new)) }
-    ensures err { IfErr result (λ cause. Broken (outcome_of options.now bytes.now (Ok (symbols (lines_of tree.now.lines.items)))) cause (O.seen outputs.old) (O.seen outputs.new)) }
+    requires order { order.now ≡ needs tree.now }
+    requires user { IsUserOf tree.now user.now }
+    ensures ok { IfOk result (λ status. (solution : Solution) × IsSolutionFor tree.now user.now solution
+        × Finishes (outcome_of options.now tree.now solution) status (O.seen outputs.old) (O.seen outputs.new)) }
+    ensures err { IfErr result (λ cause. (solution : Solution) → IsSolutionFor tree.now user.now solution
+        → Broken (outcome_of options.now tree.now solution) cause (O.seen outputs.old) (O.seen outputs.new)) }
     ensures cause { IfErr result IsOfOutputs }
 {
-    if let Some(line) = first_long(bytes) {
-        return match note_too_long(outputs, options, line) {
-            Ok(()) => Ok(Status::Refused),
-            Err(Fault) => Err(Cause::Write(Which::Notes)),
-        };
+    let solved = solve(alloc, tree, order, user)?;
+    solved.is_solution();
+    if let Err(Fault) = note_lines(outputs, solved.value_warnings()) {
+        return Err(Cause::Write(Which::Notes));
     }
-    let texts = settings(alloc, bytes)?;
-    let text = config_text(alloc, &tree.lines, &texts)?;
-    make_config(outputs, &text)?;
+    make_files(alloc, options, tree, &solved, outputs)?;
     Ok(Status::Done)
 }
 
-// After the build.
+// Reads the streams, and writes what follows from them.
+fn run_read<I: Input, O: Outputs>(
+    alloc: Global,
+    options: &Options,
+    tree: &Tree,
+    order: &Order,
+    inputs: &mut [I],
+    outputs: &mut O,
+) -> Result<Status, Cause>
+    requires order { order.now ≡ needs tree.now }
+    requires inputs { length inputs.old ≡ length options.now.fragments.items + 1 }
+    ensures ok { IfOk result (λ status. (all : List (List ℕ)) × AreAllToCome (map I.remaining inputs.old) all
+        × ((outcome : Outcome) × IsOutcomeOfReading options.now tree.now (read_of options.now tree.now all) outcome
+        × Finishes outcome status (O.seen outputs.old) (O.seen outputs.new))) }
+    ensures err { IfErr result (λ cause. (all : List (List ℕ)) × AreAllToCome (map I.remaining inputs.old) all
+        × ((outcome : Outcome) → IsOutcomeOfReading options.now tree.now (read_of options.now tree.now all) outcome
+        → Broken outcome cause (O.seen outputs.old) (O.seen outputs.new))) }
+    ensures quiet_inputs { OnOk result (map I.failures inputs.new ≡ map I.failures inputs.old) }
+    ensures counted_inputs { IfErr result (λ cause. CountsInputs cause (map I.failures inputs.old) (map I.failures inputs.new)) }
+{
+    let mut user = User::new(alloc, tree)?;
+    match read_streams(alloc, options, tree, inputs, &mut user, outputs) {
+        Ok(None) => run_solved(alloc, options, tree, order, &user, outputs),
+        Ok(Some(long)) => refuse_line(outputs, &long),
+        Err(cause) => Err(cause),
+    }
+}
+
+// Writes the tree's warnings, and then what follows from the streams.
 fn run_tree<I: Input, O: Outputs>(
     alloc: Global,
     options: &Options,
     tree: &Tree,
-    input: &mut I,
+    order: &Order,
+    inputs: &mut [I],
     outputs: &mut O,
 ) -> Result<Status, Cause>
-    ensures ok { IfOk result (λ status. (bytes : List ℕ) × AreToCome (I.remaining input.old) bytes
-        × Finishes (outcome_of options.now bytes (Ok (symbols (lines_of tree.now.lines.items)))) status (O.seen outputs.old) (O.seen outputs.new)) }
-    ensures err { IfErr result (λ cause. (bytes : List ℕ) × AreToCome (I.remaining input.old) bytes
-        × Broken (outcome_of options.now bytes (Ok (symbols (lines_of tree.now.lines.items)))) cause (O.seen outputs.old) (O.seen outputs.new)) }
-    ensures quiet_input { OnOk result (I.failures input.new ≡ I.failures input.old) }
-    ensures counted_input { IfErr result (λ cause. I.failures input.new ≡ counted_input cause (I.failures input.old)) }
+    requires order { order.now ≡ needs tree.now }
+    requires inputs { length inputs.old ≡ length options.now.fragments.items + 1 }
+    ensures ok { IfOk result (λ status. (all : List (List ℕ)) × AreAllToCome (map I.remaining inputs.old) all
+        × ((outcome : Outcome) × IsOutcomeOfTree options.now tree.now all outcome
+        × Finishes outcome status (O.seen outputs.old) (O.seen outputs.new))) }
+    ensures err { IfErr result (λ cause. (all : List (List ℕ)) × AreAllToCome (map I.remaining inputs.old) all
+        × ((outcome : Outcome) → IsOutcomeOfTree options.now tree.now all outcome
+        → Broken outcome cause (O.seen outputs.old) (O.seen outputs.new))) }
+    ensures quiet_inputs { OnOk result (map I.failures inputs.new ≡ map I.failures inputs.old) }
+    ensures counted_inputs { IfErr result (λ cause. CountsInputs cause (map I.failures inputs.old) (map I.failures inputs.new)) }
 {
-    let bytes = read_to_end(alloc, input)?;
-    run_read(alloc, options, tree, &bytes, outputs)
+    if let Err(Fault) = note_lines(outputs, tree.parse_warnings()) {
+        return Err(Cause::Write(Which::Notes));
+    }
+    run_read(alloc, options, tree, order, inputs, outputs)
 }
 
-// From the build to the files.
+// From the tree to the files.
 fn run_through<I: Input, O: Outputs>(
     alloc: Global,
     files: &FileMap,
     options: &Options,
-    input: &mut I,
+    inputs: &mut [I],
     outputs: &mut O,
 ) -> Result<Status, Cause>
-    ensures ok { IfOk result (λ status. (bytes : List ℕ) × AreToCome (I.remaining input.old) bytes
-        × ((outcome : Outcome) × IsOutcome (bytes_in files.now) options.now bytes outcome
+    requires { length inputs.old ≡ length options.now.fragments.items + 1 }
+    ensures ok { IfOk result (λ status. (all : List (List ℕ)) × AreAllToCome (map I.remaining inputs.old) all
+        × ((outcome : Outcome) × IsOutcome (bytes_in files.now) options.now all outcome
         × Finishes outcome status (O.seen outputs.old) (O.seen outputs.new))) }
-    ensures err { IfErr result (λ cause. (bytes : List ℕ) × AreToCome (I.remaining input.old) bytes
-        × ((outcome : Outcome) → IsOutcome (bytes_in files.now) options.now bytes outcome
+    ensures err { IfErr result (λ cause. (all : List (List ℕ)) × AreAllToCome (map I.remaining inputs.old) all
+        × ((outcome : Outcome) → IsOutcome (bytes_in files.now) options.now all outcome
         → Broken outcome cause (O.seen outputs.old) (O.seen outputs.new))) }
-    ensures quiet_input { OnOk result (I.failures input.new ≡ I.failures input.old) }
-    ensures counted_input { IfErr result (λ cause. I.failures input.new ≡ counted_input cause (I.failures input.old)) }
-    ensures refused_input { IsRefusedTree (bytes_in files.now) (string_bytes options.now.kconfig) → input.new ≡ input.old }
-    ensures refused_outputs { IsRefusedTree (bytes_in files.now) (string_bytes options.now.kconfig) → Only Which.Notes (O.seen outputs.old) (O.seen outputs.new) }
+    ensures quiet_inputs { OnOk result (map I.failures inputs.new ≡ map I.failures inputs.old) }
+    ensures counted_inputs { IfErr result (λ cause. CountsInputs cause (map I.failures inputs.old) (map I.failures inputs.new)) }
+    ensures refused_inputs { (r : Refused) → IsRefusedTree (bytes_in files.now) (root_of options.now) r → inputs.new ≡ inputs.old }
+    ensures refused_outputs { (r : Refused) → IsRefusedTree (bytes_in files.now) (root_of options.now) r → Only Which.Notes (O.seen outputs.old) (O.seen outputs.new) }
 {
-    match build(alloc, files, options.kconfig.as_bytes()) {
-        Ok(tree) => run_tree(alloc, options, &tree, input, outputs),
+    one_outcome();
+    one_answer();
+    match accepted(alloc, files, options.kconfig.as_bytes()) {
+        Ok((tree, order)) => run_tree(alloc, options, &tree, &order, inputs, outputs),
         Err(refusal) => match refusal.code {
             Code::Memory => Err(Cause::Memory),
-            _ => refuse(outputs, &refusal),
+            _ => refuse_tree(outputs, &refusal),
         },
     }
 }
 
-/// Reads the tree and the `.config`, and writes the files and the notes (our own; the values are those of the kernel's
-/// kconfig-language document).
+/// Reads the tree and the streams, and writes the files and the notes (our own; the values are those of the kernel's
+/// kconfig-language document and of kconfiglib's documentation).
 ///
-/// `Done` and `Refused` are answered only where every output is exactly what the definition of the outcome says and no
-/// device failed. A refused tree (E1 to E16) reads no byte of the input and begins nothing, nor does a `.config` line of
-/// more than 65,535 bytes (E17) begin anything. `Faulted` means that the input failed (E18), an output failed (E19) or no
-/// memory was to be had (E20): everything before is whole, the output that was struck is as it was handed in or holds a
+/// The caller owes one input for the `.config` and one for each fragment, in order. `Done` and `Refused` are answered
+/// only where every output is exactly what the definition of the outcome says and no device failed; the values are then
+/// the one solution of the tree's equations. A refused tree (E1 to E16) reads no byte and begins nothing, nor does a line
+/// of more than 65,535 bytes (E17) begin anything. `Faulted` means that an input failed (E18), an output failed (E19) or
+/// no memory was to be had (E20): everything before is whole, the output that was struck is as it was handed in or holds a
 /// beginning of its text, and one error line follows on the notes unless the notes are what failed. `Usage` is never
 /// answered.
 pub fn run<I: Input, O: Outputs>(
     alloc: Global,
     files: &FileMap,
     options: &Options,
-    input: &mut I,
+    inputs: &mut [I],
     outputs: &mut O,
 ) -> Status
+    requires { length inputs.old ≡ length options.now.fragments.items + 1 }
     // Without a fault the outputs and the status are the outcome's, and no count rose.
-    ensures exactly { result ≢ Status.Faulted → (bytes : List ℕ) × AreToCome (I.remaining input.old) bytes
-        × ((outcome : Outcome) × IsOutcome (bytes_in files.now) options.now bytes outcome
+    ensures exactly { result ≢ Status.Faulted → (all : List (List ℕ)) × AreAllToCome (map I.remaining inputs.old) all
+        × ((outcome : Outcome) × IsOutcome (bytes_in files.now) options.now all outcome
         × Finishes outcome result (O.seen outputs.old) (O.seen outputs.new)) }
-    ensures quiet_input { result ≢ Status.Faulted → I.failures input.new ≡ I.failures input.old }
+    ensures quiet_inputs { result ≢ Status.Faulted → map I.failures inputs.new ≡ map I.failures inputs.old }
     // After a fault there is its cause, whose count rose by one and no other, and all before it is whole.
-    ensures fault { result ≡ Status.Faulted → (cause : Cause) × (bytes : List ℕ) × AreToCome (I.remaining input.old) bytes
-        × (I.failures input.new ≡ counted_input cause (I.failures input.old))
-        × ((outcome : Outcome) → IsOutcome (bytes_in files.now) options.now bytes outcome
+    ensures fault { result ≡ Status.Faulted → (cause : Cause) × (all : List (List ℕ)) × AreAllToCome (map I.remaining inputs.old) all
+        × CountsInputs cause (map I.failures inputs.old) (map I.failures inputs.new)
+        × ((outcome : Outcome) → IsOutcome (bytes_in files.now) options.now all outcome
         → Faults options.now outcome cause (O.seen outputs.old) (O.seen outputs.new)) }
-    // A refused tree leaves the input untouched, and begins nothing.
-    ensures refused_input { IsRefusedTree (bytes_in files.now) (string_bytes options.now.kconfig) → input.new ≡ input.old }
-    ensures refused_outputs { IsRefusedTree (bytes_in files.now) (string_bytes options.now.kconfig) → Only Which.Notes (O.seen outputs.old) (O.seen outputs.new) }
+    // A refused tree leaves the inputs untouched, and begins nothing.
+    ensures refused_inputs { (r : Refused) → IsRefusedTree (bytes_in files.now) (root_of options.now) r → inputs.new ≡ inputs.old }
+    ensures refused_outputs { (r : Refused) → IsRefusedTree (bytes_in files.now) (root_of options.now) r → Only Which.Notes (O.seen outputs.old) (O.seen outputs.new) }
 {
-    match run_through(alloc, files, options, input, outputs) {
+    match run_through(alloc, files, options, inputs, outputs) {
         Ok(status) => status,
         Err(cause) => {
             report(options, cause, outputs);
@@ -160,7 +226,17 @@ pub fn run<I: Input, O: Outputs>(
     }
 }
 
-/// The law of the outcome: for files, options and the bytes of a `.config` there is at most one. It does nothing.
+// No tree is both accepted and refused, and none is refused in two ways.
+fn one_answer()
+    ensures { OneAnswer }
+{
+    one_tree();
+    one_named_loop();
+}
+
+/// The law of the outcome: for files, options and the bytes of the streams there is at most one. It does nothing.
 pub fn one_outcome()
     ensures { OneOutcome }
-{}
+{
+    one_answer();
+}

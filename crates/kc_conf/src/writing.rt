@@ -1,116 +1,118 @@
-//! The text of the `.config` that is written.
-ghost use Rattle.std.specs.Prelude.{◌≡◌, ◌++◌, IfOk, OnOk, unwrap_or, false};
-ghost use Rattle.kc_conf.specs.ConfigText as spec;
-ghost use Rattle.kc_conf.specs.Settings as settings;
-ghost use Rattle.kc_conf.specs.Tree.{symbols};
-ghost use Rattle.kc_conf.specs.Views.{lines_of, symbol_of, texts_of};
+//! The files of a solution.
+ghost use Rattle.std.specs.Prelude.{◌≡◌, Some, OnOk, IfErr};
+ghost use Rattle.kc_dot.specs.Texts.{config_text, header_text, minimal_text};
+ghost use Rattle.kc_solve.specs.Solved.{Solution};
+ghost use Rattle.kc_conf.specs.Faults.{files_made, BreaksFile, BreaksFiles, IsOfOutputs, write_cause};
+ghost use Rattle.kc_conf.specs.Outcome.{outcome_of, text_if, told_of};
+ghost use Rattle.kc_conf.specs.Places.{made_if};
 
-use crate::lines::Line;
-use crate::settings::last_by;
-use crate::statement::Statement;
-use crate::symbols::{Symbol, symbol_with};
-use std::alloc::{AllocError, Global};
+use crate::cause::Cause;
+use crate::outputs::{OutputSink, Outputs, Which};
+use kc_dot::Fault;
+use kc_dot::config::write_config;
+use kc_dot::fault::WriteFault;
+use kc_dot::header::{write_header, write_minimal};
+use kc_solve::solved::Solved;
+use kc_tree::tree::Tree;
+use kc_words::Options;
+use std::alloc::Global;
 
-const HEADING: &[u8] = b"#\n# Automatically generated file; DO NOT EDIT.\n# Main menu\n#\n";
-
-// The line that leaves a symbol unset, without its end.
-fn unset_line(alloc: Global, name: &[u8]) -> Result<Vec<u8>, AllocError>
-    ensures { IfOk result (λ line. line.items ≡ settings.unset_line name.now) }
+// What ends a run where writing that output failed so.
+fn cause_of(fault: WriteFault, which: Which) -> Cause
+    ensures { result ≡ write_cause which fault }
 {
-    let mut line = Vec::from_slice(alloc, b"# CONFIG_")?;
-    line.extend_from_slice(name)?;
-    line.extend_from_slice(b" is not set")?;
-    Ok(line)
-}
-
-// What stands before the value in a line that sets a symbol.
-fn set_front(alloc: Global, name: &[u8]) -> Result<Vec<u8>, AllocError>
-    ensures { IfOk result (λ front. front.items ≡ settings.set_front name.now) }
-{
-    let mut front = Vec::from_slice(alloc, b"CONFIG_")?;
-    front.extend_from_slice(name)?;
-    front.extend_from_slice(b"=")?;
-    Ok(front)
-}
-
-// The value of the first default, else n.
-fn default_value(symbol: &Symbol) -> bool
-    ensures { result ≡ spec.default_value (symbol_of symbol.now) }
-{
-    symbol.default.unwrap_or(false)
-}
-
-// The user's value where the symbol has a prompt, else the default.
-fn value(symbol: &Symbol, user: Option<bool>) -> bool
-    ensures { result ≡ spec.value (symbol_of symbol.now) user }
-{
-    if symbol.is_prompted {
-        user.unwrap_or(default_value(symbol))
-    } else {
-        default_value(symbol)
+    match fault {
+        WriteFault::Sink => Cause::Write(which),
+        WriteFault::Memory => Cause::Memory,
     }
 }
 
-// Whether the symbol has a line.
-fn is_written(symbol: &Symbol) -> bool
-    ensures { result ≡ spec.is_written (symbol_of symbol.now) }
-{
-    symbol.is_typed && (symbol.is_prompted || default_value(symbol))
-}
-
-// Appends two texts.
-fn push_both(text: &mut Vec<u8>, first: &[u8], second: &[u8]) -> Result<(), AllocError>
-    ensures { OnOk result (text.new.items ≡ text.old.items ++ first.now ++ second.now) }
-{
-    text.extend_from_slice(first)?;
-    text.extend_from_slice(second)?;
-    Ok(())
-}
-
-// Appends the line of a symbol that is written.
-fn push_line(
+// Begins and writes Config.
+fn make_config<O: Outputs>(
     alloc: Global,
-    text: &mut Vec<u8>,
-    symbol: &Symbol,
-    texts: &[&[u8]],
-) -> Result<(), AllocError>
-    ensures { OnOk result (text.new.items ≡ text.old.items ++ spec.value_line symbol.now.name.now (spec.value (symbol_of symbol.now) (settings.last_assigned symbol.now.name.now (texts_of texts.now)))) }
+    options: &Options,
+    tree: &Tree,
+    solved: &Solved<'_>,
+    outputs: &mut O,
+) -> Result<(), Cause>
+    requires { solved.now.tree ≡ tree.now }
+    ensures ok { OnOk result (O.seen outputs.new ≡ made_if Which.Config (Some (config_text tree.now options.now.prefix (told_of solved.now))) (O.seen outputs.old)) }
+    ensures err { IfErr result (λ cause. BreaksFile Which.Config (Some (config_text tree.now options.now.prefix (told_of solved.now))) cause (O.seen outputs.old) (O.seen outputs.new)) }
 {
-    let unset = unset_line(alloc, symbol.name)?;
-    let front = set_front(alloc, symbol.name)?;
-    if value(symbol, last_by(&unset, &front, texts)) {
-        push_both(text, &front, b"y\n")
-    } else {
-        push_both(text, &unset, b"\n")
+    if let Err(Fault) = outputs.begin(Which::Config) {
+        return Err(Cause::Write(Which::Config));
+    }
+    let mut sink = OutputSink::new(outputs, Which::Config);
+    match write_config(alloc, tree, solved, &options.prefix, &mut sink) {
+        Ok(()) => Ok(()),
+        Err(fault) => Err(cause_of(fault, Which::Config)),
     }
 }
 
-// Appends the line of a symbol, where it is written.
-fn push_symbol(
+// Begins and writes Header, where it is wanted.
+fn make_header<O: Outputs>(
     alloc: Global,
-    text: &mut Vec<u8>,
-    symbol: &Symbol,
-    texts: &[&[u8]],
-) -> Result<(), AllocError>
-    ensures { OnOk result (text.new.items ≡ text.old.items ++ spec.symbol_text (texts_of texts.now) (symbol_of symbol.now)) }
+    options: &Options,
+    tree: &Tree,
+    solved: &Solved<'_>,
+    outputs: &mut O,
+) -> Result<(), Cause>
+    requires { solved.now.tree ≡ tree.now }
+    ensures ok { OnOk result (O.seen outputs.new ≡ made_if Which.Header (text_if options.now.header (header_text tree.now options.now.prefix (told_of solved.now))) (O.seen outputs.old)) }
+    ensures err { IfErr result (λ cause. BreaksFile Which.Header (text_if options.now.header (header_text tree.now options.now.prefix (told_of solved.now))) cause (O.seen outputs.old) (O.seen outputs.new)) }
 {
-    if is_written(symbol) {
-        push_line(alloc, text, symbol, texts)
-    } else {
-        Ok(())
+    if options.header.is_none() {
+        return Ok(());
+    }
+    if let Err(Fault) = outputs.begin(Which::Header) {
+        return Err(Cause::Write(Which::Header));
+    }
+    let mut sink = OutputSink::new(outputs, Which::Header);
+    match write_header(alloc, tree, solved, &options.prefix, &mut sink) {
+        Ok(()) => Ok(()),
+        Err(fault) => Err(cause_of(fault, Which::Header)),
     }
 }
 
-// The text of the `.config` for a tree's lines, after these lines of the `.config` that came in.
-pub fn config_text(alloc: Global, lines: &[Line], texts: &[&[u8]]) -> Result<Vec<u8>, AllocError>
-    ensures { IfOk result (λ text. text.items ≡ spec.config_text (symbols (lines_of lines.now)) (texts_of texts.now)) }
+// Begins and writes Minimal, where it is wanted.
+fn make_minimal<O: Outputs>(
+    alloc: Global,
+    options: &Options,
+    tree: &Tree,
+    solved: &Solved<'_>,
+    outputs: &mut O,
+) -> Result<(), Cause>
+    requires { solved.now.tree ≡ tree.now }
+    ensures ok { OnOk result (O.seen outputs.new ≡ made_if Which.Minimal (text_if options.now.minimal (minimal_text tree.now options.now.prefix (told_of solved.now))) (O.seen outputs.old)) }
+    ensures err { IfErr result (λ cause. BreaksFile Which.Minimal (text_if options.now.minimal (minimal_text tree.now options.now.prefix (told_of solved.now))) cause (O.seen outputs.old) (O.seen outputs.new)) }
 {
-    let mut text = Vec::from_slice(alloc, HEADING)?;
-    for at in 0..lines.len() {
-        if let Statement::Config(name) = &lines[at].statement {
-            let symbol = symbol_with(name, &lines[at + 1..]);
-            push_symbol(alloc, &mut text, &symbol, texts)?;
-        }
+    if options.minimal.is_none() {
+        return Ok(());
     }
-    Ok(text)
+    if let Err(Fault) = outputs.begin(Which::Minimal) {
+        return Err(Cause::Write(Which::Minimal));
+    }
+    let mut sink = OutputSink::new(outputs, Which::Minimal);
+    match write_minimal(alloc, tree, solved, &options.prefix, &mut sink) {
+        Ok(()) => Ok(()),
+        Err(fault) => Err(cause_of(fault, Which::Minimal)),
+    }
+}
+
+// Writes the files that are wanted, in order.
+pub fn make_files<O: Outputs>(
+    alloc: Global,
+    options: &Options,
+    tree: &Tree,
+    solved: &Solved<'_>,
+    outputs: &mut O,
+) -> Result<(), Cause>
+    requires { solved.now.tree ≡ tree.now }
+    ensures ok { OnOk result (O.seen outputs.new ≡ files_made (outcome_of options.now tree.now solved.now) (O.seen outputs.old)) }
+    ensures err { IfErr result (λ cause. BreaksFiles (outcome_of options.now tree.now solved.now) cause (O.seen outputs.old) (O.seen outputs.new)) }
+    ensures cause { IfErr result IsOfOutputs }
+{
+    make_config(alloc, options, tree, solved, outputs)?;
+    make_header(alloc, options, tree, solved, outputs)?;
+    make_minimal(alloc, options, tree, solved, outputs)
 }

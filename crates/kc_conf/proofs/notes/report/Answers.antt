@@ -1,5 +1,5 @@
--- The line of a failed read names the `.config`.
+-- The line of a failed read names the stream.
 use Rattle.kc_conf.proofs.notes.report.Goals as goal
 
 pub returns-in-Read : goal.returns-in-Read
-returns-in-Read g c = rw c.in-Read.is (rw c.as_bytes.ensures.value at c.note_line.ensures)
+returns-in-Read g c = rw c.in-Read.is (rw c.stream_name.ensures at c.note_line.ensures)

@@ -1,7 +1,15 @@
 -- A fault is reported after the run broke off.
+use Rattle.kc_conf.specs.Places.{Only-only}
+use Rattle.kc_conf.specs.declared.outputs.Which.TheVariants.{Notes}
+use Rattle.kc_conf.proofs.PlacesLemmas.{Reports-only}
 use Rattle.kc_conf.proofs.runs.run.Goals as goal
 
 pub returns-in-Err-clause-fault : goal.returns-in-Err-clause-fault
 returns-in-Err-clause-fault g c = λ _.
-    let (bytes, are, broken) = c.in-Err.ensures.err in
-    (c.in-Err.cause, bytes, are, c.in-Err.ensures.counted_input, λ outcome is. (g.O.Outputs.seen c.run_through.new.outputs, broken outcome is, c.report.ensures))
+    let (all, are, broken) = c.in-Err.ensures.err in
+    (c.in-Err.cause, all, are, c.in-Err.ensures.counted_inputs, λ outcome is. (g.O.Outputs.seen c.run_through.new.outputs, broken outcome is, c.report.ensures))
+
+pub returns-in-Err-clause-refused_outputs : goal.returns-in-Err-clause-refused_outputs
+returns-in-Err-clause-refused_outputs g c = λ r refused.
+    Only-only Notes (g.O.Outputs.seen c.args.outputs.now) (g.O.Outputs.seen c.run_through.new.outputs) (g.O.Outputs.seen c.report.new.outputs)
+    (c.in-Err.ensures.refused_outputs r refused) (Reports-only c.args.options.now c.in-Err.cause _ _ c.report.ensures)

@@ -1,58 +1,71 @@
--- What a run leaves, from the build on.
-use Rattle.std.proofs.Common.{subst, refl, Ok, Err}
+-- What a run leaves, from the tree on.
+use Rattle.std.proofs.Common.{◌≡◌, subst, refl, map}
 use Rattle.std.proofs.lemmas.Result.{IfOk-weaker, IfErr-weaker}
-use Rattle.kc_conf.specs.Files.{bytes_in}
-use Rattle.kc_conf.specs.Outcome.{refused, refusal_line}
-use Rattle.kc_conf.specs.Tree.{IsTree, symbols}
-use Rattle.kc_conf.specs.Views.{lines_of, refused_of}
-use Rattle.kc_conf.specs.declared.cause.Cause.TheVariants.{Memory}
-use Rattle.kc_conf.proofs.RunLemmas.{to_come, AreToCome-self, Broken-nothing, Broken-every, not_refused}
+use Rattle.kc_read.specs.Files.{bytes_in}
+use Rattle.kc_read.specs.Steps.{refusal_view}
+use Rattle.kc_conf.specs.Outcome.{accepted_tree, refused_tree, IsAcceptedTree, IsRefusedTree, root_of, refused}
+use Rattle.kc_conf.specs.ErrorLines.{refusal_line}
+use Rattle.kc_conf.proofs.OutcomeLemmas.{Broken-nothing}
+use Rattle.kc_conf.proofs.ReadsLemmas.{left_of, AreAllToCome-self}
+use Rattle.kc_conf.proofs.RunLemmas.{Broken-outcome_of_tree, Broken-refused_tree, CountsInputs-outputs}
 use Rattle.kc_conf.proofs.runs.run_through.Goals as goal
+
+pub returns-in-Ok-clause-ok : goal.returns-in-Ok-clause-ok
+returns-in-Ok-clause-ok g c =
+    let files = bytes_in c.args.files.now in
+    let accepted = subst (λ root. IsAcceptedTree files root c.in-Ok.tree) c.as_bytes.ensures.value c.in-Ok.ensures.ok in
+    IfOk-weaker c.run_tree.result _ _ (λ status. λ (all, are, (outcome, is, finishes)). (all, are, (outcome, accepted_tree c.in-Ok.tree accepted is, finishes))) c.run_tree.ensures.ok
 
 pub returns-in-Ok-clause-err : goal.returns-in-Ok-clause-err
 returns-in-Ok-clause-err g c =
     let files = bytes_in c.args.files.now in
-    let tree = Ok (symbols (lines_of c.in-Ok.tree.lines.items)) in
-    let is_tree = subst (λ root. IsTree files root tree) c.as_bytes.ensures.value c.in-Ok.ensures.tree in
-    IfErr-weaker c.run_tree.result _ _ (λ cause. λ (bytes, are, broken). (
-      bytes,
+    let accepted = subst (λ root. IsAcceptedTree files root c.in-Ok.tree) c.as_bytes.ensures.value c.in-Ok.ensures.ok in
+    IfErr-weaker c.run_tree.result _ _ (λ cause. λ (all, are, broken). (
+      all,
       are,
-      Broken-every files c.args.options.now bytes tree cause (g.O.Outputs.seen c.args.outputs.now) (g.O.Outputs.seen c.run_tree.new.outputs) is_tree broken,
+      Broken-outcome_of_tree c.one_answer.ensures files c.args.options.now c.in-Ok.tree all cause (g.O.Outputs.seen c.args.outputs.now) (g.O.Outputs.seen c.run_tree.new.outputs) accepted broken,
     )) c.run_tree.ensures.err
 
-pub returns-in-Ok-clause-refused_input : goal.returns-in-Ok-clause-refused_input
-returns-in-Ok-clause-refused_input g c = λ refused.
+pub returns-in-Ok-clause-refused_inputs : goal.returns-in-Ok-clause-refused_inputs
+returns-in-Ok-clause-refused_inputs g c = λ r refused.
     let files = bytes_in c.args.files.now in
-    let all = symbols (lines_of c.in-Ok.tree.lines.items) in
-    absurd (not_refused files _ all (subst (λ root. IsTree files root (Ok all)) c.as_bytes.ensures.value c.in-Ok.ensures.tree) refused)
+    let accepted = subst (λ root. IsAcceptedTree files root c.in-Ok.tree) c.as_bytes.ensures.value c.in-Ok.ensures.ok in
+    absurd (c.one_answer.ensures.not_both files (root_of c.args.options.now) r c.in-Ok.tree refused accepted)
 
 pub returns-in-Ok-clause-refused_outputs : goal.returns-in-Ok-clause-refused_outputs
-returns-in-Ok-clause-refused_outputs g c = λ refused.
+returns-in-Ok-clause-refused_outputs g c = λ r refused.
     let files = bytes_in c.args.files.now in
-    let all = symbols (lines_of c.in-Ok.tree.lines.items) in
-    absurd (not_refused files _ all (subst (λ root. IsTree files root (Ok all)) c.as_bytes.ensures.value c.in-Ok.ensures.tree) refused)
+    let accepted = subst (λ root. IsAcceptedTree files root c.in-Ok.tree) c.as_bytes.ensures.value c.in-Ok.ensures.ok in
+    absurd (c.one_answer.ensures.not_both files (root_of c.args.options.now) r c.in-Ok.tree refused accepted)
 
 pub returns-in-Memory-clause-err : goal.returns-in-Memory-clause-err
 returns-in-Memory-clause-err g c =
-    let given = g.I.Input.remaining c.args.input.now in
-    (to_come given, AreToCome-self given, λ outcome is. Broken-nothing outcome Memory (g.O.Outputs.seen c.args.outputs.now) tt)
+    let given = map g.I.Input.remaining c.args.inputs.now in
+    (map left_of given, AreAllToCome-self given, λ outcome is. Broken-nothing outcome (g.O.Outputs.seen c.args.outputs.now))
 
 pub returns-clause-ok : goal.returns-clause-ok
 returns-clause-ok g c =
-    let given = g.I.Input.remaining c.args.input.now in
+    let given = map g.I.Input.remaining c.args.inputs.now in
     let files = bytes_in c.args.files.now in
-    let tree = Err (refused_of c.in-Err.refusal) in
-    let is_tree = subst (λ root. IsTree files root tree) c.as_bytes.ensures.value (c.in-Err.ensures.refused c.in_default.not-Memory) in
-    IfOk-weaker c.refuse.result _ _ (λ status finishes. (to_come given, AreToCome-self given, (refused (refusal_line (refused_of c.in-Err.refusal)), (tree, is_tree, refl), finishes))) c.refuse.ensures.ok
+    let line = refusal_line (refusal_view c.in-Err.refusal) in
+    let is_refused = subst (λ root. IsRefusedTree files root (refusal_view c.in-Err.refusal)) c.as_bytes.ensures.value (c.in-Err.ensures.refused c.in_default.not-Memory) in
+    IfOk-weaker c.refuse_tree.result _ _ (λ status finishes. (
+      map left_of given,
+      AreAllToCome-self given,
+      (refused line, refused_tree (refusal_view c.in-Err.refusal) is_refused refl, finishes),
+    )) c.refuse_tree.ensures.ok
 
 pub returns-clause-err : goal.returns-clause-err
 returns-clause-err g c =
-    let given = g.I.Input.remaining c.args.input.now in
+    let given = map g.I.Input.remaining c.args.inputs.now in
     let files = bytes_in c.args.files.now in
-    let tree = Err (refused_of c.in-Err.refusal) in
-    let is_tree = subst (λ root. IsTree files root tree) c.as_bytes.ensures.value (c.in-Err.ensures.refused c.in_default.not-Memory) in
-    IfErr-weaker c.refuse.result _ _ (λ cause broken. (
-      to_come given,
-      AreToCome-self given,
-      Broken-every files c.args.options.now (to_come given) tree cause (g.O.Outputs.seen c.args.outputs.now) (g.O.Outputs.seen c.refuse.new.outputs) is_tree broken,
-    )) c.refuse.ensures.err
+    let is_refused = subst (λ root. IsRefusedTree files root (refusal_view c.in-Err.refusal)) c.as_bytes.ensures.value (c.in-Err.ensures.refused c.in_default.not-Memory) in
+    IfErr-weaker c.refuse_tree.result _ _ (λ cause broken. (
+      map left_of given,
+      AreAllToCome-self given,
+      Broken-refused_tree c.one_answer.ensures files c.args.options.now (refusal_view c.in-Err.refusal) (map left_of given) cause (g.O.Outputs.seen c.args.outputs.now) (g.O.Outputs.seen c.refuse_tree.new.outputs) is_refused broken,
+    )) c.refuse_tree.ensures.err
+
+pub returns-clause-counted_inputs : goal.returns-clause-counted_inputs
+returns-clause-counted_inputs g c =
+    IfErr-weaker c.refuse_tree.result _ _ (λ cause is. CountsInputs-outputs cause (map g.I.Input.failures c.args.inputs.now) is) c.refuse_tree.ensures.cause

@@ -1,18 +1,30 @@
--- Where a run breaks off after the build.
-use Rattle.std.proofs.Common.{sym, subst}
-use Rattle.std.proofs.lemmas.Result.{err_from_is_err_and, IfErr-weaker}
-use Rattle.kc_conf.specs.Given.{AreToCome}
-use Rattle.kc_conf.proofs.RunLemmas.{to_come, AreToCome-self, Broken-nothing}
+-- The tree's warnings, and what follows from the streams.
+use Rattle.std.proofs.Common.{◌∙◌, map}
+use Rattle.std.proofs.lemmas.Result.{IfOk-weaker, IfErr-weaker}
+use Rattle.kc_conf.proofs.ReadsLemmas.{left_of, AreAllToCome-self}
+use Rattle.kc_conf.proofs.RunLemmas.{Finishes-tree, Broken-tree, Broken-warnings}
 use Rattle.kc_conf.proofs.runs.run_tree.Goals as goal
 
-pub returns-in_err-bytes-clause-err : goal.returns-in_err-bytes-clause-err
-returns-in_err-bytes-clause-err g c =
-    let p = err_from_is_err_and c.from_residual.result c.from_residual.ensures.1 in
-    let given = g.I.Input.remaining c.args.input.now in
-    rw (p.1, p.2) (to_come given, AreToCome-self given, Broken-nothing _ c.in_err-bytes.field-0.0 (g.O.Outputs.seen c.args.outputs.now) c.in_err-bytes.ensures.cause)
+pub returns-in-Err-clause-err : goal.returns-in-Err-clause-err
+returns-in-Err-clause-err g c =
+    let given = map g.I.Input.remaining c.args.inputs.now in (
+      map left_of given,
+      AreAllToCome-self given,
+      Broken-warnings c.args.options.now c.args.tree.now (map left_of given) _ (g.O.Outputs.seen c.args.outputs.now) (g.O.Outputs.seen c.note_lines.new.outputs) c.parse_warnings.ensures c.in-Err.ensures.err,
+    )
+
+pub returns-clause-ok : goal.returns-clause-ok
+returns-clause-ok g c =
+    IfOk-weaker c.run_read.result _ _ (λ status. λ (all, are, finishes). (
+      all,
+      are,
+      Finishes-tree c.args.options.now c.args.tree.now all _ status (g.O.Outputs.seen c.args.outputs.now) (g.O.Outputs.seen c.note_lines.new.outputs) (g.O.Outputs.seen c.run_read.new.outputs) c.parse_warnings.ensures c.in_default.ensures.ok finishes,
+    )) c.run_read.ensures.ok
 
 pub returns-clause-err : goal.returns-clause-err
 returns-clause-err g c =
-    let given = g.I.Input.remaining c.args.input.now in
-    let are = subst (AreToCome given) (sym c.deref.ensures.value) c.in_ok-bytes.ensures.bytes in
-    IfErr-weaker c.run_read.result _ _ (λ cause broken. (c.deref.result.now, are, broken)) c.run_read.ensures.err
+    IfErr-weaker c.run_read.result _ _ (λ cause. λ (all, are, broken). (
+      all,
+      are,
+      Broken-tree c.args.options.now c.args.tree.now all _ cause (g.O.Outputs.seen c.args.outputs.now) (g.O.Outputs.seen c.note_lines.new.outputs) (g.O.Outputs.seen c.run_read.new.outputs) c.parse_warnings.ensures c.in_default.ensures.ok broken,
+    )) c.run_read.ensures.err
