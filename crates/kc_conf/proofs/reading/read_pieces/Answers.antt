@@ -1,0 +1,76 @@
+-- Piece by piece.
+use Rattle.std.proofs.Common.{◌≡◌, refl, ap, ◌∙◌}
+use Rattle.kc_dot.specs.ReaderState.{ReaderState}
+use Rattle.kc_dot.specs.declared.fault.DotFault.TheVariants.{ConfigLineTooLong, Sink, Memory}
+use Rattle.kc_conf.specs.Places.{Only-same, Only-only}
+use Rattle.kc_conf.specs.declared.outputs.Which.TheVariants.{Notes}
+use Rattle.kc_conf.proofs.ReadsLemmas.{TakenSoFar-nothing, TakenSoFar-piece, TakesPieces-long, BreaksPieces-piece, BreaksPieces-so_far, begins_at_sink, begins_at_memory}
+use Rattle.kc_conf.proofs.reading.read_pieces.Goals as goal
+
+pub pieces-init : goal.pieces-init
+pieces-init g c =
+    let reader = c.args.reader.now in
+    let seen = g.O.Outputs.seen c.args.outputs.now in
+    record {
+      taken = TakenSoFar-nothing reader.tree reader.prefix reader.name (g.I.Input.remaining c.args.input.now) reader.spot c.args.user.now seen.notes.text;
+      stands = refl;
+      quiet = refl;
+      quiet_input = refl;
+      only = Only-same Notes seen;
+      user = c.requires.user;
+    }
+
+pub returns-in-Err-clause-err : goal.returns-in-Err-clause-err
+returns-in-Err-clause-err g c =
+    let reader = c.args.reader.now in
+    BreaksPieces-so_far reader.tree reader.prefix reader.name _ _ reader.spot c.pieces.reader.spot c.args.user.now c.pieces.user _ _ c.pieces.invariant.taken
+
+pub pieces-preserved : goal.pieces-preserved
+pieces-preserved g c =
+    let reader = c.args.reader.now in
+    let invariant = c.pieces.invariant in
+    let ensures = c.in-Ok-feed_piece.ensures in
+    let tree = ap (λ (r : ReaderState). r.tree) invariant.stands in
+    let prefix = ap (λ (r : ReaderState). r.prefix) invariant.stands in
+    let name = ap (λ (r : ReaderState). r.name) invariant.stands in
+    record {
+      taken = TakenSoFar-piece reader.tree reader.prefix reader.name _ _ _ _ reader.spot c.pieces.reader.spot c.feed_piece.new.reader.spot c.args.user.now c.pieces.user c.feed_piece.new.user _ _ _
+          invariant.taken c.in-Ok.ensures.given (rw (tree, prefix, name) at ensures.ok);
+      stands = ensures.stands ∙ ap (λ (r : ReaderState). let s : ReaderState = record r { spot = c.feed_piece.new.reader.spot } in s) invariant.stands;
+      quiet = ensures.quiet ∙ invariant.quiet;
+      quiet_input = c.in-Ok.ensures.quiet ∙ invariant.quiet_input;
+      only = Only-only Notes (g.O.Outputs.seen c.args.outputs.now) (g.O.Outputs.seen c.pieces.outputs) (g.O.Outputs.seen c.feed_piece.new.outputs) invariant.only ensures.only;
+      user = rw tree at ensures.user;
+    }
+
+pub returns-in-Err-ConfigLineTooLong-clause-ok : goal.returns-in-Err-ConfigLineTooLong-clause-ok
+returns-in-Err-ConfigLineTooLong-clause-ok g c =
+    let reader = c.args.reader.now in
+    let invariant = c.pieces.invariant in
+    let tree = ap (λ (r : ReaderState). r.tree) invariant.stands in
+    let prefix = ap (λ (r : ReaderState). r.prefix) invariant.stands in
+    let name = ap (λ (r : ReaderState). r.name) invariant.stands in
+    rw c.in-Err-ConfigLineTooLong.number-is (TakesPieces-long reader.tree reader.prefix reader.name _ _ _ _ _ reader.spot c.pieces.reader.spot c.feed_piece.new.reader.spot c.feed_piece.new.reader.spot c.args.user.now c.pieces.user c.feed_piece.new.user _ _ _
+    invariant.taken c.in-Ok.ensures.given (rw (c.in-Err-ConfigLineTooLong.field-0-is, tree, prefix, name) at c.in-Err-ConfigLineTooLong.ensures.refused))
+
+pub returns-in-Err-Sink-clause-err : goal.returns-in-Err-Sink-clause-err
+returns-in-Err-Sink-clause-err g c =
+    let reader = c.args.reader.now in
+    let invariant = c.pieces.invariant in
+    let tree = ap (λ (r : ReaderState). r.tree) invariant.stands in
+    let prefix = ap (λ (r : ReaderState). r.prefix) invariant.stands in
+    let name = ap (λ (r : ReaderState). r.name) invariant.stands in
+    BreaksPieces-piece reader.tree reader.prefix reader.name Sink _ _ _ _ reader.spot c.pieces.reader.spot c.feed_piece.new.reader.spot c.args.user.now c.pieces.user c.feed_piece.new.user _ _ _
+    (begins_at_sink reader.tree reader.prefix reader.name c.feed_piece.new.reader.spot c.feed_piece.new.user)
+    invariant.taken c.in-Ok.ensures.given (rw (c.in-Err-Sink.field-0-is, tree, prefix, name) at c.in-Err-Sink.ensures.refused)
+
+pub returns-in-Err-Memory-clause-err : goal.returns-in-Err-Memory-clause-err
+returns-in-Err-Memory-clause-err g c =
+    let reader = c.args.reader.now in
+    let invariant = c.pieces.invariant in
+    let tree = ap (λ (r : ReaderState). r.tree) invariant.stands in
+    let prefix = ap (λ (r : ReaderState). r.prefix) invariant.stands in
+    let name = ap (λ (r : ReaderState). r.name) invariant.stands in
+    BreaksPieces-piece reader.tree reader.prefix reader.name Memory _ _ _ _ reader.spot c.pieces.reader.spot c.feed_piece.new.reader.spot c.args.user.now c.pieces.user c.feed_piece.new.user _ _ _
+    (begins_at_memory reader.tree reader.prefix reader.name c.feed_piece.new.reader.spot c.feed_piece.new.user)
+    invariant.taken c.in-Ok.ensures.given (rw (c.in-Err-Memory.field-0-is, tree, prefix, name) at c.in-Err-Memory.ensures.refused)

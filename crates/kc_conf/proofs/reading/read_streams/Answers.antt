@@ -1,0 +1,65 @@
+-- Stream by stream.
+use Rattle.std.proofs.Common.{◌≡◌, ◌<◌, ◌∙◌, arith, length, map, slice_set}
+use Rattle.std.proofs.lemmas.List.{length-set}
+use Rattle.kc_conf.specs.Outcome.{names_of}
+use Rattle.kc_conf.specs.Places.{Only-only}
+use Rattle.kc_conf.specs.declared.outputs.Which.TheVariants.{Notes}
+use Rattle.kc_conf.proofs.ListLemmas.{drop-changed, map-unchanged}
+use Rattle.kc_conf.proofs.StreamLemmas.{names_count, ReadSoFar-next, ReadsStreams-stop, BreaksStreams-stop, ReadsStreams-all, CountsInputs-stream}
+use Rattle.kc_conf.proofs.reading.read_streams.Goals as goal
+
+pub returns-in-Ok-Some-clause-ok : goal.returns-in-Ok-Some-clause-ok
+returns-in-Ok-Some-clause-ok g c =
+    let options = c.args.options.now in
+    let within : c.loop-at.at < length c.loop-at.inputs = let test = c.loop-at-test.true in let count = c.loop-at.invariant.count in omega (arith, test, count) in
+    let named : c.loop-at.at < length (names_of options) = let count = names_count options in let inputs = c.requires.inputs in let test = c.loop-at-test.true in omega (arith, count, inputs, test) in
+    ReadsStreams-stop g.I.Input.remaining c.args.tree.now options.prefix (names_of options) (map g.I.Input.remaining c.args.inputs.now) c.args.user.now c.loop-at.user _ _ c.loop-at.inputs c.loop-at.at c.index-inputs-at.result c.stream_name-name.result.now
+    named within c.stream_name-name.ensures c.in-Ok-Some.number c.read_stream.new.user _ c.loop-at.invariant.read
+    (rw (c.in-Ok-Some.field-0-is, c.new-reader.ensures) at c.in-Ok-Some.ensures.ok)
+
+pub returns-in-Ok-Some-clause-quiet_inputs : goal.returns-in-Ok-Some-clause-quiet_inputs
+returns-in-Ok-Some-clause-quiet_inputs g c =
+    let within : c.loop-at.at < length c.loop-at.inputs = let test = c.loop-at-test.true in let count = c.loop-at.invariant.count in omega (arith, test, count) in
+    map-unchanged g.I.Input.failures c.loop-at.inputs c.loop-at.at c.read_stream.new.input c.index-inputs-at.result within c.in-Ok-Some.ensures.quiet_input ∙ c.loop-at.invariant.quiet_inputs
+
+pub returns-in-Err-clause-err : goal.returns-in-Err-clause-err
+returns-in-Err-clause-err g c =
+    let options = c.args.options.now in
+    let within : c.loop-at.at < length c.loop-at.inputs = let test = c.loop-at-test.true in let count = c.loop-at.invariant.count in omega (arith, test, count) in
+    let named : c.loop-at.at < length (names_of options) = let count = names_count options in let inputs = c.requires.inputs in let test = c.loop-at-test.true in omega (arith, count, inputs, test) in
+    BreaksStreams-stop g.I.Input.remaining c.args.tree.now options.prefix (names_of options) (map g.I.Input.remaining c.args.inputs.now) c.args.user.now c.loop-at.user _ _ c.loop-at.inputs c.loop-at.at c.index-inputs-at.result c.stream_name-name.result.now
+    named within c.stream_name-name.ensures _ c.loop-at.invariant.read (rw c.new-reader.ensures at c.in-Err.ensures.err)
+
+pub returns-in-Err-clause-counted_inputs : goal.returns-in-Err-clause-counted_inputs
+returns-in-Err-clause-counted_inputs g c =
+    let within : c.loop-at.at < length c.loop-at.inputs = let test = c.loop-at-test.true in let count = c.loop-at.invariant.count in omega (arith, test, count) in
+    CountsInputs-stream g.I.Input.failures c.in-Err.cause (map g.I.Input.failures c.args.inputs.now) c.loop-at.inputs c.loop-at.at c.read_stream.new.input c.index-inputs-at.result within c.loop-at.invariant.quiet_inputs c.in-Err.ensures.cause
+    c.in-Err.ensures.counted_input
+
+pub loop-at-preserved : goal.loop-at-preserved
+loop-at-preserved g c =
+    let options = c.args.options.now in
+    let invariant = c.loop-at.invariant in
+    let ensures = c.in-Ok-None.ensures in
+    let within : c.loop-at.at < length c.loop-at.inputs = let test = c.loop-at-test.true in let count = c.loop-at.invariant.count in omega (arith, test, count) in
+    let named : c.loop-at.at < length (names_of options) = let count = names_count options in let inputs = c.requires.inputs in let test = c.loop-at-test.true in omega (arith, count, inputs, test) in
+    record {
+      read = ReadSoFar-next g.I.Input.remaining c.args.tree.now options.prefix (names_of options) (map g.I.Input.remaining c.args.inputs.now) c.args.user.now c.loop-at.user _ _ c.loop-at.inputs c.loop-at.at c.index-inputs-at.result c.stream_name-name.result.now
+          named within c.stream_name-name.ensures (slice_set c.loop-at.inputs c.loop-at.at c.read_stream.new.input) c.read_stream.new.user _
+          (drop-changed c.loop-at.inputs c.loop-at.at c.read_stream.new.input) invariant.read (rw (c.in-Ok-None.field-0-is, c.new-reader.ensures) at ensures.ok);
+      count = length-set c.loop-at.inputs c.loop-at.at c.read_stream.new.input ∙ invariant.count;
+      quiet = ensures.quiet ∙ invariant.quiet;
+      quiet_inputs = map-unchanged g.I.Input.failures c.loop-at.inputs c.loop-at.at c.read_stream.new.input c.index-inputs-at.result within ensures.quiet_input ∙ invariant.quiet_inputs;
+      only = Only-only Notes (g.O.Outputs.seen c.args.outputs.now) (g.O.Outputs.seen c.loop-at.outputs) (g.O.Outputs.seen c.read_stream.new.outputs) invariant.only ensures.only;
+      user = rw c.new-reader.ensures at ensures.user;
+    }
+
+pub returns-clause-ok : goal.returns-clause-ok
+returns-clause-ok g c =
+    let options = c.args.options.now in
+    let count = names_count options in
+    let inputs = c.requires.inputs in
+    let end = c.loop-at-test.false in
+    let same = c.loop-at.invariant.count in
+    ReadsStreams-all g.I.Input.remaining c.args.tree.now options.prefix (names_of options) (map g.I.Input.remaining c.args.inputs.now) c.args.user.now c.loop-at.user _ _ c.loop-at.inputs c.loop-at.at
+    (omega (arith, count, inputs, end)) (omega (arith, same, end)) c.loop-at.invariant.read

@@ -1,0 +1,112 @@
+-- What reading the streams does.
+use Rattle.std.specs.Prelude.{◌≡◌, ℕ, List, ◌++◌, Option, Some, None}
+use Rattle.std.specs.Option.{option_map}
+use Rattle.kc_tree.specs.TreeFacts.{TreeFacts}
+use Rattle.kc_user.specs.Places.{Places as UserPlaces}
+use Rattle.kc_dot.specs.Feeding.{Spot, Goes, to_come}
+use Rattle.kc_dot.specs.Reading.{Line, Read, Stop, lines_from, lines_of, reading, told}
+use Rattle.kc_dot.specs.Sink.{BeginsWith, extended, next_failure}
+use Rattle.kc_conf.specs.Given.{preceded, AreToCome, AreAllToCome}
+use Rattle.kc_conf.specs.Outcome.{streams}
+use Rattle.kc_conf.specs.declared.cause.Cause.{Cause}
+use Rattle.kc_conf.specs.declared.cause.Cause.TheVariants as cause
+use Rattle.kc_conf.specs.declared.outputs.Which.TheVariants.{Notes}
+use Rattle.kc_conf.specs.declared.reading.LongLine.{LongLine}
+
+-- the stream and the number of a line that is too long
+abbrev pub stop_of : LongLine → Stop
+stop_of l = record { stream = l.stream.now; number = l.number }
+
+-- what a reading is that ended with these places after these warnings
+abbrev pub ended_with : UserPlaces → List ℕ → Option Stop → Read
+ended_with places warned stopped = record { places = places; warned = warned; stopped = stopped }
+
+-- the counts after a cause that strikes while streams are read: the input's own rises, or that of the notes
+abbrev pub counted_input : Cause → ℕ → ℕ
+counted_input (cause.Read input) count = next_failure count
+counted_input cause.Memory count = count
+counted_input (cause.Write which) count = count
+
+abbrev pub counted_notes : Cause → ℕ → ℕ
+counted_notes (cause.Read input) count = count
+counted_notes cause.Memory count = count
+counted_notes (cause.Write which) count = next_failure count
+
+-- the cause is a read of that input, a failure of the notes, or memory
+abbrev pub IsOfStream : ℕ → Cause → Type 0
+IsOfStream input (cause.Read other) = other ≡ input
+IsOfStream input cause.Memory = Unit {0}
+IsOfStream input (cause.Write which) = which ≡ Notes
+
+module _ (tree : TreeFacts) (prefix : List ℕ) where
+  -- Whatever lines follow: reading these lines and them is these warnings, and then reading them from the new places.
+  abbrev pub Reads : List Line → UserPlaces → UserPlaces → List ℕ → Type 0
+  Reads lines before after warned =
+      (more : List Line) → reading tree prefix before (lines ++ more) ≡ told warned (reading tree prefix after more)
+
+  -- Whatever lines follow: one of these lines is too long, after these warnings.
+  abbrev pub Stops : List Line → UserPlaces → UserPlaces → List ℕ → Stop → Type 0
+  Stops lines before after warned stop =
+      (more : List Line) → reading tree prefix before (lines ++ more) ≡ ended_with after warned (Some stop)
+
+  -- Whatever lines follow: their warnings begin so.
+  abbrev pub Warns : List Line → UserPlaces → List ℕ → Type 0
+  Warns lines before front = (more : List Line) → BeginsWith (reading tree prefix before (lines ++ more)).warned front
+
+  module _ (name : List ℕ) where
+    -- the input gave these bytes so far, and the reader took them
+    abbrev pub TakenSoFar : Option (List ℕ) → Option (List ℕ) → Spot → Spot → UserPlaces → UserPlaces → Option (List ℕ) → Option (List ℕ) → Type 0
+    TakenSoFar given rest old new before after text text_after =
+        (bytes warned : List ℕ) × (given ≡ preceded bytes rest) × (text_after ≡ extended text warned) × Goes tree prefix name bytes old new before after warned
+
+    -- these bytes were taken from a spot on, to their end or to a line that is too long
+    abbrev pub Takes : Option ℕ → List ℕ → Spot → Spot → UserPlaces → UserPlaces → List ℕ → Type 0
+    Takes None bytes old new before after warned = Goes tree prefix name bytes old new before after warned
+    Takes (Some number) bytes old new before after warned =
+        (more : List Line) → reading tree prefix before (to_come tree prefix name old bytes more)
+        ≡ ended_with after warned (Some (record { stream = name; number = number }))
+
+    -- the input gave these bytes, and the reader took them
+    abbrev pub TakesPieces : Option ℕ → Option (List ℕ) → Spot → Spot → UserPlaces → UserPlaces → Option (List ℕ) → Option (List ℕ) → Type 0
+    TakesPieces long given old new before after text text_after =
+        (bytes warned : List ℕ) × AreToCome given bytes × (text_after ≡ extended text warned) × Takes long bytes old new before after warned
+
+    -- it broke off, with a beginning of the warnings told
+    abbrev pub BreaksPieces : Option (List ℕ) → Spot → UserPlaces → Option (List ℕ) → Option (List ℕ) → Type 0
+    BreaksPieces given old before text text_after =
+        (bytes front : List ℕ) × AreToCome given bytes × (text_after ≡ extended text front)
+        × ((more : List Line) → BeginsWith (reading tree prefix before (to_come tree prefix name old bytes more)).warned front)
+
+    -- the lines of the stream were read, to their end or to one that is too long
+    abbrev pub ReadsTo : Option ℕ → List Line → UserPlaces → UserPlaces → List ℕ → Type 0
+    ReadsTo None lines before after warned = Reads lines before after warned
+    ReadsTo (Some number) lines before after warned = Stops lines before after warned (record { stream = name; number = number })
+
+    -- the stream was read, to its end or to a line that is too long
+    abbrev pub ReadsStream : Option ℕ → Option (List ℕ) → UserPlaces → UserPlaces → Option (List ℕ) → Option (List ℕ) → Type 0
+    ReadsStream long given before after text text_after =
+        (bytes warned : List ℕ) × AreToCome given bytes × (text_after ≡ extended text warned) × ReadsTo long (lines_from name 1 bytes) before after warned
+
+    -- the stream broke off, with a beginning of its warnings told
+    abbrev pub BreaksStream : Option (List ℕ) → UserPlaces → Option (List ℕ) → Option (List ℕ) → Type 0
+    BreaksStream given before text text_after =
+        (bytes front : List ℕ) × AreToCome given bytes × (text_after ≡ extended text front) × Warns (lines_from name 1 bytes) before front
+
+  -- the streams were read to their end, or to a line that is too long
+  abbrev pub ReadsStreams : List (List ℕ) → Option Stop → List (Option (List ℕ)) → UserPlaces → UserPlaces → Option (List ℕ) → Option (List ℕ) → Type 0
+  ReadsStreams names stopped given before after text text_after =
+      (all : List (List ℕ)) × (warned : List ℕ) × AreAllToCome given all × (text_after ≡ extended text warned)
+      × (reading tree prefix before (lines_of (streams names all)) ≡ ended_with after warned stopped)
+
+  -- the streams broke off, with a beginning of their warnings told
+  abbrev pub BreaksStreams : List (List ℕ) → List (Option (List ℕ)) → UserPlaces → Option (List ℕ) → Option (List ℕ) → Type 0
+  BreaksStreams names given before text text_after =
+      (all : List (List ℕ)) × (front : List ℕ) × AreAllToCome given all × (text_after ≡ extended text front)
+      × BeginsWith (reading tree prefix before (lines_of (streams names all))).warned front
+
+  -- Whatever bytes the other inputs give: the streams so far were read, and reading those goes on from these places.
+  abbrev pub ReadSoFar : List (List ℕ) → List (List ℕ) → List (Option (List ℕ)) → List (Option (List ℕ)) → UserPlaces → UserPlaces → Option (List ℕ) → Option (List ℕ) → Type 0
+  ReadSoFar names names_left given given_left before after text text_after =
+      (warned : List ℕ) × (text_after ≡ extended text warned)
+      × ((left : List (List ℕ)) → AreAllToCome given_left left → (all : List (List ℕ)) × AreAllToCome given all
+      × (reading tree prefix before (lines_of (streams names all)) ≡ told warned (reading tree prefix after (lines_of (streams names_left left)))))

@@ -1,0 +1,113 @@
+//! The work of the program.
+ghost use Rattle.std.specs.Prelude.{◌≡◌, ◌+◌, length, vec_len, IfOk};
+ghost use Rattle.kc_disk.specs.Devices.{exit_status};
+
+use crate::folder::Disk;
+use crate::input::FileInput;
+use crate::outputs::{FileOutputs, name_of};
+use crate::words::words;
+use kc_conf::{Status, run};
+use kc_load::{LoadFault, load};
+use kc_words::{Options, Usage, options_of};
+use std::alloc::AllocError;
+
+// Writes the parts of a line to standard error. A fault in it changes nothing.
+fn complain(rt: &HostRuntime, parts: &[&[u8]]) {
+    for part in parts {
+        let _ = rt.stderr().write_all(part);
+    }
+}
+
+// Prints what the words ask for or what is wrong with them. A fault in it changes no status.
+fn print_usage(rt: &HostRuntime, usage: &Usage) -> Status {
+    let text = usage.text().as_bytes();
+    match usage {
+        Usage::Help(_) => {
+            let _ = rt.stdout().write_all(text);
+            Status::Done
+        }
+        Usage::Bad(_) => {
+            complain(rt, &[text]);
+            Status::Usage
+        }
+        Usage::Memory => {
+            complain(rt, &[text]);
+            Status::Faulted
+        }
+    }
+}
+
+// The `.config`, and then the fragments.
+fn inputs_of<'a>(
+    rt: &'a HostRuntime,
+    options: &'a Options,
+) -> Result<Vec<FileInput<'a>>, AllocError>
+    ensures { IfOk result (λ inputs. length inputs.items ≡ length options.now.fragments.items + 1) }
+{
+    let mut inputs = Vec::new(rt.alloc());
+    inputs.push(FileInput::config(rt, options.config.as_str()))?;
+    for fragment in &options.fragments {
+        inputs.push(FileInput::fragment(rt, fragment.as_str()))?;
+    }
+    Ok(inputs)
+}
+
+// Loads the tree, and runs over the files that the options name.
+fn run_files(rt: &HostRuntime, options: &Options) -> Result<Status, LoadFault> {
+    let alloc = rt.alloc();
+    let root = options.root.as_str();
+    let kconfig = options.kconfig.as_str();
+    let files = load(alloc, &mut Disk::new(rt), root, kconfig)?;
+    let mut inputs = inputs_of(rt, options)?;
+    let mut outputs = FileOutputs::new(alloc, rt, options)?;
+    let status = run(alloc, &files, options, &mut inputs, &mut outputs);
+    match outputs.finish(status) {
+        None => Ok(status),
+        Some(which) => {
+            let name = name_of(options, which).as_bytes();
+            complain(rt, &[b"error E19: cannot write ", name, b"\n"]);
+            Ok(Status::Faulted)
+        }
+    }
+}
+
+/// Runs `kconf` with these words after the program's name: loads the tree, reads the `.config` and the fragments, and
+/// writes the files and the notes (our own).
+///
+/// The help goes to standard output and a bad command line is told on standard error. A file of the tree that cannot be
+/// read is E18, want of memory E20; each is one line on standard error, and no file is begun then.
+pub fn kconf_of(rt: &HostRuntime, words: &[String]) -> Status {
+    let options = match options_of(rt.alloc(), words) {
+        Ok(options) => options,
+        Err(usage) => return print_usage(rt, &usage),
+    };
+    match run_files(rt, &options) {
+        Ok(status) => status,
+        Err(LoadFault::CannotRead(name)) => {
+            complain(rt, &[b"error E18: cannot read ", &name, b"\n"]);
+            Status::Faulted
+        }
+        Err(LoadFault::Memory) => print_usage(rt, &Usage::Memory),
+    }
+}
+
+/// Runs `kconf` with the words that the process was started with.
+pub fn kconf(rt: &HostRuntime) -> Status {
+    match words(rt) {
+        Ok(words) => kconf_of(rt, &words),
+        Err(usage) => print_usage(rt, &usage),
+    }
+}
+
+/// The exit status: 0 where all is done, 1 where the tree or the `.config` is refused, 2 for a bad command line, 3
+/// after a fault.
+pub fn exit_status(status: Status) -> u8
+    ensures { result ≡ exit_status status }
+{
+    match status {
+        Status::Done => 0,
+        Status::Refused => 1,
+        Status::Usage => 2,
+        Status::Faulted => 3,
+    }
+}

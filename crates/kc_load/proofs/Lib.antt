@@ -1,0 +1,6 @@
+pub mod ListLemmas
+pub mod SourceLemmas
+pub mod HeldLemmas
+pub mod Ongoing
+pub mod TurnLemmas
+pub mod EndLemmas

@@ -1,0 +1,47 @@
+use Rattle.std.proofs.Common.{◌≡◌, ℕ, ◌≤◌, List, map, refl, ap, sym, subst, ◌∙◌, arith}
+use Rattle.std.proofs.lemmas.Result.{err_from_is_err_and}
+use Rattle.std.specs.declared.vec.Vec.{Vec}
+use Rattle.std.specs.declared.alloc.Global.{Global}
+use Rattle.kc_load.specs.Steps.{State, begun, state_of}
+use Rattle.kc_load.proofs.EndLemmas.{at_end, at_fault, at_start, falls, fits, is_over, none_waits, not_over, turned, when_over}
+use Rattle.kc_load.proofs.ListLemmas.{popped_last}
+use Rattle.kc_load.proofs.Ongoing.{Ongoing}
+use Rattle.kc_load.proofs.loader.load.Goals as goal
+
+pub loop-name-init : goal.loop-name-init
+loop-name-init g c = record {
+  ongoing = subst (λ (s : State). Ongoing (g.F.Folder.files c.args.folder.now) c.args.root.now c.args.kconfig.now s) (sym c.in_ok-loading.ensures) (at_start _ c.args.root.now c.args.kconfig.now c.utf8.kconfig);
+  within = let none : c.in_ok-loading.loading.lines ≡ 0 = ap (λ s. s.lines) c.in_ok-loading.ensures in omega arith;
+  stays = refl;
+  quiet = refl;
+}
+
+pub returns-in_err-visit-clause-fault : goal.returns-in_err-visit-clause-fault
+returns-in_err-visit-clause-fault g c =
+    let i = c.loop-name.invariant in
+    let p = err_from_is_err_and c.from_residual-in_err-visit.result c.from_residual-in_err-visit.ensures.1 in
+    rw (p.1, p.2) (at_fault _ _ _ (state_of c.loop-name.loading) i.ongoing i.within _ c.in-Some.name.items (popped_last (λ (v : Vec ℕ Global). v.items) c.pop.new.self.items c.in-Some.name _ c.in-Some.ensures.items) c.in_err-visit.field-0.0 c.in_err-visit.ensures.err)
+
+pub returns-then-is_over-clause-loaded : goal.returns-then-is_over-clause-loaded
+returns-then-is_over-clause-loaded g c =
+    let i = c.loop-name.invariant in
+    when_over _ _ _ (state_of c.visit.new.self) (turned _ _ _ _ (state_of c.loop-name.loading) i.ongoing i.within i.stays _ c.in-Some.name.items (popped_last (λ (v : Vec ℕ Global). v.items) c.pop.new.self.items c.in-Some.name _ c.in-Some.ensures.items) (state_of c.visit.new.self) c.in_ok-visit.ensures.ok) (is_over _ c.if-is_over.ensures)
+
+pub loop-name-smaller : goal.loop-name-smaller
+loop-name-smaller g c =
+    let i = c.loop-name.invariant in
+    falls _ _ (state_of c.loop-name.loading) _ c.in-Some.name.items (state_of c.visit.new.self) (popped_last (λ (v : Vec ℕ Global). v.items) c.pop.new.self.items c.in-Some.name _ c.in-Some.ensures.items) i.within (not_over _ c.if-is_over.ensures) (fits c.visit.new.self.waiting) c.in_ok-visit.ensures.ok
+
+pub loop-name-preserved : goal.loop-name-preserved
+loop-name-preserved g c =
+    let i = c.loop-name.invariant in
+    record {
+      ongoing = turned _ _ _ _ (state_of c.loop-name.loading) i.ongoing i.within i.stays _ c.in-Some.name.items (popped_last (λ (v : Vec ℕ Global). v.items) c.pop.new.self.items c.in-Some.name _ c.in-Some.ensures.items) (state_of c.visit.new.self) c.in_ok-visit.ensures.ok;
+      within = not_over _ c.if-is_over.ensures;
+      stays = c.in_ok-visit.ensures.stays ∙ i.stays;
+      quiet = c.in_ok-visit.ensures.quiet ∙ i.quiet;
+    }
+
+pub returns-clause-loaded : goal.returns-clause-loaded
+returns-clause-loaded g c =
+    at_end _ _ _ (state_of c.loop-name.loading) c.loop-name.invariant.ongoing (none_waits c.loop-name.loading.waiting c.in_default.ensures.cases.0)

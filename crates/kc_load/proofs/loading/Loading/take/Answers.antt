@@ -1,0 +1,18 @@
+use Rattle.std.proofs.Common.{ℕ, List, min, ◌+◌, Some, ap, subst, ◌∙◌, if◌then◌else◌}
+use Rattle.kc_expr.specs.Names.{same_name}
+use Rattle.kc_read.specs.Files.{Files}
+use Rattle.kc_load.specs.Loaded.{AreSources, lines_of}
+use Rattle.kc_load.specs.Steps.{most}
+use Rattle.kc_load.proofs.loading.Loading.take.Goals as goal
+
+pub returns : goal.returns
+returns c =
+    let lists = c.in_ok-push_sources.ensures in
+    record {
+      names = lists.names;
+      sources = subst (λ (bytes : List ℕ). AreSources bytes lists.names) c.deref-2.ensures.value lists.sources;
+      waiting_is = lists.waiting_is;
+      puts = λ other. c.in_ok-insert.ensures.ok other ∙ ap (λ (files : Files). if same_name other c.args.name.items then Some c.args.bytes.items else files other) lists.files_are;
+      asked_are = lists.asked_are;
+      lines_are = c.lines_with-lines.ensures ∙ ap (λ bytes. min (c.args.self.now.lines + lines_of bytes) most) c.deref.ensures.value;
+    }

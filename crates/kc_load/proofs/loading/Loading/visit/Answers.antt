@@ -1,0 +1,23 @@
+use Rattle.std.proofs.Common.{ℕ, List, Some, IsUtf8, refl, sym, ap, subst, ◌∙◌}
+use Rattle.kc_expr.specs.Names.{mention}
+use Rattle.kc_load.specs.Folders.{AnswersAs, path_of}
+use Rattle.kc_load.specs.Steps.{file, was_asked}
+use Rattle.kc_load.proofs.loading.Loading.visit.Goals as goal
+
+pub returns-in_ok-take-in-Ok-Some-clause-ok : goal.returns-in_ok-take-in-Ok-Some-clause-ok
+returns-in_ok-take-in-Ok-Some-clause-ok g c =
+    let text = c.in-Ok.ensures.cases in
+    let answer = rw c.in-Ok-Some.field-0-is at c.in-Ok-Some.ensures.answer in
+    file _ c.in-Ok-Some.bytes.items
+    (record {
+      utf8 = subst IsUtf8 c.deref.ensures.value text.1;
+      is_new = ap (was_asked c.args.self.now.asked) (sym c.deref-2.ensures.value) ∙ sym c.if-was_asked.ensures;
+    })
+    (subst (λ (name : List ℕ). AnswersAs (g.F.Folder.files c.args.folder.now) (path_of c.args.root.now name) (Some c.in-Ok-Some.bytes.items)) (text.0 ∙ c.deref.ensures.value) answer)
+    (record {
+      files_are = refl;
+      waiting_is = refl;
+      asked_are = c.in_ok-id.ensures.names ∙ ap (mention c.args.self.now.asked) c.deref-3.ensures.value;
+      lines_are = refl;
+    })
+    c.in_ok-take-in-Ok-Some.ensures

@@ -1,0 +1,4 @@
+pub mod Folders
+pub mod Loaded
+pub mod Faults
+pub mod Steps

@@ -1,0 +1,73 @@
+-- How far the loading is, and the turn of one name.
+use Rattle.std.specs.Prelude.{◌≡◌, ◌≢◌, ◌⊎◌, ◌+◌, ◌-◌, ◌^◌, ℕ, List, [], ◌∷◌, ◌++◌, map, reverse, min, Bool, true, false, None, Some}
+use Rattle.std.specs.List.{list_any}
+use Rattle.std.specs.Str.{IsUtf8}
+use Rattle.kc_expr.specs.Names.{same_name, mention}
+use Rattle.kc_read.specs.Files.{Files, Puts, bytes_in}
+use Rattle.kc_load.specs.Folders.{Told, AnswersAs, path_of}
+use Rattle.kc_load.specs.Loaded.{AreSources, lines_of}
+use Rattle.kc_load.specs.declared.fault.LoadFault.{LoadFault}
+use Rattle.kc_load.specs.declared.fault.LoadFault.TheVariants.{CannotRead, Memory}
+use Rattle.kc_load.specs.declared.loading.Loading.{Loading}
+
+-- what is held, which names were asked for, which wait (the next one last), and how many lines there are
+pub record State : Type 0 where
+  pub files : Files
+  pub asked : List (List ℕ)
+  pub waiting : List (List ℕ)
+  pub lines : ℕ
+
+abbrev pub state_of : Loading → State
+state_of l = record { files = bytes_in l.files; asked = l.asked; waiting = map (λ n. n.items) l.waiting.items; lines = l.lines }
+
+abbrev pub begun : List ℕ → State
+begun first = record { files = bytes_in []; asked = []; waiting = first ∷ []; lines = 0 }
+
+abbrev pub was_asked : List (List ℕ) → List ℕ → Bool
+was_asked asked name = list_any (same_name name) asked
+
+-- the greatest count of lines
+abbrev pub most : ℕ
+most = 2 ^ 64 - 1
+
+-- the names that the file sources wait, the first one last
+pub record Lists (file : List ℕ) (old new : State) : Type 0 where
+  pub names : List (List ℕ)
+  pub sources : AreSources file names
+  pub waiting_is : new.waiting ≡ old.waiting ++ reverse names
+  pub files_are : new.files ≡ old.files
+  pub asked_are : new.asked ≡ old.asked
+  pub lines_are : new.lines ≡ old.lines
+
+-- the file of the name has these bytes
+pub record Takes (name bytes : List ℕ) (old new : State) : Type 0 where
+  pub names : List (List ℕ)
+  pub sources : AreSources bytes names
+  pub waiting_is : new.waiting ≡ old.waiting ++ reverse names
+  pub puts : Puts old.files new.files name bytes
+  pub asked_are : new.asked ≡ old.asked
+  pub lines_are : new.lines ≡ min (old.lines + lines_of bytes) most
+
+-- all stays but the names that were asked for
+pub record Asks (name : List ℕ) (old new : State) : Type 0 where
+  pub files_are : new.files ≡ old.files
+  pub waiting_is : new.waiting ≡ old.waiting
+  pub asked_are : new.asked ≡ mention old.asked name
+  pub lines_are : new.lines ≡ old.lines
+
+-- it is the name's turn: it was not asked for before
+pub record IsDue (s : State) (name : List ℕ) : Type 0 where
+  pub utf8 : IsUtf8 name
+  pub is_new : was_asked s.asked name ≡ false
+
+-- The turn of a name.
+pub data Visits (told : Told) (dir name : List ℕ) (old new : State) : Type 0 where
+  no_text : (IsUtf8 name → ⊥) → new ≡ old → Visits told dir name old new
+  known : was_asked old.asked name ≡ true → new ≡ old → Visits told dir name old new
+  no_file : IsDue old name → AnswersAs told (path_of dir name) None → Asks name old new → Visits told dir name old new
+  file : (middle : State) (bytes : List ℕ) → IsDue old name → AnswersAs told (path_of dir name) (Some bytes) → Asks name old middle → Takes name bytes middle new → Visits told dir name old new
+
+-- the device fails at a name that is due
+abbrev pub FailsAt : State → List ℕ → LoadFault → Type 0
+FailsAt s name (CannotRead n) = (n.items ≡ name) × IsDue s name
+FailsAt s name Memory = Unit {0}

@@ -1,0 +1,39 @@
+//! A folder: files by their paths.
+
+ghost use Rattle.std.specs.Prelude.{◌≡◌, ℕ, IfOk, IfErr, OnOk, option_map};
+ghost use Rattle.kc_load.specs.Folders.{AnswersAs, Told, counted};
+ghost use Rattle.kc_load.specs.declared.folder.FolderFault.TheVariants.{Memory};
+
+use std::alloc::AllocError;
+
+/// Why a file could not be read.
+#[derive(Clone, Copy, Debug, PartialEq, Eq)]
+pub enum FolderFault {
+    /// The device failed. It is counted.
+    Device,
+    /// A growth was refused.
+    Memory,
+}
+
+impl From<AllocError> for FolderFault {
+    ghost from_gives = { λ _ e. e ≡ Memory };
+
+    fn from(_e: AllocError) -> FolderFault {
+        FolderFault::Memory
+    }
+}
+
+/// Files by their paths. A read changes none of them, and no file is written.
+pub trait Folder {
+    /// The files by their paths, or nothing told, as of a folder on a disk.
+    ghost files: { Self → Told };
+    /// How often the device failed. At 2^64 - 1 it stays.
+    ghost failures: { Self → ℕ };
+
+    /// The bytes of the file at this path, or None where there is no such file.
+    fn read(&mut self, path: &str) -> Result<Option<Vec<u8>>, FolderFault>
+        ensures answer { IfOk result (λ found. AnswersAs (files self.old) path.now (option_map (λ b. b.items) found)) }
+        ensures stays { files self.new ≡ files self.old }
+        ensures quiet { OnOk result (failures self.new ≡ failures self.old) }
+        ensures counted { IfErr result (λ fault. failures self.new ≡ counted fault (failures self.old)) };
+}

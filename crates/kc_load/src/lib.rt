@@ -1,0 +1,15 @@
+//! The files of a tree: a folder that holds them, and the loading of all that a first one reaches.
+#![tactic(auto)]
+
+mod fault;
+mod folder;
+mod loader;
+mod loading;
+mod path;
+
+pub use fault::LoadFault;
+pub use folder::{Folder, FolderFault};
+pub use loader::load;
+
+#[cfg(test)]
+mod tests;

@@ -1,0 +1,136 @@
+//! The loading of files, name by name.
+
+ghost use Rattle.std.specs.Prelude.{◌≡◌, ◌+◌, IfOk, IfErr, OnOk, min, nat_lt, option_map};
+ghost use Rattle.kc_load.specs.Folders.{AnswersAs, counted, path_of};
+ghost use Rattle.kc_load.specs.Faults.{counted_load};
+ghost use Rattle.kc_load.specs.Loaded.{line_limit, lines_of};
+ghost use Rattle.kc_load.specs.Steps.{FailsAt, Lists, Takes, Visits, begun, most, state_of, was_asked};
+
+use crate::fault::LoadFault;
+use crate::folder::{Folder, FolderFault};
+use crate::path::path_of;
+use kc_expr::names::Names;
+use kc_read::{FileMap, sources_of};
+use kc_text::line_count;
+use std::alloc::{AllocError, Global};
+use std::str;
+
+/// The physical lines after which no more files are read.
+const LINE_LIMIT: usize = 1_000_000;
+
+// How far the loading is.
+#[derive(Drop)]
+pub(crate) struct Loading {
+    alloc: Global,
+    // What was read.
+    pub(crate) files: FileMap,
+    // The names that were asked for.
+    asked: Names,
+    // The names that wait for their turn, the next one last.
+    pub(crate) waiting: Vec<Vec<u8>>,
+    // The physical lines of the files.
+    lines: usize,
+}
+
+// Reads the file of a name.
+fn read_named<F: Folder>(
+    alloc: Global,
+    folder: &mut F,
+    root: &str,
+    name: &str,
+) -> Result<Option<Vec<u8>>, FolderFault>
+    ensures answer { IfOk result (λ found. AnswersAs (F.files folder.old) (path_of root.now name.now) (option_map (λ b. b.items) found)) }
+    ensures stays { F.files folder.new ≡ F.files folder.old }
+    ensures quiet { OnOk result (F.failures folder.new ≡ F.failures folder.old) }
+    ensures counted { IfErr result (λ fault. F.failures folder.new ≡ counted fault (F.failures folder.old)) }
+{
+    let path = path_of(alloc, root, name)?;
+    folder.read(path.as_str())
+}
+
+impl Loading {
+    // The first name waits.
+    pub(crate) fn new(alloc: Global, first: &str) -> Result<Loading, AllocError>
+        ensures { IfOk result (λ loading. state_of loading ≡ begun first.now) }
+    {
+        let mut waiting = Vec::new(alloc);
+        waiting.push(Vec::from_slice(alloc, first.as_bytes())?)?;
+        Ok(Loading {
+            alloc,
+            files: FileMap::new(alloc),
+            asked: Names::new(alloc),
+            waiting,
+            lines: 0,
+        })
+    }
+
+    // Whether there are more lines than the limit.
+    pub(crate) fn is_over(&self) -> bool
+        ensures { result ≡ nat_lt line_limit self.now.lines }
+    {
+        self.lines > LINE_LIMIT
+    }
+
+    // Whether the name was asked for.
+    fn was_asked(&self, name: &[u8]) -> bool
+        ensures { result ≡ was_asked self.now.asked name.now }
+    {
+        self.asked.find(name).is_some()
+    }
+
+    // The lines with those of one file more, or the greatest number.
+    fn lines_with(&self, file: &[u8]) -> usize
+        ensures { result ≡ min (self.now.lines + lines_of file.now) most }
+    {
+        self.lines.saturating_add(line_count(file))
+    }
+
+    // The names that the file sources wait, the first one last.
+    fn push_sources(&mut self, file: &[u8]) -> Result<(), AllocError>
+        ensures { OnOk result (Lists file.now (state_of self.old) (state_of self.new)) }
+    {
+        let mut names = sources_of(self.alloc, file)?;
+        names.reverse();
+        self.waiting.append(&mut names)?;
+        Ok(())
+    }
+
+    // The file of the name is read: it has these bytes.
+    fn take(&mut self, name: Vec<u8>, bytes: Vec<u8>) -> Result<(), AllocError>
+        ensures { OnOk result (Takes name.items bytes.items (state_of self.old) (state_of self.new)) }
+    {
+        let lines = self.lines_with(&bytes);
+        self.push_sources(&bytes)?;
+        self.files.insert(name, bytes)?;
+        self.lines = lines;
+        Ok(())
+    }
+
+    // The name has its turn.
+    pub(crate) fn visit<F: Folder>(
+        &mut self,
+        folder: &mut F,
+        root: &str,
+        name: Vec<u8>,
+    ) -> Result<(), LoadFault>
+        ensures ok { OnOk result (Visits (F.files folder.old) root.now name.items (state_of self.old) (state_of self.new)) }
+        ensures err { IfErr result (FailsAt (state_of self.old) name.items) }
+        ensures stays { F.files folder.new ≡ F.files folder.old }
+        ensures quiet { OnOk result (F.failures folder.new ≡ F.failures folder.old) }
+        ensures counted { IfErr result (λ fault. F.failures folder.new ≡ counted_load fault (F.failures folder.old)) }
+    {
+        let Ok(text) = str::from_utf8(&name) else {
+            return Ok(());
+        };
+        if self.was_asked(&name) {
+            return Ok(());
+        }
+        self.asked.id(&name)?;
+        match read_named(self.alloc, folder, root, text) {
+            Ok(Some(bytes)) => Ok(self.take(name, bytes)?),
+            Ok(None) => Ok(()),
+            Err(FolderFault::Device) => Err(LoadFault::CannotRead(name)),
+            Err(FolderFault::Memory) => Err(LoadFault::Memory),
+        }
+    }
+}

@@ -1,0 +1,43 @@
+-- From what clap's getters answer to what clap's matches are.
+use Rattle.std.proofs.Common.{◌≡◌, List, [], refl, ap, ◌∙◌, true, ◌∷◌, codes, false, Some}
+use Rattle.clap.specs.Words.{App, HasMatchesOf, Row, Text, found_of, is_simple, matches_of, rows_of, takes, first_of, all_of}
+use Rattle.clap.specs.Faults.{is_simple_and_free}
+use Rattle.clap.specs.declared.parser.matches.ArgMatches.{ArgMatches}
+use Rattle.clap.proofs.WalkLemmas.{first_value-rows, raw_values-rows}
+use Rattle.clap.proofs.OnLiterals.{clap_on_literals}
+use Rattle.kc_words.specs.Kconf.{kconf_app, with_options}
+
+pub ruleset found_rows = (first_value-rows, raw_values-rows)
+
+pub kconf_app-simple : is_simple kconf_app ≡ true
+unfolding clap_on_literals kconf_app with_options
+kconf_app-simple = refl
+
+pub kconf_app-free : is_simple_and_free kconf_app ≡ true
+unfolding clap_on_literals kconf_app with_options
+kconf_app-free = refl
+
+-- the command's matches are those of the words
+pub rows-matches : (app : App) (words : List Text) (m : ArgMatches) → app ≡ kconf_app → HasMatchesOf app words m → rows_of (found_of m) ≡ matches_of kconf_app words
+rows-matches app words m is has = (has (ap is_simple is ∙ kconf_app-simple)).0 ∙ ap (λ a. matches_of a words) is
+
+-- the least words, computed
+one_word : takes kconf_app (codes "Kconfig" ∷ []) ≡ true
+unfolding clap_on_literals kconf_app with_options
+one_word = refl
+
+all_words : takes kconf_app (codes "--root" ∷ codes "d" ∷ codes "--header=h" ∷ codes "Kconfig" ∷ codes "--prefix" ∷ codes "X" ∷ codes "a" ∷ codes "--" ∷ codes "-b" ∷ []) ≡ true
+unfolding clap_on_literals kconf_app with_options
+all_words = refl
+
+no_word : takes kconf_app [] ≡ false
+unfolding clap_on_literals kconf_app with_options
+no_word = refl
+
+root_is : first_of (codes "root") (matches_of kconf_app (codes "--root" ∷ codes "d" ∷ codes "Kconfig" ∷ [])) ≡ Some (codes "d")
+unfolding clap_on_literals kconf_app with_options
+root_is = refl
+
+fragments_are : all_of (codes "FRAGMENT") (matches_of kconf_app (codes "Kconfig" ∷ codes "a" ∷ codes "--root" ∷ codes "d" ∷ codes "--" ∷ codes "-b" ∷ [])) ≡ Some (codes "a" ∷ codes "-b" ∷ [])
+unfolding clap_on_literals kconf_app with_options
+fragments_are = refl

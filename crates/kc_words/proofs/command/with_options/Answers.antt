@@ -1,0 +1,19 @@
+use Rattle.std.proofs.Common.{◌≡◌, ap, ◌∙◌, codes, Result, IfOk}
+use Rattle.std.specs.declared.alloc.AllocError.{AllocError}
+use Rattle.std.proofs.lemmas.Result.{IfOk-weaker}
+use Rattle.clap.specs.Words.{App, Rule, app_of, with_rule}
+use Rattle.clap.specs.declared.builder.command.Command.{Command}
+use Rattle.kc_words.specs.Kconf.{option_rule, with_options}
+use Rattle.kc_words.proofs.command.with_options.Goals as goal
+
+last_rule : (r : Result Command AllocError) (a b : App) (rule : Rule) → a ≡ b → IfOk r (λ longer. app_of longer ≡ with_rule a rule) → IfOk r (λ longer. app_of longer ≡ with_rule b rule)
+last_rule r a b rule same = IfOk-weaker r (λ longer. app_of longer ≡ with_rule a rule) (λ longer. app_of longer ≡ with_rule b rule) (λ longer e. e ∙ ap (λ (x : App). with_rule x rule) same)
+
+pub returns : goal.returns
+unfolding with_options
+returns c =
+    let two = c.in_ok-command-2.ensures ∙ ap (λ a. with_rule a (option_rule (codes "config"))) c.in_ok-command.ensures in
+    let three = c.in_ok-command-3.ensures ∙ ap (λ a. with_rule a (option_rule (codes "out"))) two in
+    let four = c.in_ok-command-4.ensures ∙ ap (λ a. with_rule a (option_rule (codes "header"))) three in
+    let five = c.in_ok-command-5.ensures ∙ ap (λ a. with_rule a (option_rule (codes "savedefconfig"))) four in
+    last_rule c.with_option-6.result _ _ (option_rule (codes "prefix")) five c.with_option-6.ensures

@@ -1,0 +1,19 @@
+-- What the options hold.
+use Rattle.std.specs.Prelude.{◌≡◌, List, [], map, option_map, unwrap_or, string_bytes, codes}
+use Rattle.clap.specs.Words.{Row, Text, all_of, first_of}
+use Rattle.kc_words.specs.declared.options.Options.{Options}
+
+-- the prefix that is asked for
+abbrev pub prefix_word : List Row → Text
+prefix_word rows = unwrap_or (first_of (codes "prefix") rows) (codes "CONFIG_")
+
+-- each field is the value of its argument among what the words gave, or what an absent argument means
+pub record Holds (rows : List Row) (options : Options) : Type 0 where
+  pub root : string_bytes options.root ≡ unwrap_or (first_of (codes "root") rows) (codes ".")
+  pub config : string_bytes options.config ≡ unwrap_or (first_of (codes "config") rows) (codes ".config")
+  pub out : string_bytes options.out ≡ unwrap_or (first_of (codes "out") rows) (string_bytes options.config)
+  pub kconfig : string_bytes options.kconfig ≡ unwrap_or (first_of (codes "KCONFIG") rows) []
+  pub header : option_map string_bytes options.header ≡ first_of (codes "header") rows
+  pub minimal : option_map string_bytes options.minimal ≡ first_of (codes "savedefconfig") rows
+  pub fragments : map string_bytes options.fragments.items ≡ unwrap_or (all_of (codes "FRAGMENT") rows) []
+  pub prefix : options.prefix ≡ prefix_word rows

@@ -1,0 +1,45 @@
+-- The command line of the program, in clap's words for it.
+use Rattle.std.specs.Prelude.{List, Some, true, codes, map, string_bytes, String}
+use Rattle.std.specs.declared.alloc.Global.{Global}
+use Rattle.clap.specs.Words.{App, Row, Rule, Text, matches_of, new_app, new_rule, with_rule}
+use Rattle.clap.specs.Simple.{on_top}
+use Rattle.clap.specs.declared.builder.action.ArgAction.TheVariants.{Append}
+
+-- --NAME VALUE
+abbrev pub option_rule : Text → Rule
+option_rule name = record (new_rule name) { long = Some name; value_names = 1 }
+
+-- the one word that has to be there
+abbrev pub kconfig_rule : Rule
+kconfig_rule = record (new_rule (codes "KCONFIG")) { required = true }
+
+-- the words after it
+abbrev pub fragment_rule : Rule
+fragment_rule = record (new_rule (codes "FRAGMENT")) { action = Some Append }
+
+-- the first of the words is no name of a program
+abbrev pub bare_app : App
+bare_app = on_top (λ s. record s { no_binary_name = true }) (new_app (codes "kconf"))
+
+-- [--root DIR] [--config FILE] [--out FILE] [--header FILE] [--savedefconfig FILE] [--prefix TEXT]
+unfoldable pub with_options : App → App
+with_options app =
+    with_rule (with_rule (with_rule (with_rule (with_rule (with_rule app
+    (option_rule (codes "root")))
+    (option_rule (codes "config")))
+    (option_rule (codes "out")))
+    (option_rule (codes "header")))
+    (option_rule (codes "savedefconfig")))
+    (option_rule (codes "prefix"))
+
+-- the options, and then KCONFIG [FRAGMENT ..]
+unfoldable pub kconf_app : App
+kconf_app = with_rule (with_rule (with_options bare_app) kconfig_rule) fragment_rule
+
+-- the words as text
+abbrev pub words_of : List (String Global) → List Text
+words_of = map string_bytes
+
+-- what the command finds in the words
+abbrev pub rows_for : List (String Global) → List Row
+rows_for words = matches_of kconf_app (words_of words)

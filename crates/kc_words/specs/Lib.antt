@@ -1,0 +1,3 @@
+pub mod Kconf
+pub mod Fields
+pub mod Refusals

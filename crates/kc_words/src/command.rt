@@ -1,0 +1,116 @@
+//! The command line as `clap` knows it.
+
+ghost use Rattle.std.specs.Prelude.{◌≡◌, IfOk};
+ghost use Rattle.clap.specs.Words.{app_of, with_rule};
+ghost use Rattle.kc_words.specs.Kconf.{bare_app, kconf_app, option_rule, kconfig_rule, fragment_rule, with_options};
+
+use clap::{Arg, ArgAction, Command};
+use std::alloc::{AllocError, Global};
+
+// What help says of an option's value and of the option.
+#[derive(Clone, Copy)]
+struct Said {
+    value: &'static str,
+    help: &'static str,
+}
+
+const ROOT: Said = Said {
+    value: "DIR",
+    help: "Where the Kconfig files are [default: .]",
+};
+
+const CONFIG: Said = Said {
+    value: "FILE",
+    help: "The .config to read [default: .config]",
+};
+
+const OUT: Said = Said {
+    value: "FILE",
+    help: "The full .config to write [default: the file of --config]",
+};
+
+const HEADER: Said = Said {
+    value: "FILE",
+    help: "The C header to write",
+};
+
+const MINIMAL: Said = Said {
+    value: "FILE",
+    help: "The minimal .config to write",
+};
+
+const PREFIX: Said = Said {
+    value: "TEXT",
+    help: "What stands before each symbol's name [default: CONFIG_]",
+};
+
+// Adds `--NAME VALUE`.
+fn with_option<'a>(
+    alloc: Global,
+    command: Command<'a>,
+    name: &'a str,
+    said: Said,
+) -> Result<Command<'a>, AllocError>
+    ensures { IfOk result (λ longer. app_of longer ≡ with_rule (app_of command.entry) (option_rule name.entry.now)) }
+{
+    command.arg(
+        Arg::new(alloc, name)
+            .long(name)
+            .value_name(said.value)
+            .help(said.help),
+    )
+}
+
+// Adds the one word that has to be there.
+fn with_kconfig<'a>(alloc: Global, command: Command<'a>) -> Result<Command<'a>, AllocError>
+    ensures { IfOk result (λ longer. app_of longer ≡ with_rule (app_of command.entry) kconfig_rule) }
+{
+    command.arg(
+        Arg::new(alloc, "KCONFIG")
+            .required(true)
+            .help("The Kconfig file to begin with"),
+    )
+}
+
+// Adds the words after it.
+fn with_fragments<'a>(alloc: Global, command: Command<'a>) -> Result<Command<'a>, AllocError>
+    ensures { IfOk result (λ longer. app_of longer ≡ with_rule (app_of command.entry) fragment_rule) }
+{
+    command.arg(
+        Arg::new(alloc, "FRAGMENT")
+            .action(ArgAction::Append)
+            .help("Files to read after the .config, in this order"),
+    )
+}
+
+// The command without its arguments.
+fn bare_command<'a>(alloc: Global) -> Command<'a>
+    ensures { app_of result ≡ bare_app }
+{
+    Command::new(alloc, "kconf").no_binary_name(true).about(
+        "Computes the configuration that Kconfig files and a .config give",
+    )
+}
+
+// Adds the options.
+#[tactic(auto, unfolding(crate::specs::Kconf::with_options))]
+fn with_options<'a>(alloc: Global, command: Command<'a>) -> Result<Command<'a>, AllocError>
+    ensures { IfOk result (λ longer. app_of longer ≡ with_options (app_of command.entry)) }
+{
+    let command = with_option(alloc, command, "root", ROOT)?;
+    let command = with_option(alloc, command, "config", CONFIG)?;
+    let command = with_option(alloc, command, "out", OUT)?;
+    let command = with_option(alloc, command, "header", HEADER)?;
+    let command = with_option(alloc, command, "savedefconfig", MINIMAL)?;
+    with_option(alloc, command, "prefix", PREFIX)
+}
+
+// The command line of the program.
+#[tactic(auto, unfolding(crate::specs::Kconf::kconf_app))]
+pub(crate) fn command<'a>(alloc: Global) -> Result<Command<'a>, AllocError>
+    ensures { IfOk result (λ command. app_of command ≡ kconf_app) }
+{
+    let command = with_options(alloc, bare_command(alloc))?;
+    let command = with_kconfig(alloc, command)?;
+    with_fragments(alloc, command)
+}

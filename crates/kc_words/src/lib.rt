@@ -1,0 +1,12 @@
+//! The command line of `kconf`: what the words after the program's name ask for.
+#![tactic(auto)]
+
+mod command;
+mod options;
+mod usage;
+
+pub use options::{Options, options_of};
+pub use usage::Usage;
+
+#[cfg(test)]
+mod tests;

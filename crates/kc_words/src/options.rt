@@ -1,0 +1,159 @@
+//! What is asked of a run.
+
+ghost use Rattle.std.specs.Prelude.{◌≡◌, [], IfOk, IfErr, map, option_map, string_bytes, unwrap_or, codes, true};
+ghost use Rattle.clap.specs.Words.{takes, rows_of, found_of, kind_of, first_of, all_of, fault_of};
+ghost use Rattle.kc_dot.specs.Prefixes.{is_prefix};
+ghost use Rattle.kc_words.specs.Fields.{Holds, prefix_word};
+ghost use Rattle.kc_words.specs.Kconf.{kconf_app, words_of, rows_for};
+ghost use Rattle.kc_words.specs.Refusals.{IsKindOf, IsRefused, IsNoPrefix};
+
+use crate::command::command;
+use crate::usage::Usage;
+use clap::error::ErrorKind;
+use clap::{ArgMatches, Error};
+use kc_dot::prefix::Prefix;
+use std::alloc::{AllocError, Global};
+
+/// What is asked of a run. The names of files are as they were given.
+#[derive(Drop)]
+pub struct Options {
+    /// The folder of the Kconfig files, for names that do not begin with `/`.
+    pub root: String,
+    /// The `.config` to read.
+    pub config: String,
+    /// The full `.config` to write.
+    pub out: String,
+    /// The Kconfig file to begin with.
+    pub kconfig: String,
+    /// The header to write.
+    pub header: Option<String>,
+    /// The minimal `.config` to write.
+    pub minimal: Option<String>,
+    /// The files to read after the `.config`, in this order.
+    pub fragments: Vec<String>,
+    /// What stands before each symbol's name.
+    pub prefix: Prefix,
+}
+
+// The value of the argument, or what stands for an absent one.
+#[tactic(auto, using(crate::proofs::RowLemmas::found_rows))]
+fn text_or(
+    alloc: Global,
+    matches: &ArgMatches<'_>,
+    id: &str,
+    absent: &str,
+) -> Result<String, AllocError>
+    ensures { IfOk result (λ text. string_bytes text ≡ unwrap_or (first_of id.now (rows_of (found_of matches.now))) absent.now) }
+{
+    String::from_str(alloc, matches.get_str(id).unwrap_or(absent))
+}
+
+// The value of the argument, if it is there.
+#[tactic(auto, using(crate::proofs::RowLemmas::found_rows))]
+fn text_of(alloc: Global, matches: &ArgMatches<'_>, id: &str) -> Result<Option<String>, AllocError>
+    ensures { IfOk result (λ text. option_map string_bytes text ≡ first_of id.now (rows_of (found_of matches.now))) }
+{
+    match matches.get_str(id) {
+        Some(text) => Ok(Some(String::from_str(alloc, text)?)),
+        None => Ok(None),
+    }
+}
+
+// Copies of the texts.
+fn copies(alloc: Global, texts: &[&str]) -> Result<Vec<String>, AllocError>
+    ensures { IfOk result (λ copies. map string_bytes copies.items ≡ map (λ t. t.now) texts.now) }
+{
+    let mut copies = Vec::new(alloc);
+    for text in texts {
+        copies.push(String::from_str(alloc, text)?)?;
+    }
+    Ok(copies)
+}
+
+// All values of the argument.
+#[tactic(auto, using(crate::proofs::RowLemmas::found_rows))]
+fn texts_of(alloc: Global, matches: &ArgMatches<'_>, id: &str) -> Result<Vec<String>, AllocError>
+    ensures { IfOk result (λ texts. map string_bytes texts.items ≡ unwrap_or (all_of id.now (rows_of (found_of matches.now))) []) }
+{
+    match matches.get_strs(id) {
+        Some(texts) => copies(alloc, texts),
+        None => Ok(Vec::new(alloc)),
+    }
+}
+
+// The text as a prefix.
+fn prefix_of(alloc: Global, text: &str) -> Result<Prefix, Usage>
+    ensures ok { IfOk result (λ prefix. prefix ≡ text.now) }
+    ensures err { IfErr result (IsNoPrefix text.now) }
+{
+    match Prefix::new(alloc, text.as_bytes())? {
+        Some(prefix) => Ok(prefix),
+        None => Err(Usage::Bad(format!(in alloc;
+            "error: invalid value '{text}' for '--prefix <TEXT>': at most 64 letters, digits and _, of which the first is no digit\n\nFor more information, try '--help'.\n"
+        )?)),
+    }
+}
+
+// Reads each field from the matches.
+fn read_options(alloc: Global, matches: &ArgMatches<'_>) -> Result<Options, Usage>
+    ensures ok { IfOk result (Holds (rows_of (found_of matches.now))) }
+    ensures err { IfErr result (IsNoPrefix (prefix_word (rows_of (found_of matches.now)))) }
+{
+    let root = text_or(alloc, matches, "root", ".")?;
+    let config = text_or(alloc, matches, "config", ".config")?;
+    let out = text_or(alloc, matches, "out", config.as_str())?;
+    let kconfig = text_or(alloc, matches, "KCONFIG", "")?;
+    let header = text_of(alloc, matches, "header")?;
+    let minimal = text_of(alloc, matches, "savedefconfig")?;
+    let fragments = texts_of(alloc, matches, "FRAGMENT")?;
+    let prefix = text_or(alloc, matches, "prefix", "CONFIG_")?;
+    let prefix = prefix_of(alloc, prefix.as_str())?;
+    Ok(Options {
+        root,
+        config,
+        out,
+        kconfig,
+        header,
+        minimal,
+        fragments,
+        prefix,
+    })
+}
+
+// What an error of the parse is.
+fn usage_of(alloc: Global, error: &Error) -> Usage
+    ensures { IsKindOf (kind_of error.now) result }
+{
+    if error.kind() == ErrorKind::OutOfMemory {
+        return Usage::Memory;
+    }
+    match error.to_string(alloc) {
+        Ok(text) if error.kind() == ErrorKind::DisplayHelp => Usage::Help(text),
+        Ok(text) => Usage::Bad(text),
+        Err(_) => Usage::Memory,
+    }
+}
+
+/// Reads the words after the program's name, as the command line
+/// `[--root DIR] [--config FILE] [--out FILE] [--header FILE] [--savedefconfig FILE] [--prefix TEXT] KCONFIG [FRAGMENT ..]`
+/// (our own; the reading of the words is that of Rust's `clap`, whose documentation has the rules).
+///
+/// Each field is what the words hold, or for an absent option: root `.`, config `.config`, out the file of
+/// `--config`, prefix `CONFIG_`, header and minimal none.
+/// The errors are those of `Usage`. They leave nothing behind.
+pub fn options_of(alloc: Global, words: &[String]) -> Result<Options, Usage>
+    // Each field is what the words hold, or what an absent option means.
+    ensures ok { IfOk result (Holds (rows_for words.now)) }
+    // Options are given only where clap finds no fault in the words.
+    ensures faultless { IfOk result (λ _. fault_of kconf_app (words_of words.now) ≡ []) }
+    // Help only where clap finds that it is asked for, Bad only for another of its faults or a prefix that is none.
+    ensures refused { IfErr result (IsRefused (fault_of kconf_app (words_of words.now)) (prefix_word (rows_for words.now))) }
+    // Words that the command takes, with a prefix that is one, fail only for want of memory.
+    ensures taken { takes kconf_app (words_of words.now) ≡ true → is_prefix (prefix_word (rows_for words.now)) ≡ true → IfErr result (λ usage. usage ≡ Usage.Memory) }
+{
+    let command = command(alloc)?;
+    match command.try_get_matches_from(words) {
+        Ok(matches) => read_options(alloc, &matches),
+        Err(error) => Err(usage_of(alloc, &error)),
+    }
+}

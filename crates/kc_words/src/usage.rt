@@ -1,0 +1,38 @@
+//! Why words give no options.
+
+ghost use Rattle.std.specs.Prelude.{◌≡◌};
+ghost use Rattle.kc_words.specs.Refusals.{text_of};
+ghost use Rattle.kc_words.specs.declared.usage.Usage.TheVariants.{Memory};
+
+use std::alloc::AllocError;
+
+/// Why words give no options. The texts are `clap`'s, but for that of a prefix that is none.
+#[derive(Debug, Drop)]
+pub enum Usage {
+    /// The words ask for help, by `--help` or `-h`: the help, for standard output.
+    Help(String),
+    /// The command does not take the words, or the prefix is none: what is wrong, for standard error.
+    Bad(String),
+    /// E20: a growth was refused.
+    Memory,
+}
+
+impl From<AllocError> for Usage {
+    ghost from_gives = { λ _ e. e ≡ Memory };
+
+    fn from(_e: AllocError) -> Usage {
+        Usage::Memory
+    }
+}
+
+impl Usage {
+    /// The text to print.
+    pub fn text(&self) -> &str
+        ensures { result.now ≡ text_of self.now }
+    {
+        match self {
+            Usage::Help(text) | Usage::Bad(text) => text.as_str(),
+            Usage::Memory => "error E20: out of memory\n",
+        }
+    }
+}

@@ -1,0 +1,75 @@
+//! `kconf` on the firmware tree of `data/`: what each run answers, and the files that it leaves.
+#![tactic(auto)]
+
+use kc_disk::{exit_status, kconf_of};
+use std::alloc::{AllocError, Global};
+use std::{fs, io};
+
+// Runs that write nothing: a bad command line, refused trees, and devices that fail.
+const WITHOUT_FILES: [&str; 8] = [
+    "--out bad.config",
+    "--out bad.config none/Kconfig",
+    "--out bad.config start.config",
+    "--out bad.config board",
+    "--config board --out bad.config Kconfig",
+    "--out bad.config Kconfig none.cfg",
+    "--out /dev/full --header bad.config Kconfig",
+    "--out bad.folder/config Kconfig",
+];
+
+// The words between the blanks.
+fn words_of(alloc: Global, line: &str) -> Result<Vec<String>, AllocError> {
+    let mut words = Vec::new(alloc);
+    for word in line.split(' ') {
+        words.push(String::from_str(alloc, word)?)?;
+    }
+    Ok(words)
+}
+
+// Runs `kconf` with the words of the line, and prints the exit status.
+fn run(rt: &HostRuntime, line: &str) -> io::Result<()> {
+    let words = words_of(rt.alloc(), line)?;
+    let status = exit_status(kconf_of(rt, &words));
+    println!(rt; "status {status}: {line}")
+}
+
+// Prints a file under its name.
+fn show(rt: &HostRuntime, name: &str) -> io::Result<()> {
+    let text = fs::read_to_string(rt, name)?;
+    print!(rt; "== {name}\n{text}")
+}
+
+fn main(rt: HostRuntime) -> io::Result<()> {
+    run(
+        &rt,
+        "--config start.config --out full.config --header config.h --savedefconfig defconfig Kconfig site.config",
+    )?;
+    show(&rt, "full.config")?;
+    show(&rt, "config.h")?;
+    show(&rt, "defconfig")?;
+    run(&rt, "--config defconfig --out again.config Kconfig")?;
+    let is_same = fs::read(&rt, "full.config")? == fs::read(&rt, "again.config")?;
+    println!(rt; "again.config is full.config: {is_same}")?;
+    run(
+        &rt,
+        "--config none.config --out none.config --savedefconfig none.defconfig Kconfig",
+    )?;
+    show(&rt, "none.defconfig")?;
+    run(
+        &rt,
+        "--root rows --config rows/a.config --out ab.config --savedefconfig ab.defconfig Kconfig rows/x.cfg rows/y.cfg",
+    )?;
+    show(&rt, "ab.config")?;
+    show(&rt, "ab.defconfig")?;
+    run(
+        &rt,
+        "--root rows --config rows/br2.config --out br2.config --header br2.h --prefix BR2_ Kconfig",
+    )?;
+    show(&rt, "br2.config")?;
+    show(&rt, "br2.h")?;
+    for line in WITHOUT_FILES {
+        run(&rt, line)?;
+    }
+    let is_there = fs::exists(&rt, "bad.config")?;
+    println!(rt; "bad.config is there: {is_there}")
+}
