@@ -1,15 +1,19 @@
 # Thin: every target is one or two commands of the kit.
-.PHONY: build example test clean
+.PHONY: build example test bench clean
 
 build:
-	cd crates/kconf && rt run < /dev/null > /dev/null
+	cd crates/kconf && rt run -- --help > /dev/null
 
 # The main job on the example: its full .config on standard output.
-example:
-	@cd crates/kconf && rt run < ../../examples/thermostat/Kconfig
+example: build
+	@cd examples/firmware && ../../crates/kconf/out/kconf --config start.config --out /dev/stdout Kconfig site.config
 
 test:
 	rt ci
+
+# Times kconf beside the kernel's conf and kconfiglib, where they are there.
+bench: build
+	bench/run.sh
 
 clean:
 	rm -rf crates/*/out
