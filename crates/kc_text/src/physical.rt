@@ -79,7 +79,13 @@ fn line_feeds(bytes: &[u8]) -> usize
     ensures count { result ≡ count_by (λ b. b == 10) bytes.now }
     ensures within { result ≤ length bytes.now }
 {
-    bytes.iter().filter(|b| **b == b'\n').count()
+    let mut count = 0;
+    for b in bytes {
+        if *b == b'\n' {
+            count += 1;
+        }
+    }
+    count
 }
 
 /// The number of a file's physical lines: one for each line feed, and one more where bytes follow
