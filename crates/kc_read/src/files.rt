@@ -204,15 +204,17 @@ pub fn read_file(
 {
     let mut frame = frame;
     let mut lines = LogicalLines::new(bytes);
-    while read_next(reader, &mut lines, &mut frame, progress, names)? {}
+    let mut text = Vec::new(reader.alloc);
+    while read_next(reader, &mut lines, &mut text, &mut frame, progress, names)? {}
     Ok(())
 }
 
-// Reads one line of a file; false at its end.
+// Reads one line of a file; false at its end. `text` holds the line while it is read, in place of what it held.
 #[cycle(files)]
 fn read_next(
     reader: &Reader,
     lines: &mut LogicalLines,
+    text: &mut Vec<u8>,
     frame: &mut Frame,
     progress: &mut Progress,
     names: &mut Names,
@@ -233,6 +235,7 @@ fn read_next(
         reader.alloc,
         &frame.file,
         lines,
+        text,
         context,
         reader.modules,
         names,

@@ -23,6 +23,3 @@ pub use file_map::FileMap;
 pub use line::Line;
 pub use refusal::{Code, Refusal};
 pub use sources::sources_of;
-
-#[cfg(test)]
-mod tests;

@@ -32,21 +32,24 @@ fn ended(fault: TextFault) -> Result<Found, AllocError>
     }
 }
 
-// What the next line of a file says.
-fn next_source(alloc: Global, lines: &mut LogicalLines) -> Result<Found, AllocError>
+// What the next line of a file says. `text` holds the line while it is read, in place of what it held.
+fn next_source(
+    alloc: Global,
+    lines: &mut LogicalLines,
+    text: &mut Vec<u8>,
+) -> Result<Found, AllocError>
     requires { lines.old.refusal ≡ None }
     ensures found { IfOk result (IsFound lines.old lines.new) }
     ensures clear { IfOk result (λ f. GoesOn f → lines.new.refusal ≡ None) }
     ensures less { IfOk result (λ f. GoesOn f → length lines.new.lines < length lines.old.lines) }
 {
-    let mut text = Vec::new(alloc);
-    match lines.next_into(&mut text) {
+    match lines.next_into(text) {
         Ok(Some(_)) => {}
         Ok(None) => return Ok(Found::Nothing),
         Err(fault) => return ended(fault),
     }
     let mut tokens = Vec::new(alloc);
-    match lex(&text, &mut tokens) {
+    match lex(text, &mut tokens) {
         Ok(()) => {}
         Err(fault) => return ended(fault),
     }
@@ -74,8 +77,9 @@ pub fn sources_of(alloc: Global, file: &[u8]) -> Result<Vec<Vec<u8>>, AllocError
 {
     let mut names = Vec::new(alloc);
     let mut lines = LogicalLines::new(file);
+    let mut text = Vec::new(alloc);
     'along: loop {
-        match next_source(alloc, &mut lines)? {
+        match next_source(alloc, &mut lines, &mut text)? {
             Found::Nothing => return Ok(names),
             Found::Other => {}
             Found::Name(name) => names.push(name)?,

@@ -56,11 +56,12 @@ pub fn begins_help(tokens: &[Token]) -> bool
     begins_with(tokens, 0, b"help") || begins_with(tokens, 0, b"---help---")
 }
 
-/// What stands next in a file.
+/// What stands next in a file. `text` holds the line while it is read, in place of what it held.
 pub fn next_step(
     alloc: Global,
     file: &[u8],
     lines: &mut LogicalLines,
+    text: &mut Vec<u8>,
     context: Context,
     modules: Option<SymId>,
     names: &mut Names,
@@ -71,14 +72,13 @@ pub fn next_step(
     ensures memory { IfErr result IsMemory }
     ensures names { Extends names.old names.new }
 {
-    let mut text = Vec::new(alloc);
-    let number = match lines.next_into(&mut text) {
+    let number = match lines.next_into(text) {
         Ok(Some(number)) => number,
         Ok(None) => return Ok(Step::End),
         Err(fault) => return Err(refuse(alloc, text_fault(fault), file, long_line(fault))),
     };
     let mut tokens = Vec::new(alloc);
-    match lex(&text, &mut tokens) {
+    match lex(text, &mut tokens) {
         Ok(()) => {}
         Err(fault) => return Err(refuse(alloc, text_fault(fault), file, number)),
     }

@@ -5,8 +5,6 @@ mod assembly;
 mod attributes;
 mod blocks;
 mod build;
-#[cfg(test)]
-mod build_tests;
 mod choices;
 mod collect;
 mod conditions;
@@ -25,8 +23,6 @@ pub mod parts;
 mod raises;
 mod round;
 mod symbols;
-#[cfg(test)]
-mod tests;
 pub mod tree;
 mod warning;
 mod warnings;

@@ -3,9 +3,9 @@
 //! A row is `ROOT => WANT`, or `ROOT ++ A => WANT` beside a file `a`; in a file `~` stands for a line feed, `^` for a
 //! carriage return and `@` for a tab. What is wanted is a refusal, as `FILE:LINE CODE DETAIL`, or how much was read.
 
-use crate::{Expansion, FileMap, Line, Refusal, expand, sources_of};
 use kc_expr::expression::SymId;
 use kc_expr::names::Names;
+use kc_read::{Expansion, FileMap, Line, Refusal, expand, sources_of};
 use std::alloc::Global;
 use std::process::Abort;
 use std::test::Fail;

@@ -1,11 +1,11 @@
 //! Worked trees from the bytes of their files on: what a tree says of its symbols, choices and entries, its warnings,
 //! and the refusals that come after the last line.
 
-use crate::parts::{Choice, Cond, Entry, Symbol};
-use crate::tree::Tree;
 use kc_expr::expression::SymId;
 use kc_read::file_map::FileMap;
 use kc_read::refusal::{Code, Refusal};
+use kc_tree::parts::{Choice, Cond, Entry, Symbol};
+use kc_tree::tree::Tree;
 use std::alloc::Global;
 use std::test::Fail;
 
@@ -532,6 +532,28 @@ fn names_are_numbered_by_definition(rt: HostRuntime) -> Result<(), Fail> {
             assert!(rt; tree.main_menu() == b"Main menu".as_slice());
         }
         Err(refusal) => assert!(rt; false, "{refusal:?}"),
+    }
+    Ok(())
+}
+
+#[test]
+fn a_tree_is_built(rt: HostRuntime) -> Result<(), Fail> {
+    let alloc = rt.alloc();
+    let mut map = FileMap::new(alloc);
+    let text =
+        b"config A\n\tbool \"a\"\nmenu \"m\"\nconfig B\n\ttristate\n\tdepends on A\nendmenu\n";
+    map.insert(
+        Vec::from_slice(alloc, b"Kconfig")?,
+        Vec::from_slice(alloc, text)?,
+    )?;
+    match Tree::build(alloc, &map, b"Kconfig") {
+        Ok(tree) => {
+            assert_eq!(rt; tree.symbol_count(), 2);
+            assert_eq!(rt; tree.entries().len(), 4);
+            assert!(rt; tree.name(tree.symbol(1)) == b"B".as_slice());
+            assert!(rt; tree.modules_symbol() == None);
+        }
+        Err(_) => assert!(rt; false, "refused"),
     }
     Ok(())
 }
