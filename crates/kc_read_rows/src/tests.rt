@@ -400,10 +400,11 @@ fn each_row(rt: &impl Abort, alloc: Global, rows: &str) -> Result<(), Fail> {
 
 #[test]
 fn files_are_read_or_refused_at_their_first_fault(rt: HostRuntime) -> Result<(), Fail> {
-    for rows in [FIRST_CHECKS, NAMED_FAULTS, ENTRIES, LINE_ENDS, SOURCED] {
-        each_row(&rt, rt.alloc(), rows)?;
-    }
-    Ok(())
+    each_row(&rt, rt.alloc(), FIRST_CHECKS)?;
+    each_row(&rt, rt.alloc(), NAMED_FAULTS)?;
+    each_row(&rt, rt.alloc(), ENTRIES)?;
+    each_row(&rt, rt.alloc(), LINE_ENDS)?;
+    each_row(&rt, rt.alloc(), SOURCED)
 }
 
 // The line behind another.
@@ -413,18 +414,18 @@ fn behind(alloc: Global, text: &str, line: &str) -> Result<Vec<u8>, Fail> {
     Ok(file)
 }
 
-#[test]
-fn a_rest_outside_the_grammar_is_refused(rt: HostRuntime) -> Result<(), Fail> {
-    let alloc = rt.alloc();
-    for line in BAD_RESTS.lines() {
+fn each_rest(rt: &impl Abort, alloc: Global, rests: &str) -> Result<(), Fail> {
+    for line in rests.lines() {
         let root = behind(alloc, "config Z~", line)?;
-        assert_eq!(rt;
-            beside(alloc, &root, b"")?.as_str(),
-            "Kconfig:2 Syntax",
-            "{line}"
-        );
+        let got = beside(alloc, &root, b"")?;
+        assert_eq!(rt; got.as_str(), "Kconfig:2 Syntax", "{line}");
     }
     Ok(())
+}
+
+#[test]
+fn a_rest_outside_the_grammar_is_refused(rt: HostRuntime) -> Result<(), Fail> {
+    each_rest(&rt, rt.alloc(), BAD_RESTS)
 }
 
 // How the second line is taken.
@@ -436,19 +437,28 @@ fn sign_of(outcome: &str) -> char {
     }
 }
 
-#[test]
-fn each_line_has_its_place(rt: HostRuntime) -> Result<(), Fail> {
-    let alloc = rt.alloc();
-    for row in PLACES.lines() {
+// How a line is taken in each kind of entry.
+fn signs(alloc: Global, line: &str) -> Result<String, Fail> {
+    let mut signs = String::new(alloc);
+    for entry in ["config Z~", "choice~", "menu m~", "comment c~", "if y~"] {
+        let root = behind(alloc, entry, line)?;
+        signs.push(sign_of(&beside(alloc, &root, b"")?))?;
+    }
+    Ok(signs)
+}
+
+fn each_place(rt: &impl Abort, alloc: Global, places: &str) -> Result<(), Fail> {
+    for row in places.lines() {
         let (line, want) = cut(row, " => ");
-        let mut signs = String::new(alloc);
-        for entry in ["config Z~", "choice~", "menu m~", "comment c~", "if y~"] {
-            let root = behind(alloc, entry, line)?;
-            signs.push(sign_of(&beside(alloc, &root, b"")?))?;
-        }
-        assert_eq!(rt; signs.as_str(), want, "{line}");
+        let got = signs(alloc, line)?;
+        assert_eq!(rt; got.as_str(), want, "{line}");
     }
     Ok(())
+}
+
+#[test]
+fn each_line_has_its_place(rt: HostRuntime) -> Result<(), Fail> {
+    each_place(&rt, rt.alloc(), PLACES)
 }
 
 // The lines, each with its file and number.
@@ -486,18 +496,24 @@ fn expansion(
     }
 }
 
-#[test]
-fn each_statement_is_read(rt: HostRuntime) -> Result<(), Fail> {
-    let alloc = rt.alloc();
+// Statements in lines of their own, each behind an empty line, and how they are listed.
+fn stated(alloc: Global, statements: &str) -> Result<(Vec<u8>, String), Fail> {
     let (mut root, mut want) = (Vec::new(alloc), String::new(alloc));
     let mut number: u32 = 1;
-    for row in STATEMENTS.lines() {
+    for row in statements.lines() {
         let (line, statement) = cut(row, " => ");
         root.extend_from_slice(line.as_bytes())?;
         root.extend_from_slice(b"\n\n")?;
         want.push_str(&format!(in alloc; "Kconfig:{number} {statement}\n")?)?;
         number = number.saturating_add(2);
     }
+    Ok((root, want))
+}
+
+#[test]
+fn each_statement_is_read(rt: HostRuntime) -> Result<(), Fail> {
+    let alloc = rt.alloc();
+    let (root, mut want) = stated(alloc, STATEMENTS)?;
     want.push_str("Some(SymId(2)) 1")?;
     let mut map = FileMap::new(alloc);
     put(alloc, &mut map, b"Kconfig", &root)?;
@@ -530,19 +546,28 @@ fn lines_have_their_files_and_numbers(rt: HostRuntime) -> Result<(), Fail> {
     Ok(())
 }
 
-#[test]
-fn sources_end_at_the_first_bad_line(rt: HostRuntime) -> Result<(), Fail> {
-    let alloc = rt.alloc();
-    for row in SOURCE_LISTS.lines() {
+// The names that a file sources, each with a sign behind it.
+fn sourced(alloc: Global, file: &[u8]) -> Result<String, Fail> {
+    let mut text = String::new(alloc);
+    for name in &sources_of(alloc, file)? {
+        push_bytes(&mut text, name)?;
+        text.push(';')?;
+    }
+    Ok(text)
+}
+
+fn each_list(rt: &impl Abort, alloc: Global, rows: &str) -> Result<(), Fail> {
+    for row in rows.lines() {
         let (file, want) = cut(row, " => ");
-        let mut text = String::new(alloc);
-        for name in &sources_of(alloc, &file_of(alloc, file)?)? {
-            push_bytes(&mut text, name)?;
-            text.push(';')?;
-        }
-        assert_eq!(rt; text.as_str(), want, "{file}");
+        let got = sourced(alloc, &file_of(alloc, file)?)?;
+        assert_eq!(rt; got.as_str(), want, "{file}");
     }
     Ok(())
+}
+
+#[test]
+fn sources_end_at_the_first_bad_line(rt: HostRuntime) -> Result<(), Fail> {
+    each_list(&rt, rt.alloc(), SOURCE_LISTS)
 }
 
 // The piece so many times, between a beginning and an end.
@@ -561,10 +586,22 @@ fn repeated(
     Ok(text)
 }
 
+// A beginning, a piece and how often it stands, an end, and what comes of the file.
+type Repeats<'a> = (&'a str, &'a [u8], usize, &'a str, &'a str);
+
+fn each_limit(rt: &impl Abort, alloc: Global, rows: &[Repeats]) -> Result<(), Fail> {
+    for (front, piece, count, back, want) in rows {
+        let root = repeated(alloc, front, piece, *count, back)?;
+        let got = beside(alloc, &root, b"")?;
+        assert_eq!(rt; got.as_str(), *want);
+    }
+    Ok(())
+}
+
 #[test]
 fn limits_of_a_line_and_of_blocks_hold_to_the_last_one(rt: HostRuntime) -> Result<(), Fail> {
     let alloc = rt.alloc();
-    for (front, piece, count, back, want) in [
+    let rows: [Repeats; 18] = [
         ("", b"#".as_slice(), 8191, "", "0 lines, 0 symbols"),
         ("", b"#", 8192, "", "Kconfig:1 LineTooLong"),
         ("~", b"#", 8191, "^~", "0 lines, 0 symbols"),
@@ -589,10 +626,8 @@ fn limits_of_a_line_and_of_blocks_hold_to_the_last_one(rt: HostRuntime) -> Resul
             "",
             "Kconfig:191 TooDeep",
         ),
-    ] {
-        let root = repeated(alloc, front, piece, count, back)?;
-        assert_eq!(rt; beside(alloc, &root, b"")?.as_str(), want);
-    }
+    ];
+    each_limit(&rt, alloc, &rows)?;
     let root = repeated(alloc, "config ", b"A", 256, "")?;
     let got = beside(alloc, &root, b"")?;
     assert!(rt; got.starts_with("Kconfig:1 BadName AAA"));
