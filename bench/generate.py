@@ -79,7 +79,7 @@ def main():
     (folder / "parts").mkdir(exist_ok=True)
     kinds = pick.choices(["bool", "tristate", "string", "int", "hex"], [55, 25, 6, 9, 5], k=symbols)
     names = [("MODULES", "bool")] + [(f"{kind[:3].upper()}_{number:05d}", kind) for number, kind in enumerate(kinds) if number]
-    root = ['mainmenu "Generated firmware"', "", "config MODULES", '\tbool "Enable modules"', "\tdefault y", ""]
+    root = ['mainmenu "Generated firmware"', "", "config MODULES", '\tbool "Enable modules"', "\tdefault y", "\toption modules", ""]
     settings = []
     number = 1
     for file_number in range(files):

@@ -1,40 +1,85 @@
 #!/usr/bin/env bash
-# Times kconf beside the kernel's conf and kconfiglib over a generated tree: bench/run.sh [SYMBOLS]
+# Times kconf beside the kernel's conf and kconfiglib over a generated tree, and then kconf alone over trees of four sizes:
+# bench/run.sh [SYMBOLS]
 #
-# It wants crates/kconf/out/kconf (make build), and takes kconfig-conf and kconfiglib where they are there
-# (Debian's packages kconfig-frontends-nox and python3-kconfiglib). Each runs five times; the least of the times counts.
+# kconf is crates/kconf/out/kconf (make build), or the program that KCONF names; one run of it writes the full .config, the header
+# and the minimal file. kconfig-conf and kconfiglib are taken where they are there (Debian's packages kconfig-frontends-nox and
+# python3-kconfiglib). conf writes one file a run, so it is run for the .config and for the minimal file.
+#
+# Each command runs ten times. The table shows the run with the least processor time (user and system together), and of all runs
+# the least wall time and the greatest peak memory, as getrusage tells them. The machine should have nothing else to do.
 set -eu
 here=$(cd "$(dirname "$0")" && pwd)
-kconf=$here/../crates/kconf/out/kconf
+kconf=$(realpath "${KCONF:-$here/../crates/kconf/out/kconf}")
+symbols=${1:-20000}
+runs=${RUNS:-10}
+python=/usr/bin/python3
 work=$(mktemp -d)
 trap 'rm -rf "$work"' EXIT
-python3 "$here/generate.py" "$work" "${1:-20000}"
-cd "$work"
-echo "$(find . -type f ! -name dot.config -exec cat {} + | wc -l) lines in $(find . -type f ! -name dot.config | wc -l) files, $(wc -l <dot.config) lines of .config"
+if [ ! -x "$kconf" ]; then
+    echo "there is no $kconf: make build makes it" >&2
+    exit 1
+fi
 
-# The least of five times of a command, in milliseconds of user and system time.
-least() {
-    local name=$1 best=
-    shift
-    for _ in 1 2 3 4 5; do
-        cp dot.config .config
-        TIMEFORMAT='%U %S'
-        spent=$({ time "$@" >/dev/null 2>&1; } 2>&1 | awk '{print int(($1 + $2) * 1000 + 0.5)}')
-        if [ -z "$best" ] || [ "$spent" -lt "$best" ]; then best=$spent; fi
-    done
-    echo "$name: $best ms"
+# Runs a command as often as asked in the folder of a tree and prints its line of the table: NAME COMMAND ..
+measure() {
+    "$python" - "$runs" "$@" <<'EOF'
+import os
+import shutil
+import subprocess
+import sys
+import time
+
+runs, name, command = int(sys.argv[1]), sys.argv[2], sys.argv[3:]
+spent, walls, peaks = [], [], []
+for _ in range(runs):
+    shutil.copyfile("dot.config", ".config")
+    start = time.monotonic()
+    process = subprocess.Popen(command, stdin=subprocess.DEVNULL, stdout=subprocess.DEVNULL, stderr=subprocess.DEVNULL)
+    _, status, usage = os.wait4(process.pid, 0)
+    walls.append(time.monotonic() - start)
+    if status:
+        sys.exit(f"{name}: ended with status {os.waitstatus_to_exitcode(status)}")
+    spent.append(usage.ru_utime + usage.ru_stime)
+    peaks.append(usage.ru_maxrss)
+print(f"{name:<36} {min(spent):8.3f} s {min(walls):8.3f} s {max(peaks) / 1024:8.1f} MiB", flush=True)
+EOF
 }
 
-least kconf "$kconf" --config dot.config --out .config --header kconf.h --savedefconfig kconf.min Kconfig
+# Makes the tree of so many symbols in a folder and goes there.
+make_tree() {
+    "$python" "$here/generate.py" "$work/$1" "$1"
+    cd "$work/$1"
+}
+
+heads() {
+    printf '%-36s %10s %10s %12s\n' "$1" processor wall 'peak memory'
+}
+
+our_run() {
+    measure "$1" "$kconf" --config dot.config --out .config --header kconf.h --savedefconfig kconf.min Kconfig
+}
+
+make_tree "$symbols"
+echo "$symbols symbols, $(cat Kconfig parts/* | wc -l) lines in $(cat Kconfig parts/* | grep -c '^source') sourced files, $(wc -l <dot.config) lines of .config; $runs runs each"
+heads 'one tree'
+our_run 'kconf, all three files'
 if command -v kconfig-conf >/dev/null; then
-    least 'conf --olddefconfig' kconfig-conf --olddefconfig Kconfig
-    least 'conf --savedefconfig' kconfig-conf --savedefconfig=conf.min Kconfig
+    measure 'kconfig-conf --olddefconfig' kconfig-conf --olddefconfig Kconfig
+    measure 'kconfig-conf --savedefconfig' kconfig-conf --savedefconfig=conf.min Kconfig
 fi
-if /usr/bin/python3 -c 'import kconfiglib' 2>/dev/null; then
-    least kconfiglib /usr/bin/python3 -c 'import kconfiglib
+if "$python" -c 'import kconfiglib' 2>/dev/null; then
+    measure 'kconfiglib, all three files' "$python" -c 'import kconfiglib
 tree = kconfiglib.Kconfig("Kconfig", warn=False)
 tree.load_config("dot.config")
 tree.write_config("kconfiglib.config", save_old=False)
 tree.write_min_config("kconfiglib.min")
 tree.write_autoconf("kconfiglib.h")'
 fi
+
+echo
+heads 'growth of kconf'
+for size in 5000 10000 20000 40000; do
+    make_tree "$size"
+    our_run "$size symbols"
+done
