@@ -1,5 +1,5 @@
 # Thin: every target is one or two commands of the kit.
-.PHONY: build example test bench clean
+.PHONY: build example test bench real clean
 
 build:
 	cd crates/kconf && rt run -- --help > /dev/null
@@ -14,6 +14,10 @@ test:
 # Times kconf beside the kernel's conf and kconfiglib, where they are there.
 bench: build
 	bench/run.sh
+
+# Runs two trees of others, fetched from Debian, and compares with the same tools.
+real: build
+	bench/real.sh
 
 clean:
 	rm -rf crates/*/out
