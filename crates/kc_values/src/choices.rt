@@ -14,7 +14,8 @@ use kc_expr::values::Values;
 use kc_tree::parts::Choice;
 use kc_tree::tree::Tree;
 
-/// Whether a prompt of the symbol is visible.
+/// Whether a prompt of the symbol has a condition that is not n; a name that is not defined has none (kconfiglib's
+/// `visibility`).
 pub fn visible<V: Values>(tree: &Tree, id: SymId, values: &V) -> bool
     ensures { result ≡ spec.visible tree.now (known_by (V.kind_of values.now) (V.tri_of values.now) (V.text_of values.now)) id }
 {
@@ -24,7 +25,7 @@ pub fn visible<V: Values>(tree: &Tree, id: SymId, values: &V) -> bool
     }
 }
 
-/// Whether it is a member of the choice with a visible prompt.
+// Whether it is a member of the choice with a visible prompt.
 fn visible_member<V: Values>(tree: &Tree, choice: &Choice, id: SymId, values: &V) -> bool
     ensures { result ≡ spec.visible_member tree.now (known_by (V.kind_of values.now) (V.tri_of values.now) (V.text_of values.now)) (choice_facts_of choice.now) id }
 {
@@ -37,7 +38,7 @@ fn is_among(id: SymId, members: &[SymId]) -> bool
     members.iter().any(|member| id.0 == member.0)
 }
 
-/// The first default whose condition is not n and that names a visible member.
+// The first default whose condition is not n and that names a visible member.
 fn first_default<V: Values>(tree: &Tree, choice: &Choice, values: &V) -> Option<SymId>
     ensures { result ≡ spec.first_default tree.now (known_by (V.kind_of values.now) (V.tri_of values.now) (V.text_of values.now)) (choice_facts_of choice.now) (choice_facts_of choice.now).defaults }
 {
@@ -51,7 +52,7 @@ fn first_default<V: Values>(tree: &Tree, choice: &Choice, values: &V) -> Option<
     None
 }
 
-/// The default selection: that default, else the first visible member.
+// The default selection: that default, else the first visible member.
 fn unselected<V: Values>(tree: &Tree, choice: &Choice, values: &V) -> Option<SymId>
     ensures { result ≡ spec.unselected tree.now (known_by (V.kind_of values.now) (V.tri_of values.now) (V.text_of values.now)) (choice_facts_of choice.now) }
 {
@@ -72,7 +73,9 @@ fn first_visible<V: Values>(tree: &Tree, members: &[SymId], values: &V) -> Optio
     None
 }
 
-/// The selection of a choice.
+/// The selection of a choice: none where its mode is n; else the user's member where it is a visible member of that choice,
+/// else the first default whose condition is not n and that names a visible member, else the first visible member
+/// (kconfiglib's `selection`; the kernel's kconfig-language document on choices).
 pub fn selected<V: Values>(
     tree: &Tree,
     choice: &Choice,

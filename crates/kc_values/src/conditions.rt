@@ -13,7 +13,7 @@ use kc_tree::parts::{Choice, Cond};
 use kc_tree::tree::Tree;
 use std::rc::Rc;
 
-/// m as y.
+/// m as y: what counts where m can't be (kconfiglib, of symbols that are not tristate).
 pub fn up(value: Tri) -> Tri
     ensures { result ≡ spec.up value }
 {
@@ -23,7 +23,7 @@ pub fn up(value: Tri) -> Tri
     }
 }
 
-/// Whether it is n.
+/// Whether it is n, by which a condition fails (the kernel's kconfig-language document, "Menu dependencies").
 pub fn is_n(value: Tri) -> bool
     ensures { result ≡ spec.is_n value }
 {
@@ -33,7 +33,8 @@ pub fn is_n(value: Tri) -> bool
     }
 }
 
-/// The least value of the parts.
+/// The least value of the parts, y where there is none: their `&&` (the kernel's kconfig-language document, "Menu
+/// dependencies").
 pub fn all_hold<V: Values>(parts: &[Rc<Expr>], values: &V) -> Tri
     ensures { result ≡ spec.all_hold (known_by (V.kind_of values.now) (V.tri_of values.now) (V.text_of values.now)) (map (λ p. form_of p.value) parts.now) }
 {
@@ -44,7 +45,8 @@ pub fn all_hold<V: Values>(parts: &[Rc<Expr>], values: &V) -> Tri
     least
 }
 
-/// The mode of a choice: y where its prompt's condition is not n.
+/// The mode of a choice: y where its prompt's condition is not n, else n; n without a prompt (kconfiglib's `tri_value` of a
+/// choice; that its members are bools and that m counts as y is our own).
 pub fn mode_of<V: Values>(choice: &Choice, values: &V) -> Tri
     ensures { result ≡ spec.mode_of (known_by (V.kind_of values.now) (V.tri_of values.now) (V.text_of values.now)) (Some (choice_facts_of choice.now)) }
 {
@@ -54,7 +56,8 @@ pub fn mode_of<V: Values>(choice: &Choice, values: &V) -> Tri
     }
 }
 
-/// The `&&` of the parts and of the mode.
+/// The `&&` of the parts and of the mode of the choice that the condition names, if it names one (the kernel's
+/// kconfig-language document, "Menu dependencies").
 pub fn condition<V: Values>(tree: &Tree, when: &Cond, values: &V) -> Tri
     ensures { result ≡ spec.condition tree.now (known_by (V.kind_of values.now) (V.tri_of values.now) (V.text_of values.now)) (condition_of when.now) }
 {
@@ -69,7 +72,8 @@ pub fn condition<V: Values>(tree: &Tree, when: &Cond, values: &V) -> Tri
     parts.min(mode)
 }
 
-/// The greatest condition.
+/// The greatest of the conditions, n where there is none: the `||` over several definitions of one symbol (kconfiglib's
+/// `visibility` and `direct_dep`).
 pub fn conditions<V: Values>(tree: &Tree, all: &[Cond], values: &V) -> Tri
     ensures { result ≡ spec.conditions tree.now (known_by (V.kind_of values.now) (V.tri_of values.now) (V.text_of values.now)) (map condition_of all.now) }
 {

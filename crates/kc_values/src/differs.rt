@@ -16,7 +16,8 @@ use kc_tree::parts::Symbol;
 use kc_tree::tree::Tree;
 use std::alloc::{AllocError, Global};
 
-/// Whether the value of a symbol outside a choice is not what its equation gives without what the user gave for it.
+/// Whether the value of a symbol outside a choice is not what its equation gives, under the same values of all others,
+/// without what the user gave for it (our own rule of the minimal file). Fails for want of memory alone.
 pub fn own_differs<V: Values>(
     alloc: Global,
     tree: &Tree,
@@ -56,7 +57,7 @@ fn selects(selection: Option<SymId>, id: SymId) -> bool
     }
 }
 
-/// Whether a member is selected, and is not the default selection.
+/// Whether a member is selected, and is not the default selection (our own rule of the minimal file).
 pub fn member_differs(selection: Option<SymId>, default: Option<SymId>, id: SymId) -> bool
     ensures { result ≡ (value.names_symbol selection id && not (value.names_symbol default id)) }
 {

@@ -21,7 +21,9 @@ use kc_tree::tree::Tree;
 use kc_user::value::UserValue;
 use std::alloc::{AllocError, Global};
 
-/// The value that the equation of a symbol outside a choice gives.
+/// The value that the equation of a symbol outside a choice gives, by its type (the kernel's kconfig-language document,
+/// "Menu attributes"; kconfiglib's `tri_value` and `str_value`). Without a type it is the symbol's name, as of a name that
+/// is not defined (kconfiglib). Fails for want of memory alone.
 pub fn own_equation<V: Values>(
     alloc: Global,
     tree: &Tree,
@@ -55,7 +57,9 @@ pub fn own_equation<V: Values>(
 }
 
 /// The value that the equation of a defined symbol gives: `user` is what was given for it, `users` what was given for
-/// each choice, `selections` those settled so far.
+/// each choice, `selections` those settled so far, to which that of the symbol's own choice is added (the kernel's
+/// kconfig-language document; where that is vague, kconfiglib's documented rules). Fails for want of memory alone; what
+/// is settled then is right too.
 pub fn equation<V: Values>(
     alloc: Global,
     tree: &Tree,

@@ -4,19 +4,21 @@ ghost use Rattle.kc_values.specs.Laws.{EquationsReadNeeds, NeedsAreDefined, Acce
 
 use kc_expr::values::value_depends_on_symbols;
 
-/// An equation reads only what its symbol needs.
+/// An equation reads only the places that are its symbol's own (of a member: its choice's) and the values of what the symbol
+/// needs (our own).
 pub fn equations_read_needs()
     ensures { EquationsReadNeeds }
 {
     value_depends_on_symbols();
 }
 
-/// Each need of a symbol is a defined symbol.
+/// Each need of a symbol is a defined symbol (our own).
 pub fn needs_are_defined()
     ensures { NeedsAreDefined }
 {}
 
-/// For every accepted tree and every places there is one solution.
+/// For every accepted tree and whatever the user gave there is a solution, and any two agree at each defined symbol (our own;
+/// the kernel's kconfig-language document asks that dependencies don't recur).
 pub fn accepted_have_one_solution()
     ensures exists { AcceptedHaveOneSolution }
     ensures agree { SolutionsAgree }
@@ -25,12 +27,13 @@ pub fn accepted_have_one_solution()
     needs_are_defined();
 }
 
-/// The line of a symbol that differs gives its value again.
+/// The line of a symbol that differs gives its value again: what was taken from the user is a fixed point of its own line (our
+/// own).
 pub fn lines_are_fixed()
     ensures { LinesAreFixed }
 {}
 
-/// The minimal file's lines give the values back, and no nonempty set of them can go.
+/// The minimal file's lines give the values back, and no nonempty set of them can go (our own).
 pub fn minimal_restores()
     ensures restores { MinimalRestores }
     ensures nothing_to_spare { MinimalHasNothingToSpare }
@@ -39,17 +42,19 @@ pub fn minimal_restores()
     needs_are_defined();
 }
 
-/// The written lines give the values again exactly where no symbol is unsettled.
+/// The written lines that `allowed` accepts give the values again exactly where no symbol is unsettled: outside a choice, of
+/// type tristate, visible, and greater than both its visibility and its reverse dependency (our own).
 pub fn settled_where()
     ensures { SettledWhere }
 {}
 
-/// The value of a symbol that differs is one that `allowed` accepts.
+/// The value of a symbol that differs is one that `allowed` accepts (our own).
 pub fn differing_are_allowed()
     ensures { DifferingAreAllowed }
 {}
 
-/// Choices don't nest: the mode of a choice is y exactly where its prompt's condition is not n.
+/// Choices don't nest: the mode of a choice is y exactly where its prompt's condition is not n. Of every tree each member is a
+/// bool of its own choice (our own; the kernel's kconfig-language document on choices).
 pub fn choices_stand_alone()
     ensures mode { ModeIsPromptCondition }
     ensures members { WellFormedHaveMembers }

@@ -8,21 +8,21 @@ use kc_expr::expression::SymId;
 use kc_tree::parts::{Choice, ChoiceId, Symbol};
 use kc_tree::tree::Tree;
 
-/// What the lines of a defined symbol say.
+/// What the lines of a defined symbol say; nothing of a name that is not defined (our own).
 pub fn facts(tree: &Tree, id: SymId) -> Option<&Symbol>
     ensures { facts_at result ≡ spec.facts tree.now id }
 {
     tree.facts(id)
 }
 
-/// What the lines of a choice say, where there is one of that number.
+/// What the lines of a choice say, where there is one of that number (our own).
 pub fn choice(tree: &Tree, id: ChoiceId) -> Option<&Choice>
     ensures { choice_facts_at result ≡ spec.choice_at tree.now id.0 }
 {
     tree.choices().get(id.0)
 }
 
-/// The name of a number, or nothing where the tree has no such name.
+/// The name of a number, or no byte where the tree has no such name (our own).
 pub fn name(tree: &Tree, id: SymId) -> &[u8]
     ensures { result.now ≡ spec.name tree.now id }
 {

@@ -15,14 +15,16 @@ use kc_tree::parts::ChoiceId;
 use kc_tree::tree::Tree;
 use std::alloc::{AllocError, Global};
 
-/// The selections of choices that are settled so far, by the numbers of the choices.
+/// The selections of choices that are settled so far, by the numbers of the choices, so that one selection serves all
+/// members of a choice (our own).
 #[derive(Drop)]
 pub struct Selections {
+    /// For each choice what it selects, if that is settled; no member can be selected too.
     pub settled: Vec<Option<Option<SymId>>>,
 }
 
 impl Selections {
-    /// No selection of so many choices is settled.
+    /// No selection of so many choices is settled. Fails for want of memory alone (our own).
     pub fn new(alloc: Global, count: usize) -> Result<Selections, AllocError>
         ensures { IfOk result (λ s. s.settled.items ≡ replicate count None) }
     {
@@ -31,7 +33,7 @@ impl Selections {
     }
 }
 
-/// The selection of a choice under the user's member; none where there is no such choice.
+/// The selection of a choice under the user's member; none where there is no such choice (kconfiglib's `selection`).
 pub fn selected_in<V: Values>(
     tree: &Tree,
     choice: ChoiceId,
@@ -78,7 +80,8 @@ fn settle<V: Values>(
     selection
 }
 
-/// The value of a member: y where it is selected. `selections` holds the selections found so far.
+/// The value of a member: y where it is selected, else n; its own defaults count for nothing (the kernel's kconfig-language
+/// document on choices). `selections` holds the selections found so far, and afterwards that of this choice too.
 pub fn member_equation<V: Values>(
     tree: &Tree,
     id: SymId,
@@ -101,7 +104,7 @@ pub fn member_equation<V: Values>(
     }
 }
 
-/// What an equation and a selection depend on: the names in them alone.
+/// What an equation and a selection depend on: the names in them alone (our own).
 pub fn depends_on_names()
     ensures equation { DependsOnNames }
     ensures selection { SelectionDependsOnNames }

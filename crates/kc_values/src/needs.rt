@@ -231,7 +231,8 @@ fn defined_numbers(alloc: Global, tree: &Tree, names: &[SymId]) -> Result<Vec<u3
 }
 
 /// What the symbol of a number needs: the numbers of the defined symbols that its equation names, each as often as it
-/// stands there.
+/// stands there (our own; the kernel's kconfig-language document forbids recursive dependencies and does not say which
+/// count). Fails for want of memory alone.
 pub fn needs_of(alloc: Global, tree: &Tree, id: SymId) -> Result<Vec<u32>, AllocError>
     ensures { IfOk result (λ v. v.items ≡ spec.needs_of tree.now id.0) }
 {
@@ -292,7 +293,8 @@ fn add_needs(
     Ok(())
 }
 
-/// What each symbol of a tree needs, by number. The members of a choice share one row.
+/// What each symbol of a tree needs, by number. The members of a choice share one row, so that nothing grows with the
+/// square of them (our own). Fails for want of memory alone.
 pub fn tree_needs(alloc: Global, tree: &Tree) -> Result<Needs, AllocError>
     ensures { IfOk result (λ n. n ≡ spec.needs tree.now) }
 {

@@ -20,7 +20,8 @@ use kc_tree::tree::Tree;
 use kc_user::value::UserValue;
 use std::alloc::{AllocError, Global};
 
-/// The number that a text writes, read by the type.
+/// The number that a text writes, read by the type: decimal for int, with or without `0x` for hex; none for another type or
+/// text (our own limits, 64 bits each).
 pub fn number_as(kind: Kind, text: &[u8]) -> Option<i128>
     ensures { result ≡ digits.number_as kind text.now }
 {
@@ -61,7 +62,8 @@ fn first_range<V: Values>(
     None
 }
 
-/// The active range of a symbol: the first whose condition is not n.
+/// The active range of a symbol: the first whose condition is not n (the kernel's kconfig-language document, "Menu
+/// attributes": numerical ranges). A bound that is no number counts as 0 (our own).
 pub fn active_range<V: Values>(tree: &Tree, symbol: &Symbol, values: &V) -> Option<Interval>
     ensures range { result ≡ spec.active_range tree.now (known_by (V.kind_of values.now) (V.tri_of values.now) (V.text_of values.now)) (facts_of symbol.now) }
     ensures small { IfSome result IsSmall }
@@ -69,7 +71,8 @@ pub fn active_range<V: Values>(tree: &Tree, symbol: &Symbol, values: &V) -> Opti
     first_range(tree, symbol.kind, &symbol.ranges, values)
 }
 
-/// Whether the number of a text is inside the range; where there is none it is.
+/// Whether the number of a text is inside the range, both bounds included; where there is no range it is (kconfiglib's
+/// `str_value`). What is no number counts as 0 (our own).
 pub fn is_inside(kind: Kind, range: Option<Interval>, text: &[u8]) -> bool
     ensures { result ≡ digits.is_inside kind range text.now }
 {
@@ -82,7 +85,7 @@ pub fn is_inside(kind: Kind, range: Option<Interval>, text: &[u8]) -> bool
     }
 }
 
-/// The user's text where it is inside the range.
+/// The user's text where its number is inside the range; another is dropped and not clamped (kconfiglib's `str_value`).
 pub fn if_inside(kind: Kind, range: Option<Interval>, given: Option<&[u8]>) -> Option<&[u8]>
     ensures { text_at result ≡ digits.if_inside kind range (text_at given.entry) }
 {
@@ -92,7 +95,8 @@ pub fn if_inside(kind: Kind, range: Option<Interval>, given: Option<&[u8]>) -> O
     }
 }
 
-/// A number as it is written: decimal for int, `0x` and lower-case digits for hex.
+/// A number as it is written: decimal for int, `0x` and lower-case digits for hex (kconfiglib's `str_value`). Fails for want
+/// of memory alone.
 pub fn number_text(alloc: Global, kind: Kind, number: i128) -> Result<Vec<u8>, AllocError>
     requires { unsigned_abs number < 2 ^ 64 }
     ensures { IfOk result (λ v. v.items ≡ digits.number_text kind number) }
@@ -107,7 +111,8 @@ pub fn number_text(alloc: Global, kind: Kind, number: i128) -> Result<Vec<u8>, A
     Ok(text.into_bytes())
 }
 
-/// The text where its number is inside the range, else the bound that it passes.
+/// The text where its number is inside the range, else the bound that it passes, the low one first (kconfiglib's
+/// `str_value` of a default outside its range). What is no number counts as 0 (our own). Fails for want of memory alone.
 pub fn clamped(
     alloc: Global,
     kind: Kind,
@@ -151,7 +156,9 @@ fn used_or_clamped(
     Ok(value)
 }
 
-/// The value of an int or hex symbol outside a choice.
+/// The value of an int or hex symbol outside a choice: the visible user text that is inside the active range, in exactly its
+/// text, else the first default's text, clamped (kconfiglib's `str_value`); without both it is empty (our own). Fails for
+/// want of memory alone.
 pub fn number_equation<V: Values>(
     alloc: Global,
     tree: &Tree,

@@ -9,22 +9,26 @@ use kc_expr::expression::{Kind, SymId, Tri};
 use kc_expr::values::Values;
 use kc_tree::tree::Tree;
 
-/// The value of a symbol: a truth of a bool or tristate, a text of the others.
+/// The value of a symbol: a truth of a bool or tristate, a text of the others (kconfiglib's `tri_value` and `str_value`).
 #[derive(Debug, Drop)]
 pub enum Value {
+    /// Of a bool or tristate.
     Truth(Tri),
+    /// Of a string, int or hex as it is spelled, and of a symbol without a type its name.
     Text(Vec<u8>),
 }
 
 /// The values of the symbols of a tree, of which some places may still be empty. As `Values` an empty place is n, and
-/// as a text the symbol's name, which is also what a name that is not defined is worth.
+/// as a text the symbol's name, which is also what a name that is not defined is worth (kconfiglib).
 #[derive(Drop)]
 pub struct Table<'t> {
+    /// The tree that the symbols are of.
     pub tree: &'t Tree,
+    /// A place for each symbol, by number.
     pub values: Vec<Option<Value>>,
 }
 
-/// The value in a place, if it is filled.
+/// The value in a place, if it is there and filled (our own).
 pub fn found(values: &[Option<Value>], id: SymId) -> Option<&Value>
     ensures { value_at result ≡ value_in values.now id }
 {

@@ -16,7 +16,8 @@ use kc_tree::tree::Tree;
 use kc_user::value::UserValue;
 use std::alloc::{AllocError, Global};
 
-/// The text of a default that is one operand.
+/// The text of a default that is one operand, no byte of any other (the kernel's kconfig-language document, "Menu
+/// attributes"; that it must be one operand is our own).
 pub fn single_text<'a, V: Values>(expr: &'a Expr, values: &'a V) -> &'a [u8]
     ensures { result.now ≡ spec.single_text (known_by (V.kind_of values.now) (V.tri_of values.now) (V.text_of values.now)) (form_of expr.now) }
 {
@@ -26,7 +27,8 @@ pub fn single_text<'a, V: Values>(expr: &'a Expr, values: &'a V) -> &'a [u8]
     }
 }
 
-/// The text of the first default whose condition is not n, or nothing.
+/// The text of the first default whose condition is not n, or nothing (the kernel's kconfig-language document, "Menu
+/// attributes": default value).
 pub fn default_text<'a, V: Values>(
     tree: &Tree,
     defaults: &'a [(Expr, Cond)],
@@ -42,7 +44,7 @@ pub fn default_text<'a, V: Values>(
     b""
 }
 
-/// The user's text where the symbol is visible.
+/// The user's text where the symbol is visible (kconfiglib's `str_value`).
 pub fn typed(user: Option<&UserValue>, visibility: Tri) -> Option<&[u8]>
     ensures { text_at result ≡ spec.typed (place user.entry) visibility }
 {
@@ -55,7 +57,8 @@ pub fn typed(user: Option<&UserValue>, visibility: Tri) -> Option<&[u8]>
     }
 }
 
-/// The value of a string symbol outside a choice.
+/// The value of a string symbol outside a choice: the user's text where it is visible, else the text of the first default
+/// whose condition is not n, else nothing (kconfiglib's `str_value`). Fails for want of memory alone.
 pub fn text_equation<V: Values>(
     alloc: Global,
     tree: &Tree,

@@ -14,7 +14,8 @@ use kc_tree::parts::{Cond, Symbol};
 use kc_tree::tree::Tree;
 use kc_user::value::UserValue;
 
-/// The value of a symbol as a truth.
+/// The value of a symbol as a truth: n where it is no bool or tristate (the kernel's kconfig-language document, "Menu
+/// dependencies").
 pub fn truth_of<V: Values>(id: SymId, values: &V) -> Tri
     ensures { result ≡ truth_of_known (known_by (V.kind_of values.now) (V.tri_of values.now) (V.text_of values.now) id) }
 {
@@ -24,7 +25,8 @@ pub fn truth_of<V: Values>(id: SymId, values: &V) -> Tri
     }
 }
 
-/// m as y where the type is not tristate under the values.
+/// m as y where the type is not tristate under the values: where it is written as another one, or where the modules symbol
+/// is n, or is no bool or tristate, or is not there (kconfiglib's `tri_value`).
 pub fn raised<V: Values>(tree: &Tree, kind: Kind, value: Tri, values: &V) -> Tri
     ensures { result ≡ spec.raised tree.now (known_by (V.kind_of values.now) (V.tri_of values.now) (V.text_of values.now)) kind value }
 {
@@ -41,7 +43,8 @@ pub fn raised<V: Values>(tree: &Tree, kind: Kind, value: Tri, values: &V) -> Tri
     }
 }
 
-/// The visibility of a symbol.
+/// The visibility of a symbol: the greatest condition of its prompts, raised; n without a prompt (kconfiglib's
+/// `visibility`).
 pub fn visibility<V: Values>(tree: &Tree, symbol: &Symbol, values: &V) -> Tri
     ensures { result ≡ spec.visibility tree.now (known_by (V.kind_of values.now) (V.tri_of values.now) (V.text_of values.now)) (facts_of symbol.now) }
 {
@@ -49,7 +52,8 @@ pub fn visibility<V: Values>(tree: &Tree, symbol: &Symbol, values: &V) -> Tri
     raised(tree, symbol.kind, shown, values)
 }
 
-/// min(value, condition) of the first default whose condition is not n, or n.
+/// min(value, condition) of the first default whose condition is not n, or n (the kernel's kconfig-language document, "Menu
+/// attributes": default value).
 pub fn default_truth<V: Values>(tree: &Tree, defaults: &[(Expr, Cond)], values: &V) -> Tri
     ensures { result ≡ spec.default_value tree.now (known_by (V.kind_of values.now) (V.tri_of values.now) (V.text_of values.now)) (spec.first_open tree.now (known_by (V.kind_of values.now) (V.tri_of values.now) (V.text_of values.now)) (map default_view defaults.now)) }
 {
@@ -85,7 +89,7 @@ fn implied(default: Tri, weak: Tri, direct: Tri) -> Tri
     }
 }
 
-/// The direct dependency of a symbol.
+/// The direct dependency of a symbol: the greatest that its definitions depend on, raised (kconfiglib's `direct_dep`).
 pub fn direct<V: Values>(tree: &Tree, symbol: &Symbol, values: &V) -> Tri
     ensures { result ≡ spec.direct tree.now (known_by (V.kind_of values.now) (V.tri_of values.now) (V.text_of values.now)) (facts_of symbol.now) }
 {
@@ -93,7 +97,8 @@ pub fn direct<V: Values>(tree: &Tree, symbol: &Symbol, values: &V) -> Tri
     raised(tree, symbol.kind, deps, values)
 }
 
-/// The reverse dependency of a symbol: what selects it.
+/// The reverse dependency of a symbol: the greatest min(value of the selecting symbol, condition), raised (the kernel's
+/// kconfig-language document, "Menu attributes": reverse dependencies).
 pub fn reverse<V: Values>(tree: &Tree, symbol: &Symbol, values: &V) -> Tri
     ensures { result ≡ spec.rev tree.now (known_by (V.kind_of values.now) (V.tri_of values.now) (V.text_of values.now)) (facts_of symbol.now) }
 {
@@ -101,7 +106,8 @@ pub fn reverse<V: Values>(tree: &Tree, symbol: &Symbol, values: &V) -> Tri
     raised(tree, symbol.kind, selected, values)
 }
 
-/// The weak reverse dependency of a symbol: what implies it.
+/// The weak reverse dependency of a symbol: the same over what implies it (the kernel's kconfig-language document, "Menu
+/// attributes": weak reverse dependencies).
 pub fn weak<V: Values>(tree: &Tree, symbol: &Symbol, values: &V) -> Tri
     ensures { result ≡ spec.weak tree.now (known_by (V.kind_of values.now) (V.tri_of values.now) (V.text_of values.now)) (facts_of symbol.now) }
 {
@@ -109,7 +115,10 @@ pub fn weak<V: Values>(tree: &Tree, symbol: &Symbol, values: &V) -> Tri
     raised(tree, symbol.kind, wanted, values)
 }
 
-/// The value of a bool or tristate symbol outside a choice.
+/// The value of a bool or tristate symbol outside a choice: the user's up to the visibility where it is visible, else its
+/// default, which an imply raises up to the direct dependency (that order is our own); at least the reverse dependency,
+/// even against the direct one; raised (the kernel's kconfig-language document, "Menu attributes"; kconfiglib's
+/// `tri_value`).
 pub fn truth_equation<V: Values>(
     tree: &Tree,
     symbol: &Symbol,

@@ -62,7 +62,10 @@ fn own_is_written<V: Values>(tree: &Tree, symbol: &Symbol, values: &V) -> bool
     }
 }
 
-/// Whether a symbol has a line in the `.config` under these values; a name that is not defined has none.
+/// Whether a symbol has a line in the `.config` under these values: it is visible; or, outside a choice, a bool or tristate
+/// whose default, reverse dependency, or weak one within its direct dependency is not n, or a string, int or hex one of
+/// whose defaults has a condition that is not n. Without a type, and not defined, it has none (kconfiglib's
+/// `config_string`).
 pub fn written<V: Values>(tree: &Tree, id: SymId, values: &V) -> bool
     ensures { result ≡ spec.written tree.now (known_by (V.kind_of values.now) (V.tri_of values.now) (V.text_of values.now)) id }
 {
