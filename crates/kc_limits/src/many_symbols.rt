@@ -1,0 +1,60 @@
+//! As many symbols as a tree may have.
+use crate::runs::{Long, is_done, is_refused, run_long, settles};
+use kc_memory::files;
+use std::alloc::Global;
+use std::test::Fail;
+
+// The definitions of so many symbols without a type.
+fn untyped(alloc: Global, count: u32) -> Result<Vec<u8>, Fail> {
+    let mut tree = Vec::new(alloc);
+    for number in 0..count {
+        let line = format!(in alloc; "config S{number}\n")?;
+        tree.extend_from_slice(line.as_bytes())?;
+    }
+    Ok(tree)
+}
+
+// The warnings of them.
+fn untyped_notes(alloc: Global, count: u32) -> Result<Vec<u8>, Fail> {
+    let mut notes = Vec::new(alloc);
+    for number in 0..count {
+        let line = number + 1;
+        let note = format!(in alloc; "Kconfig:{line}: warning K3: S{number} has no type\n")?;
+        notes.extend_from_slice(note.as_bytes())?;
+    }
+    Ok(notes)
+}
+
+#[test]
+fn a_tree_may_have_65535_symbols(rt: HostRuntime) -> Result<(), Fail> {
+    let tree = untyped(rt.alloc(), 65535)?;
+    let notes = untyped_notes(rt.alloc(), 65535)?;
+    let files = files(rt.alloc(), "Kconfig", &tree, &[])?;
+    let most = Long {
+        files: &files,
+        root: "Kconfig",
+        settings: b"",
+        minimal: None,
+        room: 4_000_000,
+    };
+    let ended = run_long(rt.alloc(), &most)?;
+    is_done(&rt, rt.alloc(), &ended, b"", &notes)?;
+    settles(&rt, rt.alloc(), &most, &ended)
+}
+
+#[test]
+fn a_tree_has_65535_symbols_at_most(rt: HostRuntime) -> Result<(), Fail> {
+    let tree = untyped(rt.alloc(), 65536)?;
+    let files = files(rt.alloc(), "Kconfig", &tree, &[])?;
+    let over = Long {
+        files: &files,
+        root: "Kconfig",
+        settings: b"",
+        minimal: None,
+        room: 400,
+    };
+    let ended = run_long(rt.alloc(), &over)?;
+    let notes = b"Kconfig:65536: error E16: more than 65535 symbols\n";
+    is_refused(&rt, &ended, notes);
+    Ok(())
+}

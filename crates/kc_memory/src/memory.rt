@@ -1,0 +1,210 @@
+//! Devices in memory, which give and take pieces, and fail at a call of choice.
+ghost use Rattle.std.specs.Prelude.{◌≡◌, ◌<◌, ◌≤◌, ◌+◌, ◌-◌, ◌++◌, length, drop, take, Some, OnOk, OnErr, IfOk, Option, List, [], ℕ, false};
+ghost use Rattle.kc_conf.specs.Places.{at, grown, begun, failed};
+ghost use Rattle.kc_dot.specs.Sink.{next_failure};
+
+use kc_conf::{Input, Outputs, Which};
+use kc_dot::Fault;
+use std::alloc::{AllocError, Global};
+
+/// An input over a text, which it gives in pieces (our own).
+#[derive(Drop)]
+pub struct MemoryInput<'a> {
+    /// The bytes still to come.
+    pub rest: &'a [u8],
+    /// The most bytes that the next read gives.
+    pub piece: usize,
+    /// The most bytes of each read behind that.
+    pub later: usize,
+    /// The read that fails, counted from 1; 0 for none.
+    pub fail_at: u64,
+    /// The reads so far.
+    pub calls: u64,
+    /// The reads that failed.
+    pub failures: u64,
+    ghost some: { 0 < piece },
+    ghost some_later: { 0 < later },
+}
+
+impl<'a> MemoryInput<'a> {
+    /// An input that gives this text, at most `first` bytes by its first read and `later` by each other, and never fails.
+    /// The caller owes that neither is 0.
+    pub fn new(text: &'a [u8], first: usize, later: usize) -> MemoryInput<'a>
+        requires first { 0 < first }
+        requires later { 0 < later }
+        ensures rest { result.rest.now ≡ text.now }
+        ensures never { result.fail_at ≡ 0 }
+        ensures none { (result.calls ≡ 0) × (result.failures ≡ 0) }
+    {
+        MemoryInput {
+            rest: text,
+            piece: first,
+            later,
+            fail_at: 0,
+            calls: 0,
+            failures: 0,
+        }
+    }
+}
+
+impl<'a> Input for MemoryInput<'a> {
+    ghost remaining = { λ s. Some s.rest.now };
+
+    ghost failures = { λ s. s.failures };
+
+    ghost reads_left = { λ s. length s.rest.now };
+
+    fn read(&mut self, buffer: &mut [u8]) -> Result<usize, Fault> {
+        self.calls = self.calls.saturating_add(1);
+        if self.calls == self.fail_at {
+            self.failures = self.failures.saturating_add(1);
+            return Err(Fault);
+        }
+        let count = self.rest.len().min(buffer.len()).min(self.piece);
+        let (given, rest) = self.rest.split_at(count);
+        buffer[..count].copy_from_slice(given);
+        self.rest = rest;
+        self.piece = self.later;
+        Ok(count)
+    }
+}
+
+/// One output over memory (our own).
+#[derive(Drop)]
+pub struct Slot {
+    /// Whether it was begun.
+    pub is_begun: bool,
+    /// The bytes that it took since then.
+    pub bytes: Vec<u8>,
+    /// The calls that failed.
+    pub failures: u64,
+    /// The calls so far, of `begin` and of `write`.
+    pub calls: u64,
+    /// The call that fails, counted from 1; 0 for none.
+    pub fail_at: u64,
+    /// The most bytes that a write takes; 0 counts as 1.
+    pub piece: usize,
+    /// The most bytes that it holds. A write to a full output fails.
+    pub room: usize,
+}
+
+impl Slot {
+    ghost use Rattle.kc_memory.specs.Slot.{place_of};
+
+    /// An output with nothing in it, and room for so many bytes. `AllocError` where there is no memory for them.
+    pub fn new(alloc: Global, reserved: usize) -> Result<Slot, AllocError>
+        ensures { IfOk result (λ slot. (slot.is_begun ≡ false) × (slot.bytes.items ≡ []) × (slot.failures ≡ 0) × (slot.room ≡ reserved)) }
+    {
+        Ok(Slot {
+            is_begun: false,
+            bytes: Vec::with_capacity(alloc, reserved)?,
+            failures: 0,
+            calls: 0,
+            fail_at: 0,
+            piece: usize::MAX,
+            room: reserved,
+        })
+    }
+
+    fn begin(&mut self) -> Result<(), Fault>
+        ensures ok { OnOk result (place_of self.new ≡ begun (place_of self.old)) }
+        ensures err { OnErr result (place_of self.new ≡ failed (place_of self.old)) }
+    {
+        self.calls = self.calls.saturating_add(1);
+        if self.calls == self.fail_at {
+            self.failures = self.failures.saturating_add(1);
+            return Err(Fault);
+        }
+        self.is_begun = true;
+        self.bytes.clear();
+        Ok(())
+    }
+
+    fn write(&mut self, bytes: &[u8]) -> Result<usize, Fault>
+        requires { 0 < length bytes.now }
+        ensures some { IfOk result (λ count. 0 < count) }
+        ensures within { IfOk result (λ count. count ≤ length bytes.now) }
+        ensures ok { IfOk result (λ count. place_of self.new ≡ grown (place_of self.old) (take count bytes.now)) }
+        ensures err { OnErr result (place_of self.new ≡ failed (place_of self.old)) }
+    {
+        self.calls = self.calls.saturating_add(1);
+        let room = self.room.saturating_sub(self.bytes.len());
+        let count = bytes.len().min(self.piece.max(1)).min(room);
+        if self.calls == self.fail_at || count == 0 {
+            self.failures = self.failures.saturating_add(1);
+            return Err(Fault);
+        }
+        match self.bytes.extend_from_slice(&bytes[..count]) {
+            Ok(()) => Ok(count),
+            Err(_) => {
+                self.failures = self.failures.saturating_add(1);
+                Err(Fault)
+            }
+        }
+    }
+}
+
+/// The four outputs over memory (our own).
+#[derive(Drop)]
+pub struct MemoryOutputs {
+    /// The full `.config`.
+    pub config: Slot,
+    /// The header.
+    pub header: Slot,
+    /// The minimal file.
+    pub minimal: Slot,
+    /// The diagnostics.
+    pub notes: Slot,
+}
+
+impl MemoryOutputs {
+    ghost use Rattle.kc_memory.specs.Slot.{place_of, places_of};
+
+    /// Four outputs with nothing in them, each with room for so many bytes. `AllocError` where there is no memory.
+    pub fn new(alloc: Global, room: usize) -> Result<MemoryOutputs, AllocError>
+        ensures empty { IfOk result (λ o. (o.config.bytes.items ≡ []) × (o.header.bytes.items ≡ []) × (o.minimal.bytes.items ≡ []) × (o.notes.bytes.items ≡ [])) }
+    {
+        Ok(MemoryOutputs {
+            config: Slot::new(alloc, room)?,
+            header: Slot::new(alloc, room)?,
+            minimal: Slot::new(alloc, room)?,
+            notes: Slot::new(alloc, room)?,
+        })
+    }
+
+    /// One of the outputs.
+    pub fn slot(&self, which: Which) -> &Slot
+        ensures { place_of result.now ≡ at (places_of self.now) which }
+    {
+        match which {
+            Which::Config => &self.config,
+            Which::Header => &self.header,
+            Which::Minimal => &self.minimal,
+            Which::Notes => &self.notes,
+        }
+    }
+}
+
+impl Outputs for MemoryOutputs {
+    ghost use Rattle.kc_memory.specs.Slot.{places_of};
+
+    ghost seen = { places_of };
+
+    fn begin(&mut self, which: Which) -> Result<(), Fault> {
+        match which {
+            Which::Config => self.config.begin(),
+            Which::Header => self.header.begin(),
+            Which::Minimal => self.minimal.begin(),
+            Which::Notes => self.notes.begin(),
+        }
+    }
+
+    fn write(&mut self, which: Which, bytes: &[u8]) -> Result<usize, Fault> {
+        match which {
+            Which::Config => self.config.write(bytes),
+            Which::Header => self.header.write(bytes),
+            Which::Minimal => self.minimal.write(bytes),
+            Which::Notes => self.notes.write(bytes),
+        }
+    }
+}

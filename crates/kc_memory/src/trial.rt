@@ -1,0 +1,118 @@
+//! What a run over memory needs.
+
+use crate::memory::{MemoryInput, MemoryOutputs};
+use kc_conf::{FileMap, Options, Status, run};
+use kc_dot::prefix::Prefix;
+use std::alloc::{AllocError, Global};
+use std::test::Fail;
+
+/// The files of a tree: the root file and the others, by their names. `AllocError` where there is no memory for them.
+pub fn files(
+    alloc: Global,
+    root: &str,
+    kconfig: &[u8],
+    others: &[(&[u8], &[u8])],
+) -> Result<FileMap, AllocError> {
+    let mut files = FileMap::new(alloc);
+    files.insert(
+        Vec::from_slice(alloc, root.as_bytes())?,
+        Vec::from_slice(alloc, kconfig)?,
+    )?;
+    for (name, bytes) in others {
+        files.insert(
+            Vec::from_slice(alloc, name)?,
+            Vec::from_slice(alloc, bytes)?,
+        )?;
+    }
+    Ok(files)
+}
+
+/// What is asked of a run that reads and writes `.config`.
+#[derive(Clone, Copy)]
+pub struct Asked<'a> {
+    /// The name of the root file.
+    pub root: &'a str,
+    /// What stands before each name.
+    pub prefix: &'a [u8],
+    /// The fragments, by their names.
+    pub fragments: &'a [(&'a str, &'a [u8])],
+    /// The name of the header, where it is wanted.
+    pub header: Option<&'a str>,
+    /// The name of the minimal file, where it is wanted.
+    pub minimal: Option<&'a str>,
+}
+
+/// The root file `Kconfig`, the prefix `CONFIG_`, no fragment, and neither header nor minimal file.
+pub const PLAIN: Asked<'static> = Asked {
+    root: "Kconfig",
+    prefix: b"CONFIG_",
+    fragments: &[],
+    header: None,
+    minimal: None,
+};
+
+fn copy_of(alloc: Global, name: Option<&str>) -> Result<Option<String>, AllocError> {
+    match name {
+        Some(text) => Ok(Some(String::from_str(alloc, text)?)),
+        None => Ok(None),
+    }
+}
+
+/// The options that ask for this. `Fail` where the prefix is none or there is no memory.
+pub fn options(alloc: Global, asked: &Asked<'_>) -> Result<Options, Fail> {
+    let Some(prefix) = Prefix::new(alloc, asked.prefix)? else {
+        return Err(Fail::from("that is no prefix"));
+    };
+    let mut names = Vec::new(alloc);
+    for (name, _) in asked.fragments {
+        names.push(String::from_str(alloc, name)?)?;
+    }
+    Ok(Options {
+        root: String::from_str(alloc, ".")?,
+        config: String::from_str(alloc, ".config")?,
+        out: String::from_str(alloc, ".config")?,
+        kconfig: String::from_str(alloc, asked.root)?,
+        header: copy_of(alloc, asked.header)?,
+        minimal: copy_of(alloc, asked.minimal)?,
+        fragments: names,
+        prefix,
+    })
+}
+
+/// A run over these inputs, one for the `.config` and one for each fragment. `Fail` where there are more or fewer.
+pub fn run_over(
+    alloc: Global,
+    files: &FileMap,
+    options: &Options,
+    inputs: &mut Vec<MemoryInput>,
+    outputs: &mut MemoryOutputs,
+) -> Result<Status, Fail> {
+    if inputs.len() != options.fragments.len() + 1 {
+        return Err(Fail::from("not one input for each stream"));
+    }
+    Ok(run(alloc, files, options, inputs, outputs))
+}
+
+/// The heading of a `.config` and the text behind it. `AllocError` where there is no memory for them.
+pub fn config_text(alloc: Global, title: &[u8], text: &[u8]) -> Result<Vec<u8>, AllocError> {
+    let mut whole = Vec::from_slice(
+        alloc,
+        b"#\n# Automatically generated file; DO NOT EDIT.\n# ",
+    )?;
+    whole.extend_from_slice(title)?;
+    whole.extend_from_slice(b"\n#\n")?;
+    whole.extend_from_slice(text)?;
+    Ok(whole)
+}
+
+/// The heading of a header and the text behind it. `AllocError` where there is no memory for them.
+pub fn header_text(alloc: Global, title: &[u8], text: &[u8]) -> Result<Vec<u8>, AllocError> {
+    let mut whole = Vec::from_slice(
+        alloc,
+        b"/*\n * Automatically generated file; DO NOT EDIT.\n * ",
+    )?;
+    whole.extend_from_slice(title)?;
+    whole.extend_from_slice(b"\n */\n")?;
+    whole.extend_from_slice(text)?;
+    Ok(whole)
+}

@@ -1,0 +1,75 @@
+//! Streams that are cut, and outputs that take little.
+ghost use Rattle.std.specs.Prelude.{◌<◌};
+
+use crate::row::Accepted;
+use crate::rows::accepted_rows;
+use crate::runs::{ROOM, run_row};
+use crate::texts::holds;
+use kc_conf::Status;
+use kc_memory::MemoryOutputs;
+use std::alloc::Global;
+use std::process::Abort;
+use std::test::Fail;
+
+// The row gives its texts where its streams come in such pieces, and each write takes at most so many bytes.
+fn holds_in_pieces(
+    rt: &impl Abort,
+    alloc: Global,
+    row: &Accepted,
+    first: usize,
+    later: usize,
+    taken: usize,
+) -> Result<(), Fail>
+    requires first { 0 < first }
+    requires later { 0 < later }
+{
+    let mut outputs = MemoryOutputs::new(alloc, ROOM)?;
+    outputs.config.piece = taken;
+    outputs.header.piece = taken;
+    outputs.minimal.piece = taken;
+    outputs.notes.piece = taken;
+    let status = run_row(alloc, row, first, later, &mut outputs)?;
+    assert_eq!(rt; status, Status::Done, "{}", row.name);
+    holds(rt, alloc, row, &outputs)
+}
+
+// The length of the row's longest stream.
+fn longest_stream(row: &Accepted) -> usize {
+    let mut longest = row.settings.len();
+    for (_, text) in row.fragments {
+        longest = longest.max(text.len());
+    }
+    longest
+}
+
+// The streams cut once, at each place.
+fn holds_at_each_cut(rt: &impl Abort, alloc: Global, row: &Accepted) -> Result<(), Fail> {
+    for before in 0..longest_stream(row) {
+        holds_in_pieces(rt, alloc, row, before + 1, 4096, 4096)?;
+    }
+    Ok(())
+}
+
+#[test]
+fn a_stream_may_be_cut_at_each_place(rt: HostRuntime) -> Result<(), Fail> {
+    for row in &accepted_rows(rt.alloc())? {
+        holds_at_each_cut(&rt, rt.alloc(), row)?;
+    }
+    Ok(())
+}
+
+#[test]
+fn reads_and_writes_may_take_one_byte(rt: HostRuntime) -> Result<(), Fail> {
+    for row in &accepted_rows(rt.alloc())? {
+        holds_in_pieces(&rt, rt.alloc(), row, 1, 1, 1)?;
+    }
+    Ok(())
+}
+
+#[test]
+fn reads_and_writes_may_take_seven_bytes(rt: HostRuntime) -> Result<(), Fail> {
+    for row in &accepted_rows(rt.alloc())? {
+        holds_in_pieces(&rt, rt.alloc(), row, 7, 7, 7)?;
+    }
+    Ok(())
+}

@@ -1,0 +1,74 @@
+//! Runs on what a run wrote.
+use crate::row::Accepted;
+use crate::rows::accepted_rows;
+use crate::runs::run_on;
+use kc_memory::MemoryOutputs;
+use std::alloc::Global;
+use std::process::Abort;
+use std::test::Fail;
+
+// What the row itself gives, header and minimal file with it.
+fn first_run(alloc: Global, row: &Accepted) -> Result<MemoryOutputs, Fail> {
+    run_on(alloc, row, row.settings, row.fragments)
+}
+
+fn line_ends(text: &[u8]) -> usize {
+    text.iter().filter(|byte| **byte == b'\n').count()
+}
+
+// The text without its line of this number.
+fn without_line(alloc: Global, text: &[u8], line: usize) -> Result<Vec<u8>, Fail> {
+    let mut left = Vec::new(alloc);
+    for (number, bytes) in text.split_inclusive(|byte| *byte == b'\n').enumerate() {
+        if number != line {
+            left.extend_from_slice(bytes)?;
+        }
+    }
+    Ok(left)
+}
+
+// The minimal file gives the same values, and without any line of it others. The answer is how many lines it has.
+fn restores(rt: &impl Abort, alloc: Global, row: &Accepted) -> Result<usize, Fail> {
+    let first = first_run(alloc, row)?;
+    let minimal = &first.minimal.bytes;
+    let again = run_on(alloc, row, minimal, &[])?;
+    assert_eq!(rt; again.config.bytes, first.config.bytes, "{}", row.name);
+    assert_eq!(rt; again.header.bytes, first.header.bytes, "{}", row.name);
+    assert_eq!(rt; again.minimal.bytes, first.minimal.bytes, "{}", row.name);
+    let lines = line_ends(minimal);
+    for line in 0..lines {
+        let left = without_line(alloc, minimal, line)?;
+        let other = run_on(alloc, row, &left, &[])?;
+        assert_ne!(rt; other.config.bytes, first.config.bytes, "{}", row.name);
+    }
+    Ok(lines)
+}
+
+#[test]
+fn the_minimal_file_restores_and_no_line_of_it_can_go(rt: HostRuntime) -> Result<(), Fail> {
+    let mut with_lines = 0u32;
+    for row in &accepted_rows(rt.alloc())? {
+        if restores(&rt, rt.alloc(), row)? > 0 {
+            with_lines = with_lines.saturating_add(1);
+        }
+    }
+    assert!(rt; with_lines > 10, "{with_lines}");
+    Ok(())
+}
+
+// A run on the row's own `.config` gives that again, unless the row is one that does not settle.
+fn settles(rt: &impl Abort, alloc: Global, row: &Accepted) -> Result<(), Fail> {
+    let first = first_run(alloc, row)?;
+    let again = run_on(alloc, row, &first.config.bytes, &[])?;
+    let is_same = again.config.bytes == first.config.bytes;
+    assert_eq!(rt; is_same, row.is_settled, "{}", row.name);
+    Ok(())
+}
+
+#[test]
+fn a_run_on_its_own_text_changes_only_what_is_unsettled(rt: HostRuntime) -> Result<(), Fail> {
+    for row in &accepted_rows(rt.alloc())? {
+        settles(&rt, rt.alloc(), row)?;
+    }
+    Ok(())
+}

@@ -1,0 +1,109 @@
+//! The texts of each row.
+use crate::row::{Accepted, Refused};
+use crate::rows::{accepted_rows, refused_rows};
+use crate::runs::{ROOM, run_row};
+use kc_conf::{FileMap, Status};
+use kc_memory::{
+    Asked, MemoryInput, MemoryOutputs, PLAIN, Slot, config_text, files, header_text, options,
+    run_over,
+};
+use std::alloc::Global;
+use std::process::Abort;
+use std::test::Fail;
+
+// An output that is wanted holds this text, and one that is not was never begun.
+fn slot_holds(rt: &impl Abort, slot: &Slot, text: Option<&[u8]>, name: &str) {
+    assert_eq!(rt; slot.is_begun, text.is_some(), "{}", name);
+    assert_eq!(rt; slot.bytes.as_slice(), text.unwrap_or(b""), "{}", name);
+    assert_eq!(rt; slot.failures, 0, "{}", name);
+    assert!(rt; text.is_some() || slot.calls == 0, "{}", name);
+}
+
+/// The outputs hold what the row says, byte for byte.
+pub(crate) fn holds(
+    rt: &impl Abort,
+    alloc: Global,
+    row: &Accepted,
+    outputs: &MemoryOutputs,
+) -> Result<(), Fail> {
+    let config = config_text(alloc, row.title, row.config)?;
+    slot_holds(rt, &outputs.config, Some(config.as_slice()), row.name);
+    let header = match row.header {
+        Some(lines) => Some(header_text(alloc, row.title, lines)?),
+        None => None,
+    };
+    let header = header.as_ref().map(|text| text.as_slice());
+    slot_holds(rt, &outputs.header, header, row.name);
+    slot_holds(rt, &outputs.minimal, row.minimal, row.name);
+    assert_eq!(rt; outputs.notes.bytes.as_slice(), row.notes, "{}", row.name);
+    Ok(())
+}
+
+// The row's run gives its texts.
+fn gives_its_texts(rt: &impl Abort, alloc: Global, row: &Accepted) -> Result<(), Fail> {
+    let mut outputs = MemoryOutputs::new(alloc, ROOM)?;
+    let status = run_row(alloc, row, 4096, 4096, &mut outputs)?;
+    assert_eq!(rt; status, Status::Done, "{}", row.name);
+    holds(rt, alloc, row, &outputs)
+}
+
+#[test]
+fn accepted_trees_give_their_texts(rt: HostRuntime) -> Result<(), Fail> {
+    let rows = accepted_rows(rt.alloc())?;
+    assert_eq!(rt; rows.len(), 43);
+    for row in &rows {
+        gives_its_texts(&rt, rt.alloc(), row)?;
+    }
+    Ok(())
+}
+
+// The run over these files is refused with this one line; it reads nothing and begins nothing.
+fn is_refused(
+    rt: &impl Abort,
+    alloc: Global,
+    files: &FileMap,
+    notes: &[u8],
+    name: &str,
+) -> Result<(), Fail> {
+    let asked = Asked {
+        header: Some("out.h"),
+        minimal: Some("min.config"),
+        ..PLAIN
+    };
+    let options = options(alloc, &asked)?;
+    let mut outputs = MemoryOutputs::new(alloc, ROOM)?;
+    let mut inputs = vec![in alloc; MemoryInput::new(b"CONFIG_Q=y\n", 100, 100)]?;
+    let status = run_over(alloc, files, &options, &mut inputs, &mut outputs)?;
+    assert_eq!(rt; status, Status::Refused, "{}", name);
+    assert_eq!(rt; outputs.notes.bytes.as_slice(), notes, "{}", name);
+    slot_holds(rt, &outputs.config, None, name);
+    slot_holds(rt, &outputs.header, None, name);
+    slot_holds(rt, &outputs.minimal, None, name);
+    for input in &inputs {
+        assert_eq!(rt; input.calls, 0, "{}", name);
+    }
+    Ok(())
+}
+
+// The row's tree is refused with its line.
+fn gives_its_refusal(rt: &impl Abort, alloc: Global, row: &Refused) -> Result<(), Fail> {
+    let files = files(alloc, "Kconfig", row.kconfig, row.others)?;
+    is_refused(rt, alloc, &files, row.notes, row.name)
+}
+
+#[test]
+fn a_refused_tree_reads_and_begins_nothing(rt: HostRuntime) -> Result<(), Fail> {
+    let rows = refused_rows();
+    assert_eq!(rt; rows.len(), 15);
+    for row in rows {
+        gives_its_refusal(&rt, rt.alloc(), row)?;
+    }
+    Ok(())
+}
+
+#[test]
+fn no_root_file_is_a_refusal(rt: HostRuntime) -> Result<(), Fail> {
+    let files = FileMap::new(rt.alloc());
+    let notes = b"Kconfig:0: error E1: no file Kconfig\n".as_slice();
+    is_refused(&rt, rt.alloc(), &files, notes, "an empty map")
+}

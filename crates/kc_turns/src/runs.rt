@@ -1,0 +1,49 @@
+//! Runs over one input.
+use kc_conf::{FileMap, Status};
+use kc_memory::{Asked, MemoryInput, MemoryOutputs, PLAIN, options, run_over};
+use std::alloc::Global;
+use std::test::Fail;
+
+/// The room of a run's outputs.
+pub(crate) const ROOM: usize = 4000;
+
+/// A run with this header and this minimal file, where they are wanted. The answer is its status and how many reads were made.
+pub(crate) fn run_with(
+    alloc: Global,
+    files: &FileMap,
+    header: Option<&str>,
+    minimal: Option<&str>,
+    input: MemoryInput,
+    outputs: &mut MemoryOutputs,
+) -> Result<(Status, u64), Fail> {
+    let asked = Asked {
+        header,
+        minimal,
+        ..PLAIN
+    };
+    let options = options(alloc, &asked)?;
+    let mut inputs = vec![in alloc; input]?;
+    let status = run_over(alloc, files, &options, &mut inputs, outputs)?;
+    let mut reads = 0;
+    for input in &inputs {
+        reads = input.calls;
+    }
+    Ok((status, reads))
+}
+
+/// A run with header and minimal file.
+pub(crate) fn run_whole(
+    alloc: Global,
+    files: &FileMap,
+    input: MemoryInput,
+    outputs: &mut MemoryOutputs,
+) -> Result<(Status, u64), Fail> {
+    run_with(
+        alloc,
+        files,
+        Some("out.h"),
+        Some("min.config"),
+        input,
+        outputs,
+    )
+}
