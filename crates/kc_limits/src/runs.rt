@@ -96,11 +96,11 @@ pub(crate) fn is_done(
 }
 
 /// The run on the `.config` that a run wrote writes it again.
-pub(crate) fn settles(
+pub(crate) fn settles<'x>(
     rt: &impl Abort,
     alloc: Global,
-    long: &Long<'_>,
-    ended: &Ended,
+    long: &Long<'x>,
+    ended: &'x Ended,
 ) -> Result<(), Fail> {
     let again = run_long(
         alloc,

@@ -39,11 +39,11 @@ pub(crate) fn run_row(
 }
 
 /// What the row's tree and prefix give with these streams, header and minimal file with them.
-pub(crate) fn run_on(
+pub(crate) fn run_on<'x>(
     alloc: Global,
     row: &Accepted,
     settings: &[u8],
-    fragments: &[(&str, &[u8])],
+    fragments: &'x [(&'x str, &'x [u8])],
 ) -> Result<MemoryOutputs, Fail> {
     let files = files(alloc, "Kconfig", row.kconfig, row.others)?;
     let asked = Asked {

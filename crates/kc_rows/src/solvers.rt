@@ -1,5 +1,5 @@
 //! The solver against the plain slow one.
-ghost use Rattle.std.specs.Prelude.{◌≡◌, None, ⊤, IfOk};
+ghost use Rattle.std.specs.Prelude.{None, ⊤, IfOk};
 ghost use Rattle.kc_user.specs.Places.{IsUserOf};
 
 use crate::row::Accepted;
@@ -39,18 +39,23 @@ impl Sink for Nowhere {
     ghost goes_on = { λ s t u st tu. tt };
 }
 
-// What the row's streams give the user's places.
-fn user_of(alloc: Global, row: &Accepted, tree: &Tree) -> Result<User, Fail>
+// The row's streams as one, each of which ends its own last line.
+fn joined(alloc: Global, row: &Accepted) -> Result<Vec<u8>, Fail> {
+    let mut settings = Vec::from_slice(alloc, row.settings)?;
+    for (_, text) in row.fragments {
+        settings.push(b'\n')?;
+        settings.extend_from_slice(text)?;
+    }
+    Ok(settings)
+}
+
+// What a `.config` gives the user's places.
+fn user_of(alloc: Global, tree: &Tree, prefix: &Prefix, settings: &[u8]) -> Result<User, Fail>
     ensures { IfOk result (λ user. IsUserOf tree.now user) }
 {
-    let prefix = Prefix::new(alloc, row.prefix)?.ok_or("no prefix")?;
     let mut user = User::new(alloc, tree)?;
-    let mut reader = DotReader::new(alloc, tree, &prefix, b".config");
-    reader.feed(row.settings, &mut user, &mut Nowhere)?;
-    for (name, text) in row.fragments {
-        reader.next_stream(name.as_bytes(), &mut user, &mut Nowhere)?;
-        reader.feed(text, &mut user, &mut Nowhere)?;
-    }
+    let mut reader = DotReader::new(alloc, tree, prefix, b".config");
+    reader.feed(settings, &mut user, &mut Nowhere)?;
     reader.finish(&mut user, &mut Nowhere)?;
     Ok(user)
 }
@@ -82,7 +87,9 @@ fn agree(
 ) -> Result<usize, Fail>
     requires { IsUserOf tree.now user.now }
 {
-    let order = Order::of(alloc, tree).map_err(|_| "a loop")?;
+    let Ok(order) = Order::of(alloc, tree) else {
+        return Err(Fail::from("a loop"));
+    };
     let solved = solve(alloc, tree, &order, user)?;
     let slow = slow_table(alloc, tree, &order, user)?;
     let count = tree.symbol_count();
@@ -95,8 +102,14 @@ fn agree(
 // Both solvers agree on the row.
 fn agree_on(rt: &impl Abort, alloc: Global, row: &Accepted) -> Result<usize, Fail> {
     let files = files(alloc, "Kconfig", row.kconfig, row.others)?;
-    let tree = Tree::build(alloc, &files, b"Kconfig").map_err(|_| "a refusal")?;
-    let user = user_of(alloc, row, &tree)?;
+    let Ok(tree) = Tree::build(alloc, &files, b"Kconfig") else {
+        return Err(Fail::from("a refusal"));
+    };
+    let Some(prefix) = Prefix::new(alloc, row.prefix)? else {
+        return Err(Fail::from("no prefix"));
+    };
+    let settings = joined(alloc, row)?;
+    let user = user_of(alloc, &tree, &prefix, &settings)?;
     agree(rt, alloc, &tree, &user, row.name)
 }
 

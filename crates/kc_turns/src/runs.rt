@@ -8,11 +8,11 @@ use std::test::Fail;
 pub(crate) const ROOM: usize = 4000;
 
 /// A run with this header and this minimal file, where they are wanted. The answer is its status and how many reads were made.
-pub(crate) fn run_with(
+pub(crate) fn run_with<'x>(
     alloc: Global,
     files: &FileMap,
-    header: Option<&str>,
-    minimal: Option<&str>,
+    header: Option<&'x str>,
+    minimal: Option<&'x str>,
     input: MemoryInput,
     outputs: &mut MemoryOutputs,
 ) -> Result<(Status, u64), Fail> {
