@@ -14,8 +14,12 @@
 # The script ends with status 1 where kconf refuses a tree or a minimal file does not restore; differences are counted and named.
 set -eu
 here=$(cd "$(dirname "$0")" && pwd)
-kconf=$(realpath "${KCONF:-$here/../crates/kconf/out/kconf}")
+kconf=$(realpath -m "${KCONF:-$here/../crates/kconf/out/kconf}")
 python=/usr/bin/python3
+if [ ! -x "$kconf" ]; then
+    echo "there is no $kconf: make build makes it" >&2
+    exit 1
+fi
 if [ $# -gt 0 ]; then
     mkdir -p "$1"
     work=$(cd "$1" && pwd)

@@ -10,7 +10,7 @@
 # the least wall time and the greatest peak memory, as getrusage tells them. The machine should have nothing else to do.
 set -eu
 here=$(cd "$(dirname "$0")" && pwd)
-kconf=$(realpath "${KCONF:-$here/../crates/kconf/out/kconf}")
+kconf=$(realpath -m "${KCONF:-$here/../crates/kconf/out/kconf}")
 symbols=${1:-20000}
 runs=${RUNS:-10}
 python=/usr/bin/python3
