@@ -14,6 +14,7 @@ mod FirstLemmas
 mod FormedLemmas
 mod KnownLemmas
 mod LateLemmas
+mod LineTextLemmas
 mod MemberLemmas
 mod MemberSoundLemmas
 mod MembersLemmas
@@ -24,11 +25,14 @@ mod OpenerLemmas
 mod OwnerLemmas
 mod PlaceLemmas
 mod RaiseLemmas
+mod ReadTextLemmas
 mod RoundLemmas
 mod Rows
 mod ScanLemmas
 mod ShapeLemmas
+mod ShownLemmas
 mod SoundLemmas
 mod TableLemmas
+mod TreeTextLemmas
 mod WarningLemmas
 mod WholeLemmas

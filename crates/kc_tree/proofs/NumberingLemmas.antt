@@ -132,7 +132,7 @@ module _ (modules : Option SymId) (number : List ℕ → ℕ) (count : ℕ) wher
       let same : s.0 ≡ number found.0 = ap (λ (t : SymId). t.0) found.2 in
       omega arith
 
-  numbered_at : (ls : List (Placed Written)) (i : ℕ) → slice_get (map (λ l. l.statement) (map (place_numbered modules number) ls)) i ≡ option_map (numbered modules number) (slice_get (statements ls) i)
+  pub numbered_at : (ls : List (Placed Written)) (i : ℕ) → slice_get (map (λ l. l.statement) (map (place_numbered modules number) ls)) i ≡ option_map (numbered modules number) (slice_get (statements ls) i)
   numbered_at [] i = refl
   numbered_at (l ∷ ls) zero = refl
   numbered_at (l ∷ ls) (suc i) = numbered_at ls i

@@ -31,6 +31,9 @@ use Rattle.kc_tree.proofs.MemberSoundLemmas.{all_listed, choices_sound}
 use Rattle.kc_tree.proofs.NumberingLemmas.{names_extend, numbered_below}
 use Rattle.kc_tree.proofs.ShapeLemmas.{choices_alone, ends_name_menus}
 use Rattle.kc_tree.proofs.PlaceLemmas.{length-map_numbers}
+use Rattle.kc_tree.proofs.ReadTextLemmas.{IsInLines, expanded_lines}
+use Rattle.kc_tree.proofs.ShownLemmas.{shows_each}
+use Rattle.kc_tree.proofs.TreeTextLemmas.{line_texts}
 
 -- Names that differ stand at one place each.
 apart_at : (x name : List ℕ) (xs : List (List ℕ)) (i : ℕ) → AllByRecursion (λ y. same_name x y ≡ false) xs → slice_get xs i ≡ Some name → same_name x name ≡ false
@@ -123,13 +126,19 @@ modules_below s count true t e h =
     let l : s.0 < count = grind (arith, nat_tests) in
     omega arith
 
--- What the shape of the expanded list gives: a choice stands in no choice, and the end of a menu names that menu.
+-- What the shape of the expanded list gives: its texts stand in lines, a choice stands in no choice, and the end of a menu
+-- names that menu.
 pub record IsShaped (ls : List (Placed Written)) : Type 0 where
+  pub lines : All IsInLines (statements ls)
   pub alone : (p : ℕ) → of_block (map (λ l. l.statement) (numbered_lines ls)) block.Choice p ≡ true → choice_round (map (λ l. l.statement) (numbered_lines ls)) p ≡ None
   pub ends : (i menu : ℕ) → slice_get (entries (map (λ l. l.statement) (numbered_lines ls))) i ≡ Some (EndShown menu) → (menu < i) × ((text : List ℕ) × (when : Condition) × (slice_get (entries (map (λ l. l.statement) (numbered_lines ls))) menu ≡ Some (MenuShown text when)))
 
 pub shaped : (files : Files) (root : List ℕ) (log : Log) → Expands files root (Ok log) → IsShaped log.lines
-shaped files root log e = record { alone = choices_alone files root log e; ends = ends_name_menus files root log e }
+shaped files root log e = record {
+  lines = expanded_lines files root log e;
+  alone = choices_alone files root log e;
+  ends = ends_name_menus files root log e;
+}
 
 module _ (ls : List (Placed Written)) where
   abbrev whole : TreeFacts
@@ -163,5 +172,7 @@ module _ (ls : List (Placed Written)) where
         members_listed = all_listed (names_of (statements ls)) (length (defined (statements ls))) (modules_id (statements ls)) (numbered_lines ls) below good;
         choices_sound = choices_sound (names_of (statements ls)) (length (defined (statements ls))) (modules_id (statements ls)) (numbered_lines ls) below good shaped.alone;
         entries_sound = entries_sound (names_of (statements ls)) (length (defined (statements ls))) (modules_id (statements ls)) (numbered_lines ls) below shaped.ends;
+        symbols_shown = shows_each ls (names_differ (names_of (statements ls)) distinct);
         modules_defined = λ s h. defined_if (names_of (statements ls)) (length (defined (statements ls))) (modules_id (statements ls)) (numbered_lines ls) s (modules_below (modules_id (statements ls)) (length (defined (statements ls))) (nat_lt (modules_id (statements ls)).0 (length (defined (statements ls)))) s refl h);
+        texts = line_texts ls shaped.lines;
       }

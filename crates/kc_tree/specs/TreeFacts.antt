@@ -1,9 +1,9 @@
 -- What a tree says, without where it lies in memory.
-use Rattle.std.specs.Prelude.{◌≡◌, ℕ, true, ◌<◌, ◌≤◌, List, length, Option, Some, None, slice_get, Contains, All}
+use Rattle.std.specs.Prelude.{◌≡◌, ℕ, true, false, ◌==◌, ◌<◌, ◌≤◌, List, length, Option, Some, None, slice_get, Contains, All}
 use Rattle.kc_expr.specs.declared.expression.SymId.{SymId}
 use Rattle.kc_expr.specs.declared.expression.Kind.{Kind}
 use Rattle.kc_expr.specs.declared.expression.Kind.TheVariants as kind
-use Rattle.kc_expr.specs.Form.{Form, Leaf}
+use Rattle.kc_expr.specs.Form.{Form, Leaf, Text, Symbol, Single, Related, Negated, Every, Some_of}
 use Rattle.kc_read.specs.Lines.{is_name_byte}
 
 -- the `&&` of its parts, and of that choice's mode
@@ -100,6 +100,42 @@ IsEntrySound t i (EndShown menu) =
     (menu < i) × ((text : List ℕ) × (when : Condition) × (slice_get t.entries menu ≡ Some (MenuShown text when)))
 IsEntrySound t i (CommentShown text when) = IsModeBelow (length t.choices) when
 
+-- one line of at most 8,191 bytes, as a line of a Kconfig file holds at most
+pub record IsLineText (text : List ℕ) : Type 0 where
+  pub within : length text ≤ 8191
+  pub one_line : All (λ b. (b == 10) ≡ false) text
+
+-- of the title of a menu or comment
+abbrev pub OfTitle : (List ℕ → Type 0) → Shown → Type 0
+OfTitle P (SymbolShown s) = Unit {0}
+OfTitle P (MenuShown text when) = P text
+OfTitle P (EndShown menu) = Unit {0}
+OfTitle P (CommentShown text when) = P text
+
+-- of the main menu's text and of each title
+pub record OfTitles (P : List ℕ → Type 0) (t : TreeFacts) : Type 0 where
+  pub main_menu : P t.main_menu
+  pub entries : (i : ℕ) (e : Shown) → slice_get t.entries i ≡ Some e → OfTitle P e
+
+-- a constant that stands alone is one line's text
+abbrev pub IsLineForm : Form → Type 0
+IsLineForm (Single (Text bytes)) = IsLineText bytes
+IsLineForm (Single (Symbol s)) = Unit {0}
+IsLineForm (Related op a b) = Unit {0}
+IsLineForm (Negated f) = Unit {0}
+IsLineForm (Every fs) = Unit {0}
+IsLineForm (Some_of fs) = Unit {0}
+
+-- the texts of a tree: each stands in one line of a Kconfig file
+pub record HasLineTexts (t : TreeFacts) : Type 0 where
+  pub titles : OfTitles IsLineText t
+  pub names : (i : ℕ) (name : List ℕ) → slice_get t.names i ≡ Some name → IsLineText name
+  pub defaults : (i : ℕ) (f : SymbolFacts) → slice_get t.symbols i ≡ Some f → (g : Guarded Form) → Contains f.defaults g → IsLineForm g.what
+
+-- each symbol has an entry
+abbrev pub ShowsEach : TreeFacts → Type 0
+ShowsEach t = (s : SymId) → IsDefined t s → Contains t.entries (SymbolShown s)
+
 pub record IsWellFormed (t : TreeFacts) : Type 0 where
   pub names_differ : (i j : ℕ) (name : List ℕ) → slice_get t.names i ≡ Some name → slice_get t.names j ≡ Some name → i ≡ j
   pub names_known : length t.symbols ≤ length t.names
@@ -109,4 +145,6 @@ pub record IsWellFormed (t : TreeFacts) : Type 0 where
   pub members_listed : (i : ℕ) (f : SymbolFacts) → slice_get t.symbols i ≡ Some f → IsListed t (record { 0 = i }) f
   pub choices_sound : (k : ℕ) (c : ChoiceFacts) → slice_get t.choices k ≡ Some c → IsChoiceSound t k c
   pub entries_sound : (i : ℕ) (e : Shown) → slice_get t.entries i ≡ Some e → IsEntrySound t i e
+  pub symbols_shown : ShowsEach t
   pub modules_defined : (s : SymId) → t.modules ≡ Some s → IsDefined t s
+  pub texts : HasLineTexts t
