@@ -12,7 +12,7 @@ use Rattle.kc_expr.specs.declared.expression.Kind.TheVariants as kind
 use Rattle.kc_expr.specs.Names.{symbol}
 use Rattle.kc_expr.specs.Value.{Known, Truth, Written}
 use Rattle.kc_order.specs.Solution.{Solves}
-use Rattle.kc_tree.specs.TreeFacts.{TreeFacts, SymbolFacts, ChoiceFacts, Shown, SymbolShown, MenuShown, EndShown, CommentShown, IsWellFormed}
+use Rattle.kc_tree.specs.TreeFacts.{TreeFacts, SymbolFacts, ChoiceFacts, Shown, SymbolShown, MenuShown, EndShown, CommentShown, IsLineText, IsWellFormed, OfTitles, ShowsEach}
 use Rattle.kc_user.specs.Given.{Given, Chosen, Member, Slot, At, In}
 use Rattle.kc_user.specs.Places.{Places, place_at, no_places, allowed, allowed_by, allowed_for, members_of}
 use Rattle.kc_values.specs.Differs as value
@@ -28,7 +28,7 @@ use Rattle.kc_dot.specs.Prefixes.{is_prefix}
 use Rattle.kc_dot.specs.Reading.{Assignment, Read, choice_of, is_yes, places_given, reading, lines_from}
 use Rattle.kc_dot.specs.Plain.{HasPlainTitles}
 use Rattle.kc_dot.specs.Reread.{told_by, read_alone}
-use Rattle.kc_dot.specs.TreeTexts.{HasNames, OfTitles, IsLineText, ShowsEach}
+use Rattle.kc_dot.specs.TreeTexts.{HasNames}
 use Rattle.kc_dot.specs.SymbolLines.{config_line}
 use Rattle.kc_dot.specs.Texts.{config_text, symbol_config}
 use Rattle.kc_dot.specs.Told.{Told}

@@ -7,13 +7,12 @@ use Rattle.std.proofs.lemmas.List.{length-append}
 use Rattle.std.proofs.lemmas.List.Elements.{All-append, All-cons}
 use Rattle.std.proofs.lemmas.Option.{slice_get-get_or}
 use Rattle.kc_expr.specs.declared.expression.SymId.{SymId}
-use Rattle.kc_tree.specs.TreeFacts.{TreeFacts, Shown, SymbolShown, MenuShown, EndShown, CommentShown}
+use Rattle.kc_tree.specs.TreeFacts.{TreeFacts, Shown, SymbolShown, MenuShown, EndShown, CommentShown, IsLineText, OfTitle, OfTitles}
 use Rattle.kc_dot.specs.ConfigLine.{says}
 use Rattle.kc_dot.specs.Effects.{effect_of}
 use Rattle.kc_dot.specs.Prefixes.{is_prefix}
 use Rattle.kc_dot.specs.Reading.{Assignment, assignment_of, is_lf}
 use Rattle.kc_dot.specs.Plain.{IsNoUnset, HasPlainTitles, title_line}
-use Rattle.kc_dot.specs.TreeTexts.{IsLineText, OfTitle, OfTitles}
 use Rattle.kc_dot.specs.Texts.{config_heading, config_text, title_lines, end_line, title_if, end_if, gap, is_title, shown_title, ends_after, symbol_config, entry_text, entries_text}
 use Rattle.kc_dot.specs.Told.{Told, is_shown}
 use Rattle.kc_dot.proofs.CommentLemmas.{silent, silent_plain, unset_not_last, end_unsets_nothing}

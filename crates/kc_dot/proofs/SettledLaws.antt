@@ -2,7 +2,7 @@
 use Rattle.std.proofs.Common.{◌≡◌, ℕ, ◌<◌, List, true, false, sym, ap, ◌∙◌, subst, ◌↔◌, Option, None}
 use Rattle.kc_expr.specs.Value.{Known}
 use Rattle.kc_order.specs.Solution.{Solves, IsOnlySolution}
-use Rattle.kc_tree.specs.TreeFacts.{TreeFacts, IsWellFormed}
+use Rattle.kc_tree.specs.TreeFacts.{TreeFacts, IsLineText, IsWellFormed, OfTitles, ShowsEach}
 use Rattle.kc_user.specs.Given.{Given, Slot}
 use Rattle.kc_user.specs.Places.{place_at}
 use Rattle.kc_values.specs.Differs.{again, is_unsettled}
@@ -12,7 +12,7 @@ use Rattle.kc_dot.specs.Prefixes.{is_prefix}
 use Rattle.kc_dot.specs.Reading.{Read}
 use Rattle.kc_dot.specs.Plain.{HasPlainTitles}
 use Rattle.kc_dot.specs.Reread.{told_by, read_alone, IsOneSolution}
-use Rattle.kc_dot.specs.TreeTexts.{HasNames, OfTitles, IsLineText, ShowsEach}
+use Rattle.kc_dot.specs.TreeTexts.{HasNames}
 use Rattle.kc_dot.specs.Texts.{config_text}
 use Rattle.kc_dot.proofs.ConfigLaws.{Reread, reread_at, config_read}
 use Rattle.kc_dot.proofs.SymbolLineLemmas.{FitsLine}

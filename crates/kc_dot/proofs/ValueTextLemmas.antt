@@ -22,7 +22,7 @@ use Rattle.kc_expr.specs.Names.{symbol}
 use Rattle.kc_expr.specs.Value.{Known, Truth, Written, text, text_of_known, tri_text}
 use Rattle.kc_order.specs.Needs.{needs_in, stuck_after}
 use Rattle.kc_order.specs.Solution.{Solves}
-use Rattle.kc_tree.specs.TreeFacts.{TreeFacts, SymbolFacts, Guarded}
+use Rattle.kc_tree.specs.TreeFacts.{TreeFacts, SymbolFacts, Guarded, HasLineTexts, IsLineForm, IsLineText}
 use Rattle.kc_user.specs.Given.{Given, Chosen, Typed, Member, Slot, At, In}
 use Rattle.kc_user.specs.Places.{allowed, allowed_by, allowed_for, allowed_text}
 use Rattle.kc_values.specs.declared.intervals.Interval.{Interval}
@@ -38,7 +38,6 @@ use Rattle.kc_values.specs.Values.{is_n}
 use Rattle.kc_values.proofs.Selection.{found}
 use Rattle.kc_dot.specs.Reading.{is_lf}
 use Rattle.kc_dot.specs.Plain.{IsPlainNumber, HasPlainNumbers, EndsPlainly}
-use Rattle.kc_dot.specs.TreeTexts.{IsLineText, IsLineForm, HasLineTexts}
 use Rattle.kc_dot.proofs.LineLemmas.{HasNoLf}
 use Rattle.kc_dot.proofs.ShapeLemmas.{no_line_feed}
 use Rattle.kc_dot.proofs.SymbolLineLemmas.{FitsLine}

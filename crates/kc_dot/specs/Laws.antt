@@ -16,7 +16,6 @@ use Rattle.kc_dot.specs.Prefixes.{is_prefix}
 use Rattle.kc_dot.specs.Reading.{is_lf}
 use Rattle.kc_dot.specs.Reread.{HasOtherSolution, IsOneSolution, kept_lines, read_alone, told_by}
 use Rattle.kc_dot.specs.Texts.{config_text, minimal_text}
-use Rattle.kc_dot.specs.TreeTexts.{HasTexts}
 
 -- What a line assigns to a symbol is allowed for it.
 abbrev pub AssignedAreAllowed : Type 0
@@ -66,4 +65,4 @@ MinimalHasNothingToSpare =
 abbrev pub ConfigSettles : Type 0
 ConfigSettles =
     (tree : TreeFacts) (prefix : List ℕ) (places : Places) (V : ℕ → Known) → is_prefix prefix ≡ true →
-    HasTexts tree → IsSolutionOf tree places V → ConfigGivesBack tree prefix places V
+    IsSolutionOf tree places V → ConfigGivesBack tree prefix places V

@@ -4,11 +4,10 @@ use Rattle.std.specs.Str.Lines.{strip_carriage_return}
 use Rattle.kc_text.specs.Lexemes.{is_blank}
 use Rattle.kc_expr.specs.declared.expression.Kind.TheVariants as kind
 use Rattle.kc_expr.specs.Value.{Known, Truth, Written}
-use Rattle.kc_tree.specs.TreeFacts.{TreeFacts}
+use Rattle.kc_tree.specs.TreeFacts.{TreeFacts, OfTitles}
 use Rattle.kc_values.specs.Solution.{symbol_count}
 use Rattle.kc_values.specs.Written.{written}
 use Rattle.kc_dot.specs.ConfigLine.{Unset, says}
-use Rattle.kc_dot.specs.TreeTexts.{OfTitles}
 
 -- a blank or a carriage return
 abbrev pub is_end_byte : ℕ → Bool

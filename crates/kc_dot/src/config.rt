@@ -9,7 +9,6 @@ ghost use Rattle.kc_dot.specs.Sink.{extended, next_failure, HandsOut};
 ghost use Rattle.kc_dot.specs.SolutionTold.{told_of};
 ghost use Rattle.kc_dot.specs.Texts.{title_if, end_if, gap, is_title, shown_title, entry_text, ends_after, entries_text, config_heading, config_text};
 ghost use Rattle.kc_dot.specs.Told.{is_shown};
-ghost use Rattle.kc_dot.specs.TreeTexts.{HasTexts};
 ghost use Rattle.kc_dot.specs.Writing.{counted_write, MayAsk};
 ghost use Rattle.kc_solve.specs.Solved.{value_of};
 ghost use Rattle.kc_user.specs.Places.{ArePlaces};
@@ -266,7 +265,7 @@ pub fn write_config<S: Sink>(
     ensures beginning { OnErr result (HandsOut (config_text tree.now prefix.now (told_of solved.now)) (S.taken sink.old) (S.taken sink.new)) }
     ensures counted { IfErr result (λ fault. S.failures sink.new ≡ counted_write fault (S.failures sink.old)) }
     ensures keeps { S.goes_to sink.old sink.new }
-    ensures settles { HasTexts tree.now → ArePlaces tree.now solved.now.places → ConfigGivesBack tree.now prefix.now solved.now.places (value_of solved.now) }
+    ensures settles { ArePlaces tree.now solved.now.places → ConfigGivesBack tree.now prefix.now solved.now.places (value_of solved.now) }
 {
     config_settles();
     solved.is_solution();

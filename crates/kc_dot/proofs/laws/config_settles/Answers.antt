@@ -5,8 +5,8 @@ use Rattle.kc_dot.proofs.ValueTextLemmas.{values_fit_lines}
 use Rattle.kc_dot.proofs.laws.config_settles.Goals as goal
 
 pub returns : goal.returns
-returns c tree prefix places V is_pre texts is numbers titles =
+returns c tree prefix places V is_pre is numbers titles =
     let members = c.choices_stand_alone.ensures.members tree is.formed in
-    let fits = values_fit_lines tree (place_at places) V texts.lines is.held.allowed_all c.equations_read_needs.ensures c.needs_are_defined.ensures is.solves is.accepted numbers in
-    settled_again tree (place_at places) V is.formed members.0 members.1 (has_names tree is.formed) texts.shows texts.lines.titles is.solves fits prefix is_pre titles
+    let fits = values_fit_lines tree (place_at places) V is.formed.texts is.held.allowed_all c.equations_read_needs.ensures c.needs_are_defined.ensures is.solves is.accepted numbers in
+    settled_again tree (place_at places) V is.formed members.0 members.1 (has_names tree is.formed) is.formed.symbols_shown is.formed.texts.titles is.solves fits prefix is_pre titles
     is.accepted c.accepted_have_one_solution.ensures.agree (c.settled_where.ensures tree (place_at places) V members.0 is.held.allowed_all is.solves)
