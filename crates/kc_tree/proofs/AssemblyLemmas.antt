@@ -16,8 +16,14 @@ use Rattle.kc_tree.specs.Facts.{symbol_facts, choices, entries, title_of}
 use Rattle.kc_tree.specs.Passes.{said_by}
 use Rattle.kc_tree.specs.Trees.{facts_with, tree_with, unless_refused}
 use Rattle.kc_tree.specs.Views.{facts_of, choice_facts_of, shown_of}
-use Rattle.kc_tree.specs.Warnings.{warnings, late_refusals}
+use Rattle.kc_tree.specs.Warnings.{bad_members, warnings, late_refusals}
 use Rattle.kc_tree.proofs.WarningLemmas.{statements-is}
+use Rattle.kc_tree.proofs.WholeLemmas.{none_bad}
+
+-- no refusal, so no member that is refused
+pub no_bad_member : (names : List (List ℕ)) (ls : List Line) → late_refusals names (map line_view ls) ≡ [] → bad_members (said_by ls) ≡ []
+no_bad_member names ls none =
+    ap bad_members (sym (statements-is names ls)) ∙ none_bad names (map line_view ls) none
 
 module _ (names : List (List ℕ)) (count : ℕ) (modules : SymId) (ls : List Line) where
   pub whole : (p : TreeParts) → late_refusals names (map line_view ls) ≡ [] → map facts_of p.symbols.items ≡ map (λ s. symbol_facts (said_by ls) (symbol s)) (numbers count) → map choice_facts_of p.choices.items ≡ choices (said_by ls) → map shown_of p.entries.items ≡ entries (said_by ls) → map (λ w. w.items) p.warnings.items ≡ warnings names (map line_view ls) → p.main_menu.items ≡ unwrap_or (last_of (filter_map title_of (said_by ls))) (codes "Main menu") → p.modules ≡ (if nat_lt modules.0 count then Some modules else None) → Ok (tree_of names p) ≡ tree_with names count modules (map line_view ls)

@@ -16,31 +16,26 @@ use Rattle.kc_read.specs.Statements.{Numbered}
 use Rattle.kc_read.specs.Blocks.{numbers, attributes, bracket, opened}
 use Rattle.kc_tree.specs.declared.parts.Choice.{Choice}
 use Rattle.kc_tree.specs.declared.parts.Cond.{Cond}
+use Rattle.kc_tree.specs.declared.parts.Symbol.{Symbol}
 use Rattle.kc_tree.specs.TreeFacts.{Condition, Guarded, ChoiceFacts}
 use Rattle.kc_tree.specs.Facts.{Given, given_of, single_symbol, same_symbol, is_block, of_block, is_member, member_default, members_of, choice_number, choice_facts, dep}
 use Rattle.kc_tree.specs.Conditions.{with_when}
+use Rattle.kc_tree.specs.Known.{IsKnown, member_by}
 use Rattle.kc_tree.specs.Rounds.{Surroundings, round}
 use Rattle.kc_tree.specs.Passes.{said_by}
 use Rattle.kc_tree.specs.Views.{condition_of, named_view, choice_facts_of}
 use Rattle.kc_tree.specs.Choices.{named_given, named_member, member_line, choice_from}
+use Rattle.kc_tree.specs.Warnings.{bad_members}
 use Rattle.kc_tree.proofs.MemberLemmas.{below_or_past}
 use Rattle.kc_tree.proofs.OpenerLemmas.{statement_at}
 use Rattle.kc_tree.proofs.PlaceLemmas.{filter-next, get-map_numbers, length-map_numbers}
-use Rattle.kc_tree.proofs.ScanLemmas.{drop_at, drop_past}
+use Rattle.kc_tree.proofs.WarningLemmas.{members-is}
 
--- a walk along symbols
-module _ (s : SymId) (xs : List SymId) where
-  abbrev pub SeenTo : ℕ → Type 0
-  SeenTo i = list_any (same_symbol s) (drop i xs) ≡ list_any (same_symbol s) xs
-
-  pub found_here : (i : ℕ) (x : SymId) → SeenTo i → i < length xs → x ≡ get_or xs i x → (s.0 == x.0) ≡ true → true ≡ list_any (same_symbol s) xs
-  found_here i x h b at e = (rw (drop_at xs i x b at, e) at h)
-
-  pub found_later : (i : ℕ) (x : SymId) → SeenTo i → i < length xs → x ≡ get_or xs i x → (s.0 == x.0) ≡ false → SeenTo (i + 1)
-  found_later i x h b at e = (rw (drop_at xs i x b at, e) at h)
-
-  pub found_never : (i : ℕ) → SeenTo i → length xs ≤ i → false ≡ list_any (same_symbol s) xs
-  found_never i h b = (rw (drop_past xs i b) at h)
+-- where no member is refused, a symbol stands among a choice's members exactly where the symbols' facts give it that
+-- choice
+pub listed_is : (ss : List Numbered) (ks : List Symbol) (members : List SymId) (k : ℕ) → IsKnown ss ks → bad_members ss ≡ [] → members ≡ members_of ss k → (s : SymId) → member_by ks k s ≡ list_any (same_symbol s) members
+listed_is ss ks members k a none e s =
+    ap (λ (f : ℕ → SymId → Bool). f k s) (members-is ss ks a none) ∙ ap (list_any (same_symbol s)) (sym e)
 
 -- a default of one line
 pub named_made : (members : List SymId) (c : Condition) (s : Numbered) (n : SymId × Option Form) (when : Cond) → Some n ≡ named_member members s → condition_of when ≡ with_when c n.1 → member_line members c s ≡ Some (named_view (n.0, when))

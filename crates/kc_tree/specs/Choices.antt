@@ -1,15 +1,21 @@
 -- The choices, by what surrounds them, their attributes and their members.
-use Rattle.std.specs.Prelude.{List, Option, Some, None, if◌then◌else◌, option_map}
+use Rattle.std.specs.Prelude.{◌≡◌, List, Option, Some, None, if◌then◌else◌, option_map}
 use Rattle.std.specs.Option.{option_and_then}
 use Rattle.std.specs.List.{filter_map, list_any}
 use Rattle.kc_expr.specs.declared.expression.SymId.{SymId}
 use Rattle.kc_expr.specs.Form.{Form, form_of}
 use Rattle.kc_read.specs.Statements.{Numbered}
+use Rattle.kc_tree.specs.declared.choices.ChoiceMembers.{ChoiceMembers}
 use Rattle.kc_tree.specs.declared.choices.Named.{Named}
 use Rattle.kc_tree.specs.TreeFacts.{Condition, Guarded, ChoiceFacts}
 use Rattle.kc_tree.specs.Facts.{Given, given_of, single_symbol, same_symbol}
 use Rattle.kc_tree.specs.Conditions.{with_when, dep_of, prompt_of}
+use Rattle.kc_tree.specs.Known.{member_by}
 use Rattle.kc_tree.specs.Rounds.{Surroundings}
+
+-- a symbol stands in the list exactly where the symbols' facts give it that choice
+abbrev pub AreTheMembers : ChoiceMembers → Type 0
+AreTheMembers m = (s : SymId) → member_by m.symbols.now m.choice.0 s ≡ list_any (same_symbol s) m.list.now
 
 abbrev pub named_view : Named → SymId × Option Form
 named_view n = (n.member, option_map (λ e. form_of e.now) n.when)

@@ -66,9 +66,10 @@ pub fn assemble(
         Diagnosis::Refused(refusal) => Ok(Assembled::Refused(refusal)),
         Diagnosis::Warned(warnings) => {
             let firsts = firsts(alloc, lines, count)?;
+            let choices = choices(alloc, lines, &openers, &insides, &symbols)?;
             Ok(Assembled::Whole(TreeParts {
                 symbols,
-                choices: choices(alloc, lines, &openers, &insides)?,
+                choices,
                 entries: entries(alloc, lines, &openers, &insides, &firsts)?,
                 warnings,
                 main_menu: main_menu(alloc, lines)?,

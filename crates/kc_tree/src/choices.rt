@@ -6,24 +6,36 @@ ghost use Rattle.kc_expr.specs.Form.{form_of};
 ghost use Rattle.kc_read.specs.Blocks.{numbers, bracket, opened};
 ghost use Rattle.kc_read.specs.Reads.{statement_view};
 ghost use Rattle.kc_read.specs.declared.statement.Block.TheVariants as block;
-ghost use Rattle.kc_tree.specs.Choices.{named_view, named_member, member_line, choice_from};
+ghost use Rattle.kc_tree.specs.Choices.{named_view, named_member, member_line, choice_from, AreTheMembers};
 ghost use Rattle.kc_tree.specs.Facts.{choice_number, choices, is_block, opener_of, same_symbol};
+ghost use Rattle.kc_tree.specs.Known.{IsKnown};
 ghost use Rattle.kc_tree.specs.Passes.{said_by};
 ghost use Rattle.kc_tree.specs.RoundViews.{round_view};
 ghost use Rattle.kc_tree.specs.Rounds.{inside_table};
 ghost use Rattle.kc_tree.specs.Views.{choice_facts_of, condition_of};
 ghost use Rattle.kc_tree.specs.Views as views;
+ghost use Rattle.kc_tree.specs.Warnings.{bad_members};
 
 use crate::attributes::attributes;
 use crate::conditions::{dependency, prompt_condition, under};
+use crate::known::is_member;
 use crate::lines::{given_of, single_symbol};
 use crate::members::members;
-use crate::parts::{Choice, Cond};
+use crate::parts::{Choice, ChoiceId, Cond, Symbol};
 use crate::round::{Round, around, next_count, outside};
 use kc_expr::expression::{Expr, SymId};
 use kc_read::line::Line;
 use kc_read::statement::Statement;
 use std::alloc::{AllocError, Global};
+
+/// The members of a choice: their list, and what is known of all symbols, which says of each in one look whether it
+/// stands in that list.
+#[derive(Clone, Copy)]
+pub struct ChoiceMembers<'a> {
+    pub list: &'a [SymId],
+    pub choice: ChoiceId,
+    pub symbols: &'a [Symbol],
+}
 
 /// A member that a default names, and the default's condition.
 #[derive(Clone, Copy)]
@@ -42,21 +54,18 @@ fn is_choice(statement: &Statement) -> bool
     }
 }
 
-// The symbol stands among these.
-fn is_listed(members: &[SymId], symbol: SymId) -> bool
-    ensures { result ≡ list_any (same_symbol symbol) members.now }
+// The symbol stands among the members.
+fn is_listed(members: ChoiceMembers, symbol: SymId) -> bool
+    requires { AreTheMembers members }
+    ensures { result ≡ list_any (same_symbol symbol) members.entry.list.now }
 {
-    for member in members {
-        if symbol.0 == member.0 {
-            return true;
-        }
-    }
-    false
+    is_member(members.symbols, members.choice, symbol)
 }
 
 // What a default names, where that is a member.
-fn named_member<'a>(statement: &'a Statement, members: &[SymId]) -> Option<Named<'a>>
-    ensures { option_map named_view result ≡ named_member members.now (statement_view statement.now) }
+fn named_member<'a>(statement: &'a Statement, members: ChoiceMembers) -> Option<Named<'a>>
+    requires { AreTheMembers members }
+    ensures { option_map named_view result ≡ named_member members.entry.list.now (statement_view statement.now) }
 {
     match given_of(statement) {
         Some(given) => match single_symbol(given.value) {
@@ -75,9 +84,10 @@ fn member_defaults(
     alloc: Global,
     own: &[Line],
     dep: &Cond,
-    members: &[SymId],
+    members: ChoiceMembers,
 ) -> Result<Vec<(SymId, Cond)>, AllocError>
-    ensures { IfOk result (λ v. map views.named_view v.items ≡ filter_map (member_line members.now (condition_of dep.now)) (said_by own.now)) }
+    requires { AreTheMembers members }
+    ensures { IfOk result (λ v. map views.named_view v.items ≡ filter_map (member_line members.entry.list.now (condition_of dep.now)) (said_by own.now)) }
 {
     let mut defaults = Vec::new(alloc);
     for line in own {
@@ -94,14 +104,15 @@ fn choice(
     alloc: Global,
     own: &[Line],
     around: &Round,
-    members: &[SymId],
+    members: ChoiceMembers,
 ) -> Result<Choice, AllocError>
-    ensures { IfOk result (λ c. choice_facts_of c ≡ choice_from (round_view around.now) (said_by own.now) members.now) }
+    requires { AreTheMembers members }
+    ensures { IfOk result (λ c. choice_facts_of c ≡ choice_from (round_view around.now) (said_by own.now) members.entry.list.now) }
 {
     let dep = dependency(alloc, own, around)?;
     let prompt = prompt_condition(alloc, own, around, &dep)?;
     let defaults = member_defaults(alloc, own, &dep, members)?;
-    let members = Vec::from_slice(alloc, members)?;
+    let members = Vec::from_slice(alloc, members.list)?;
     Ok(Choice {
         prompt,
         defaults,
@@ -120,26 +131,35 @@ fn choice_count(lines: &[Line]) -> usize
     count
 }
 
-/// The choices, in order.
+/// The choices, in order. `symbols` say what the lines say, and no member is refused, so that a symbol is a member of
+/// the choice that they give it and of no other.
 pub fn choices(
     alloc: Global,
     lines: &[Line],
     openers: &[Option<usize>],
     insides: &[Round],
+    symbols: &[Symbol],
 ) -> Result<Vec<Choice>, AllocError>
     requires openers { openers.now ≡ map (opener_of (said_by lines.now)) (numbers (length lines.now)) }
     requires insides { map round_view insides.now ≡ map (inside_table (said_by lines.now)) (numbers (length lines.now)) }
+    requires symbols { IsKnown (said_by lines.now) symbols.now }
+    requires members { bad_members (said_by lines.now) ≡ [] }
     ensures { IfOk result (λ v. map choice_facts_of v.items ≡ choices (said_by lines.now)) }
 {
-    let members = members(alloc, lines, openers, insides, choice_count(lines))?;
+    let lists = members(alloc, lines, openers, insides, choice_count(lines))?;
     let mut choices = Vec::new(alloc);
     let outside = outside(alloc);
     for (i, line) in lines.iter().enumerate() {
         if is_choice(&line.statement) {
             let around = around(openers, insides, &outside, i);
             let own = attributes(lines, i);
-            let choice = choice(alloc, own, around, &members[choices.len()])?;
-            choices.push(choice)?;
+            let number = choices.len();
+            let members = ChoiceMembers {
+                list: &lists[number],
+                choice: ChoiceId(number),
+                symbols,
+            };
+            choices.push(choice(alloc, own, around, members)?)?;
         }
     }
     Ok(choices)

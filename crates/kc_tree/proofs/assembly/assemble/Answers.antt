@@ -2,15 +2,26 @@ use Rattle.std.proofs.Common.{map}
 use Rattle.kc_read.specs.Reads.{line_view}
 use Rattle.kc_tree.specs.Late.{IsDiagnosis}
 use Rattle.kc_tree.specs.declared.diagnoses.Diagnosis.TheVariants as diagnosis
-use Rattle.kc_tree.proofs.AssemblyLemmas.{whole}
+use Rattle.kc_tree.specs.Passes.{said_by}
+use Rattle.kc_tree.proofs.AssemblyLemmas.{no_bad_member, whole}
+use Rattle.kc_tree.proofs.KnownLemmas.{known_is}
 use Rattle.kc_tree.proofs.assembly.assemble.Goals as goal
+
+pub choices-requires-clause-symbols : goal.choices-requires-clause-symbols
+choices-requires-clause-symbols c =
+    known_is (said_by c.args.lines.now) c.args.count c.requires c.in_ok-symbols.symbols.items c.in_ok-symbols.ensures
+
+pub choices-requires-clause-members : goal.choices-requires-clause-members
+choices-requires-clause-members c =
+    let said : IsDiagnosis c.args.names.now (map line_view c.args.lines.now) (diagnosis.Warned c.in-Warned.warnings) = (rw c.in-Warned.is at c.in_ok-refusal.ensures) in
+    no_bad_member c.args.names.now c.args.lines.now said.0
 
 pub returns : goal.returns
 returns c =
     let said : IsDiagnosis c.args.names.now (map line_view c.args.lines.now) (diagnosis.Warned c.in-Warned.warnings) = (rw c.in-Warned.is at c.in_ok-refusal.ensures) in
     whole c.args.names.now c.args.count c.args.modules c.args.lines.now (record {
       symbols = c.in_ok-symbols.symbols;
-      choices = c.in_ok-choices-in-Warned.field-0;
+      choices = c.in_ok-choices-in-Warned.choices;
       entries = c.in_ok-entries-in-Warned.field-0;
       warnings = c.in-Warned.warnings;
       main_menu = c.in_ok-main_menu-in-Warned.field-0;

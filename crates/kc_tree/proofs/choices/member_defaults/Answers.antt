@@ -11,7 +11,7 @@ use Rattle.kc_tree.proofs.choices.member_defaults.Goals.{in-Some+in_ok-when+in_o
 
 pub loop-line-preserved : goal.loop-line-preserved
 loop-line-preserved c =
-    let members = c.args.members.now in
+    let members = c.args.members.list.now in
     let dep = condition_of c.args.dep.now in
     let s = statement_view c.line-item.result.statement in
     elim c.match-named_member.branch [

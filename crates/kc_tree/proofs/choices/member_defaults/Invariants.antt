@@ -6,4 +6,4 @@ use Rattle.kc_tree.proofs.choices.member_defaults.Given as goal
 
 abbrev pub invariant-loop-line : goal.invariant-loop-line
 invariant-loop-line l =
-    ListIs (member_line l.members (condition_of l.dep)) l.own l.line-index (map named_view l.defaults.items)
+    ListIs (member_line l.members.list.now (condition_of l.dep)) l.own l.line-index (map named_view l.defaults.items)
