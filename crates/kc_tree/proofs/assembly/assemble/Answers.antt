@@ -1,4 +1,4 @@
-use Rattle.std.proofs.Common.{map}
+use Rattle.std.proofs.Common.{map, rules}
 use Rattle.kc_read.specs.Reads.{line_view}
 use Rattle.kc_tree.specs.Late.{IsDiagnosis}
 use Rattle.kc_tree.specs.declared.diagnoses.Diagnosis.TheVariants as diagnosis
@@ -9,7 +9,8 @@ use Rattle.kc_tree.proofs.assembly.assemble.Goals as goal
 
 pub choices-requires-clause-symbols : goal.choices-requires-clause-symbols
 choices-requires-clause-symbols c =
-    known_is (said_by c.args.lines.now) c.args.count c.requires c.in_ok-symbols.symbols.items c.in_ok-symbols.ensures
+    let known = known_is (said_by c.args.lines.now) c.args.count c.requires in
+    search (rules, known)
 
 pub choices-requires-clause-members : goal.choices-requires-clause-members
 choices-requires-clause-members c =
