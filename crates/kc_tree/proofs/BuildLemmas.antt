@@ -1,11 +1,10 @@
--- A tree is what the two readings of a root file give.
+-- A tree is what the numbered lines of a root file give.
 use Rattle.std.proofs.Common.{◌≡◌, ◌≢◌, ℕ, List, [], ◌∷◌, length, map, Some, Result, Ok, Err, refl, ap, sym, ◌∙◌, subst}
 use Rattle.std.specs.Prelude.{All}
 use Rattle.std.specs.List.{slice_get, flat_map}
 use Rattle.std.proofs.lemmas.List.Elements.{All-append, All-head}
 use Rattle.kc_expr.specs.declared.expression.SymId.{SymId}
 use Rattle.kc_expr.specs.Names.{AreDistinct}
-use Rattle.kc_read.specs.declared.expansion.Expansion.{Expansion}
 use Rattle.kc_read.specs.declared.line.Line.{Line}
 use Rattle.kc_read.specs.declared.refusal.Code.{Code}
 use Rattle.kc_read.specs.declared.refusal.Code.TheVariants as code
@@ -13,23 +12,22 @@ use Rattle.kc_read.specs.declared.refusal.Refusal.{Refusal}
 use Rattle.kc_read.specs.Expansion.{Expands, Log, OneExpansion, Refused, defined, refused, statements}
 use Rattle.kc_read.specs.Files.{Files}
 use Rattle.kc_read.specs.Numbering.{modules_id, names_of, numbered_lines}
-use Rattle.kc_read.specs.Progress.{IsExpansion}
 use Rattle.kc_read.specs.Reads.{line_view}
 use Rattle.kc_read.specs.Statements.{Numbered, Placed, Written}
 use Rattle.kc_read.specs.Steps.{IsMemory, refusal_view}
 use Rattle.kc_tree.specs.declared.assembly.Assembled.{Assembled}
-use Rattle.kc_tree.specs.declared.build.Numbering.{Numbering}
+use Rattle.kc_tree.specs.declared.numbering.Listing.{Listing}
 use Rattle.kc_tree.specs.Assemblies.{assembled_view}
 use Rattle.kc_tree.specs.Facts.{listed}
 use Rattle.kc_tree.specs.Firsts.{AreBelow}
-use Rattle.kc_tree.specs.Numberings.{IsNumbering}
+use Rattle.kc_tree.specs.Numberings.{IsListing}
 use Rattle.kc_tree.specs.Passes.{said_by}
 use Rattle.kc_tree.specs.TreeFacts.{TreeFacts, IsWellFormed}
 use Rattle.kc_tree.specs.Trees.{OneTree, facts_with, tree_of_lines, tree_of_log, tree_with, unless_refused}
 use Rattle.kc_tree.specs.Warnings.{bad_defaults, bad_members, entry_name, late_refusals, owner_at, owner_symbol, refused_at}
 use Rattle.kc_tree.proofs.DefinedLemmas.{AreNames, expanded_known}
 use Rattle.kc_tree.proofs.ElementLemmas.{All-flat_map, All-map_each}
-use Rattle.kc_tree.proofs.NumberingLemmas.{IsNumbered, numbered-is, numbered_below}
+use Rattle.kc_tree.proofs.NumberingLemmas.{numbered_below}
 use Rattle.kc_tree.proofs.WarningLemmas.{statements-is}
 use Rattle.kc_tree.proofs.WholeLemmas.{IsShaped, shaped, well_formed}
 
@@ -64,49 +62,27 @@ whole-formed ls t known distinct shaped h =
     let w = whole_by (late_refusals (names_of (statements ls)) (numbered_lines ls)) t (facts_with (names_of (statements ls)) (length (defined (statements ls))) (modules_id (statements ls)) (numbered_lines ls)) h in
     subst IsWellFormed (sym w.1) (well_formed ls known distinct shaped w.0)
 
--- both readings give one list
-module _ (one : OneExpansion) (files : Files) (root : List ℕ) where
-  same_log : (first second : Log) → Expands files root (Ok first) → Expands files root (Ok second) → second ≡ first
-  same_log first second x y =
-      let same : ◌≡◌ {A = Result Log Refused} (Ok second) (Ok first) = one files root (Ok second) (Ok first) y x in
-      cc
+-- what the numbered lines of an expanded list give
+module _ (log : Log) (l : Listing) (h : IsListing log l) where
+  pub lines-below : (ls : List Line) → ls ≡ l.lines.items → AreBelow l.count (said_by ls)
+  lines-below ls same =
+      let said : map (λ x. x.statement) (numbered_lines log.lines) ≡ said_by l.lines.items = ap (λ (ps : List (Placed Numbered)). map (λ x. x.statement) ps) (sym h.lines_are) ∙ statements-is l.names l.lines.items in
+      let below : AreBelow l.count (said_by l.lines.items) = subst (λ (ss : List Numbered). AreBelow l.count ss) said (subst (λ (k : ℕ). AreBelow k (map (λ x. x.statement) (numbered_lines log.lines))) (sym h.count_is) (numbered_below log.lines)) in
+      subst (λ (xs : List Line). AreBelow l.count (said_by xs)) (sym same) below
 
-  pub read-again : (first second : Log) (n : Numbering) (names : List (List ℕ)) (e : Expansion) → Expands files root (Ok first) → IsNumbering (statements first.lines) n → Expands files root (Ok second) → IsExpansion n.names (Some n.modules) names second e → IsNumbered first n names e
-  read-again first second n names e x h y i =
-      numbered-is first n names e h (subst (λ (l : Log). IsExpansion n.names (Some n.modules) names l e) (same_log first second x y) i)
-
-module _ (log : Log) (n : Numbering) (names : List (List ℕ)) (e : Expansion) (h : IsNumbering (statements log.lines) n) (i : IsNumbered log n names e) where
-  pub lines-below : AreBelow n.count (said_by e.lines.items)
-  lines-below =
-      let said : map (λ l. l.statement) (numbered_lines log.lines) ≡ said_by e.lines.items = ap (λ (ls : List (Placed Numbered)). map (λ l. l.statement) ls) (sym i.lines_are) ∙ statements-is names e.lines.items in
-      subst (λ (ss : List Numbered). AreBelow n.count ss) said (subst (λ (k : ℕ). AreBelow k (map (λ l. l.statement) (numbered_lines log.lines))) (sym h.count) (numbered_below log.lines))
-
-  pub assembled-lines : (s : Assembled) → assembled_view names s ≡ tree_with names n.count n.modules (map line_view e.lines.items) → assembled_view names s ≡ tree_of_lines log.lines
-  assembled-lines s a =
+  pub assembled-lines : (ls : List Line) (s : Assembled) → ls ≡ l.lines.items → assembled_view l.names s ≡ tree_with l.names l.count l.modules (map line_view ls) → assembled_view l.names s ≡ tree_of_lines log.lines
+  assembled-lines ls s same a =
       let ss = statements log.lines in
       a
-      ∙ ap (λ (ls : List (Placed Numbered)). tree_with names n.count n.modules ls) i.lines_are
-      ∙ ap (λ (ns : List (List ℕ)). tree_with ns n.count n.modules (numbered_lines log.lines)) i.names_are
-      ∙ ap (λ (k : ℕ). tree_with (names_of ss) k n.modules (numbered_lines log.lines)) h.count
-      ∙ ap (λ (id : SymId). tree_with (names_of ss) (length (defined ss)) id (numbered_lines log.lines)) i.modules_is
+      ∙ ap (λ (xs : List Line). tree_with l.names l.count l.modules (map line_view xs)) same
+      ∙ ap (λ (ps : List (Placed Numbered)). tree_with l.names l.count l.modules ps) h.lines_are
+      ∙ ap (λ (ns : List (List ℕ)). tree_with ns l.count l.modules (numbered_lines log.lines)) h.names_are
+      ∙ ap (λ (k : ℕ). tree_with (names_of ss) k l.modules (numbered_lines log.lines)) h.count_is
+      ∙ ap (λ (id : SymId). tree_with (names_of ss) (length (defined ss)) id (numbered_lines log.lines)) h.modules_is
 
-  pub names-distinct : AreDistinct names → AreDistinct (names_of (statements log.lines))
-  names-distinct d = subst AreDistinct i.names_are d
-
--- what the lines of both readings give
-module _ (one : OneExpansion) (files : Files) (root : List ℕ) (first second : Log) (n : Numbering) (names : List (List ℕ)) (e : Expansion) (x : Expands files root (Ok first)) (h : IsNumbering (statements first.lines) n) (y : Expands files root (Ok second)) (i : IsExpansion n.names (Some n.modules) names second e) where
-  both : IsNumbered first n names e
-  both = read-again one files root first second n names e x h y i
-
-  pub both-below : (ls : List Line) → ls ≡ e.lines.items → AreBelow n.count (said_by ls)
-  both-below ls s = subst (λ (l : List Line). AreBelow n.count (said_by l)) (sym s) (lines-below first n names e h both)
-
-  pub both-assembled : (ls : List Line) (s : Assembled) → ls ≡ e.lines.items → assembled_view names s ≡ tree_with names n.count n.modules (map line_view ls) → assembled_view names s ≡ tree_of_lines first.lines
-  both-assembled ls s l a = assembled-lines first n names e h both s (a ∙ ap (λ (k : List Line). tree_with names n.count n.modules (map line_view k)) l)
-
-  pub both-formed : (t : TreeFacts) → AreDistinct names → Ok t ≡ tree_of_lines first.lines → IsWellFormed t
-  both-formed t d a =
-      whole-formed first.lines t (expanded_known files root first x) (names-distinct first n names e h both d) (shaped files root first x) a
+  pub lines-formed : (files : Files) (root : List ℕ) (t : TreeFacts) → Expands files root (Ok log) → AreDistinct l.names → Ok t ≡ tree_of_lines log.lines → IsWellFormed t
+  lines-formed files root t x d a =
+      whole-formed log.lines t (expanded_known files root log x) (subst AreDistinct h.names_are d) (shaped files root log x) a
 
 pub one-tree : OneExpansion → OneTree
 one-tree one files root r other x y =

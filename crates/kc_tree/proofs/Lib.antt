@@ -26,6 +26,8 @@ mod OwnerLemmas
 mod PlaceLemmas
 mod RaiseLemmas
 mod ReadTextLemmas
+mod RenamedLemmas
+mod RenamingLemmas
 mod RoundLemmas
 mod Rows
 mod ScanLemmas

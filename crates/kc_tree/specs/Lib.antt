@@ -11,6 +11,7 @@ pub mod Members
 pub mod Numberings
 pub mod Passes
 pub mod Raises
+pub mod Renamings
 pub mod RoundViews
 pub mod Rounds
 pub mod TreeCode

@@ -1,13 +1,13 @@
--- How the names of a tree are numbered before its lines are.
-use Rattle.std.specs.Prelude.{◌≡◌, List, length}
-use Rattle.kc_expr.specs.Names.{IsNumber}
-use Rattle.kc_read.specs.Statements.{Written}
-use Rattle.kc_read.specs.Expansion.{defined}
-use Rattle.kc_read.specs.Numbering.{known_names, modules_name}
-use Rattle.kc_tree.specs.declared.build.Numbering.{Numbering}
+-- The numbered lines of a root file.
+use Rattle.std.specs.Prelude.{◌≡◌, length, map}
+use Rattle.kc_read.specs.Expansion.{Log, defined, statements}
+use Rattle.kc_read.specs.Numbering.{modules_id, names_of, numbered_lines}
+use Rattle.kc_read.specs.Reads.{line_view}
+use Rattle.kc_tree.specs.declared.numbering.Listing.{Listing}
 
--- the symbols that these statements define, and the modules symbol, are numbered
-pub record IsNumbering (ss : List Written) (n : Numbering) : Type 0 where
-  pub names : n.names ≡ known_names ss
-  pub count : n.count ≡ length (defined ss)
-  pub modules : IsNumber n.names (modules_name ss) n.modules
+-- the lines of this expanded list and its names, the defined symbols and the modules symbol the first of them
+pub record IsListing (log : Log) (l : Listing) : Type 0 where
+  pub names_are : l.names ≡ names_of (statements log.lines)
+  pub count_is : l.count ≡ length (defined (statements log.lines))
+  pub modules_is : l.modules ≡ modules_id (statements log.lines)
+  pub lines_are : map line_view l.lines.items ≡ numbered_lines log.lines

@@ -1,0 +1,6 @@
+use Rattle.kc_tree.proofs.numbering.read_listing.Goals as goal
+
+pub returns-in-Ok-clause-listed : goal.returns-in-Ok-clause-listed
+returns-in-Ok-clause-listed c =
+    let x = c.in_ok-expansion.ensures.expanded in
+    (x.0, x.1, c.in-Ok.ensures x.0 (rw c.new-mentioned.ensures at x.2))
