@@ -1,5 +1,5 @@
 -- The names and numbers of an expanded list.
-use Rattle.std.proofs.Common.{◌≡◌, ℕ, zero, suc, ◌+◌, ◌<◌, ◌≤◌, Bool, true, false, cond, ◌||◌, List, [], ◌∷◌, ◌++◌, length, map, take, Option, Some, None, refl, ap, sym, ◌∙◌, arith, append_assoc, codes, get_or}
+use Rattle.std.proofs.Common.{◌≡◌, ℕ, zero, suc, ◌+◌, ◌<◌, ◌≤◌, Bool, true, false, cond, ◌||◌, List, [], ◌∷◌, ◌++◌, length, map, take, Option, Some, None, refl, ap, sym, ◌∙◌, arith, append_assoc, codes}
 use Rattle.std.specs.List.{slice_get, list_any, flat_map, cons_option}
 use Rattle.std.specs.Option.{option_map, option_and_then, unwrap_or}
 use Rattle.std.specs.declared.vec.Vec.{Vec}
@@ -20,7 +20,6 @@ use Rattle.kc_read.specs.Reads.{line_view}
 use Rattle.kc_read.specs.Statements.{Written, Placed, numbered, statement_words, ConfigLine}
 use Rattle.kc_read.proofs.FileLemmas.{same_name_eq}
 use Rattle.kc_read.proofs.NameLemmas.{extends_none, known_at, named_of}
-use Rattle.kc_tree.specs.declared.numbering.Listing.{Listing}
 use Rattle.kc_tree.specs.Numberings.{IsListing}
 use Rattle.kc_tree.specs.Renamings.{final, line_renamed}
 use Rattle.kc_tree.specs.Facts.{symbol_of}

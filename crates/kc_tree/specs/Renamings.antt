@@ -1,5 +1,5 @@
 -- Other numbers for the symbols of what is numbered.
-use Rattle.std.specs.Prelude.{List, Option, Some, None, slice_get, unwrap_or, option_map}
+use Rattle.std.specs.Prelude.{List, slice_get, unwrap_or, option_map}
 use Rattle.kc_expr.specs.declared.expression.SymId.{SymId}
 use Rattle.kc_expr.specs.Form.{Form, Forms, Leaf, Text, Symbol, Single, Related, Negated, Every, Some_of, NoForms, MoreForms}
 use Rattle.kc_read.specs.Statements.{Numbered, Asked, Placed, ConfigLine, IfLine, EndIfLine, CommentLine, SourceLine, MenuLine, EndMenuLine, ChoiceLine, EndChoiceLine, MainMenuLine, TypeLine, PromptLine, DefaultLine, DefLine, DependsLine, VisibleLine, SelectLine, ImplyLine, RangeLine, HelpLine, ModulesLine, IgnoredLine}

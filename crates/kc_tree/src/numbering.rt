@@ -56,7 +56,11 @@ fn modules_name<'a>(names: &'a Names, modules: Option<SymId>) -> &'a [u8]
 }
 
 // The names that were mentioned are mentioned again: the number that each has now.
-fn number_again(alloc: Global, mentioned: &Names, names: &mut Names) -> Result<Vec<SymId>, AllocError>
+fn number_again(
+    alloc: Global,
+    mentioned: &Names,
+    names: &mut Names,
+) -> Result<Vec<SymId>, AllocError>
     ensures names { OnOk result (names.new ≡ all_mentioned names.old mentioned.now) }
     ensures numbers { IfOk result (λ v. v.items ≡ map (λ n. symbol (number_of names.new n)) mentioned.now) }
 {

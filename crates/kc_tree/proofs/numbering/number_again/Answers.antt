@@ -1,4 +1,4 @@
-use Rattle.std.proofs.Common.{◌≡◌, ◌≤◌, length, refl, arith}
+use Rattle.std.proofs.Common.{◌≤◌, length, arith}
 use Rattle.kc_tree.proofs.NumberingLemmas.{again_next, numbers_end, numbers_next}
 use Rattle.kc_tree.proofs.numbering.number_again.Goals as goal
 

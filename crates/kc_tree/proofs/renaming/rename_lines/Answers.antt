@@ -1,4 +1,4 @@
-use Rattle.std.proofs.Common.{◌≡◌, ◌∙◌, refl}
+use Rattle.std.proofs.Common.{◌∙◌, refl}
 use Rattle.std.proofs.lemmas.List.{length-set}
 use Rattle.kc_read.specs.Reads.{line_view}
 use Rattle.kc_tree.specs.Renamings.{final, line_renamed}
