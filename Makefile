@@ -1,5 +1,5 @@
 # Thin: every target is one or two commands of the kit.
-.PHONY: build example test bench real clean
+.PHONY: build example test wrong bench real clean
 
 build:
 	cd crates/kconf && rt run -- --help > /dev/null
@@ -10,6 +10,10 @@ example: build
 
 test:
 	rt ci
+
+# Tries the wrong bodies that the gate leaves out; it takes about as long as the gate.
+wrong:
+	wrong-bodies/try.sh
 
 # Times kconf beside the kernel's conf and kconfiglib, where they are there.
 bench: build

@@ -2,7 +2,7 @@
 ghost use Rattle.std.specs.Prelude.{◌<◌};
 
 use crate::row::Accepted;
-use crate::rows::accepted_rows;
+use crate::rows::tables;
 use crate::runs::{ROOM, run_row};
 use crate::texts::holds;
 use kc_conf::Status;
@@ -52,24 +52,30 @@ fn holds_at_each_cut(rt: &impl Abort, alloc: Global, row: &Accepted) -> Result<(
 
 #[test]
 fn a_stream_may_be_cut_at_each_place(rt: HostRuntime) -> Result<(), Fail> {
-    for row in &accepted_rows(rt.alloc())? {
-        holds_at_each_cut(&rt, rt.alloc(), row)?;
+    for table in tables() {
+        for row in table {
+            holds_at_each_cut(&rt, rt.alloc(), row)?;
+        }
     }
     Ok(())
 }
 
 #[test]
 fn reads_and_writes_may_take_one_byte(rt: HostRuntime) -> Result<(), Fail> {
-    for row in &accepted_rows(rt.alloc())? {
-        holds_in_pieces(&rt, rt.alloc(), row, 1, 1, 1)?;
+    for table in tables() {
+        for row in table {
+            holds_in_pieces(&rt, rt.alloc(), row, 1, 1, 1)?;
+        }
     }
     Ok(())
 }
 
 #[test]
 fn reads_and_writes_may_take_seven_bytes(rt: HostRuntime) -> Result<(), Fail> {
-    for row in &accepted_rows(rt.alloc())? {
-        holds_in_pieces(&rt, rt.alloc(), row, 7, 7, 7)?;
+    for table in tables() {
+        for row in table {
+            holds_in_pieces(&rt, rt.alloc(), row, 7, 7, 7)?;
+        }
     }
     Ok(())
 }

@@ -1,6 +1,6 @@
 //! Runs on what a run wrote.
 use crate::row::Accepted;
-use crate::rows::accepted_rows;
+use crate::rows::tables;
 use crate::runs::run_on;
 use kc_memory::MemoryOutputs;
 use std::alloc::Global;
@@ -47,9 +47,11 @@ fn restores(rt: &impl Abort, alloc: Global, row: &Accepted) -> Result<usize, Fai
 #[test]
 fn the_minimal_file_restores_and_no_line_of_it_can_go(rt: HostRuntime) -> Result<(), Fail> {
     let mut with_lines = 0u32;
-    for row in &accepted_rows(rt.alloc())? {
-        if restores(&rt, rt.alloc(), row)? > 0 {
-            with_lines = with_lines.saturating_add(1);
+    for table in tables() {
+        for row in table {
+            if restores(&rt, rt.alloc(), row)? > 0 {
+                with_lines = with_lines.saturating_add(1);
+            }
         }
     }
     assert!(rt; with_lines > 10, "{with_lines}");
@@ -67,8 +69,10 @@ fn settles(rt: &impl Abort, alloc: Global, row: &Accepted) -> Result<(), Fail> {
 
 #[test]
 fn a_run_on_its_own_text_changes_only_what_is_unsettled(rt: HostRuntime) -> Result<(), Fail> {
-    for row in &accepted_rows(rt.alloc())? {
-        settles(&rt, rt.alloc(), row)?;
+    for table in tables() {
+        for row in table {
+            settles(&rt, rt.alloc(), row)?;
+        }
     }
     Ok(())
 }

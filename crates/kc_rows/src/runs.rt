@@ -42,7 +42,7 @@ pub(crate) fn run_row(
 pub(crate) fn run_on<'x>(
     alloc: Global,
     row: &Accepted,
-    settings: &[u8],
+    settings: &'x [u8],
     fragments: &'x [(&'x str, &'x [u8])],
 ) -> Result<MemoryOutputs, Fail> {
     let files = files(alloc, "Kconfig", row.kconfig, row.others)?;
