@@ -65,9 +65,8 @@ fn begin(alloc: Global, root: &[u8], counted: usize) -> Result<(Frame, Progress)
 /// its file, each with its file and line; or the first refusal.
 ///
 /// `modules` is the number of the modules symbol, by which a plain `m` of a condition also asks for that symbol. On
-/// `Ok` the names are the old ones and then each new one at its first mention. A caller who wants the defined symbols
-/// numbered first calls this twice: the first call tells the defined names and the modules symbol, and answers the same
-/// list or the same refusal.
+/// `Ok` the names are the old ones and then each new one at its first mention. A caller who does not know the modules
+/// symbol yet gives a number that no name has, and puts other numbers into the lines afterwards.
 ///
 /// Each of the refusals E1 to E12 and E16 comes exactly for its cause, at the first line with a fault: E1 where a file
 /// is not in the map, E2 where it is open now, E3 where the physical lines of the files opened so far are more than

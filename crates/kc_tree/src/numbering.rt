@@ -107,6 +107,7 @@ pub fn read_listing(alloc: Global, map: &FileMap, root: &[u8]) -> Result<Listing
     let unknown = SymId(usize::MAX);
     let mut mentioned = Names::new(alloc);
     let expansion = expand(alloc, map, root, Some(unknown), &mut mentioned)?;
+    // No name has the greatest number: there are at most so many.
     let _count = mentioned.count();
     match number_lines(alloc, &mentioned, unknown, expansion) {
         Ok(listing) => Ok(listing),
