@@ -16,8 +16,6 @@ pub mod sink;
 pub mod solution;
 mod step;
 mod symbol_line;
-#[cfg(test)]
-mod tests;
 pub mod value;
 mod words;
 

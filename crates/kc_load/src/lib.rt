@@ -10,6 +10,3 @@ mod path;
 pub use fault::LoadFault;
 pub use folder::{Folder, FolderFault};
 pub use loader::load;
-
-#[cfg(test)]
-mod tests;

@@ -12,8 +12,6 @@ pub mod members;
 pub mod needs;
 pub mod numbers;
 pub mod table;
-#[cfg(test)]
-mod tests;
 pub mod texts;
 pub mod truths;
 pub mod warnings;

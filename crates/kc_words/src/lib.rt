@@ -7,6 +7,3 @@ mod usage;
 
 pub use options::{Options, options_of};
 pub use usage::Usage;
-
-#[cfg(test)]
-mod tests;

@@ -2,10 +2,10 @@
 
 ghost use Rattle.std.specs.Prelude.{◌≤◌, length};
 
-use crate::expression::{Expr, Kind, SymId, Tri};
-use crate::names::Names;
-use crate::parse::parse;
-use crate::values::{Values, eval, eval_depends_on_symbols, names_into};
+use kc_expr::expression::{Expr, Kind, SymId, Tri};
+use kc_expr::names::Names;
+use kc_expr::parse::parse;
+use kc_expr::values::{Values, eval, eval_depends_on_symbols, names_into};
 use kc_text::{Token, lex};
 use std::test::Fail;
 

@@ -1,5 +1,5 @@
 //! Worked rows of the command line.
-use super::*;
+use kc_words::*;
 use std::test::Fail;
 
 // The words between the `|` of a row.

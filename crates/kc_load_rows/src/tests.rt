@@ -2,7 +2,7 @@
 ghost use Rattle.std.specs.Prelude.{Some};
 ghost use Rattle.kc_read.specs.Files.{bytes_in};
 
-use super::*;
+use kc_load::*;
 use kc_read::FileMap;
 use std::alloc::Global;
 use std::test::Fail;

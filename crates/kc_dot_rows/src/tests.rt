@@ -1,7 +1,7 @@
 //! Worked rows.
-use crate::line::{ConfigLine, config_line};
-use crate::prefix::Prefix;
-use crate::value::line_value;
+use kc_dot::line::{ConfigLine, config_line};
+use kc_dot::prefix::Prefix;
+use kc_dot::value::line_value;
 use kc_expr::expression::{Kind, Tri};
 use kc_user::value::UserValue;
 use std::test::Fail;

@@ -4,14 +4,14 @@
 ghost use Rattle.std.specs.Prelude.{[]};
 ghost use Rattle.kc_expr.specs.declared.expression.Kind.TheVariants as kind;
 
-use crate::conditions::{all_hold, mode_of};
-use crate::differs::member_differs;
-use crate::intervals::Interval;
-use crate::numbers::{clamped, if_inside, is_inside, number_text};
-use crate::texts::single_text;
 use kc_expr::expression::{Expr, Kind, Operand, SymId, Tri};
 use kc_expr::values::Values;
 use kc_tree::parts::{Choice, Cond};
+use kc_values::conditions::{all_hold, mode_of};
+use kc_values::differs::member_differs;
+use kc_values::intervals::Interval;
+use kc_values::numbers::{clamped, if_inside, is_inside, number_text};
+use kc_values::texts::single_text;
 use std::alloc::{AllocError, Global};
 use std::rc::Rc;
 
