@@ -50,32 +50,43 @@ fn holds_at_each_cut(rt: &impl Abort, alloc: Global, row: &Accepted) -> Result<(
     Ok(())
 }
 
+fn hold_at_each_cut(rt: &impl Abort, alloc: Global, rows: &[Accepted]) -> Result<(), Fail> {
+    for row in rows {
+        holds_at_each_cut(rt, alloc, row)?;
+    }
+    Ok(())
+}
+
 #[test]
 fn a_stream_may_be_cut_at_each_place(rt: HostRuntime) -> Result<(), Fail> {
-    for table in tables() {
-        for row in table {
-            holds_at_each_cut(&rt, rt.alloc(), row)?;
-        }
+    for rows in tables() {
+        hold_at_each_cut(&rt, rt.alloc(), rows)?;
+    }
+    Ok(())
+}
+
+// Reads and writes take this many bytes.
+fn hold_by(rt: &impl Abort, alloc: Global, rows: &[Accepted], bytes: usize) -> Result<(), Fail>
+    requires { 0 < bytes }
+{
+    for row in rows {
+        holds_in_pieces(rt, alloc, row, bytes, bytes, bytes)?;
     }
     Ok(())
 }
 
 #[test]
 fn reads_and_writes_may_take_one_byte(rt: HostRuntime) -> Result<(), Fail> {
-    for table in tables() {
-        for row in table {
-            holds_in_pieces(&rt, rt.alloc(), row, 1, 1, 1)?;
-        }
+    for rows in tables() {
+        hold_by(&rt, rt.alloc(), rows, 1)?;
     }
     Ok(())
 }
 
 #[test]
 fn reads_and_writes_may_take_seven_bytes(rt: HostRuntime) -> Result<(), Fail> {
-    for table in tables() {
-        for row in table {
-            holds_in_pieces(&rt, rt.alloc(), row, 7, 7, 7)?;
-        }
+    for rows in tables() {
+        hold_by(&rt, rt.alloc(), rows, 7)?;
     }
     Ok(())
 }
