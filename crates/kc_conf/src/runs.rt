@@ -174,7 +174,6 @@ fn run_through<I: Input, O: Outputs>(
     ensures refused_inputs { (r : Refused) → IsRefusedTree (bytes_in files.now) (root_of options.now) r → inputs.new ≡ inputs.old }
     ensures refused_outputs { (r : Refused) → IsRefusedTree (bytes_in files.now) (root_of options.now) r → Only Which.Notes (O.seen outputs.old) (O.seen outputs.new) }
 {
-    one_outcome();
     one_answer();
     match accepted(alloc, files, options.kconfig.as_bytes()) {
         Ok((tree, order)) => run_tree(alloc, options, &tree, &order, inputs, outputs),
