@@ -1,0 +1,5 @@
+//! The rows, by what they show.
+
+pub(crate) mod choices;
+pub(crate) mod numbers;
+pub(crate) mod truths;

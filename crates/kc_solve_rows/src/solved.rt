@@ -1,0 +1,49 @@
+//! What the solver tells.
+
+use crate::trial::{Told, choice_count, choice_into, symbol_into, warnings_into};
+use kc_expr::expression::SymId;
+use kc_expr::values::Values;
+use kc_solve::solved::Solved;
+use kc_tree::parts::ChoiceId;
+use kc_values::lookups::name;
+use std::alloc::{AllocError, Global};
+
+// Whether the symbol has a line in the minimal file.
+fn differs(solved: &Solved<'_>, id: SymId) -> bool {
+    id.0 < solved.tree().symbol_count() && solved.differs(id)
+}
+
+// The line of a symbol.
+fn symbol_line(solved: &Solved<'_>, id: SymId, out: &mut Vec<u8>) -> Result<(), AllocError> {
+    let told = Told {
+        name: name(solved.tree(), id),
+        value: solved.text(id),
+        visibility: solved.visibility(id),
+        is_written: solved.written(id),
+        differs: differs(solved, id),
+    };
+    symbol_into(&told, out)
+}
+
+// The line of a choice.
+fn choice_line(solved: &Solved<'_>, choice: ChoiceId, out: &mut Vec<u8>) -> Result<(), AllocError> {
+    if choice.0 >= choice_count(solved.tree()) {
+        return Ok(());
+    }
+    let selection = solved.selection(choice);
+    let default = solved.default_selection(choice);
+    choice_into(solved.tree(), selection, default, out)
+}
+
+/// What a solution tells.
+pub(crate) fn lines_of(alloc: Global, solved: &Solved<'_>) -> Result<Vec<u8>, AllocError> {
+    let mut out = Vec::new(alloc);
+    for i in 0..solved.tree().symbol_count() {
+        symbol_line(solved, SymId(i), &mut out)?;
+    }
+    for c in 0..choice_count(solved.tree()) {
+        choice_line(solved, ChoiceId(c), &mut out)?;
+    }
+    warnings_into(solved.value_warnings(), &mut out)?;
+    Ok(out)
+}
