@@ -26,7 +26,12 @@ fn over<'a>(files: &'a FileMap, settings: &'a [u8], minimal: Option<&'a str>) ->
 }
 
 // The minimal file gives the same `.config`, and without its one line another.
-fn restores<'x>(rt: &impl Abort, alloc: Global, files: &'x FileMap, ended: &'x Ended) -> Result<(), Fail> {
+fn restores<'x>(
+    rt: &impl Abort,
+    alloc: Global,
+    files: &'x FileMap,
+    ended: &'x Ended,
+) -> Result<(), Fail> {
     let minimal = over(files, ended.outputs.minimal.bytes.as_slice(), None);
     let again = run_long(alloc, &minimal)?;
     assert_eq!(rt; again.status, Status::Done);
