@@ -11,7 +11,7 @@ example: build
 test:
 	rt ci
 
-# Tries the wrong bodies that the gate leaves out; it takes about as long as the gate.
+# Tries the wrong bodies that the gate leaves out. It proves the crates below each first, so it takes long.
 wrong:
 	wrong-bodies/try.sh
 

@@ -1,4 +1,4 @@
-//! Worked rows of kc_dot, prefixes, lines and values of a `.config`: tests alone, in a crate of their own so that kc_dot is proved once.
+//! Worked rows of kc_dot, prefixes, lines and values of a `.config`: tests alone, in a crate of their own so that they do not have kc_dot proved once more.
 #![tactic(auto)]
 
 #[cfg(test)]
