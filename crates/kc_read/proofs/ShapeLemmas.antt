@@ -128,10 +128,6 @@ source_is modules number t HelpLine same = absurd cc
 source_is modules number t ModulesLine same = absurd cc
 source_is modules number t IgnoredLine same = absurd cc
 
-pub or_first : {A : Type 0} (o p : Option A) (x : A) → o ≡ Some x → option_or o p ≡ Some x
-or_first None p x e = absurd cc
-or_first (Some y) p x e = e
-
 no_source : (s : Statement) → ((t : Vec ℕ Global) → s ≡ made.Source t → ⊥) → is_source (statement_view s) ≡ false
 no_source (made.Config s) h = refl
 no_source (made.If e) h = refl

@@ -127,15 +127,27 @@ fn take(
     ensures allowed { OnOk result (effect_view names.now (statement_view statement) frame.old progress.old ≡ None) }
     ensures fault { IfErr result (λ f. IsFault f (λ c. effect_view names.now (statement_view statement) frame.old progress.old ≡ Some c)) }
 {
-    progress.see(&statement, names)?;
-    frame.take(&statement, line)?;
-    let file = frame.file.clone()?;
-    progress.lines.push(Line {
-        file,
-        line,
-        statement,
-    })?;
-    Ok(())
+    if let Err(fault) = progress.see(&statement, names) {
+        drop(statement);
+        return Err(fault);
+    }
+    if let Err(fault) = frame.take(&statement, line) {
+        drop(statement);
+        return Err(fault);
+    }
+    match frame.file.clone() {
+        Ok(file) => Ok(
+            progress.lines.push(Line {
+                file,
+                line,
+                statement,
+            })?,
+        ),
+        Err(error) => {
+            drop(statement);
+            Err(Fault::from(error))
+        }
+    }
 }
 
 // What is known inside a file that is opened in another one.

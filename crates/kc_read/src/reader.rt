@@ -129,7 +129,10 @@ fn depends_line<'a>(
 fn end_line<'a>(tokens: &[Token<'a>], statement: Statement) -> Result<Statement, Fault<'a>>
     ensures { (x : Written) (modules : Option SymId) (names : List (List ℕ)) → IsMade modules names names statement x → IsRead modules names names (λ r. r ≡ finish x (lexemes_from tokens.now 1)) result }
 {
-    end(tokens, 1)?;
+    if let Err(fault) = end(tokens, 1) {
+        drop(statement);
+        return Err(fault);
+    }
     Ok(statement)
 }
 
