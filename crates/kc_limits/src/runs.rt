@@ -2,7 +2,7 @@
 ghost use Rattle.std.specs.Prelude.{◌<◌};
 
 use kc_conf::{FileMap, Status};
-use kc_memory::{Asked, MemoryInput, MemoryOutputs, PLAIN, config_text, options, run_over};
+use kc_memory::{Asked, MemoryInput, MemoryOutputs, PLAIN, config_text, run_once};
 use std::alloc::Global;
 use std::process::Abort;
 use std::test::Fail;
@@ -48,19 +48,19 @@ pub(crate) fn run_pieces(
         minimal: long.minimal,
         ..PLAIN
     };
-    let options = options(alloc, &asked)?;
-    let mut inputs = vec![in alloc; MemoryInput::new(long.settings, first, later)]?;
+    let input = MemoryInput::new(long.settings, first, later);
     let mut outputs = MemoryOutputs::new(alloc, long.room)?;
-    let status = run_over(alloc, long.files, &options, &mut inputs, &mut outputs)?;
-    let mut reads = 0;
-    for input in &inputs {
-        reads = input.calls;
+    match run_once(alloc, long.files, &asked, input, &mut outputs) {
+        Ok((status, reads)) => Ok(Ended {
+            status,
+            outputs,
+            reads,
+        }),
+        Err(fail) => {
+            drop(outputs);
+            Err(fail)
+        }
     }
-    Ok(Ended {
-        status,
-        outputs,
-        reads,
-    })
 }
 
 /// The run whose `.config` comes in large pieces.

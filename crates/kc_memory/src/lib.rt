@@ -6,4 +6,4 @@ mod memory;
 mod trial;
 
 pub use memory::{MemoryInput, MemoryOutputs, Slot};
-pub use trial::{Asked, PLAIN, config_text, files, header_text, options, run_over};
+pub use trial::{Asked, PLAIN, config_text, files, header_text, run_asked, run_once};

@@ -58,8 +58,8 @@ fn copy_of(alloc: Global, name: Option<&str>) -> Result<Option<String>, AllocErr
     }
 }
 
-/// The options that ask for this. `Fail` where the prefix is none or there is no memory.
-pub fn options(alloc: Global, asked: &Asked<'_>) -> Result<Options, Fail> {
+// The options that ask for this. `Fail` where the prefix is none or there is no memory.
+fn options(alloc: Global, asked: &Asked<'_>) -> Result<Options, Fail> {
     let Some(prefix) = Prefix::new(alloc, asked.prefix)? else {
         return Err(Fail::from("that is no prefix"));
     };
@@ -79,8 +79,8 @@ pub fn options(alloc: Global, asked: &Asked<'_>) -> Result<Options, Fail> {
     })
 }
 
-/// A run over these inputs, one for the `.config` and one for each fragment. `Fail` where there are more or fewer.
-pub fn run_over(
+// A run over these inputs, one for the `.config` and one for each fragment. `Fail` where there are more or fewer.
+fn run_over(
     alloc: Global,
     files: &FileMap,
     options: &Options,
@@ -91,6 +91,36 @@ pub fn run_over(
         return Err(Fail::from("not one input for each stream"));
     }
     Ok(run(alloc, files, options, inputs, outputs))
+}
+
+/// A run that is asked for this, over these inputs, one for the `.config` and one for each fragment. `Fail` where there are
+/// more or fewer, the prefix is none, or there is no memory for the options.
+pub fn run_asked(
+    alloc: Global,
+    files: &FileMap,
+    asked: &Asked<'_>,
+    inputs: &mut Vec<MemoryInput>,
+    outputs: &mut MemoryOutputs,
+) -> Result<Status, Fail> {
+    let options = options(alloc, asked)?;
+    run_over(alloc, files, &options, inputs, outputs)
+}
+
+/// The same over the one input of a run without fragments. The answer is the status, and how many reads were made.
+pub fn run_once(
+    alloc: Global,
+    files: &FileMap,
+    asked: &Asked<'_>,
+    input: MemoryInput,
+    outputs: &mut MemoryOutputs,
+) -> Result<(Status, u64), Fail> {
+    let mut inputs = vec![in alloc; input]?;
+    let status = run_asked(alloc, files, asked, &mut inputs, outputs)?;
+    let mut reads = 0;
+    for input in &inputs {
+        reads = input.calls;
+    }
+    Ok((status, reads))
 }
 
 /// The heading of a `.config` and the text behind it. `AllocError` where there is no memory for them.

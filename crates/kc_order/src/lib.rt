@@ -16,6 +16,3 @@ pub use laws::{
 };
 pub use needs::Needs;
 pub use order::{NoOrder, Order, order_of};
-
-#[cfg(test)]
-mod tests;

@@ -27,19 +27,57 @@ fn without_line(alloc: Global, text: &[u8], line: usize) -> Result<Vec<u8>, Fail
     Ok(left)
 }
 
+// Both runs gave the same three files.
+fn is_same(rt: &impl Abort, again: &MemoryOutputs, first: &MemoryOutputs, name: &str) {
+    assert_eq!(rt; again.config.bytes, first.config.bytes, "{}", name);
+    assert_eq!(rt; again.header.bytes, first.header.bytes, "{}", name);
+    assert_eq!(rt; again.minimal.bytes, first.minimal.bytes, "{}", name);
+}
+
+// The minimal file gives the same files.
+fn gives_again(
+    rt: &impl Abort,
+    alloc: Global,
+    row: &Accepted,
+    first: &MemoryOutputs,
+) -> Result<(), Fail> {
+    let again = run_on(alloc, row, &first.minimal.bytes, &[])?;
+    is_same(rt, &again, first, row.name);
+    Ok(())
+}
+
+// Whether the row's tree gives another `.config` with these settings.
+fn gives_another(
+    alloc: Global,
+    row: &Accepted,
+    settings: &[u8],
+    config: &[u8],
+) -> Result<bool, Fail> {
+    let other = run_on(alloc, row, settings, &[])?;
+    Ok(other.config.bytes.as_slice() != config)
+}
+
+// Without its line of this number the minimal file gives another `.config`.
+fn needs_line(
+    rt: &impl Abort,
+    alloc: Global,
+    row: &Accepted,
+    first: &MemoryOutputs,
+    line: usize,
+) -> Result<(), Fail> {
+    let left = without_line(alloc, &first.minimal.bytes, line)?;
+    let is_other = gives_another(alloc, row, &left, &first.config.bytes)?;
+    assert!(rt; is_other, "{}, line {line}", row.name);
+    Ok(())
+}
+
 // The minimal file gives the same values, and without any line of it others. The answer is how many lines it has.
 fn restores(rt: &impl Abort, alloc: Global, row: &Accepted) -> Result<usize, Fail> {
     let first = first_run(alloc, row)?;
-    let minimal = &first.minimal.bytes;
-    let again = run_on(alloc, row, minimal, &[])?;
-    assert_eq!(rt; again.config.bytes, first.config.bytes, "{}", row.name);
-    assert_eq!(rt; again.header.bytes, first.header.bytes, "{}", row.name);
-    assert_eq!(rt; again.minimal.bytes, first.minimal.bytes, "{}", row.name);
-    let lines = line_ends(minimal);
+    gives_again(rt, alloc, row, &first)?;
+    let lines = line_ends(&first.minimal.bytes);
     for line in 0..lines {
-        let left = without_line(alloc, minimal, line)?;
-        let other = run_on(alloc, row, &left, &[])?;
-        assert_ne!(rt; other.config.bytes, first.config.bytes, "{}", row.name);
+        needs_line(rt, alloc, row, &first, line)?;
     }
     Ok(lines)
 }
@@ -68,9 +106,9 @@ fn the_minimal_file_restores_and_no_line_of_it_can_go(rt: HostRuntime) -> Result
 // A run on the row's own `.config` gives that again, unless the row is one that does not settle.
 fn settles(rt: &impl Abort, alloc: Global, row: &Accepted) -> Result<(), Fail> {
     let first = first_run(alloc, row)?;
-    let again = run_on(alloc, row, &first.config.bytes, &[])?;
-    let is_same = again.config.bytes == first.config.bytes;
-    assert_eq!(rt; is_same, row.is_settled, "{}", row.name);
+    let config = &first.config.bytes;
+    let is_other = gives_another(alloc, row, config, config)?;
+    assert_eq!(rt; !is_other, row.is_settled, "{}", row.name);
     Ok(())
 }
 

@@ -2,13 +2,49 @@
 ghost use Rattle.std.specs.Prelude.{◌<◌};
 
 use crate::row::Accepted;
-use kc_conf::Status;
-use kc_memory::{Asked, MemoryInput, MemoryOutputs, PLAIN, files, options, run_over};
-use std::alloc::Global;
+use kc_conf::{FileMap, Status};
+use kc_memory::{Asked, MemoryInput, MemoryOutputs, PLAIN, files, run_asked};
+use std::alloc::{AllocError, Global};
 use std::test::Fail;
 
 /// The room of a row's outputs.
 pub(crate) const ROOM: usize = 4000;
+
+// The `.config` and the fragments, which come in such pieces.
+fn inputs_of<'x>(
+    alloc: Global,
+    settings: &'x [u8],
+    fragments: &'x [(&'x str, &'x [u8])],
+    first: usize,
+    later: usize,
+) -> Result<Vec<MemoryInput<'x>>, AllocError>
+    requires first { 0 < first }
+    requires later { 0 < later }
+{
+    let mut inputs = Vec::new(alloc);
+    inputs.push(MemoryInput::new(settings, first, later))?;
+    for (_, text) in fragments {
+        inputs.push(MemoryInput::new(text, first, later))?;
+    }
+    Ok(inputs)
+}
+
+// What a run over these files is asked for.
+fn run_files(
+    alloc: Global,
+    files: &FileMap,
+    asked: &Asked<'_>,
+    settings: &[u8],
+    first: usize,
+    later: usize,
+    outputs: &mut MemoryOutputs,
+) -> Result<Status, Fail>
+    requires first { 0 < first }
+    requires later { 0 < later }
+{
+    let mut inputs = inputs_of(alloc, settings, asked.fragments, first, later)?;
+    run_asked(alloc, files, asked, &mut inputs, outputs)
+}
 
 /// Runs the row, whose streams come in such pieces.
 pub(crate) fn run_row(
@@ -29,13 +65,26 @@ pub(crate) fn run_row(
         minimal: row.minimal.map(|_| "min.config"),
         ..PLAIN
     };
-    let options = options(alloc, &asked)?;
-    let mut inputs = Vec::new(alloc);
-    inputs.push(MemoryInput::new(row.settings, first, later))?;
-    for (_, text) in row.fragments {
-        inputs.push(MemoryInput::new(text, first, later))?;
-    }
-    run_over(alloc, &files, &options, &mut inputs, outputs)
+    run_files(alloc, &files, &asked, row.settings, first, later, outputs)
+}
+
+// The status of the row's tree and prefix with these streams, header and minimal file with them.
+fn status_on<'x>(
+    alloc: Global,
+    row: &Accepted,
+    settings: &'x [u8],
+    fragments: &'x [(&'x str, &'x [u8])],
+    outputs: &mut MemoryOutputs,
+) -> Result<Status, Fail> {
+    let files = files(alloc, "Kconfig", row.kconfig, row.others)?;
+    let asked = Asked {
+        prefix: row.prefix,
+        fragments,
+        header: Some("out.h"),
+        minimal: Some("min.config"),
+        ..PLAIN
+    };
+    run_files(alloc, &files, &asked, settings, 4096, 4096, outputs)
 }
 
 /// What the row's tree and prefix give with these streams, header and minimal file with them.
@@ -45,23 +94,16 @@ pub(crate) fn run_on<'x>(
     settings: &'x [u8],
     fragments: &'x [(&'x str, &'x [u8])],
 ) -> Result<MemoryOutputs, Fail> {
-    let files = files(alloc, "Kconfig", row.kconfig, row.others)?;
-    let asked = Asked {
-        prefix: row.prefix,
-        fragments,
-        header: Some("out.h"),
-        minimal: Some("min.config"),
-        ..PLAIN
-    };
-    let options = options(alloc, &asked)?;
-    let mut inputs = vec![in alloc; MemoryInput::new(settings, 4096, 4096)]?;
-    for (_, text) in fragments {
-        inputs.push(MemoryInput::new(text, 4096, 4096))?;
-    }
     let mut outputs = MemoryOutputs::new(alloc, ROOM)?;
-    let status = run_over(alloc, &files, &options, &mut inputs, &mut outputs)?;
-    if status != Status::Done {
-        return Err(Fail::from("the run was refused"));
+    match status_on(alloc, row, settings, fragments, &mut outputs) {
+        Ok(Status::Done) => Ok(outputs),
+        Ok(_) => {
+            drop(outputs);
+            Err(Fail::from("the run was refused"))
+        }
+        Err(fail) => {
+            drop(outputs);
+            Err(fail)
+        }
     }
-    Ok(outputs)
 }

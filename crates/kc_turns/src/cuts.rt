@@ -11,23 +11,48 @@ fn line_ends(text: &[u8]) -> usize {
     text.iter().filter(|byte| **byte == b'\n').count()
 }
 
-// The tree is accepted, or refused in one line. The answer is whether it is accepted.
-fn is_done_or_refused(rt: &impl Abort, alloc: Global, kconfig: &[u8]) -> Result<bool, Fail> {
-    let files = files(alloc, "Kconfig", kconfig, &[])?;
-    let mut outputs = MemoryOutputs::new(alloc, ROOM)?;
-    let input = MemoryInput::new(b"", 6, 6);
-    let (status, reads) = run_whole(alloc, &files, input, &mut outputs)?;
+// All outputs were begun.
+fn is_done(rt: &impl Abort, outputs: &MemoryOutputs) {
+    assert!(rt; outputs.config.is_begun && outputs.header.is_begun && outputs.minimal.is_begun);
+}
+
+// One line says why, and no output was begun.
+fn is_refused(rt: &impl Abort, outputs: &MemoryOutputs) {
     let notes = outputs.notes.bytes.as_slice();
-    if status == Status::Done {
-        assert!(rt; outputs.config.is_begun && outputs.header.is_begun && outputs.minimal.is_begun);
-        return Ok(true);
-    }
-    assert_eq!(rt; status, Status::Refused);
-    assert_eq!(rt; reads, 0);
     assert!(rt; notes.starts_with(b"Kconfig:") && notes.ends_with(b"\n"));
     assert_eq!(rt; line_ends(notes), 1);
     assert!(rt; !outputs.config.is_begun && !outputs.header.is_begun && !outputs.minimal.is_begun);
-    Ok(false)
+}
+
+// The run over this tree, whose status and reads are told.
+fn run_of(
+    alloc: Global,
+    kconfig: &[u8],
+    outputs: &mut MemoryOutputs,
+) -> Result<(Status, u64), Fail> {
+    let files = files(alloc, "Kconfig", kconfig, &[])?;
+    run_whole(alloc, &files, MemoryInput::new(b"", 6, 6), outputs)
+}
+
+// The tree is accepted, or refused in one line with nothing read. The answer is whether it is accepted.
+fn is_done_or_refused(rt: &impl Abort, alloc: Global, kconfig: &[u8]) -> Result<bool, Fail> {
+    let mut outputs = MemoryOutputs::new(alloc, ROOM)?;
+    match run_of(alloc, kconfig, &mut outputs) {
+        Ok((Status::Done, _)) => {
+            is_done(rt, &outputs);
+            Ok(true)
+        }
+        Ok(ended) => {
+            is_refused(rt, &outputs);
+            drop(outputs);
+            assert_eq!(rt; ended, (Status::Refused, 0));
+            Ok(false)
+        }
+        Err(fail) => {
+            drop(outputs);
+            Err(fail)
+        }
+    }
 }
 
 #[test]

@@ -1,6 +1,6 @@
 //! Runs over one input.
 use kc_conf::{FileMap, Status};
-use kc_memory::{Asked, MemoryInput, MemoryOutputs, PLAIN, options, run_over};
+use kc_memory::{Asked, MemoryInput, MemoryOutputs, PLAIN, run_once};
 use std::alloc::Global;
 use std::test::Fail;
 
@@ -21,14 +21,7 @@ pub(crate) fn run_with<'x>(
         minimal,
         ..PLAIN
     };
-    let options = options(alloc, &asked)?;
-    let mut inputs = vec![in alloc; input]?;
-    let status = run_over(alloc, files, &options, &mut inputs, outputs)?;
-    let mut reads = 0;
-    for input in &inputs {
-        reads = input.calls;
-    }
-    Ok((status, reads))
+    run_once(alloc, files, &asked, input, outputs)
 }
 
 /// A run with header and minimal file.

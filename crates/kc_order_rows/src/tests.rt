@@ -2,7 +2,11 @@
 
 ghost use Rattle.std.specs.Prelude.{◌<◌, ◌^◌};
 
-use super::*;
+use kc_order::{
+    Needs, NoOrder, Order, a_way_round_is_stuck, accepted_have_one_solution, filling_solves,
+    minimal_has_nothing_to_spare, minimal_restores, named_loop_goes_round, named_loop_is_within,
+    one_named_loop, order_of, ordered_are_accepted, rounds_solve, solutions_agree,
+};
 use std::alloc::{AllocError, Global};
 use std::test::Fail;
 
