@@ -318,6 +318,20 @@ help x~ source a~ source b~source c~ => c;
 sour\~ce a~# \~source b~source c => a;c;
 source a~~@source \~@b # c~ => a;b;"#;
 
+// Each exit of a function has code of its own for every value that the function owns there, and all of it is proved. So
+// a function here owns little where it can fail: what can fail works on a reference, and its answer goes out behind a
+// `drop`.
+
+// The text is the one that is wanted.
+fn is(rt: &impl Abort, got: &str, want: &str) {
+    assert_eq!(rt; got, want);
+}
+
+// The row gives the text that is wanted.
+fn gives(rt: &impl Abort, row: &str, got: &str, want: &str) {
+    assert_eq!(rt; got, want, "{row}");
+}
+
 // Adds the bytes, each as one letter.
 fn push_bytes(text: &mut String, bytes: &[u8]) -> Result<(), Fail> {
     for byte in bytes {
@@ -326,31 +340,70 @@ fn push_bytes(text: &mut String, bytes: &[u8]) -> Result<(), Fail> {
     Ok(())
 }
 
-// The refusal as `FILE:LINE CODE DETAIL`.
+// Adds another text.
+fn push_text(text: &mut String, more: String) -> Result<(), Fail> {
+    text.push_str(&more)?;
+    Ok(())
+}
+
+// Adds the place as `FILE:LINE `.
+fn push_place(alloc: Global, text: &mut String, file: &[u8], line: u32) -> Result<(), Fail> {
+    push_bytes(text, file)?;
+    push_text(text, format!(in alloc; ":{line} ")?)
+}
+
+// Adds a detail behind a space, where there is one.
+fn push_detail(text: &mut String, detail: &[u8]) -> Result<(), Fail> {
+    if !detail.is_empty() {
+        text.push(' ')?;
+        push_bytes(text, detail)?;
+    }
+    Ok(())
+}
+
+// Adds the refusal as `FILE:LINE CODE DETAIL`.
+fn push_refusal(alloc: Global, text: &mut String, refusal: &Refusal) -> Result<(), Fail> {
+    if let Some((file, line)) = &refusal.place {
+        push_place(alloc, text, file, *line)?;
+    }
+    push_text(text, format!(in alloc; "{:?}", refusal.code)?)?;
+    push_detail(text, &refusal.detail)
+}
+
 fn told(alloc: Global, refusal: &Refusal) -> Result<String, Fail> {
     let mut text = String::new(alloc);
-    if let Some((file, line)) = &refusal.place {
-        push_bytes(&mut text, file)?;
-        text.push_str(&format!(in alloc; ":{line} ")?)?;
-    }
-    text.push_str(&format!(in alloc; "{:?}", refusal.code)?)?;
-    if !refusal.detail.is_empty() {
-        text.push(' ')?;
-        push_bytes(&mut text, &refusal.detail)?;
-    }
+    push_refusal(alloc, &mut text, refusal)?;
     Ok(text)
+}
+
+fn refused(alloc: Global, refusal: Refusal) -> Result<String, Fail> {
+    let text = told(alloc, &refusal);
+    drop(refusal);
+    text
+}
+
+// How many lines and symbols there are.
+fn counted(alloc: Global, expansion: Expansion) -> Result<String, Fail> {
+    let (lines, symbols) = (expansion.lines.len(), expansion.symbols);
+    drop(expansion);
+    Ok(format!(in alloc; "{lines} lines, {symbols} symbols")?)
 }
 
 // How many lines and symbols the file `Kconfig` gives, or its refusal.
 fn outcome(alloc: Global, map: &FileMap) -> Result<String, Fail> {
     let mut names = Names::new(alloc);
-    match expand(alloc, map, b"Kconfig", None, &mut names) {
-        Ok(Expansion { lines, symbols, .. }) => {
-            let count = lines.len();
-            Ok(format!(in alloc; "{count} lines, {symbols} symbols")?)
-        }
-        Err(refusal) => told(alloc, &refusal),
+    let expanded = expand(alloc, map, b"Kconfig", None, &mut names);
+    drop(names);
+    match expanded {
+        Ok(expansion) => counted(alloc, expansion),
+        Err(refusal) => refused(alloc, refusal),
     }
+}
+
+fn outcome_is(rt: &impl Abort, alloc: Global, map: &FileMap, want: &str) -> Result<(), Fail> {
+    let got = outcome(alloc, map)?;
+    is(rt, &got, want);
+    Ok(())
 }
 
 fn put(alloc: Global, map: &mut FileMap, name: &[u8], bytes: &[u8]) -> Result<(), Fail> {
@@ -361,26 +414,50 @@ fn put(alloc: Global, map: &mut FileMap, name: &[u8], bytes: &[u8]) -> Result<()
     Ok(())
 }
 
+// What comes of the files with these two.
+fn put_beside(alloc: Global, map: &mut FileMap, root: &[u8], other: &[u8]) -> Result<String, Fail> {
+    put(alloc, map, b"Kconfig", root)?;
+    put(alloc, map, b"a", other)?;
+    outcome(alloc, map)
+}
+
 // What comes of a root file beside the file `a`.
 fn beside(alloc: Global, root: &[u8], other: &[u8]) -> Result<String, Fail> {
     let mut map = FileMap::new(alloc);
-    put(alloc, &mut map, b"Kconfig", root)?;
-    put(alloc, &mut map, b"a", other)?;
-    outcome(alloc, &map)
+    let got = put_beside(alloc, &mut map, root, other);
+    drop(map);
+    got
 }
 
-// A file as a row writes it.
+// The byte for which a sign of a row stands.
+fn byte_of(sign: u8) -> u8 {
+    match sign {
+        b'~' => b'\n',
+        b'^' => b'\r',
+        b'@' => b'\t',
+        other => other,
+    }
+}
+
+// Adds a file as a row writes it.
+fn push_file(bytes: &mut Vec<u8>, text: &str) -> Result<(), Fail> {
+    for sign in text.as_bytes() {
+        bytes.push(byte_of(*sign))?;
+    }
+    Ok(())
+}
+
 fn file_of(alloc: Global, text: &str) -> Result<Vec<u8>, Fail> {
     let mut bytes = Vec::new(alloc);
-    for byte in text.as_bytes() {
-        bytes.push(match byte {
-            b'~' => b'\n',
-            b'^' => b'\r',
-            b'@' => b'\t',
-            other => *other,
-        })?;
-    }
+    push_file(&mut bytes, text)?;
     Ok(bytes)
+}
+
+// What comes of two files as a row writes them.
+fn written(alloc: Global, root: &str, other: &str) -> Result<String, Fail> {
+    let root = file_of(alloc, root)?;
+    let other = file_of(alloc, other)?;
+    beside(alloc, &root, &other)
 }
 
 // What stands before and behind the sign.
@@ -388,12 +465,17 @@ fn cut<'a>(row: &'a str, sign: &str) -> (&'a str, &'a str) {
     row.split_once(sign).unwrap_or((row, ""))
 }
 
+fn row_is(rt: &impl Abort, alloc: Global, row: &str) -> Result<(), Fail> {
+    let (files, want) = cut(row, " => ");
+    let (root, other) = cut(files, " ++ ");
+    let got = written(alloc, root, other)?;
+    gives(rt, row, &got, want);
+    Ok(())
+}
+
 fn each_row(rt: &impl Abort, alloc: Global, rows: &str) -> Result<(), Fail> {
     for row in rows.lines() {
-        let (files, want) = cut(row, " => ");
-        let (root, other) = cut(files, " ++ ");
-        let got = beside(alloc, &file_of(alloc, root)?, &file_of(alloc, other)?)?;
-        assert_eq!(rt; got.as_str(), want, "{row}");
+        row_is(rt, alloc, row)?;
     }
     Ok(())
 }
@@ -414,11 +496,21 @@ fn behind(alloc: Global, text: &str, line: &str) -> Result<Vec<u8>, Fail> {
     Ok(file)
 }
 
+// What comes of a line behind another.
+fn outcome_behind(alloc: Global, text: &str, line: &str) -> Result<String, Fail> {
+    let root = behind(alloc, text, line)?;
+    beside(alloc, &root, b"")
+}
+
+fn rest_is_refused(rt: &impl Abort, alloc: Global, line: &str) -> Result<(), Fail> {
+    let got = outcome_behind(alloc, "config Z~", line)?;
+    gives(rt, line, &got, "Kconfig:2 Syntax");
+    Ok(())
+}
+
 fn each_rest(rt: &impl Abort, alloc: Global, rests: &str) -> Result<(), Fail> {
     for line in rests.lines() {
-        let root = behind(alloc, "config Z~", line)?;
-        let got = beside(alloc, &root, b"")?;
-        assert_eq!(rt; got.as_str(), "Kconfig:2 Syntax", "{line}");
+        rest_is_refused(rt, alloc, line)?;
     }
     Ok(())
 }
@@ -437,21 +529,38 @@ fn sign_of(outcome: &str) -> char {
     }
 }
 
+// How a line is taken behind an entry.
+fn sign(alloc: Global, entry: &str, line: &str) -> Result<char, Fail> {
+    let got = outcome_behind(alloc, entry, line)?;
+    Ok(sign_of(&got))
+}
+
+// Adds how a line is taken behind each entry.
+fn push_signs(alloc: Global, signs: &mut String, entries: &[&str], line: &str) -> Result<(), Fail> {
+    for entry in entries {
+        signs.push(sign(alloc, entry, line)?)?;
+    }
+    Ok(())
+}
+
 // How a line is taken in each kind of entry.
 fn signs(alloc: Global, line: &str) -> Result<String, Fail> {
+    let entries = ["config Z~", "choice~", "menu m~", "comment c~", "if y~"];
     let mut signs = String::new(alloc);
-    for entry in ["config Z~", "choice~", "menu m~", "comment c~", "if y~"] {
-        let root = behind(alloc, entry, line)?;
-        signs.push(sign_of(&beside(alloc, &root, b"")?))?;
-    }
+    push_signs(alloc, &mut signs, &entries, line)?;
     Ok(signs)
+}
+
+fn place_is(rt: &impl Abort, alloc: Global, row: &str) -> Result<(), Fail> {
+    let (line, want) = cut(row, " => ");
+    let got = signs(alloc, line)?;
+    gives(rt, line, &got, want);
+    Ok(())
 }
 
 fn each_place(rt: &impl Abort, alloc: Global, places: &str) -> Result<(), Fail> {
     for row in places.lines() {
-        let (line, want) = cut(row, " => ");
-        let got = signs(alloc, line)?;
-        assert_eq!(rt; got.as_str(), want, "{line}");
+        place_is(rt, alloc, row)?;
     }
     Ok(())
 }
@@ -461,15 +570,32 @@ fn each_line_has_its_place(rt: HostRuntime) -> Result<(), Fail> {
     each_place(&rt, rt.alloc(), PLACES)
 }
 
-// The lines, each with its file and number.
-fn listed(alloc: Global, lines: &[Line]) -> Result<String, Fail> {
-    let mut text = String::new(alloc);
-    for line in lines {
-        push_bytes(&mut text, &line.file)?;
-        let (number, statement) = (line.line, &line.statement);
-        text.push_str(&format!(in alloc; ":{number} {statement:?}\n")?)?;
+// Adds the line with its file and number.
+fn push_line(alloc: Global, text: &mut String, line: &Line) -> Result<(), Fail> {
+    push_bytes(text, &line.file)?;
+    let (number, statement) = (line.line, &line.statement);
+    push_text(text, format!(in alloc; ":{number} {statement:?}\n")?)
+}
+
+// Adds the lines, then the number of the modules symbol and how many symbols there are.
+fn push_expansion(alloc: Global, text: &mut String, expansion: &Expansion) -> Result<(), Fail> {
+    for line in &expansion.lines {
+        push_line(alloc, text, line)?;
     }
+    let (modules, symbols) = (expansion.modules, expansion.symbols);
+    push_text(text, format!(in alloc; "{modules:?} {symbols}")?)
+}
+
+fn listed(alloc: Global, expansion: &Expansion) -> Result<String, Fail> {
+    let mut text = String::new(alloc);
+    push_expansion(alloc, &mut text, expansion)?;
     Ok(text)
+}
+
+fn expanded(alloc: Global, expansion: Expansion) -> Result<String, Fail> {
+    let text = listed(alloc, &expansion);
+    drop(expansion);
+    text
 }
 
 // The lines of `Kconfig`, then the number of the modules symbol and how many symbols there are; or its refusal.
@@ -480,47 +606,135 @@ fn expansion(
     names: &mut Names,
 ) -> Result<String, Fail> {
     match expand(alloc, map, b"Kconfig", modules, names) {
-        Ok(
-            Expansion {
-                lines,
-                symbols,
-                modules,
-                ..
-            },
-        ) => {
-            let mut text = listed(alloc, &lines)?;
-            text.push_str(&format!(in alloc; "{modules:?} {symbols}")?)?;
-            Ok(text)
-        }
-        Err(refusal) => told(alloc, &refusal),
+        Ok(expansion) => expanded(alloc, expansion),
+        Err(refusal) => refused(alloc, refusal),
     }
 }
 
-// Statements in lines of their own, each behind an empty line, and how they are listed.
-fn stated(alloc: Global, statements: &str) -> Result<(Vec<u8>, String), Fail> {
-    let (mut root, mut want) = (Vec::new(alloc), String::new(alloc));
+// Adds the statement of a row, and an empty line behind it.
+fn push_statement(root: &mut Vec<u8>, row: &str) -> Result<(), Fail> {
+    let (line, _) = cut(row, " => ");
+    root.extend_from_slice(line.as_bytes())?;
+    root.extend_from_slice(b"\n\n")?;
+    Ok(())
+}
+
+// Adds the statements in lines of their own, each before an empty line.
+fn push_statements(root: &mut Vec<u8>, statements: &str) -> Result<(), Fail> {
+    for row in statements.lines() {
+        push_statement(root, row)?;
+    }
+    Ok(())
+}
+
+fn stated(alloc: Global, statements: &str) -> Result<Vec<u8>, Fail> {
+    let mut root = Vec::new(alloc);
+    push_statements(&mut root, statements)?;
+    Ok(root)
+}
+
+// Adds how the statement of a row is listed.
+fn push_listed(alloc: Global, want: &mut String, number: u32, row: &str) -> Result<(), Fail> {
+    let (_, statement) = cut(row, " => ");
+    push_text(want, format!(in alloc; "Kconfig:{number} {statement}\n")?)
+}
+
+// Adds how the statements are listed.
+fn push_listing(alloc: Global, want: &mut String, statements: &str) -> Result<(), Fail> {
     let mut number: u32 = 1;
     for row in statements.lines() {
-        let (line, statement) = cut(row, " => ");
-        root.extend_from_slice(line.as_bytes())?;
-        root.extend_from_slice(b"\n\n")?;
-        want.push_str(&format!(in alloc; "Kconfig:{number} {statement}\n")?)?;
+        push_listed(alloc, want, number, row)?;
         number = number.saturating_add(2);
     }
-    Ok((root, want))
+    want.push_str("Some(SymId(2)) 1")?;
+    Ok(())
+}
+
+fn listing(alloc: Global, statements: &str) -> Result<String, Fail> {
+    let mut want = String::new(alloc);
+    push_listing(alloc, &mut want, statements)?;
+    Ok(want)
+}
+
+// The expansion of the root file where the modules symbol is the first name.
+fn put_alone(
+    alloc: Global,
+    map: &mut FileMap,
+    names: &mut Names,
+    root: &[u8],
+) -> Result<String, Fail> {
+    put(alloc, map, b"Kconfig", root)?;
+    let modules = names.id(b"LKM")?;
+    expansion(alloc, map, Some(modules), names)
+}
+
+fn alone(alloc: Global, root: &[u8]) -> Result<String, Fail> {
+    let mut map = FileMap::new(alloc);
+    let mut names = Names::new(alloc);
+    let got = put_alone(alloc, &mut map, &mut names, root);
+    drop(map);
+    drop(names);
+    got
+}
+
+// The statements as they are read.
+fn read_back(alloc: Global, statements: &str) -> Result<String, Fail> {
+    let root = stated(alloc, statements)?;
+    alone(alloc, &root)
 }
 
 #[test]
 fn each_statement_is_read(rt: HostRuntime) -> Result<(), Fail> {
     let alloc = rt.alloc();
-    let (root, mut want) = stated(alloc, STATEMENTS)?;
-    want.push_str("Some(SymId(2)) 1")?;
-    let mut map = FileMap::new(alloc);
-    put(alloc, &mut map, b"Kconfig", &root)?;
-    let mut names = Names::new(alloc);
-    let modules = names.id(b"LKM")?;
-    let got = expansion(alloc, &map, Some(modules), &mut names)?;
-    assert_eq!(rt; got.as_str(), want.as_str());
+    let want = listing(alloc, STATEMENTS)?;
+    let got = read_back(alloc, STATEMENTS)?;
+    is(&rt, &got, &want);
+    Ok(())
+}
+
+fn expansion_is(
+    rt: &impl Abort,
+    alloc: Global,
+    map: &FileMap,
+    names: &mut Names,
+    want: &str,
+) -> Result<(), Fail> {
+    let got = expansion(alloc, map, None, names)?;
+    is(rt, &got, want);
+    Ok(())
+}
+
+// The name has the number of the third one.
+fn third_is(rt: &impl Abort, names: &Names, name: &[u8]) {
+    assert!(rt; names.find(name) == Some(SymId(2)));
+}
+
+// The root file, the file that it sources, and how both are listed.
+const ROOT: &[u8] = b"config B\nsource \"a\"\nconfig A\ndepends on m\n";
+
+const OTHER: &[u8] = b"\nconfig A\nmodules\nconfig\\\n C";
+
+const BOTH: &str =
+    "Kconfig:1 Config(SymId(0))\na:2 Config(SymId(1))\na:3 Modules\na:4 Config(SymId(2))\nKconfig:3 Config(SymId(1))\nKconfig:4 Depends(One(Const([109])))\nSome(SymId(1)) 3";
+
+// What comes of no file, and then of a root file alone.
+fn root_alone(rt: &impl Abort, alloc: Global, map: &mut FileMap) -> Result<(), Fail> {
+    outcome_is(rt, alloc, map, "Kconfig:0 NoFile Kconfig")?;
+    put(alloc, map, b"Kconfig", ROOT)?;
+    outcome_is(rt, alloc, map, "Kconfig:2 NoFile a")
+}
+
+// Then what comes of it with the file that it sources.
+fn files_and_numbers(
+    rt: &impl Abort,
+    alloc: Global,
+    map: &mut FileMap,
+    names: &mut Names,
+) -> Result<(), Fail> {
+    root_alone(rt, alloc, map)?;
+    put(alloc, map, b"a", OTHER)?;
+    expansion_is(rt, alloc, map, names, BOTH)?;
+    third_is(rt, names, b"C");
     Ok(())
 }
 
@@ -529,38 +743,51 @@ fn lines_have_their_files_and_numbers(rt: HostRuntime) -> Result<(), Fail> {
     let alloc = rt.alloc();
     let mut map = FileMap::new(alloc);
     let mut names = Names::new(alloc);
-    assert_eq!(rt; outcome(alloc, &map)?.as_str(), "Kconfig:0 NoFile Kconfig");
-    put(
-        alloc,
-        &mut map,
-        b"Kconfig",
-        b"config B\nsource \"a\"\nconfig A\ndepends on m\n",
-    )?;
-    assert_eq!(rt; outcome(alloc, &map)?.as_str(), "Kconfig:2 NoFile a");
-    put(alloc, &mut map, b"a", b"\nconfig A\nmodules\nconfig\\\n C")?;
-    let want =
-        "Kconfig:1 Config(SymId(0))\na:2 Config(SymId(1))\na:3 Modules\na:4 Config(SymId(2))\nKconfig:3 Config(SymId(1))\nKconfig:4 Depends(One(Const([109])))\nSome(SymId(1)) 3";
-    let got = expansion(alloc, &map, None, &mut names)?;
-    assert_eq!(rt; got.as_str(), want);
-    assert!(rt; names.find(b"C") == Some(SymId(2)));
+    let done = files_and_numbers(&rt, alloc, &mut map, &mut names);
+    drop(map);
+    drop(names);
+    done
+}
+
+// Adds the names, each with a sign behind it.
+fn push_names(text: &mut String, names: &[Vec<u8>]) -> Result<(), Fail> {
+    for name in names {
+        push_bytes(text, name)?;
+        text.push(';')?;
+    }
     Ok(())
+}
+
+fn joined(alloc: Global, names: &[Vec<u8>]) -> Result<String, Fail> {
+    let mut text = String::new(alloc);
+    push_names(&mut text, names)?;
+    Ok(text)
 }
 
 // The names that a file sources, each with a sign behind it.
 fn sourced(alloc: Global, file: &[u8]) -> Result<String, Fail> {
-    let mut text = String::new(alloc);
-    for name in &sources_of(alloc, file)? {
-        push_bytes(&mut text, name)?;
-        text.push(';')?;
-    }
-    Ok(text)
+    let names = sources_of(alloc, file)?;
+    let text = joined(alloc, &names);
+    drop(names);
+    text
+}
+
+// The names that a file sources, as a row writes it.
+fn sourced_in(alloc: Global, file: &str) -> Result<String, Fail> {
+    let file = file_of(alloc, file)?;
+    sourced(alloc, &file)
+}
+
+fn list_is(rt: &impl Abort, alloc: Global, row: &str) -> Result<(), Fail> {
+    let (file, want) = cut(row, " => ");
+    let got = sourced_in(alloc, file)?;
+    gives(rt, file, &got, want);
+    Ok(())
 }
 
 fn each_list(rt: &impl Abort, alloc: Global, rows: &str) -> Result<(), Fail> {
     for row in rows.lines() {
-        let (file, want) = cut(row, " => ");
-        let got = sourced(alloc, &file_of(alloc, file)?)?;
-        assert_eq!(rt; got.as_str(), want, "{file}");
+        list_is(rt, alloc, row)?;
     }
     Ok(())
 }
@@ -568,6 +795,20 @@ fn each_list(rt: &impl Abort, alloc: Global, rows: &str) -> Result<(), Fail> {
 #[test]
 fn sources_end_at_the_first_bad_line(rt: HostRuntime) -> Result<(), Fail> {
     each_list(&rt, rt.alloc(), SOURCE_LISTS)
+}
+
+// Adds the piece so many times.
+fn push_repeated(text: &mut Vec<u8>, piece: &[u8], count: usize) -> Result<(), Fail> {
+    for _ in 0..count {
+        text.extend_from_slice(piece)?;
+    }
+    Ok(())
+}
+
+// Adds the piece so many times and an end.
+fn push_rest(text: &mut Vec<u8>, piece: &[u8], count: usize, back: &str) -> Result<(), Fail> {
+    push_repeated(text, piece, count)?;
+    push_file(text, back)
 }
 
 // The piece so many times, between a beginning and an end.
@@ -579,59 +820,134 @@ fn repeated(
     back: &str,
 ) -> Result<Vec<u8>, Fail> {
     let mut text = file_of(alloc, front)?;
-    for _ in 0..count {
-        text.extend_from_slice(piece)?;
-    }
-    text.extend_from_slice(&file_of(alloc, back)?)?;
+    push_rest(&mut text, piece, count, back)?;
     Ok(text)
 }
 
 // A beginning, a piece and how often it stands, an end, and what comes of the file.
 type Repeats<'a> = (&'a str, &'a [u8], usize, &'a str, &'a str);
 
+// What comes of the file.
+fn outcome_repeated(alloc: Global, row: &Repeats) -> Result<String, Fail> {
+    let (front, piece, count, back, _) = row;
+    let root = repeated(alloc, front, piece, *count, back)?;
+    beside(alloc, &root, b"")
+}
+
+fn limit_is(rt: &impl Abort, alloc: Global, row: &Repeats) -> Result<(), Fail> {
+    let got = outcome_repeated(alloc, row)?;
+    is(rt, &got, row.4);
+    Ok(())
+}
+
 fn each_limit(rt: &impl Abort, alloc: Global, rows: &[Repeats]) -> Result<(), Fail> {
-    for (front, piece, count, back, want) in rows {
-        let root = repeated(alloc, front, piece, *count, back)?;
-        let got = beside(alloc, &root, b"")?;
-        assert_eq!(rt; got.as_str(), *want);
+    for row in rows {
+        limit_is(rt, alloc, row)?;
     }
+    Ok(())
+}
+
+// Lines, levels and blocks at their limits and one behind.
+const LIMITS: &[Repeats] = &[
+    ("", b"#", 8191, "", "0 lines, 0 symbols"),
+    ("", b"#", 8192, "", "Kconfig:1 LineTooLong"),
+    ("~", b"#", 8191, "^~", "0 lines, 0 symbols"),
+    ("~", b"#", 8191, "$~", "Kconfig:2 LineTooLong"),
+    ("~#\\~", b"#", 8190, "\\~~~", "0 lines, 0 symbols"),
+    ("~#\\~", b"#", 8190, "\\~#~~", "Kconfig:2 LineTooLong"),
+    ("config A~help~ ", b"#", 9000, "\\~foo", "Kconfig:4 Syntax"),
+    ("config ", b"A", 255, "", "1 lines, 1 symbols"),
+    ("config A~default ", b"!", 64, "y", "2 lines, 1 symbols"),
+    ("config A~default ", b"!", 65, "y", "Kconfig:2 TooDeep"),
+    ("config A~default ", b"!(", 32, "=", "Kconfig:2 Syntax"),
+    ("config A~default ", b"!(", 32, "!", "Kconfig:2 TooDeep"),
+    ("config A~depends on ", b"(", 64, "=", "Kconfig:2 Syntax"),
+    ("config A~depends on ", b"(", 65, "=", "Kconfig:2 TooDeep"),
+    ("if A ", b"(", 65, "", "Kconfig:1 Syntax"),
+    ("if ", b"(A)&&", 70, "!(B)~endif", "2 lines, 0 symbols"),
+    ("", b"menu m\n", 70, "", "Kconfig:65 TooDeep"),
+    (
+        "",
+        b"if y\nmenu m\nendmenu\n",
+        70,
+        "",
+        "Kconfig:191 TooDeep",
+    ),
+];
+
+// The refusal tells a name of 256 letters.
+fn is_long_name(rt: &impl Abort, got: &str) {
+    assert!(rt; got.starts_with("Kconfig:1 BadName AAA"));
+    assert_eq!(rt; got.len(), 18 + 256);
+}
+
+fn a_long_name_is_told(rt: &impl Abort, alloc: Global) -> Result<(), Fail> {
+    let got = outcome_repeated(alloc, &("config ", b"A", 256, "", ""))?;
+    is_long_name(rt, &got);
     Ok(())
 }
 
 #[test]
 fn limits_of_a_line_and_of_blocks_hold_to_the_last_one(rt: HostRuntime) -> Result<(), Fail> {
-    let alloc = rt.alloc();
-    let rows: [Repeats; 18] = [
-        ("", b"#".as_slice(), 8191, "", "0 lines, 0 symbols"),
-        ("", b"#", 8192, "", "Kconfig:1 LineTooLong"),
-        ("~", b"#", 8191, "^~", "0 lines, 0 symbols"),
-        ("~", b"#", 8191, "$~", "Kconfig:2 LineTooLong"),
-        ("~#\\~", b"#", 8190, "\\~~~", "0 lines, 0 symbols"),
-        ("~#\\~", b"#", 8190, "\\~#~~", "Kconfig:2 LineTooLong"),
-        ("config A~help~ ", b"#", 9000, "\\~foo", "Kconfig:4 Syntax"),
-        ("config ", b"A", 255, "", "1 lines, 1 symbols"),
-        ("config A~default ", b"!", 64, "y", "2 lines, 1 symbols"),
-        ("config A~default ", b"!", 65, "y", "Kconfig:2 TooDeep"),
-        ("config A~default ", b"!(", 32, "=", "Kconfig:2 Syntax"),
-        ("config A~default ", b"!(", 32, "!", "Kconfig:2 TooDeep"),
-        ("config A~depends on ", b"(", 64, "=", "Kconfig:2 Syntax"),
-        ("config A~depends on ", b"(", 65, "=", "Kconfig:2 TooDeep"),
-        ("if A ", b"(", 65, "", "Kconfig:1 Syntax"),
-        ("if ", b"(A)&&", 70, "!(B)~endif", "2 lines, 0 symbols"),
-        ("", b"menu m\n", 70, "", "Kconfig:65 TooDeep"),
-        (
-            "",
-            b"if y\nmenu m\nendmenu\n",
-            70,
-            "",
-            "Kconfig:191 TooDeep",
-        ),
-    ];
-    each_limit(&rt, alloc, &rows)?;
-    let root = repeated(alloc, "config ", b"A", 256, "")?;
-    let got = beside(alloc, &root, b"")?;
-    assert!(rt; got.starts_with("Kconfig:1 BadName AAA"));
-    assert_eq!(rt; got.len(), 18 + 256);
+    each_limit(&rt, rt.alloc(), LIMITS)?;
+    a_long_name_is_told(&rt, rt.alloc())
+}
+
+// How many blocks the file `a` opens, what stands in them, and what comes of it.
+const BLOCKS: &[(usize, &str, &str)] = &[
+    (24, "", "128 lines, 0 symbols"),
+    (25, "", "a:25 TooDeep"),
+    (24, "menu m~", "a:25 Misplaced"),
+    (24, "if y z~", "a:25 Syntax"),
+    (24, "comment c~foo", "a:26 Syntax"),
+];
+
+// A piece so many times and an end, then so many lines `endif`.
+fn ended(
+    alloc: Global,
+    piece: &[u8],
+    count: usize,
+    back: &str,
+    ends: usize,
+) -> Result<Vec<u8>, Fail> {
+    let mut text = repeated(alloc, "", piece, count, back)?;
+    push_repeated(&mut text, b"endif\n", ends)?;
+    Ok(text)
+}
+
+// What comes of the blocks around the file `a` and of so many in it.
+fn outcome_of_blocks(
+    alloc: Global,
+    sourcing: &[u8],
+    count: usize,
+    back: &str,
+) -> Result<String, Fail> {
+    let root = ended(alloc, sourcing, 1, "", 39)?;
+    let other = ended(alloc, b"if y\n", count, back, 24)?;
+    beside(alloc, &root, &other)
+}
+
+fn blocks_are(
+    rt: &impl Abort,
+    alloc: Global,
+    sourcing: &[u8],
+    row: &(usize, &str, &str),
+) -> Result<(), Fail> {
+    let (count, back, want) = row;
+    let got = outcome_of_blocks(alloc, sourcing, *count, back)?;
+    is(rt, &got, want);
+    Ok(())
+}
+
+fn each_block(
+    rt: &impl Abort,
+    alloc: Global,
+    sourcing: &[u8],
+    rows: &[(usize, &str, &str)],
+) -> Result<(), Fail> {
+    for row in rows {
+        blocks_are(rt, alloc, sourcing, row)?;
+    }
     Ok(())
 }
 
@@ -639,125 +955,219 @@ fn limits_of_a_line_and_of_blocks_hold_to_the_last_one(rt: HostRuntime) -> Resul
 fn sixty_four_blocks_are_open_over_all_files(rt: HostRuntime) -> Result<(), Fail> {
     let alloc = rt.alloc();
     let sourcing = repeated(alloc, "", b"if y\n", 39, "choice~source a~endchoice~")?;
-    for (count, back, want) in [
-        (24, "", "128 lines, 0 symbols"),
-        (25, "", "a:25 TooDeep"),
-        (24, "menu m~", "a:25 Misplaced"),
-        (24, "if y z~", "a:25 Syntax"),
-        (24, "comment c~foo", "a:26 Syntax"),
-    ] {
-        let mut root = repeated(alloc, "", &sourcing, 1, "")?;
-        root.extend_from_slice(&repeated(alloc, "", b"endif\n", 39, "")?)?;
-        let mut other = repeated(alloc, "", b"if y\n", count, back)?;
-        other.extend_from_slice(&repeated(alloc, "", b"endif\n", 24, "")?)?;
-        assert_eq!(rt; beside(alloc, &root, &other)?.as_str(), want);
+    each_block(&rt, alloc, &sourcing, BLOCKS)
+}
+
+// The text of the last of 64 files and what comes of them, to its end.
+const LASTS: &[(&[u8], &str)] = &[
+    (b"config A", "1 lines, 1 symbols"),
+    (b"\nsource b", "aaKconfig:2 TooDeep"),
+    (b"source long", "aaKconfig:1 TooDeep"),
+    (b"source aaaKconfig", "aaKconfig:1 InclusionLoop aaaKconfig"),
+    (b"source 'b?'", "aaKconfig:1 LeftOut pattern"),
+];
+
+// Gives the file so many lines that source the next one.
+fn put_sources(
+    alloc: Global,
+    map: &mut FileMap,
+    name: &[u8],
+    next: &[u8],
+    times: usize,
+) -> Result<(), Fail> {
+    let line = repeated(alloc, "source ", next, 1, "~")?;
+    let lines = repeated(alloc, "", &line, times, "")?;
+    put(alloc, map, name, &lines)
+}
+
+// Has the file source the next so many times, whose name comes out.
+fn put_link(alloc: Global, map: &mut FileMap, name: &[u8], times: usize) -> Result<Vec<u8>, Fail> {
+    let next = repeated(alloc, "a", name, 1, "")?;
+    put_sources(alloc, map, name, &next, times)?;
+    Ok(next)
+}
+
+// Each file sources the next so many times; the last, numbered from the root's 1 on, holds the text.
+fn put_chain(
+    alloc: Global,
+    map: &mut FileMap,
+    count: usize,
+    times: usize,
+    text: &[u8],
+) -> Result<(), Fail> {
+    let mut name = Vec::from_slice(alloc, b"Kconfig")?;
+    for _ in 1..count {
+        name = put_link(alloc, map, &name, times)?;
+    }
+    put(alloc, map, &name, text)
+}
+
+// What comes of 64 files, of which the last holds the text, beside the file `long`.
+fn put_sixty_four(
+    alloc: Global,
+    map: &mut FileMap,
+    long: &[u8],
+    text: &[u8],
+) -> Result<String, Fail> {
+    put_chain(alloc, map, 64, 1, text)?;
+    put(alloc, map, b"long", long)?;
+    outcome(alloc, map)
+}
+
+fn sixty_four(alloc: Global, long: &[u8], text: &[u8]) -> Result<String, Fail> {
+    let mut map = FileMap::new(alloc);
+    let got = put_sixty_four(alloc, &mut map, long, text);
+    drop(map);
+    got
+}
+
+// The text ends as it is wanted.
+fn ends(rt: &impl Abort, got: &str, want: &str) {
+    assert!(rt; got.ends_with(want), "{want}");
+}
+
+fn last_is(rt: &impl Abort, alloc: Global, long: &[u8], row: &(&[u8], &str)) -> Result<(), Fail> {
+    let (text, want) = row;
+    let got = sixty_four(alloc, long, text)?;
+    ends(rt, &got, want);
+    Ok(())
+}
+
+fn each_last(
+    rt: &impl Abort,
+    alloc: Global,
+    long: &[u8],
+    rows: &[(&[u8], &str)],
+) -> Result<(), Fail> {
+    for row in rows {
+        last_is(rt, alloc, long, row)?;
     }
     Ok(())
 }
 
-// Each file sources the next so many times; the last, numbered from the root's 1 on, holds the text.
-fn chained(alloc: Global, count: usize, times: usize, text: &[u8]) -> Result<FileMap, Fail> {
-    let mut map = FileMap::new(alloc);
-    let mut name = Vec::from_slice(alloc, b"Kconfig")?;
-    for _ in 1..count {
-        let next = repeated(alloc, "a", &name, 1, "")?;
-        let line = repeated(alloc, "source ", &next, 1, "~")?;
-        put(
-            alloc,
-            &mut map,
-            &name,
-            &repeated(alloc, "", &line, times, "")?,
-        )?;
-        name = next;
-    }
-    put(alloc, &mut map, &name, text)?;
-    Ok(map)
+// A file of more lines than a tree may have.
+fn long_file(alloc: Global) -> Result<Vec<u8>, Fail> {
+    let lines = repeated(alloc, "", b"\n", 1000, "")?;
+    repeated(alloc, "", &lines, 1001, "")
 }
 
 #[test]
 fn sixty_four_files_are_open(rt: HostRuntime) -> Result<(), Fail> {
     let alloc = rt.alloc();
-    let lines = repeated(alloc, "", b"\n", 1000, "")?;
-    let long = repeated(alloc, "", &lines, 1001, "")?;
-    for (text, want) in [
-        (b"config A".as_slice(), "1 lines, 1 symbols"),
-        (b"\nsource b", "aaKconfig:2 TooDeep"),
-        (b"source long", "aaKconfig:1 TooDeep"),
-        (b"source aaaKconfig", "aaKconfig:1 InclusionLoop aaaKconfig"),
-        (b"source 'b?'", "aaKconfig:1 LeftOut pattern"),
-    ] {
-        let mut map = chained(alloc, 64, 1, text)?;
-        put(alloc, &mut map, b"long", &long)?;
-        assert!(rt; outcome(alloc, &map)?.ends_with(want), "{want}");
+    let long = long_file(alloc)?;
+    each_last(&rt, alloc, &long, LASTS)
+}
+
+// What comes of a file with so many lines that is sourced twice.
+fn outcome_twice(alloc: Global, count: usize) -> Result<String, Fail> {
+    let half = repeated(alloc, "", b"\n", count, "")?;
+    beside(alloc, b"source \"a\"\nsource \"a\"\n", &half)
+}
+
+fn twice_is(rt: &impl Abort, alloc: Global, count: usize, want: &str) -> Result<(), Fail> {
+    let got = outcome_twice(alloc, count)?;
+    is(rt, &got, want);
+    Ok(())
+}
+
+// A beginning, how often the half of a million lines stands, an end, and what comes of the file.
+const HALVES: &[(&str, usize, &str, &str)] = &[
+    ("", 2, "", "0 lines, 0 symbols"),
+    ("", 2, "#", "Kconfig:0 TooManyLines"),
+    ("source Kconfig~", 2, "", "Kconfig:0 TooManyLines"),
+    ("source Kconfig~", 1, "", "Kconfig:1 InclusionLoop Kconfig"),
+];
+
+fn a_root_file_is_counted(rt: &impl Abort, alloc: Global, half: &[u8]) -> Result<(), Fail> {
+    for (front, count, back, want) in HALVES {
+        limit_is(rt, alloc, &(front, half, *count, back, want))?;
     }
     Ok(())
+}
+
+fn chain_is_counted(rt: &impl Abort, alloc: Global, map: &mut FileMap) -> Result<(), Fail> {
+    put_chain(alloc, map, 21, 2, b"")?;
+    outcome_is(rt, alloc, map, "aaaaaaaaaaaaaaaaaaKconfig:2 TooManyLines")
+}
+
+fn a_chain_is_counted(rt: &impl Abort, alloc: Global) -> Result<(), Fail> {
+    let mut map = FileMap::new(alloc);
+    let done = chain_is_counted(rt, alloc, &mut map);
+    drop(map);
+    done
 }
 
 #[test]
 fn a_million_lines_are_counted(rt: HostRuntime) -> Result<(), Fail> {
     let alloc = rt.alloc();
-    let twice = b"source \"a\"\nsource \"a\"\n";
-    let fewer = repeated(alloc, "", b"\n", 499_999, "")?;
-    assert_eq!(rt;
-        beside(alloc, twice, &fewer)?.as_str(),
-        "0 lines, 0 symbols"
-    );
-    let more = repeated(alloc, "", b"\n", 500_000, "")?;
-    assert_eq!(rt;
-        beside(alloc, twice, &more)?.as_str(),
-        "Kconfig:2 TooManyLines"
-    );
-    for (front, back, want) in [
-        ("", "", "0 lines, 0 symbols"),
-        ("", "#", "Kconfig:0 TooManyLines"),
-        ("source Kconfig~", "", "Kconfig:0 TooManyLines"),
-    ] {
-        let root = repeated(alloc, front, &more, 2, back)?;
-        assert_eq!(rt; beside(alloc, &root, b"")?.as_str(), want);
+    twice_is(&rt, alloc, 499_999, "0 lines, 0 symbols")?;
+    twice_is(&rt, alloc, 500_000, "Kconfig:2 TooManyLines")?;
+    a_chain_is_counted(&rt, alloc)?;
+    let half = repeated(alloc, "", b"\n", 500_000, "")?;
+    a_root_file_is_counted(&rt, alloc, &half)
+}
+
+// Adds a `config` line whose name is the number, written with the letters A to P.
+fn push_config(text: &mut Vec<u8>, number: u32) -> Result<(), Fail> {
+    text.extend_from_slice(b"config ")?;
+    let mut rest = number;
+    for _ in 0..5 {
+        let digit = rest % 16;
+        text.push(b'A' + digit as u8)?;
+        rest /= 16;
     }
-    let root = repeated(alloc, "source Kconfig~", &more, 1, "")?;
-    assert_eq!(rt;
-        beside(alloc, &root, b"")?.as_str(),
-        "Kconfig:1 InclusionLoop Kconfig"
-    );
-    let map = chained(alloc, 21, 2, b"")?;
-    assert_eq!(rt;
-        outcome(alloc, &map)?.as_str(),
-        "aaaaaaaaaaaaaaaaaaKconfig:2 TooManyLines"
-    );
+    text.push(b'\n')?;
     Ok(())
 }
 
-// A `config` line for each number below `count`, written with the letters A to P.
+// A `config` line for each number below `count`.
 fn configs(alloc: Global, count: u32) -> Result<Vec<u8>, Fail> {
     let mut text = Vec::new(alloc);
     for number in 0..count {
-        text.extend_from_slice(b"config ")?;
-        let mut rest = number;
-        for _ in 0..5 {
-            let digit = rest % 16;
-            text.push(b'A' + digit as u8)?;
-            rest /= 16;
-        }
-        text.push(b'\n')?;
+        push_config(&mut text, number)?;
     }
     Ok(text)
+}
+
+// A line behind the most symbols, and what comes of the file.
+const SYMBOLS: &[(&str, &str)] = &[
+    ("", "65535 lines, 65535 symbols"),
+    ("menuconfig AAAAA", "65536 lines, 65535 symbols"),
+    ("config Z", "Kconfig:65536 TooManySymbols"),
+    ("config Z-Z", "Kconfig:65536 BadName Z-Z"),
+    ("config Z Z", "Kconfig:65536 Syntax"),
+];
+
+fn symbols_have_a_limit(rt: &impl Abort, alloc: Global, most: &[u8]) -> Result<(), Fail> {
+    for (line, want) in SYMBOLS {
+        limit_is(rt, alloc, &("", most, 1, line, want))?;
+    }
+    Ok(())
 }
 
 #[test]
 fn symbols_are_counted(rt: HostRuntime) -> Result<(), Fail> {
     let alloc = rt.alloc();
     let most = configs(alloc, 65_535)?;
-    for (line, want) in [
-        ("", "65535 lines, 65535 symbols"),
-        ("menuconfig AAAAA", "65536 lines, 65535 symbols"),
-        ("config Z", "Kconfig:65536 TooManySymbols"),
-        ("config Z-Z", "Kconfig:65536 BadName Z-Z"),
-        ("config Z Z", "Kconfig:65536 Syntax"),
-    ] {
-        let root = repeated(alloc, "", &most, 1, line)?;
-        assert_eq!(rt; beside(alloc, &root, b"")?.as_str(), want);
-    }
+    symbols_have_a_limit(&rt, alloc, &most)
+}
+
+// The name has these bytes.
+fn has_bytes(rt: &impl Abort, map: &FileMap, name: &[u8], bytes: &[u8]) {
+    assert!(rt; map.get(name) == Some(bytes));
+}
+
+fn put_twice(alloc: Global, map: &mut FileMap) -> Result<(), Fail> {
+    put(alloc, map, b"a", b"old")?;
+    put(alloc, map, b"b", b"")?;
+    put(alloc, map, b"a", b"new")
+}
+
+fn new_bytes(rt: &impl Abort, alloc: Global, map: &mut FileMap) -> Result<(), Fail> {
+    put_twice(alloc, map)?;
+    has_bytes(rt, map, b"a", b"new");
+    has_bytes(rt, map, b"b", b"");
+    assert!(rt; map.get(b"c").is_none());
     Ok(())
 }
 
@@ -765,11 +1175,7 @@ fn symbols_are_counted(rt: HostRuntime) -> Result<(), Fail> {
 fn a_name_gets_the_new_bytes(rt: HostRuntime) -> Result<(), Fail> {
     let alloc = rt.alloc();
     let mut map = FileMap::new(alloc);
-    put(alloc, &mut map, b"a", b"old")?;
-    put(alloc, &mut map, b"b", b"")?;
-    put(alloc, &mut map, b"a", b"new")?;
-    assert!(rt; map.get(b"a") == Some(b"new".as_slice()));
-    assert!(rt; map.get(b"b") == Some(b"".as_slice()));
-    assert!(rt; map.get(b"c").is_none());
-    Ok(())
+    let done = new_bytes(&rt, alloc, &mut map);
+    drop(map);
+    done
 }
