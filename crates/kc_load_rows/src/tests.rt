@@ -1,10 +1,11 @@
 //! Worked rows of loading, over a folder in memory.
-ghost use Rattle.std.specs.Prelude.{Some};
+ghost use Rattle.std.specs.Prelude.{◌≡◌, Some, IfOk, option_map};
 ghost use Rattle.kc_read.specs.Files.{bytes_in};
 
 use kc_load::*;
 use kc_read::FileMap;
-use std::alloc::Global;
+use std::alloc::{AllocError, Global};
+use std::process::Abort;
 use std::test::Fail;
 
 // Files by path, of which one may fail; the paths that were asked for, each followed by a blank.
@@ -23,48 +24,94 @@ impl<'a> Folder for Shelf<'a> {
     ghost failures = { λ s. s.failures };
 
     fn read(&mut self, path: &str) -> Result<Option<Vec<u8>>, FolderFault> {
-        self.asked.push_str(path)?;
-        self.asked.push_str(" ")?;
+        note(&mut self.asked, path)?;
         if path == self.failing {
             self.failures = self.failures.saturating_add(1);
             return Err(FolderFault::Device);
         }
-        match self.files.get(path.as_bytes()) {
-            Some(bytes) => Ok(Some(Vec::from_slice(self.alloc, bytes)?)),
-            None => Ok(None),
+        Ok(copied(self.alloc, self.files.get(path.as_bytes()))?)
+    }
+}
+
+// Writes a path that was asked for.
+fn note(asked: &mut String, path: &str) -> Result<(), AllocError> {
+    asked.push_str(path)?;
+    asked.push_str(" ")
+}
+
+fn copied(alloc: Global, bytes: Option<&[u8]>) -> Result<Option<Vec<u8>>, AllocError>
+    ensures { IfOk result (λ found. option_map (λ b. b.items) found ≡ option_map (λ b. b.now) bytes.entry) }
+{
+    match bytes {
+        Some(bytes) => Ok(Some(Vec::from_slice(alloc, bytes)?)),
+        None => Ok(None),
+    }
+}
+
+// Puts a copy of a file's bytes under its path.
+fn put(alloc: Global, map: &mut FileMap, path: &str, bytes: &[u8]) -> Result<(), AllocError> {
+    let path = Vec::from_slice(alloc, path.as_bytes())?;
+    map.insert(path, Vec::from_slice(alloc, bytes)?)
+}
+
+// Files by path.
+fn files_of(alloc: Global, files: &[(&str, &[u8])]) -> Result<FileMap, AllocError> {
+    let mut map = FileMap::new(alloc);
+    for (path, bytes) in files {
+        if let Err(fault) = put(alloc, &mut map, path, bytes) {
+            // A call drops the map; a drop that is left to the exit is written out there, and proved once more.
+            drop(map);
+            return Err(fault);
         }
     }
+    Ok(map)
 }
 
 fn shelf_of<'a>(
-    rt: &HostRuntime,
+    alloc: Global,
     files: &[(&str, &[u8])],
     failing: &'a str,
-) -> Result<Shelf<'a>, Fail> {
-    let mut map = FileMap::new(rt.alloc());
-    for (name, bytes) in files {
-        let name = Vec::from_slice(rt.alloc(), name.as_bytes())?;
-        map.insert(name, Vec::from_slice(rt.alloc(), bytes)?)?;
-    }
+) -> Result<Shelf<'a>, AllocError> {
     Ok(Shelf {
-        files: map,
+        files: files_of(alloc, files)?,
         failing,
         failures: 0,
-        asked: String::new(rt.alloc()),
-        alloc: rt.alloc(),
+        asked: String::new(alloc),
+        alloc,
     })
 }
 
-// The names of the files that the map holds.
-fn held(rt: &HostRuntime, map: &FileMap, names: &[&str]) -> Result<String, Fail> {
-    let mut text = String::new(rt.alloc());
-    for name in names {
-        if map.get(name.as_bytes()).is_some() {
-            text.push_str(name)?;
-            text.push_str(" ")?;
-        }
+fn shelf_was_asked(rt: &impl Abort, shelf: &Shelf, asked: &str, failures: u64) {
+    assert!(rt; shelf.asked.as_str() == asked, "asked: {}", shelf.asked);
+    assert!(rt; shelf.failures == failures, "failed: {}", shelf.failures);
+}
+
+fn names_are(rt: &impl Abort, map: &FileMap, names: &[(&str, bool)]) {
+    for (name, held) in names {
+        assert!(rt; map.get(name.as_bytes()).is_some() == *held, "{name}");
     }
-    Ok(text)
+}
+
+// Whether the map that was loaded holds these names.
+fn holds(rt: &impl Abort, outcome: &Result<FileMap, LoadFault>, names: &[(&str, bool)]) {
+    match outcome {
+        Ok(map) => names_are(rt, map, names),
+        Err(_) => assert!(rt; false, "not loaded"),
+    }
+}
+
+fn gives(rt: &impl Abort, outcome: &Result<FileMap, LoadFault>, name: &str, bytes: &[u8]) {
+    match outcome {
+        Ok(map) => assert!(rt; map.get(name.as_bytes()) == Some(bytes), "{name}"),
+        Err(_) => assert!(rt; false, "not loaded"),
+    }
+}
+
+fn cannot_read(rt: &impl Abort, outcome: &Result<FileMap, LoadFault>, name: &str) {
+    match outcome {
+        Err(LoadFault::CannotRead(unread)) => assert!(rt; unread.as_slice() == name.as_bytes()),
+        _ => assert!(rt; false, "loaded"),
+    }
 }
 
 #[test]
@@ -79,30 +126,36 @@ fn files_are_read_depth_first_and_once(rt: HostRuntime) -> Result<(), Fail> {
         ("d/b", b"source \"a\"\nconfig B".as_slice()),
         ("d/e", b"".as_slice()),
     ];
-    let mut folder = shelf_of(&rt, &files, "-")?;
-    let Ok(map) = load(rt.alloc(), &mut folder, "d", "K") else {
-        return Err(Fail::from("not loaded"));
-    };
-    assert_eq!(rt; folder.asked.as_str(), "d/K d/a /c d/x d/b ");
-    assert_eq!(rt; folder.failures, 0);
-    let names = ["K", "a", "/c", "x", "b", "e", "c", "d/K"];
-    assert_eq!(rt; held(&rt, &map, &names)?.as_str(), "K a /c b ");
-    assert_eq!(rt; map.get(b"b"), Some(b"source \"a\"\nconfig B".as_slice()));
+    let names = [
+        ("K", true),
+        ("a", true),
+        ("/c", true),
+        ("x", false),
+        ("b", true),
+        ("e", false),
+        ("c", false),
+        ("d/K", false),
+    ];
+    let mut shelf = shelf_of(rt.alloc(), &files, "-")?;
+    let outcome = load(rt.alloc(), &mut shelf, "d", "K");
+    shelf_was_asked(&rt, &shelf, "d/K d/a /c d/x d/b ", 0);
+    holds(&rt, &outcome, &names);
+    gives(&rt, &outcome, "b", b"source \"a\"\nconfig B");
+    // Dropped by calls, as the map above.
+    drop(outcome);
+    drop(shelf);
     Ok(())
 }
 
 #[test]
 fn a_file_that_sources_itself_is_read_once(rt: HostRuntime) -> Result<(), Fail> {
     let files = [("./Kconfig", b"source \"Kconfig\"\n".as_slice())];
-    let mut folder = shelf_of(&rt, &files, "-")?;
-    let Ok(map) = load(rt.alloc(), &mut folder, ".", "Kconfig") else {
-        return Err(Fail::from("not loaded"));
-    };
-    assert_eq!(rt; folder.asked.as_str(), "./Kconfig ");
-    assert_eq!(rt;
-        map.get(b"Kconfig"),
-        Some(b"source \"Kconfig\"\n".as_slice())
-    );
+    let mut shelf = shelf_of(rt.alloc(), &files, "-")?;
+    let outcome = load(rt.alloc(), &mut shelf, ".", "Kconfig");
+    shelf_was_asked(&rt, &shelf, "./Kconfig ", 0);
+    gives(&rt, &outcome, "Kconfig", b"source \"Kconfig\"\n");
+    drop(outcome);
+    drop(shelf);
     Ok(())
 }
 
@@ -112,41 +165,55 @@ fn a_file_that_cannot_be_read_is_named(rt: HostRuntime) -> Result<(), Fail> {
         "d/Kconfig",
         b"source \"a\"\nsource \"/b\"\nsource \"c\"".as_slice(),
     )];
-    let mut folder = shelf_of(&rt, &files, "/b")?;
-    let Err(LoadFault::CannotRead(name)) = load(rt.alloc(), &mut folder, "d", "Kconfig") else {
-        return Err(Fail::from("loaded"));
-    };
-    assert_eq!(rt; name.as_slice(), b"/b".as_slice());
-    assert_eq!(rt; folder.asked.as_str(), "d/Kconfig d/a /b ");
-    assert_eq!(rt; folder.failures, 1);
+    let mut shelf = shelf_of(rt.alloc(), &files, "/b")?;
+    let outcome = load(rt.alloc(), &mut shelf, "d", "Kconfig");
+    cannot_read(&rt, &outcome, "/b");
+    shelf_was_asked(&rt, &shelf, "d/Kconfig d/a /b ", 1);
+    drop(outcome);
+    drop(shelf);
     Ok(())
 }
 
 #[test]
 fn a_root_that_is_not_there_gives_no_files(rt: HostRuntime) -> Result<(), Fail> {
-    let mut folder = shelf_of(&rt, &[], "-")?;
-    let Ok(map) = load(rt.alloc(), &mut folder, "", "Kconfig") else {
-        return Err(Fail::from("not loaded"));
-    };
-    assert_eq!(rt; folder.asked.as_str(), "/Kconfig ");
-    assert!(rt; map.get(b"Kconfig").is_none());
+    let mut shelf = shelf_of(rt.alloc(), &[], "-")?;
+    let outcome = load(rt.alloc(), &mut shelf, "", "Kconfig");
+    shelf_was_asked(&rt, &shelf, "/Kconfig ", 0);
+    holds(&rt, &outcome, &[("Kconfig", false)]);
+    drop(outcome);
+    drop(shelf);
+    Ok(())
+}
+
+// A shelf with a root that sources `a`, of so many lines, and then `b`.
+fn long_shelf(alloc: Global, count: usize) -> Result<Shelf<'static>, AllocError> {
+    let lines = vec![in alloc; b'\n'; count]?;
+    let shelf = shelf_of(
+        alloc,
+        &[
+            ("./K", b"source \"a\"\nsource \"b\"\n".as_slice()),
+            ("./a", lines.as_slice()),
+        ],
+        "-",
+    );
+    drop(lines);
+    shelf
+}
+
+fn long_load_asks(rt: &impl Abort, alloc: Global, count: usize, asked: &str) -> Result<(), Fail> {
+    let mut shelf = long_shelf(alloc, count)?;
+    let outcome = load(alloc, &mut shelf, ".", "K");
+    shelf_was_asked(rt, &shelf, asked, 0);
+    holds(rt, &outcome, &[("a", true)]);
+    drop(outcome);
+    drop(shelf);
     Ok(())
 }
 
 #[test]
 fn loading_stops_after_a_million_lines(rt: HostRuntime) -> Result<(), Fail> {
     for (count, asked) in [(999_998, "./K ./a ./b "), (999_999, "./K ./a ")] {
-        let lines = vec![in rt.alloc(); b'\n'; count]?;
-        let files = [
-            ("./K", b"source \"a\"\nsource \"b\"\n".as_slice()),
-            ("./a", lines.as_slice()),
-        ];
-        let mut folder = shelf_of(&rt, &files, "-")?;
-        let Ok(map) = load(rt.alloc(), &mut folder, ".", "K") else {
-            return Err(Fail::from("not loaded"));
-        };
-        assert_eq!(rt; folder.asked.as_str(), asked);
-        assert!(rt; map.get(b"a").is_some());
+        long_load_asks(&rt, rt.alloc(), count, asked)?;
     }
     Ok(())
 }

@@ -1,116 +1,147 @@
 //! Worked trees from the bytes of their files on: what a tree says of its symbols, choices and entries, its warnings,
 //! and the refusals that come after the last line.
 
-use kc_expr::expression::SymId;
+use kc_expr::expression::{Expr, Operand, SymId};
 use kc_read::file_map::FileMap;
 use kc_read::refusal::{Code, Refusal};
 use kc_tree::parts::{Choice, Cond, Entry, Symbol};
 use kc_tree::tree::Tree;
-use std::alloc::Global;
+use std::alloc::{AllocError, Global};
+use std::process::Abort;
 use std::test::Fail;
 
-// The tree of `Kconfig`, where the file `a` stands beside it.
-fn build(alloc: Global, root: &str, other: &str) -> Result<Result<Tree, Refusal>, Fail> {
-    let mut map = FileMap::new(alloc);
-    map.insert(
-        Vec::from_slice(alloc, b"Kconfig")?,
-        Vec::from_slice(alloc, root.as_bytes())?,
-    )?;
-    map.insert(
-        Vec::from_slice(alloc, b"a")?,
-        Vec::from_slice(alloc, other.as_bytes())?,
-    )?;
-    Ok(Tree::build(alloc, &map, b"Kconfig"))
+// Puts a copy of a file's text under its name.
+fn put(alloc: Global, map: &mut FileMap, name: &str, text: &str) -> Result<(), AllocError> {
+    let name = Vec::from_slice(alloc, name.as_bytes())?;
+    map.insert(name, Vec::from_slice(alloc, text.as_bytes())?)
 }
 
-// A condition: its parts, and the number of the choice whose mode counts.
-fn condition(alloc: Global, cond: &Cond) -> Result<String, Fail> {
+// Files by name.
+fn files_of(alloc: Global, files: &[(&str, &str)]) -> Result<FileMap, AllocError> {
+    let mut map = FileMap::new(alloc);
+    for (name, text) in files {
+        if let Err(fault) = put(alloc, &mut map, name, text) {
+            // A call drops the map; a drop that is left to the exit is written out there, and proved once more.
+            drop(map);
+            return Err(fault);
+        }
+    }
+    Ok(map)
+}
+
+// The tree of `Kconfig`, one of these files. What is owned is dropped by a call, as in all that follows.
+fn build(alloc: Global, files: &[(&str, &str)]) -> Result<Result<Tree, Refusal>, AllocError> {
+    let map = files_of(alloc, files)?;
+    let built = Tree::build(alloc, &map, b"Kconfig");
+    drop(map);
+    Ok(built)
+}
+
+// A condition and the line's end: its parts, and the number of the choice whose mode counts.
+fn condition(out: &mut String, cond: &Cond) -> Result<(), AllocError> {
     match cond.mode {
-        Some(choice) => Ok(format!(in alloc; "{:?} in {}", cond.parts, choice.0)?),
-        None => Ok(format!(in alloc; "{:?}", cond.parts)?),
+        Some(choice) => write!(out, "{:?} in {}\n", cond.parts, choice.0),
+        None => write!(out, "{:?}\n", cond.parts),
     }
 }
 
 // Conditions, each after the word.
-fn conditions(alloc: Global, out: &mut String, word: &str, conds: &[Cond]) -> Result<(), Fail> {
+fn conditions(out: &mut String, word: &str, conds: &[Cond]) -> Result<(), AllocError> {
     for cond in conds {
-        let when = condition(alloc, cond)?;
-        out.push_str(&format!(in alloc; "{word} {when}\n")?)?;
+        write!(out, "{word} ")?;
+        condition(out, cond)?;
+    }
+    Ok(())
+}
+
+fn defaults(out: &mut String, values: &[(Expr, Cond)]) -> Result<(), AllocError> {
+    for (value, cond) in values {
+        write!(out, "default {value:?} ")?;
+        condition(out, cond)?;
+    }
+    Ok(())
+}
+
+fn ranges(out: &mut String, bounds: &[(Operand, Operand, Cond)]) -> Result<(), AllocError> {
+    for (low, high, cond) in bounds {
+        write!(out, "range {low:?} {high:?} ")?;
+        condition(out, cond)?;
+    }
+    Ok(())
+}
+
+// The numbers of symbols, each after the word and with its condition.
+fn numbers(out: &mut String, word: &str, symbols: &[(SymId, Cond)]) -> Result<(), AllocError> {
+    for (symbol, cond) in symbols {
+        write!(out, "{word} {} ", symbol.0)?;
+        condition(out, cond)?;
     }
     Ok(())
 }
 
 // What a tree says of a symbol.
-fn symbol(alloc: Global, out: &mut String, symbol: &Symbol) -> Result<(), Fail> {
-    out.push_str(&format!(in alloc; "{:?} {:?}\n", symbol.kind, symbol.choice)?)?;
-    conditions(alloc, out, "dep", &symbol.deps)?;
-    conditions(alloc, out, "prompt", &symbol.prompts)?;
-    for (value, cond) in &symbol.defaults {
-        let when = condition(alloc, cond)?;
-        out.push_str(&format!(in alloc; "default {value:?} {when}\n")?)?;
-    }
-    for (low, high, cond) in &symbol.ranges {
-        let when = condition(alloc, cond)?;
-        out.push_str(&format!(in alloc; "range {low:?} {high:?} {when}\n")?)?;
-    }
-    for (by, cond) in &symbol.selectors {
-        let when = condition(alloc, cond)?;
-        out.push_str(&format!(in alloc; "selected by {} {when}\n", by.0)?)?;
-    }
-    for (by, cond) in &symbol.impliers {
-        let when = condition(alloc, cond)?;
-        out.push_str(&format!(in alloc; "implied by {} {when}\n", by.0)?)?;
-    }
-    Ok(())
+fn symbol(out: &mut String, symbol: &Symbol) -> Result<(), AllocError> {
+    write!(out, "{:?} {:?}\n", symbol.kind, symbol.choice)?;
+    conditions(out, "dep", &symbol.deps)?;
+    conditions(out, "prompt", &symbol.prompts)?;
+    defaults(out, &symbol.defaults)?;
+    ranges(out, &symbol.ranges)?;
+    numbers(out, "selected by", &symbol.selectors)?;
+    numbers(out, "implied by", &symbol.impliers)
 }
 
 // What a tree says of a choice.
-fn choice(alloc: Global, out: &mut String, choice: &Choice) -> Result<(), Fail> {
-    out.push_str(&format!(in alloc; "choice of {:?}\n", choice.members)?)?;
+fn choice(out: &mut String, choice: &Choice) -> Result<(), AllocError> {
+    write!(out, "choice of {:?}\n", choice.members)?;
     if let Some(cond) = &choice.prompt {
-        let when = condition(alloc, cond)?;
-        out.push_str(&format!(in alloc; "prompt {when}\n")?)?;
+        write!(out, "prompt ")?;
+        condition(out, cond)?;
     }
-    for (member, cond) in &choice.defaults {
-        let when = condition(alloc, cond)?;
-        out.push_str(&format!(in alloc; "default {} {when}\n", member.0)?)?;
-    }
-    Ok(())
+    numbers(out, "default", &choice.defaults)
 }
 
-// An entry; a text by its length.
-fn entry(alloc: Global, out: &mut String, entry: &Entry) -> Result<(), Fail> {
-    let line = match entry {
-        Entry::Symbol(id) => format!(in alloc; "[{}]\n", id.0)?,
-        Entry::Menu { text, when } => {
-            let when = condition(alloc, when)?;
-            format!(in alloc; "[menu of {}] {when}\n", text.len())?
+// What is shown under a condition; its text by the length.
+fn shown(out: &mut String, word: &str, text: &[u8], when: &Cond) -> Result<(), AllocError> {
+    write!(out, "[{word} of {}] ", text.len())?;
+    condition(out, when)
+}
+
+fn entry(out: &mut String, entry: &Entry) -> Result<(), AllocError> {
+    match entry {
+        Entry::Symbol(id) => write!(out, "[{}]\n", id.0),
+        Entry::Menu { text, when } => shown(out, "menu", text, when),
+        Entry::End { menu } => write!(out, "[end of {menu}]\n"),
+        Entry::Comment { text, when } => shown(out, "comment", text, when),
+    }
+}
+
+fn symbols(out: &mut String, tree: &Tree) -> Result<(), AllocError> {
+    for i in 0..tree.symbol_count() {
+        if let Some(facts) = tree.facts(tree.symbol(i)) {
+            symbol(out, facts)?;
         }
-        Entry::End { menu } => format!(in alloc; "[end of {menu}]\n")?,
-        Entry::Comment { text, when } => {
-            let when = condition(alloc, when)?;
-            format!(in alloc; "[comment of {}] {when}\n", text.len())?
-        }
-    };
-    out.push_str(&line)?;
+    }
     Ok(())
 }
 
 // All that a tree says, but for its names and warnings.
-fn picture(alloc: Global, tree: &Tree) -> Result<String, Fail> {
-    let mut out = String::new(alloc);
-    for i in 0..tree.symbol_count() {
-        if let Some(facts) = tree.facts(tree.symbol(i)) {
-            symbol(alloc, &mut out, facts)?;
-        }
-    }
+fn picture(out: &mut String, tree: &Tree) -> Result<(), AllocError> {
+    symbols(out, tree)?;
     for facts in tree.choices() {
-        choice(alloc, &mut out, facts)?;
+        choice(out, facts)?;
     }
-    for shown in tree.entries() {
-        entry(alloc, &mut out, shown)?;
+    for part in tree.entries() {
+        entry(out, part)?;
     }
-    Ok(out)
+    Ok(())
+}
+
+// The picture of a tree, or its refusal.
+fn picture_of(out: &mut String, built: &Result<Tree, Refusal>) -> Result<(), AllocError> {
+    match built {
+        Ok(tree) => picture(out, tree),
+        Err(refusal) => write!(out, "{refusal:?}"),
+    }
 }
 
 // The text of `Kconfig`, that of `a`, and the tree's picture.
@@ -234,14 +265,27 @@ fn pictures() -> &'static [(&'static str, &'static str, &'static str)] {
     &ROWS
 }
 
+fn picture_is(
+    rt: &impl Abort,
+    alloc: Global,
+    root: &str,
+    other: &str,
+    want: &str,
+) -> Result<(), Fail> {
+    let built = build(alloc, &[("Kconfig", root), ("a", other)])?;
+    let mut text = String::new(alloc);
+    let done = picture_of(&mut text, &built);
+    drop(built);
+    assert_eq!(rt; text.as_str(), want, "{root}");
+    drop(text);
+    done?;
+    Ok(())
+}
+
 #[test]
 fn trees_say_what_their_files_say(rt: HostRuntime) -> Result<(), Fail> {
-    let alloc = rt.alloc();
     for (root, other, want) in pictures() {
-        match build(alloc, root, other)? {
-            Ok(tree) => assert_eq!(rt; picture(alloc, &tree)?.as_str(), *want),
-            Err(refusal) => assert!(rt; false, "{root}: {refusal:?}"),
-        }
+        picture_is(&rt, rt.alloc(), root, other, want)?;
     }
     Ok(())
 }
@@ -305,21 +349,39 @@ fn warned() -> &'static [(&'static str, &'static str, &'static str)] {
     &ROWS
 }
 
+// A tree's warnings, each with a line's end, or its refusal.
+fn warnings_of(out: &mut Vec<u8>, built: &Result<Tree, Refusal>) -> Result<(), AllocError> {
+    let Ok(tree) = built else {
+        return out.extend_from_slice(b"refused");
+    };
+    for warning in tree.parse_warnings() {
+        out.extend_from_slice(warning)?;
+        out.extend_from_slice(b"\n")?;
+    }
+    Ok(())
+}
+
+fn warnings_are(
+    rt: &impl Abort,
+    alloc: Global,
+    root: &str,
+    other: &str,
+    want: &str,
+) -> Result<(), Fail> {
+    let built = build(alloc, &[("Kconfig", root), ("a", other)])?;
+    let mut said = Vec::new(alloc);
+    let done = warnings_of(&mut said, &built);
+    drop(built);
+    assert!(rt; said.as_slice() == want.as_bytes(), "{root}");
+    drop(said);
+    done?;
+    Ok(())
+}
+
 #[test]
 fn warnings_come_in_the_order_of_the_lines(rt: HostRuntime) -> Result<(), Fail> {
-    let alloc = rt.alloc();
     for (root, other, want) in warned() {
-        match build(alloc, root, other)? {
-            Ok(tree) => {
-                let mut said = Vec::new(alloc);
-                for warning in tree.parse_warnings() {
-                    said.extend_from_slice(warning)?;
-                    said.push(10)?;
-                }
-                assert!(rt; said.as_slice() == want.as_bytes(), "{root}");
-            }
-            Err(refusal) => assert!(rt; false, "{root}: {refusal:?}"),
-        }
+        warnings_are(&rt, rt.alloc(), root, other, want)?;
     }
     Ok(())
 }
@@ -484,48 +546,68 @@ fn refusals() -> &'static [(
     &ROWS
 }
 
+fn place_is(rt: &impl Abort, root: &str, refusal: &Refusal, file: &str, line: u32) {
+    match &refusal.place {
+        Some((name, number)) => {
+            assert!(rt; name.as_slice() == file.as_bytes(), "{root}");
+            assert_eq!(rt; *number, line, "{root}");
+        }
+        None => assert!(rt; false, "no place: {root}"),
+    }
+}
+
+fn refusal_is(rt: &impl Abort, root: &str, refusal: &Refusal, code: Code, detail: &str) {
+    assert_eq!(rt; refusal.code, code, "{root}");
+    assert!(rt; refusal.detail.as_slice() == detail.as_bytes(), "{root}");
+}
+
+// A refusal: its code, file, line and detail.
+type Wanted = (Code, &'static str, u32, &'static str);
+
+fn refused_is(rt: &impl Abort, root: &str, built: &Result<Tree, Refusal>, want: Wanted) {
+    let (code, file, line, detail) = want;
+    match built {
+        Ok(_) => assert!(rt; false, "accepted: {root}"),
+        Err(refusal) => {
+            refusal_is(rt, root, refusal, code, detail);
+            place_is(rt, root, refusal, file, line);
+        }
+    }
+}
+
 #[test]
 fn refusals_come_in_their_order(rt: HostRuntime) -> Result<(), Fail> {
-    let alloc = rt.alloc();
     for (root, other, code, file, line, detail) in refusals() {
-        match build(alloc, root, other)? {
-            Ok(_) => assert!(rt; false, "accepted: {root}"),
-            Err(refusal) => {
-                assert_eq!(rt; refusal.code, *code, "{root}");
-                assert!(rt; refusal.detail.as_slice() == detail.as_bytes(), "{root}");
-                match &refusal.place {
-                    Some((name, number)) => {
-                        assert!(rt; name.as_slice() == file.as_bytes(), "{root}");
-                        assert_eq!(rt; *number, *line, "{root}");
-                    }
-                    None => assert!(rt; false, "no place: {root}"),
-                }
-            }
-        }
+        let built = build(rt.alloc(), &[("Kconfig", root), ("a", other)])?;
+        refused_is(&rt, root, &built, (*code, file, *line, detail));
+        drop(built);
     }
     Ok(())
 }
 
-#[test]
-fn names_are_numbered_by_definition(rt: HostRuntime) -> Result<(), Fail> {
-    let alloc = rt.alloc();
-    let root =
-        "mainmenu \"first\"\nif Q\nconfig B\nbool \"b\"\nconfig A\nbool \"a\"\nmodules\nendif\nmainmenu \"last\"\n";
-    match build(alloc, root, "")? {
+fn names_are(rt: &impl Abort, tree: &Tree) {
+    assert!(rt; tree.find(b"B") == Some(SymId(0)));
+    assert!(rt; tree.find(b"A") == Some(SymId(1)));
+    assert!(rt; tree.find(b"Q") == Some(SymId(2)));
+    assert!(rt; tree.find(b"MODULES").is_none());
+    assert!(rt; tree.facts(SymId(2)).is_none());
+}
+
+fn named_tree_is(rt: &impl Abort, built: &Result<Tree, Refusal>) {
+    match built {
         Ok(tree) => {
             assert_eq!(rt; tree.symbol_count(), 2);
             assert_eq!(rt; tree.name_count(), 3);
-            assert!(rt; tree.find(b"B") == Some(SymId(0)));
-            assert!(rt; tree.find(b"A") == Some(SymId(1)));
-            assert!(rt; tree.find(b"Q") == Some(SymId(2)));
-            assert!(rt; tree.find(b"MODULES").is_none());
-            assert!(rt; tree.facts(SymId(2)).is_none());
+            names_are(rt, tree);
             assert!(rt; tree.modules_symbol() == Some(SymId(1)));
             assert!(rt; tree.main_menu() == b"last".as_slice());
         }
         Err(refusal) => assert!(rt; false, "{refusal:?}"),
     }
-    match build(alloc, "", "")? {
+}
+
+fn empty_tree_is(rt: &impl Abort, built: &Result<Tree, Refusal>) {
+    match built {
         Ok(tree) => {
             assert_eq!(rt; tree.symbol_count(), 0);
             assert!(rt; tree.modules_symbol() == None);
@@ -533,20 +615,23 @@ fn names_are_numbered_by_definition(rt: HostRuntime) -> Result<(), Fail> {
         }
         Err(refusal) => assert!(rt; false, "{refusal:?}"),
     }
-    Ok(())
 }
 
 #[test]
-fn a_tree_is_built(rt: HostRuntime) -> Result<(), Fail> {
-    let alloc = rt.alloc();
-    let mut map = FileMap::new(alloc);
-    let text =
-        b"config A\n\tbool \"a\"\nmenu \"m\"\nconfig B\n\ttristate\n\tdepends on A\nendmenu\n";
-    map.insert(
-        Vec::from_slice(alloc, b"Kconfig")?,
-        Vec::from_slice(alloc, text)?,
-    )?;
-    match Tree::build(alloc, &map, b"Kconfig") {
+fn names_are_numbered_by_definition(rt: HostRuntime) -> Result<(), Fail> {
+    let root =
+        "mainmenu \"first\"\nif Q\nconfig B\nbool \"b\"\nconfig A\nbool \"a\"\nmodules\nendif\nmainmenu \"last\"\n";
+    let named = build(rt.alloc(), &[("Kconfig", root), ("a", "")])?;
+    named_tree_is(&rt, &named);
+    drop(named);
+    let empty = build(rt.alloc(), &[("Kconfig", ""), ("a", "")])?;
+    empty_tree_is(&rt, &empty);
+    drop(empty);
+    Ok(())
+}
+
+fn built_tree_is(rt: &impl Abort, built: &Result<Tree, Refusal>) {
+    match built {
         Ok(tree) => {
             assert_eq!(rt; tree.symbol_count(), 2);
             assert_eq!(rt; tree.entries().len(), 4);
@@ -555,5 +640,14 @@ fn a_tree_is_built(rt: HostRuntime) -> Result<(), Fail> {
         }
         Err(_) => assert!(rt; false, "refused"),
     }
+}
+
+#[test]
+fn a_tree_is_built(rt: HostRuntime) -> Result<(), Fail> {
+    let text =
+        "config A\n\tbool \"a\"\nmenu \"m\"\nconfig B\n\ttristate\n\tdepends on A\nendmenu\n";
+    let built = build(rt.alloc(), &[("Kconfig", text)])?;
+    built_tree_is(&rt, &built);
+    drop(built);
     Ok(())
 }
