@@ -4,10 +4,35 @@ ghost use Rattle.std.specs.Prelude.{◌≤◌, length};
 
 use kc_expr::expression::{Expr, Kind, SymId, Tri};
 use kc_expr::names::Names;
-use kc_expr::parse::parse;
+use kc_expr::parse::{ExprFault, parse};
 use kc_expr::values::{Values, eval, eval_depends_on_symbols, names_into};
 use kc_text::{Token, lex};
+use std::alloc::Global;
+use std::process::Abort;
 use std::test::Fail;
+
+// Names, expressions and tables are handed to `drop` or to a helper as a reference: the code that drops one is long, and
+// would else stand once more at each early exit. For the same reason what is compared goes to a helper.
+
+fn is_text(rt: &impl Abort, got: &str, want: &str) {
+    assert_eq!(rt; got, want);
+}
+
+fn is_symbol(rt: &impl Abort, got: Option<SymId>, want: Option<SymId>) {
+    assert_eq!(rt; got, want);
+}
+
+fn is_count(rt: &impl Abort, got: Option<usize>, want: Option<usize>) {
+    assert_eq!(rt; got, want);
+}
+
+fn is_value(rt: &impl Abort, got: Option<Tri>, want: Option<Tri>) {
+    assert_eq!(rt; got, want);
+}
+
+fn are_symbols(rt: &impl Abort, got: &[SymId], want: &[SymId]) {
+    assert_eq!(rt; got, want);
+}
 
 // What is known of a symbol, by its number.
 #[derive(Drop)]
@@ -51,21 +76,38 @@ impl Values for Table {
     }
 }
 
+// The expression with the place after it, or why there is none.
+fn shown(alloc: Global, answer: &Result<(Expr, usize), ExprFault>) -> Result<String, Fail> {
+    match answer {
+        Ok((expr, end)) => Ok(format!(in alloc; "{expr:?} {end}")?),
+        Err(fault) => Ok(format!(in alloc; "{fault}")?),
+    }
+}
+
+fn shape_of_tokens(
+    alloc: Global,
+    tokens: &[Token],
+    condition: Option<SymId>,
+    names: &mut Names,
+) -> Result<String, Fail> {
+    let answer = parse(alloc, tokens, 0, condition, names);
+    let text = shown(alloc, &answer);
+    drop(answer);
+    text
+}
+
 // The tokens of the line as an expression, shown with the place after it, or why there is none.
 fn shape(
-    rt: &HostRuntime,
+    alloc: Global,
     line: &[u8],
     condition: Option<SymId>,
     names: &mut Names,
 ) -> Result<String, Fail>
     requires { length line.now ≤ 8191 }
 {
-    let mut tokens = Vec::new(rt.alloc());
+    let mut tokens = Vec::new(alloc);
     lex(line, &mut tokens)?;
-    match parse(rt.alloc(), &tokens, 0, condition, names) {
-        Ok((expr, end)) => Ok(format!(in rt.alloc(); "{expr:?} {end}")?),
-        Err(fault) => Ok(format!(in rt.alloc(); "{fault}")?),
-    }
+    shape_of_tokens(alloc, &tokens, condition, names)
 }
 
 // The line, then what it reads as where A, B, C, .. get the next numbers from 1 on.
@@ -111,13 +153,46 @@ fn shapes() -> &'static [(&'static [u8], &'static str)] {
     &ROWS
 }
 
+// What the line, or condition, reads as after the name MODULES.
+fn shape_after_modules(
+    alloc: Global,
+    line: &[u8],
+    is_condition: bool,
+    names: &mut Names,
+) -> Result<String, Fail>
+    requires { length line.now ≤ 8191 }
+{
+    let modules = names.id(b"MODULES")?;
+    let condition = if is_condition { Some(modules) } else { None };
+    shape(alloc, line, condition, names)
+}
+
+fn shape_in_new_names(alloc: Global, line: &[u8], is_condition: bool) -> Result<String, Fail>
+    requires { length line.now ≤ 8191 }
+{
+    let mut names = Names::new(alloc);
+    let text = shape_after_modules(alloc, line, is_condition, &mut names);
+    drop(names);
+    text
+}
+
+fn reads_as(
+    rt: &impl Abort,
+    alloc: Global,
+    line: &[u8],
+    is_condition: bool,
+    want: &str,
+) -> Result<(), Fail> {
+    assert!(rt; line.len() <= 8191);
+    let text = shape_in_new_names(alloc, line, is_condition)?;
+    is_text(rt, &text, want);
+    Ok(())
+}
+
 #[test]
 fn lines_follow_the_grammar(rt: HostRuntime) -> Result<(), Fail> {
     for (line, want) in shapes() {
-        let mut names = Names::new(rt.alloc());
-        names.id(b"MODULES")?;
-        assert!(rt; line.len() <= 8191);
-        assert_eq!(rt; shape(&rt, line, None, &mut names)?.as_str(), *want);
+        reads_as(&rt, rt.alloc(), line, false, want)?;
     }
     Ok(())
 }
@@ -143,13 +218,7 @@ fn conditions() -> &'static [(&'static [u8], &'static str)] {
 #[test]
 fn plain_m_asks_for_modules(rt: HostRuntime) -> Result<(), Fail> {
     for (line, want) in conditions() {
-        let mut names = Names::new(rt.alloc());
-        let modules = names.id(b"MODULES")?;
-        assert!(rt; line.len() <= 8191);
-        assert_eq!(rt;
-            shape(&rt, line, Some(modules), &mut names)?.as_str(),
-            *want
-        );
+        reads_as(&rt, rt.alloc(), line, true, want)?;
     }
     Ok(())
 }
@@ -168,64 +237,97 @@ fn numbers() -> &'static [(&'static [u8], Option<SymId>)] {
     &ROWS
 }
 
+fn finds_numbers(rt: &impl Abort, names: &Names) {
+    for (name, number) in numbers() {
+        is_symbol(rt, names.find(name), *number);
+    }
+}
+
+fn is_numbered(rt: &impl Abort, names: &mut Names, name: &[u8], number: usize) -> Result<(), Fail> {
+    let id = names.id(name)?;
+    is_symbol(rt, Some(id), Some(SymId(number)));
+    Ok(())
+}
+
+fn read_mentions(alloc: Global, names: &mut Names) -> Result<(), Fail> {
+    let line = b"B && A = B || n || \"Q\" || X || C D";
+    drop(shape(alloc, line, None, names)?);
+    Ok(())
+}
+
+fn numbers_at_first_mention(rt: &impl Abort, alloc: Global, names: &mut Names) -> Result<(), Fail> {
+    is_numbered(rt, names, b"X", 0)?;
+    read_mentions(alloc, names)?;
+    finds_numbers(rt, names);
+    is_numbered(rt, names, b"D", 4)?;
+    is_numbered(rt, names, b"A", 2)
+}
+
 #[test]
 fn names_are_numbered_at_their_first_mention(rt: HostRuntime) -> Result<(), Fail> {
     let mut names = Names::new(rt.alloc());
-    assert_eq!(rt; names.id(b"X")?, SymId(0));
-    let line = b"B && A = B || n || \"Q\" || X || C D";
-    shape(&rt, line, None, &mut names)?;
-    for (name, number) in numbers() {
-        assert_eq!(rt; names.find(name), *number);
-    }
-    assert_eq!(rt; names.id(b"D")?, SymId(4));
-    assert_eq!(rt; names.id(b"A")?, SymId(2));
-    Ok(())
+    let outcome = numbers_at_first_mention(&rt, rt.alloc(), &mut names);
+    drop(names);
+    outcome
+}
+
+fn is_name(rt: &impl Abort, got: &[u8], want: &[u8]) {
+    assert_eq!(rt; got, want);
 }
 
 #[test]
 fn a_number_has_its_name(rt: HostRuntime) -> Result<(), Fail> {
     let mut names = Names::new(rt.alloc());
-    names.id(b"A")?;
-    let id = names.id(b"B_2")?;
+    if let Err(fault) = names.id(b"A") {
+        drop(names);
+        return Err(fault.into());
+    }
+    let id = match names.id(b"B_2") {
+        Ok(id) => id,
+        Err(fault) => {
+            drop(names);
+            return Err(fault.into());
+        }
+    };
     names.are_distinct();
-    assert_eq!(rt; names.name(id), b"B_2".as_slice());
+    is_name(&rt, names.name(id), b"B_2");
+    drop(names);
+    Ok(())
+}
+
+fn repeat_into(line: &mut Vec<u8>, count: usize, part: &[u8]) -> Result<(), Fail> {
+    for _ in 0..count {
+        line.extend_from_slice(part)?;
+    }
     Ok(())
 }
 
 // A line of so many openers, with what follows them.
 fn opened(
-    rt: &HostRuntime,
+    alloc: Global,
     count: usize,
     opener: &[u8],
     operand: &[u8],
     closer: &[u8],
 ) -> Result<Vec<u8>, Fail> {
-    let mut line = Vec::new(rt.alloc());
-    for _ in 0..count {
-        line.extend_from_slice(opener)?;
-    }
+    let mut line = Vec::new(alloc);
+    repeat_into(&mut line, count, opener)?;
     line.extend_from_slice(operand)?;
-    for _ in 0..count {
-        line.extend_from_slice(closer)?;
-    }
+    repeat_into(&mut line, count, closer)?;
     Ok(line)
 }
 
 // How many openers, the opener, what follows them, the closer, and what the line reads as.
-fn levels() -> &'static [(
+type Level = (
     usize,
     &'static [u8],
     &'static [u8],
     &'static [u8],
     &'static str,
-)] {
-    static ROWS: [(
-        usize,
-        &'static [u8],
-        &'static [u8],
-        &'static [u8],
-        &'static str,
-    ); 12] = [
+);
+
+fn levels() -> &'static [Level] {
+    static ROWS: [Level; 12] = [
         (64, b"(", b"y", b")", "One(Const([121])) 129"),
         (65, b"(", b"y", b")", "too deep"),
         (65, b"!", b"y", b"", "too deep"),
@@ -242,45 +344,83 @@ fn levels() -> &'static [(
     &ROWS
 }
 
+fn shape_without_names(alloc: Global, line: &[u8], condition: Option<SymId>) -> Result<String, Fail>
+    requires { length line.now ≤ 8191 }
+{
+    let mut names = Names::new(alloc);
+    let text = shape(alloc, line, condition, &mut names);
+    drop(names);
+    text
+}
+
+fn reads_without_names(
+    rt: &impl Abort,
+    alloc: Global,
+    line: &[u8],
+    condition: Option<SymId>,
+    want: &str,
+) -> Result<(), Fail> {
+    assert!(rt; line.len() <= 8191);
+    let text = shape_without_names(alloc, line, condition)?;
+    is_text(rt, &text, want);
+    Ok(())
+}
+
+fn reads_level(rt: &impl Abort, alloc: Global, level: &Level) -> Result<(), Fail> {
+    let (count, opener, operand, closer, want) = level;
+    let line = opened(alloc, *count, opener, operand, closer)?;
+    reads_without_names(rt, alloc, &line, None, want)
+}
+
 #[test]
 fn the_65th_level_is_too_deep(rt: HostRuntime) -> Result<(), Fail> {
-    for (count, opener, operand, closer, want) in levels() {
-        let mut names = Names::new(rt.alloc());
-        let line = opened(&rt, *count, opener, operand, closer)?;
-        assert!(rt; line.len() <= 8191);
-        assert_eq!(rt; shape(&rt, &line, None, &mut names)?.as_str(), *want);
+    for level in levels() {
+        reads_level(&rt, rt.alloc(), level)?;
     }
     Ok(())
 }
 
 #[test]
 fn a_plain_m_opens_no_level(rt: HostRuntime) -> Result<(), Fail> {
-    let mut names = Names::new(rt.alloc());
-    let line = opened(&rt, 64, b"(", b"m", b")")?;
-    assert!(rt; line.len() <= 8191);
-    assert_eq!(rt;
-        shape(&rt, &line, Some(SymId(3)), &mut names)?.as_str(),
-        "All([One(Const([109])), One(Sym(SymId(3)))]) 129"
-    );
-    Ok(())
+    let line = opened(rt.alloc(), 64, b"(", b"m", b")")?;
+    let want = "All([One(Const([109])), One(Sym(SymId(3)))]) 129";
+    reads_without_names(&rt, rt.alloc(), &line, Some(SymId(3)), want)
 }
 
-// How many parts the line's expression joins, if all of the line is one.
-fn parts_of(rt: &HostRuntime, line: &[u8]) -> Result<Option<usize>, Fail>
-    requires { length line.now ≤ 8191 }
-{
-    let mut tokens = Vec::new(rt.alloc());
-    lex(line, &mut tokens)?;
-    let mut names = Names::new(rt.alloc());
-    let (expr, end) = parse(rt.alloc(), &tokens, 0, None, &mut names)?;
+// How many parts the expression joins.
+fn joined(expr: &Expr) -> Option<usize> {
+    match expr {
+        Expr::All(parts) => Some(parts.len()),
+        Expr::Any(parts) => Some(parts.len()),
+        _ => None,
+    }
+}
+
+// How many parts the expression of all the tokens joins.
+fn parts_of_tokens(
+    alloc: Global,
+    tokens: &[Token],
+    names: &mut Names,
+) -> Result<Option<usize>, Fail> {
+    let (expr, end) = parse(alloc, tokens, 0, None, names)?;
+    let parts = joined(&expr);
+    drop(expr);
     if end < tokens.len() {
         return Ok(None);
     }
-    match &expr {
-        Expr::All(parts) => Ok(Some(parts.len())),
-        Expr::Any(parts) => Ok(Some(parts.len())),
-        _ => Ok(None),
-    }
+    Ok(parts)
+}
+
+// How many parts the line's expression joins, if all of the line is one.
+fn parts_of(alloc: Global, line: &[u8]) -> Result<Option<usize>, Fail>
+    requires { length line.now ≤ 8191 }
+{
+    let mut tokens = Vec::new(alloc);
+    lex(line, &mut tokens)?;
+    let mut names = Names::new(alloc);
+    let parts = parts_of_tokens(alloc, &tokens, &mut names);
+    drop(names);
+    parts
 }
 
 // What is joined to an `a`, and how many parts there are then.
@@ -293,23 +433,31 @@ fn repeated() -> &'static [(&'static [u8], usize)] {
     &ROWS
 }
 
+fn has_parts(rt: &impl Abort, alloc: Global, line: &[u8], count: usize) -> Result<(), Fail> {
+    assert!(rt; line.len() <= 8191);
+    let parts = parts_of(alloc, line)?;
+    is_count(rt, parts, Some(count));
+    Ok(())
+}
+
+fn reads_repeated(rt: &impl Abort, alloc: Global, part: &[u8], count: usize) -> Result<(), Fail> {
+    let mut line = Vec::new(alloc);
+    line.extend_from_slice(b"a")?;
+    repeat_into(&mut line, count.saturating_sub(1), part)?;
+    has_parts(rt, alloc, &line, count)
+}
+
 #[test]
 fn the_longest_lines_are_read_at_once(rt: HostRuntime) -> Result<(), Fail> {
     for (part, count) in repeated() {
-        let mut line = Vec::new(rt.alloc());
-        line.extend_from_slice(b"a")?;
-        for _ in 1..*count {
-            line.extend_from_slice(part)?;
-        }
-        assert!(rt; line.len() <= 8191);
-        assert_eq!(rt; parts_of(&rt, &line)?, Some(*count));
+        reads_repeated(&rt, rt.alloc(), part, *count)?;
     }
     Ok(())
 }
 
-// Each symbol: its name, type, truth value and text. A word without a type is worth its own name.
+// Each symbol with a type: its name, type, truth value and text.
 fn symbols() -> &'static [(&'static [u8], Kind, Tri, &'static [u8])] {
-    static ROWS: [(&'static [u8], Kind, Tri, &'static [u8]); 33] = [
+    static ROWS: [(&'static [u8], Kind, Tri, &'static [u8]); 19] = [
         (b"YES", Kind::Bool, Tri::Y, b""),
         (b"NO", Kind::Bool, Tri::N, b""),
         (b"MOD", Kind::Tristate, Tri::M, b""),
@@ -329,68 +477,138 @@ fn symbols() -> &'static [(&'static [u8], Kind, Tri, &'static [u8])] {
         (b"BARE", Kind::Hex, Tri::N, b"a"),
         (b"SIXTEEN", Kind::Hex, Tri::N, b"10"),
         (b"TOP", Kind::Hex, Tri::N, b"0xffffffffffffffff"),
-        (b"0", Kind::Undefined, Tri::N, b"0"),
-        (b"1", Kind::Undefined, Tri::N, b"1"),
-        (b"2", Kind::Undefined, Tri::N, b"2"),
-        (b"9", Kind::Undefined, Tri::N, b"9"),
-        (b"10", Kind::Undefined, Tri::N, b"10"),
-        (b"0x0A", Kind::Undefined, Tri::N, b"0x0A"),
-        (b"0Xa", Kind::Undefined, Tri::N, b"0Xa"),
-        (b"0x", Kind::Undefined, Tri::N, b"0x"),
-        (b"a", Kind::Undefined, Tri::N, b"a"),
-        (b"U", Kind::Undefined, Tri::N, b"U"),
-        (
-            b"9223372036854775807",
-            Kind::Undefined,
-            Tri::N,
-            b"9223372036854775807",
-        ),
-        (
-            b"10000000000000000000",
-            Kind::Undefined,
-            Tri::N,
-            b"10000000000000000000",
-        ),
-        (
-            b"0xffffffffffffffff",
-            Kind::Undefined,
-            Tri::N,
-            b"0xffffffffffffffff",
-        ),
-        (
-            b"0x10000000000000000",
-            Kind::Undefined,
-            Tri::N,
-            b"0x10000000000000000",
-        ),
     ];
     &ROWS
 }
 
-// The value of the line, if all of it is an expression.
-fn value_of(rt: &HostRuntime, line: &[u8]) -> Result<Option<Tri>, Fail>
-    requires { length line.now ≤ 8191 }
-{
-    let mut names = Names::new(rt.alloc());
-    let mut table = Table {
-        kinds: Vec::new(rt.alloc()),
-        tris: Vec::new(rt.alloc()),
-        texts: Vec::new(rt.alloc()),
-    };
-    for (name, kind, tri, text) in symbols() {
+// The words without a type, each worth its own name. Their numbers follow those of the symbols.
+fn words() -> &'static [&'static [u8]] {
+    static ROWS: [&'static [u8]; 14] = [
+        b"0",
+        b"1",
+        b"2",
+        b"9",
+        b"10",
+        b"0x0A",
+        b"0Xa",
+        b"0x",
+        b"a",
+        b"U",
+        b"9223372036854775807",
+        b"10000000000000000000",
+        b"0xffffffffffffffff",
+        b"0x10000000000000000",
+    ];
+    &ROWS
+}
+
+fn name_symbols(names: &mut Names) -> Result<(), Fail> {
+    for (name, _, _, _) in symbols() {
         names.id(name)?;
-        table.kinds.push(*kind)?;
-        table.tris.push(*tri)?;
-        table.texts.push(Vec::from_slice(rt.alloc(), text)?)?;
     }
-    let mut tokens = Vec::new(rt.alloc());
-    lex(line, &mut tokens)?;
-    let (expr, end) = parse(rt.alloc(), &tokens, 0, None, &mut names)?;
+    for word in words() {
+        names.id(word)?;
+    }
+    Ok(())
+}
+
+fn push_text(alloc: Global, text: &[u8], texts: &mut Vec<Vec<u8>>) -> Result<(), Fail> {
+    let owned = Vec::from_slice(alloc, text)?;
+    texts.push(owned)?;
+    Ok(())
+}
+
+fn push_symbol(
+    alloc: Global,
+    kind: Kind,
+    tri: Tri,
+    text: &[u8],
+    table: &mut Table,
+) -> Result<(), Fail> {
+    table.kinds.push(kind)?;
+    table.tris.push(tri)?;
+    push_text(alloc, text, &mut table.texts)
+}
+
+// What is known of the symbols goes into an empty table.
+fn fill(alloc: Global, table: &mut Table) -> Result<(), Fail> {
+    for (_, kind, tri, text) in symbols() {
+        push_symbol(alloc, *kind, *tri, text, table)?;
+    }
+    for word in words() {
+        push_symbol(alloc, Kind::Undefined, Tri::N, word, table)?;
+    }
+    Ok(())
+}
+
+fn value_of_expression(expr: &Expr, table: &Table) -> Tri {
+    eval_depends_on_symbols(expr, table, table);
+    eval(expr, table)
+}
+
+// The value of the tokens under the table, if all of them are an expression.
+fn value_of_tokens(
+    alloc: Global,
+    tokens: &[Token],
+    names: &mut Names,
+    table: &Table,
+) -> Result<Option<Tri>, Fail> {
+    let (expr, end) = parse(alloc, tokens, 0, None, names)?;
+    let value = value_of_expression(&expr, table);
+    drop(expr);
     if end < tokens.len() {
         return Ok(None);
     }
-    eval_depends_on_symbols(&expr, &table, &table);
-    Ok(Some(eval(&expr, &table)))
+    Ok(Some(value))
+}
+
+fn value_of_line(
+    alloc: Global,
+    line: &[u8],
+    names: &mut Names,
+    table: &Table,
+) -> Result<Option<Tri>, Fail>
+    requires { length line.now ≤ 8191 }
+{
+    let mut tokens = Vec::new(alloc);
+    lex(line, &mut tokens)?;
+    value_of_tokens(alloc, &tokens, names, table)
+}
+
+fn value_in_table(alloc: Global, line: &[u8], table: &Table) -> Result<Option<Tri>, Fail>
+    requires { length line.now ≤ 8191 }
+{
+    let mut names = Names::new(alloc);
+    let value = match name_symbols(&mut names) {
+        Ok(()) => value_of_line(alloc, line, &mut names, table),
+        Err(fault) => Err(fault),
+    };
+    drop(names);
+    value
+}
+
+// The value of the line, if all of it is an expression.
+fn value_of(alloc: Global, line: &[u8]) -> Result<Option<Tri>, Fail>
+    requires { length line.now ≤ 8191 }
+{
+    let mut table = Table {
+        kinds: Vec::new(alloc),
+        tris: Vec::new(alloc),
+        texts: Vec::new(alloc),
+    };
+    let value = match fill(alloc, &mut table) {
+        Ok(()) => value_in_table(alloc, line, &table),
+        Err(fault) => Err(fault),
+    };
+    drop(table);
+    value
+}
+
+fn is_worth(rt: &impl Abort, alloc: Global, line: &[u8], want: Tri) -> Result<(), Fail> {
+    assert!(rt; line.len() <= 8191);
+    let value = value_of(alloc, line)?;
+    is_value(rt, value, Some(want));
+    Ok(())
 }
 
 fn truths() -> &'static [(&'static [u8], Tri)] {
@@ -424,16 +642,14 @@ fn truths() -> &'static [(&'static [u8], Tri)] {
 #[test]
 fn truth_values(rt: HostRuntime) -> Result<(), Fail> {
     for (line, want) in truths() {
-        assert!(rt; line.len() <= 8191);
-        assert_eq!(rt; value_of(&rt, line)?, Some(*want));
+        is_worth(&rt, rt.alloc(), line, *want)?;
     }
     Ok(())
 }
 
-// Relations that hold. Each is also tried with a `!` in front.
-fn hold() -> &'static [&'static [u8]] {
-    static ROWS: [&'static [u8]; 75] = [
-        // truth values as 0, 1, 2
+// Relations that hold, each also tried with a `!` in front: truth values as 0, 1, 2.
+fn truth_relations() -> &'static [&'static [u8]] {
+    static ROWS: [&'static [u8]; 12] = [
         b"YES = y",
         b"NO != y",
         b"MOD = m",
@@ -446,7 +662,13 @@ fn hold() -> &'static [&'static [u8]] {
         b"n < m",
         b"\"m\" = 1",
         b"'y' > \"m\"",
-        // two string symbols by bytes
+    ];
+    &ROWS
+}
+
+// Two string symbols by bytes.
+fn string_relations() -> &'static [&'static [u8]] {
+    static ROWS: [&'static [u8]; 8] = [
         b"ABC = ABC",
         b"OCT != TEN",
         b"OCT < TEN",
@@ -455,7 +677,13 @@ fn hold() -> &'static [&'static [u8]] {
         b"TEN < ABC",
         b"VOID < OCT",
         b"VOID = VOID",
-        // a string symbol and another as numbers
+    ];
+    &ROWS
+}
+
+// A string symbol and another as numbers.
+fn numeral_relations() -> &'static [&'static [u8]] {
+    static ROWS: [&'static [u8]; 7] = [
         b"TEN = \"010\"",
         b"OCT = 10",
         b"OCT = I",
@@ -463,7 +691,13 @@ fn hold() -> &'static [&'static [u8]] {
         b"XTEN = H",
         b"TEN > 9",
         b"TEN > \"9\"",
-        // else as texts
+    ];
+    &ROWS
+}
+
+// Else as texts.
+fn text_relations() -> &'static [&'static [u8]] {
+    static ROWS: [&'static [u8]; 9] = [
         b"ABC = \"abc\"",
         b"ABC < 'abd'",
         b"VOID = \"\"",
@@ -473,7 +707,13 @@ fn hold() -> &'static [&'static [u8]] {
         b"YES = LETTER",
         b"MOD < LETTER",
         b"NO > ABC",
-        // int
+    ];
+    &ROWS
+}
+
+// Int.
+fn int_relations() -> &'static [&'static [u8]] {
+    static ROWS: [&'static [u8]; 23] = [
         b"I = 10",
         b"ODD != 10",
         b"I <= 10",
@@ -497,7 +737,13 @@ fn hold() -> &'static [&'static [u8]] {
         b"LOW < \"-9223372036854775809\"",
         b"HIGH = 9223372036854775807",
         b"HIGH > 10000000000000000000",
-        // hex
+    ];
+    &ROWS
+}
+
+// Hex.
+fn hex_relations() -> &'static [&'static [u8]] {
+    static ROWS: [&'static [u8]; 13] = [
         b"H = 0Xa",
         b"H = I",
         b"H > 9",
@@ -511,37 +757,100 @@ fn hold() -> &'static [&'static [u8]] {
         b"0x0A = 10",
         b"TOP = 0xffffffffffffffff",
         b"TOP > 0x10000000000000000",
-        // no types
-        b"U = \"U\"",
-        b"U < n",
-        b"\"\" < 0",
     ];
     &ROWS
 }
 
-#[test]
-fn relations_hold(rt: HostRuntime) -> Result<(), Fail> {
-    for line in hold() {
-        assert!(rt; line.len() <= 8000);
-        assert_eq!(rt; value_of(&rt, line)?, Some(Tri::Y));
-        let negated = opened(&rt, 1, b"!", line, b"")?;
-        assert!(rt; negated.len() <= 8191);
-        assert_eq!(rt; value_of(&rt, &negated)?, Some(Tri::N));
+// No types.
+fn untyped_relations() -> &'static [&'static [u8]] {
+    static ROWS: [&'static [u8]; 3] = [b"U = \"U\"", b"U < n", b"\"\" < 0"];
+    &ROWS
+}
+
+fn holds(rt: &impl Abort, alloc: Global, line: &[u8]) -> Result<(), Fail> {
+    is_worth(rt, alloc, line, Tri::Y)?;
+    let negated = opened(alloc, 1, b"!", line, b"")?;
+    is_worth(rt, alloc, &negated, Tri::N)
+}
+
+fn each_holds(rt: &impl Abort, alloc: Global, lines: &[&[u8]]) -> Result<(), Fail> {
+    for line in lines {
+        holds(rt, alloc, line)?;
     }
     Ok(())
 }
 
+fn relations() -> [&'static [&'static [u8]]; 7] {
+    [
+        truth_relations(),
+        string_relations(),
+        numeral_relations(),
+        text_relations(),
+        int_relations(),
+        hex_relations(),
+        untyped_relations(),
+    ]
+}
+
+#[test]
+fn relations_hold(rt: HostRuntime) -> Result<(), Fail> {
+    for lines in relations() {
+        each_holds(&rt, rt.alloc(), lines)?;
+    }
+    Ok(())
+}
+
+// Adds the symbols that the tokens name to those that are there.
+fn named_by_tokens(
+    alloc: Global,
+    tokens: &[Token],
+    names: &mut Names,
+    ids: &mut Vec<SymId>,
+) -> Result<(), Fail> {
+    let (expr, _) = parse(alloc, tokens, 0, Some(SymId(7)), names)?;
+    let outcome = names_into(&expr, ids);
+    drop(expr);
+    outcome?;
+    Ok(())
+}
+
+fn named_into(
+    alloc: Global,
+    line: &[u8],
+    names: &mut Names,
+    ids: &mut Vec<SymId>,
+) -> Result<(), Fail>
+    requires { length line.now ≤ 8191 }
+{
+    let mut tokens = Vec::new(alloc);
+    lex(line, &mut tokens)?;
+    named_by_tokens(alloc, &tokens, names, ids)
+}
+
+// The number 9, and then the symbols that the line names.
+fn named_after_9(alloc: Global, line: &[u8], names: &mut Names) -> Result<Vec<SymId>, Fail>
+    requires { length line.now ≤ 8191 }
+{
+    let mut ids = Vec::new(alloc);
+    ids.push(SymId(9))?;
+    named_into(alloc, line, names, &mut ids)?;
+    Ok(ids)
+}
+
+fn named_in_new_names(alloc: Global, line: &[u8]) -> Result<Vec<SymId>, Fail>
+    requires { length line.now ≤ 8191 }
+{
+    let mut names = Names::new(alloc);
+    let ids = named_after_9(alloc, line, &mut names);
+    drop(names);
+    ids
+}
+
 #[test]
 fn symbols_are_named_from_left_to_right(rt: HostRuntime) -> Result<(), Fail> {
-    let mut names = Names::new(rt.alloc());
     let line = b"C && !(A = C) || B <= \"B\" || m";
-    let mut tokens = Vec::new(rt.alloc());
-    lex(line, &mut tokens)?;
-    let (expr, _) = parse(rt.alloc(), &tokens, 0, Some(SymId(7)), &mut names)?;
-    let mut ids = Vec::new(rt.alloc());
-    ids.push(SymId(9))?;
-    names_into(&expr, &mut ids)?;
+    let ids = named_in_new_names(rt.alloc(), line)?;
     let wanted = [SymId(9), SymId(0), SymId(1), SymId(0), SymId(2), SymId(7)];
-    assert_eq!(rt; ids.as_slice(), wanted.as_slice());
+    are_symbols(&rt, &ids, &wanted);
     Ok(())
 }

@@ -265,6 +265,10 @@ fn pictures() -> &'static [(&'static str, &'static str, &'static str)] {
     &ROWS
 }
 
+fn text_is(rt: &impl Abort, root: &str, text: &str, want: &str) {
+    assert!(rt; text == want, "{root}: {text}");
+}
+
 fn picture_is(
     rt: &impl Abort,
     alloc: Global,
@@ -276,7 +280,7 @@ fn picture_is(
     let mut text = String::new(alloc);
     let done = picture_of(&mut text, &built);
     drop(built);
-    assert_eq!(rt; text.as_str(), want, "{root}");
+    text_is(rt, root, &text, want);
     drop(text);
     done?;
     Ok(())
@@ -361,6 +365,10 @@ fn warnings_of(out: &mut Vec<u8>, built: &Result<Tree, Refusal>) -> Result<(), A
     Ok(())
 }
 
+fn warnings_match(rt: &impl Abort, root: &str, said: &[u8], want: &str) {
+    assert!(rt; said == want.as_bytes(), "{root}");
+}
+
 fn warnings_are(
     rt: &impl Abort,
     alloc: Global,
@@ -372,7 +380,7 @@ fn warnings_are(
     let mut said = Vec::new(alloc);
     let done = warnings_of(&mut said, &built);
     drop(built);
-    assert!(rt; said.as_slice() == want.as_bytes(), "{root}");
+    warnings_match(rt, root, &said, want);
     drop(said);
     done?;
     Ok(())
@@ -550,14 +558,14 @@ fn place_is(rt: &impl Abort, root: &str, refusal: &Refusal, file: &str, line: u3
     match &refusal.place {
         Some((name, number)) => {
             assert!(rt; name.as_slice() == file.as_bytes(), "{root}");
-            assert_eq!(rt; *number, line, "{root}");
+            assert!(rt; *number == line, "{root}");
         }
         None => assert!(rt; false, "no place: {root}"),
     }
 }
 
 fn refusal_is(rt: &impl Abort, root: &str, refusal: &Refusal, code: Code, detail: &str) {
-    assert_eq!(rt; refusal.code, code, "{root}");
+    assert!(rt; refusal.code == code, "{root}");
     assert!(rt; refusal.detail.as_slice() == detail.as_bytes(), "{root}");
 }
 
@@ -596,8 +604,8 @@ fn names_are(rt: &impl Abort, tree: &Tree) {
 fn named_tree_is(rt: &impl Abort, built: &Result<Tree, Refusal>) {
     match built {
         Ok(tree) => {
-            assert_eq!(rt; tree.symbol_count(), 2);
-            assert_eq!(rt; tree.name_count(), 3);
+            assert!(rt; tree.symbol_count() == 2);
+            assert!(rt; tree.name_count() == 3);
             names_are(rt, tree);
             assert!(rt; tree.modules_symbol() == Some(SymId(1)));
             assert!(rt; tree.main_menu() == b"last".as_slice());
@@ -609,7 +617,7 @@ fn named_tree_is(rt: &impl Abort, built: &Result<Tree, Refusal>) {
 fn empty_tree_is(rt: &impl Abort, built: &Result<Tree, Refusal>) {
     match built {
         Ok(tree) => {
-            assert_eq!(rt; tree.symbol_count(), 0);
+            assert!(rt; tree.symbol_count() == 0);
             assert!(rt; tree.modules_symbol() == None);
             assert!(rt; tree.main_menu() == b"Main menu".as_slice());
         }
@@ -633,8 +641,8 @@ fn names_are_numbered_by_definition(rt: HostRuntime) -> Result<(), Fail> {
 fn built_tree_is(rt: &impl Abort, built: &Result<Tree, Refusal>) {
     match built {
         Ok(tree) => {
-            assert_eq!(rt; tree.symbol_count(), 2);
-            assert_eq!(rt; tree.entries().len(), 4);
+            assert!(rt; tree.symbol_count() == 2);
+            assert!(rt; tree.entries().len() == 4);
             assert!(rt; tree.name(tree.symbol(1)) == b"B".as_slice());
             assert!(rt; tree.modules_symbol() == None);
         }
