@@ -2,10 +2,21 @@
 use kc_conf::{FileMap, Status};
 use kc_memory::{Asked, MemoryInput, MemoryOutputs, PLAIN, run_once};
 use std::alloc::Global;
+use std::process::Abort;
 use std::test::Fail;
 
 /// The room of a run's outputs.
 pub(crate) const ROOM: usize = 4000;
+
+/// The text is this one.
+pub(crate) fn is_text(rt: &impl Abort, text: &[u8], want: &[u8], name: &str) {
+    assert_eq!(rt; text, want, "{}", name);
+}
+
+/// This holds.
+pub(crate) fn is_so(rt: &impl Abort, holds: bool, name: &str) {
+    assert!(rt; holds, "{}", name);
+}
 
 /// A run with this header and this minimal file, where they are wanted. The answer is its status and how many reads were made.
 pub(crate) fn run_with<'x>(

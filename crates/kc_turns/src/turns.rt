@@ -1,5 +1,5 @@
 //! Each read, each begin and each write fails in turn.
-use crate::runs::{ROOM, run_whole};
+use crate::runs::{ROOM, is_so, is_text, run_whole};
 use crate::trees::{Turn, turns};
 use kc_conf::{FileMap, Status, Which};
 use kc_memory::{MemoryInput, MemoryOutputs, Slot, config_text, files, header_text};
@@ -7,7 +7,28 @@ use std::alloc::Global;
 use std::process::Abort;
 use std::test::Fail;
 
-// The outputs of the run in which no device fails, which are those that the turn says, and how many reads it made.
+// The run in which no device fails; its outputs are those that the turn says. The answer is how many reads it made.
+fn run_faultless(
+    rt: &impl Abort,
+    alloc: Global,
+    files: &FileMap,
+    turn: &Turn,
+    whole: &mut MemoryOutputs,
+) -> Result<u64, Fail> {
+    let input = MemoryInput::new(turn.settings, 6, 6);
+    let (status, reads) = run_whole(alloc, files, input, whole)?;
+    is_so(rt, status == Status::Done, turn.name);
+    let config = config_text(alloc, turn.title, turn.config)?;
+    is_text(rt, &whole.config.bytes, &config, turn.name);
+    drop(config);
+    let header = header_text(alloc, turn.title, turn.header)?;
+    is_text(rt, &whole.header.bytes, &header, turn.name);
+    is_text(rt, &whole.minimal.bytes, turn.minimal, turn.name);
+    is_text(rt, &whole.notes.bytes, turn.notes, turn.name);
+    Ok(reads)
+}
+
+// The outputs of the run in which no device fails, and how many reads it made.
 fn faultless(
     rt: &impl Abort,
     alloc: Global,
@@ -15,21 +36,13 @@ fn faultless(
     turn: &Turn,
 ) -> Result<(MemoryOutputs, u64), Fail> {
     let mut whole = MemoryOutputs::new(alloc, ROOM)?;
-    let input = MemoryInput::new(turn.settings, 6, 6);
-    let (status, reads) = run_whole(alloc, files, input, &mut whole)?;
-    assert_eq!(rt; status, Status::Done, "{}", turn.name);
-    let config = config_text(alloc, turn.title, turn.config)?;
-    assert_eq!(rt; whole.config.bytes, config, "{}", turn.name);
-    let header = header_text(alloc, turn.title, turn.header)?;
-    assert_eq!(rt; whole.header.bytes, header, "{}", turn.name);
-    assert_eq!(rt;
-        whole.minimal.bytes.as_slice(),
-        turn.minimal,
-        "{}",
-        turn.name
-    );
-    assert_eq!(rt; whole.notes.bytes.as_slice(), turn.notes, "{}", turn.name);
-    Ok((whole, reads))
+    match run_faultless(rt, alloc, files, turn, &mut whole) {
+        Ok(reads) => Ok((whole, reads)),
+        Err(fail) => {
+            drop(whole);
+            Err(fail)
+        }
+    }
 }
 
 // The output was never called.
@@ -48,6 +61,15 @@ fn ends_with_line(rt: &impl Abort, notes: &[u8], whole: &[u8], line: &[u8], name
     assert!(rt; whole.starts_with(&notes[..before]), "{}", name);
 }
 
+// The notes end with the line of a read that failed, and no other output was called.
+fn has_begun_nothing(rt: &impl Abort, struck: &MemoryOutputs, turn: &Turn) {
+    let line = b"error E18: cannot read .config\n";
+    ends_with_line(rt, &struck.notes.bytes, turn.notes, line, turn.name);
+    is_untouched(rt, &struck.config, turn.name);
+    is_untouched(rt, &struck.header, turn.name);
+    is_untouched(rt, &struck.minimal, turn.name);
+}
+
 // The run whose read of this number fails.
 fn read_fails(
     rt: &impl Abort,
@@ -59,14 +81,10 @@ fn read_fails(
     let mut input = MemoryInput::new(turn.settings, 6, 6);
     input.fail_at = fail_at;
     let mut struck = MemoryOutputs::new(alloc, ROOM)?;
-    let (status, calls) = run_whole(alloc, files, input, &mut struck)?;
-    assert_eq!(rt; status, Status::Faulted, "{}", turn.name);
-    assert_eq!(rt; calls, fail_at, "{}", turn.name);
-    let line = b"error E18: cannot read .config\n";
-    ends_with_line(rt, &struck.notes.bytes, turn.notes, line, turn.name);
-    is_untouched(rt, &struck.config, turn.name);
-    is_untouched(rt, &struck.header, turn.name);
-    is_untouched(rt, &struck.minimal, turn.name);
+    let ended = run_whole(alloc, files, input, &mut struck);
+    has_begun_nothing(rt, &struck, turn);
+    drop(struck);
+    assert_eq!(rt; ended?, (Status::Faulted, fail_at), "{}", turn.name);
     Ok(())
 }
 
@@ -132,11 +150,11 @@ fn left_behind(
     let left = struck.slot(file);
     let text = whole.slot(file).bytes.as_slice();
     if rank(file) < rank(which) {
-        assert_eq!(rt; left.bytes.as_slice(), text, "{}", name);
-        assert!(rt; left.is_begun, "{}", name);
+        is_text(rt, &left.bytes, text, name);
+        is_so(rt, left.is_begun, name);
     } else if rank(file) == rank(which) {
-        assert!(rt; text.starts_with(&left.bytes), "{}", name);
-        assert_eq!(rt; left.is_begun, left.calls > 1, "{}", name);
+        is_so(rt, text.starts_with(&left.bytes), name);
+        is_so(rt, left.is_begun == (left.calls > 1), name);
     } else {
         is_untouched(rt, left, name);
     }
@@ -152,13 +170,29 @@ fn notes_left(
 ) -> Result<(), Fail> {
     let notes = struck.notes.bytes.as_slice();
     if which == Which::Notes {
-        assert!(rt; turn.notes.starts_with(notes), "{}", turn.name);
+        is_so(rt, turn.notes.starts_with(notes), turn.name);
         return Ok(());
     }
     let mut want = Vec::from_slice(alloc, turn.notes)?;
     want.extend_from_slice(line_of(which))?;
-    assert_eq!(rt; notes, want.as_slice(), "{}", turn.name);
+    is_text(rt, notes, &want, turn.name);
     Ok(())
+}
+
+// The outputs after a failure of this call of the output `which`.
+fn is_struck(
+    rt: &impl Abort,
+    struck: &MemoryOutputs,
+    whole: &MemoryOutputs,
+    which: Which,
+    fail_at: u64,
+    name: &str,
+) {
+    let slot = struck.slot(which);
+    is_so(rt, slot.calls == fail_at && slot.failures == 1, name);
+    left_behind(rt, struck, whole, Which::Config, which, name);
+    left_behind(rt, struck, whole, Which::Header, which, name);
+    left_behind(rt, struck, whole, Which::Minimal, which, name);
 }
 
 // The run in which this call of the output `which` fails.
@@ -174,14 +208,20 @@ fn call_fails(
     let mut struck = MemoryOutputs::new(alloc, ROOM)?;
     strike(&mut struck, which, fail_at);
     let input = MemoryInput::new(turn.settings, 6, 6);
-    let (status, _reads) = run_whole(alloc, files, input, &mut struck)?;
-    assert_eq!(rt; status, Status::Faulted, "{}", turn.name);
-    assert_eq!(rt; struck.slot(which).calls, fail_at, "{}", turn.name);
-    assert_eq!(rt; struck.slot(which).failures, 1, "{}", turn.name);
-    left_behind(rt, &struck, whole, Which::Config, which, turn.name);
-    left_behind(rt, &struck, whole, Which::Header, which, turn.name);
-    left_behind(rt, &struck, whole, Which::Minimal, which, turn.name);
-    notes_left(rt, alloc, &struck, turn, which)
+    let ended = run_whole(alloc, files, input, &mut struck);
+    match ended {
+        Ok((status, _reads)) => {
+            is_so(rt, status == Status::Faulted, turn.name);
+            is_struck(rt, &struck, whole, which, fail_at, turn.name);
+            let told = notes_left(rt, alloc, &struck, turn, which);
+            drop(struck);
+            told
+        }
+        Err(fail) => {
+            drop(struck);
+            Err(fail)
+        }
+    }
 }
 
 // Each call of the output `which` fails in turn. The answer is how many there are.
