@@ -1,8 +1,15 @@
 # Thin: every target is one or two commands of the kit.
-.PHONY: build example test wrong bench real clean
+.PHONY: build install example test wrong bench real clean
+
+PREFIX ?= /usr/local
 
 build:
 	cd crates/kconf && rt run -- --help > /dev/null
+
+# Puts the program into $(PREFIX)/bin; DESTDIR stands before it, for packages.
+install: build
+	install -d $(DESTDIR)$(PREFIX)/bin
+	install -m 755 crates/kconf/out/kconf $(DESTDIR)$(PREFIX)/bin/kconf
 
 # The main job on the example: its full .config on standard output.
 example: build
