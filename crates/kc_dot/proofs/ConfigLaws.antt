@@ -28,7 +28,7 @@ use Rattle.kc_dot.specs.Prefixes.{is_prefix}
 use Rattle.kc_dot.specs.Reading.{Assignment, Read, choice_of, is_yes, places_given, reading, lines_from}
 use Rattle.kc_dot.specs.Plain.{HasPlainTitles}
 use Rattle.kc_dot.specs.Reread.{told_by, read_alone}
-use Rattle.kc_dot.specs.TreeTexts.{HasNames}
+use Rattle.kc_dot.specs.HasNames.{HasNames}
 use Rattle.kc_dot.specs.SymbolLines.{config_line}
 use Rattle.kc_dot.specs.Texts.{config_text, symbol_config}
 use Rattle.kc_dot.specs.Told.{Told}

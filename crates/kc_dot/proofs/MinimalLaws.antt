@@ -18,7 +18,7 @@ use Rattle.kc_values.proofs.FixedLines.{slot_cases, named, Sel, differs-member}
 use Rattle.kc_dot.specs.Prefixes.{is_prefix}
 use Rattle.kc_dot.specs.Reading.{Read, lines_from, reading, places_given}
 use Rattle.kc_dot.specs.Reread.{told_by, kept_lines, read_alone, IsOneSolution, HasOtherSolution}
-use Rattle.kc_dot.specs.TreeTexts.{HasNames}
+use Rattle.kc_dot.specs.HasNames.{HasNames}
 use Rattle.kc_dot.specs.Texts.{minimal_text}
 use Rattle.kc_dot.proofs.GivesLemmas.{Gives, gives_whole}
 use Rattle.kc_dot.proofs.MinimalTextLemmas.{keeps_differing, tells_differing, stays, stays_member, all_given, minimal_gives, left_at}

@@ -29,7 +29,7 @@ use Rattle.kc_dot.specs.Effects.{name_of}
 use Rattle.kc_dot.specs.Prefixes.{is_prefix}
 use Rattle.kc_dot.specs.Reading.{Assignment, choice_of, is_yes, places_given}
 use Rattle.kc_dot.specs.Reread.{told_by, kept_lines}
-use Rattle.kc_dot.specs.TreeTexts.{HasNames}
+use Rattle.kc_dot.specs.HasNames.{HasNames}
 use Rattle.kc_dot.specs.Texts.{symbols_of, symbol_config, minimal_if}
 use Rattle.kc_dot.specs.SymbolLines.{config_line}
 use Rattle.kc_dot.specs.Told.{Told}

@@ -12,7 +12,7 @@ use Rattle.kc_dot.specs.Prefixes.{is_prefix}
 use Rattle.kc_dot.specs.Reading.{Read}
 use Rattle.kc_dot.specs.Plain.{HasPlainTitles}
 use Rattle.kc_dot.specs.Reread.{told_by, read_alone, IsOneSolution}
-use Rattle.kc_dot.specs.TreeTexts.{HasNames}
+use Rattle.kc_dot.specs.HasNames.{HasNames}
 use Rattle.kc_dot.specs.Texts.{config_text}
 use Rattle.kc_dot.proofs.ConfigLaws.{Reread, reread_at, config_read}
 use Rattle.kc_dot.proofs.SymbolLineLemmas.{FitsLine}

@@ -10,7 +10,7 @@ use Rattle.kc_values.specs.Laws.{IsAccepted}
 use Rattle.kc_values.specs.Solution.{equations, symbol_count}
 use Rattle.kc_dot.specs.Effects.{name_of}
 use Rattle.kc_dot.specs.Laws.{IsSolutionOf}
-use Rattle.kc_dot.specs.TreeTexts.{HasNames}
+use Rattle.kc_dot.specs.HasNames.{HasNames}
 
 pub solution_of : (s : Solution) (tree : TreeFacts) → s.tree ≡ tree → IsWellFormed tree → IsAccepted s.tree → IsSolution s → ArePlaces tree s.places → IsSolutionOf tree s.places (value_of s)
 solution_of s tree same formed accepted is held = record {

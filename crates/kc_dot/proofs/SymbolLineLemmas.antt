@@ -32,7 +32,7 @@ use Rattle.kc_dot.specs.LineValue.{line_value, number_value}
 use Rattle.kc_dot.specs.Prefixes.{is_prefix, is_name_byte}
 use Rattle.kc_dot.specs.Reading.{Assignment, assignment_of, is_lf}
 use Rattle.kc_dot.specs.Plain.{is_end_byte, EndsPlainly}
-use Rattle.kc_dot.specs.TreeTexts.{HasNames}
+use Rattle.kc_dot.specs.HasNames.{HasNames}
 use Rattle.kc_dot.specs.RoundTrip.{IsName, IsShortText}
 use Rattle.kc_dot.specs.SymbolLines.{config_line}
 use Rattle.kc_dot.proofs.GivesLemmas.{Gives, gives_line, gives_nothing}

@@ -3,6 +3,7 @@ pub mod ConfigLine
 pub mod EffectView
 pub mod Effects
 pub mod Feeding
+pub mod HasNames
 pub mod Laws
 pub mod LineSteps
 pub mod LineValue
@@ -20,6 +21,5 @@ pub mod Streams
 pub mod SymbolLines
 pub mod Texts
 pub mod Told
-pub mod TreeTexts
 pub mod ValueSeen
 pub mod Writing

@@ -1,7 +1,8 @@
 //! A long chain of defaults.
-use crate::runs::{Long, is_done, run_long, settles};
-use kc_memory::files;
+use crate::runs::{LARGE, Long, is_done, run_long, settles};
+use kc_memory::{MemoryOutputs, files};
 use std::alloc::Global;
+use std::process::Abort;
 use std::test::Fail;
 
 // Symbols of which each takes the value of the next one; the last is y.
@@ -27,11 +28,17 @@ fn chain_text(alloc: Global, count: u32) -> Result<Vec<u8>, Fail> {
     Ok(text)
 }
 
-#[test]
-fn a_chain_of_20000_defaults_is_no_loop(rt: HostRuntime) -> Result<(), Fail> {
-    let tree = chain(rt.alloc(), 19999)?;
-    let text = chain_text(rt.alloc(), 20000)?;
-    let files = files(rt.alloc(), "Kconfig", &tree, &[])?;
+// The run begins the minimal file, and writes nothing to it.
+fn has_no_minimal_line(rt: &impl Abort, alloc: Global, long: &Long<'_, '_>) -> Result<(), Fail> {
+    let mut outputs = MemoryOutputs::new(alloc, long.room)?;
+    run_long(alloc, long, LARGE, &mut outputs)?;
+    assert!(rt; outputs.minimal.is_begun && outputs.minimal.bytes.is_empty());
+    Ok(())
+}
+
+// The run writes this text, and the same again.
+fn is_chain(rt: &impl Abort, alloc: Global, tree: &[u8], text: &[u8]) -> Result<(), Fail> {
+    let files = files(alloc, "Kconfig", tree, &[])?;
     let long = Long {
         files: &files,
         root: "Kconfig",
@@ -39,8 +46,14 @@ fn a_chain_of_20000_defaults_is_no_loop(rt: HostRuntime) -> Result<(), Fail> {
         minimal: Some("min.config"),
         room: 500_000,
     };
-    let ended = run_long(rt.alloc(), &long)?;
-    is_done(&rt, rt.alloc(), &ended, &text, b"")?;
-    assert!(rt; ended.outputs.minimal.is_begun && ended.outputs.minimal.bytes.is_empty());
-    settles(&rt, rt.alloc(), &long, &ended)
+    is_done(rt, alloc, &long, LARGE, text, b"")?;
+    has_no_minimal_line(rt, alloc, &long)?;
+    settles(rt, alloc, &long)
+}
+
+#[test]
+fn a_chain_of_20000_defaults_is_no_loop(rt: HostRuntime) -> Result<(), Fail> {
+    let tree = chain(rt.alloc(), 19999)?;
+    let text = chain_text(rt.alloc(), 20000)?;
+    is_chain(&rt, rt.alloc(), &tree, &text)
 }

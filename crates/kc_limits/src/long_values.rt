@@ -1,7 +1,7 @@
 //! Values of the `.config` at their greatest length.
-use crate::runs::{Ended, Long, is_done, run_long, settles};
-use kc_conf::{FileMap, Status};
-use kc_memory::files;
+use crate::runs::{LARGE, Long, is_done, run_long, settles};
+use kc_conf::FileMap;
+use kc_memory::{MemoryOutputs, files};
 use std::alloc::Global;
 use std::process::Abort;
 use std::test::Fail;
@@ -15,7 +15,7 @@ fn string_line(alloc: Global, length: usize) -> Result<Vec<u8>, Fail> {
     Ok(line)
 }
 
-fn over<'a>(files: &'a FileMap, settings: &'a [u8], minimal: Option<&'a str>) -> Long<'a> {
+fn over<'a, 's>(files: &'a FileMap, settings: &'s [u8], minimal: Option<&'a str>) -> Long<'a, 's> {
     Long {
         files,
         root: "Kconfig",
@@ -25,42 +25,58 @@ fn over<'a>(files: &'a FileMap, settings: &'a [u8], minimal: Option<&'a str>) ->
     }
 }
 
-// The minimal file gives the same `.config`, and without its one line another.
-fn restores<'x>(
+const TREE: &[u8] = b"config S\n\tstring \"s\"\n";
+
+const EMPTY: &[u8] = b"CONFIG_S=\"\"\n";
+
+// The minimal file is this line; it gives the same `.config`, and without it there is another.
+fn is_minimal(
     rt: &impl Abort,
     alloc: Global,
-    files: &'x FileMap,
-    ended: &'x Ended,
+    files: &FileMap,
+    minimal: &[u8],
+    line: &[u8],
 ) -> Result<(), Fail> {
-    let minimal = over(files, ended.outputs.minimal.bytes.as_slice(), None);
-    let again = run_long(alloc, &minimal)?;
-    assert_eq!(rt; again.status, Status::Done);
-    assert!(rt; again.outputs.config.bytes == ended.outputs.config.bytes);
-    let other = run_long(alloc, &over(files, b"", None))?;
-    assert_eq!(rt; other.status, Status::Done);
-    assert!(rt; other.outputs.config.bytes != ended.outputs.config.bytes);
+    assert!(rt; minimal == line);
+    is_done(rt, alloc, &over(files, minimal, None), LARGE, line, b"")?;
+    is_done(rt, alloc, &over(files, b"", None), LARGE, EMPTY, b"")?;
     Ok(())
+}
+
+// The minimal file of the run with this line restores it.
+fn restores(rt: &impl Abort, alloc: Global, files: &FileMap, line: &[u8]) -> Result<(), Fail> {
+    let mut outputs = MemoryOutputs::new(alloc, 70000)?;
+    let asked = over(files, line, Some("min.config"));
+    run_long(alloc, &asked, LARGE, &mut outputs)?;
+    is_minimal(rt, alloc, files, outputs.minimal.bytes.as_slice(), line)
+}
+
+// The line stays.
+fn stays(rt: &impl Abort, alloc: Global, files: &FileMap, line: &[u8]) -> Result<(), Fail> {
+    let long = over(files, line, Some("min.config"));
+    is_done(rt, alloc, &long, LARGE, line, b"")?;
+    restores(rt, alloc, files, line)?;
+    settles(rt, alloc, &long)
 }
 
 #[test]
 fn a_value_has_at_most_65000_bytes(rt: HostRuntime) -> Result<(), Fail> {
-    let files = files(rt.alloc(), "Kconfig", b"config S\n\tstring \"s\"\n", &[])?;
+    let files = files(rt.alloc(), "Kconfig", TREE, &[])?;
     let line = string_line(rt.alloc(), 64998)?;
-    let longest = over(&files, &line, Some("min.config"));
-    let ended = run_long(rt.alloc(), &longest)?;
-    is_done(&rt, rt.alloc(), &ended, &line, b"")?;
-    assert!(rt; ended.outputs.minimal.bytes == line);
-    restores(&rt, rt.alloc(), &files, &ended)?;
-    settles(&rt, rt.alloc(), &longest, &ended)
+    stays(&rt, rt.alloc(), &files, &line)
+}
+
+// The line is dropped.
+fn is_dropped(rt: &impl Abort, alloc: Global, files: &FileMap, line: &[u8]) -> Result<(), Fail> {
+    let long = over(files, line, None);
+    let notes = b".config:1: warning K8: value not allowed for S\n";
+    is_done(rt, alloc, &long, LARGE, EMPTY, notes)?;
+    settles(rt, alloc, &long)
 }
 
 #[test]
 fn a_longer_value_is_dropped(rt: HostRuntime) -> Result<(), Fail> {
-    let files = files(rt.alloc(), "Kconfig", b"config S\n\tstring \"s\"\n", &[])?;
+    let files = files(rt.alloc(), "Kconfig", TREE, &[])?;
     let line = string_line(rt.alloc(), 64999)?;
-    let dropped = over(&files, &line, None);
-    let ended = run_long(rt.alloc(), &dropped)?;
-    let notes = b".config:1: warning K8: value not allowed for S\n";
-    is_done(&rt, rt.alloc(), &ended, b"CONFIG_S=\"\"\n", notes)?;
-    settles(&rt, rt.alloc(), &dropped, &ended)
+    is_dropped(&rt, rt.alloc(), &files, &line)
 }

@@ -1,11 +1,12 @@
 //! Files of a million lines.
-use crate::runs::{Long, is_done, is_refused, run_long, settles};
+use crate::runs::{LARGE, Long, is_done, is_refused, settles};
 use kc_conf::FileMap;
 use kc_memory::files;
 use std::alloc::Global;
+use std::process::Abort;
 use std::test::Fail;
 
-fn over<'a>(files: &'a FileMap, root: &'a str) -> Long<'a> {
+fn over<'a>(files: &'a FileMap, root: &'a str) -> Long<'a, 'static> {
     Long {
         files,
         root,
@@ -23,21 +24,23 @@ fn sourced_twice(alloc: Global, count: usize) -> Result<FileMap, Fail> {
     Ok(files)
 }
 
+// The run writes no symbol, and the same again.
+fn writes_none(rt: &impl Abort, alloc: Global, long: &Long<'_, '_>) -> Result<(), Fail> {
+    is_done(rt, alloc, long, LARGE, b"", b"")?;
+    settles(rt, alloc, long)
+}
+
 #[test]
 fn the_files_may_have_a_million_lines(rt: HostRuntime) -> Result<(), Fail> {
     let files = sourced_twice(rt.alloc(), 499_999)?;
-    let most = over(&files, "Kconfig");
-    let ended = run_long(rt.alloc(), &most)?;
-    is_done(&rt, rt.alloc(), &ended, b"", b"")?;
-    settles(&rt, rt.alloc(), &most, &ended)
+    writes_none(&rt, rt.alloc(), &over(&files, "Kconfig"))
 }
 
 #[test]
 fn the_files_have_a_million_lines_at_most(rt: HostRuntime) -> Result<(), Fail> {
     let files = sourced_twice(rt.alloc(), 500_000)?;
-    let ended = run_long(rt.alloc(), &over(&files, "Kconfig"))?;
     let notes = b"Kconfig:2: error E3: more than 1000000 lines\n";
-    is_refused(&rt, &ended, notes);
+    is_refused(&rt, rt.alloc(), &over(&files, "Kconfig"), LARGE, notes)?;
     Ok(())
 }
 
@@ -57,8 +60,7 @@ fn doubled(alloc: Global) -> Result<FileMap, Fail> {
 #[test]
 fn a_file_counts_as_often_as_it_is_sourced(rt: HostRuntime) -> Result<(), Fail> {
     let files = doubled(rt.alloc())?;
-    let ended = run_long(rt.alloc(), &over(&files, "f0"))?;
     let notes = b"f18:2: error E3: more than 1000000 lines\n";
-    is_refused(&rt, &ended, notes);
+    is_refused(&rt, rt.alloc(), &over(&files, "f0"), LARGE, notes)?;
     Ok(())
 }

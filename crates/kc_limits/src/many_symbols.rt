@@ -1,7 +1,9 @@
 //! As many symbols as a tree may have.
-use crate::runs::{Long, is_done, is_refused, run_long, settles};
+use crate::runs::{LARGE, Long, is_done, is_refused, settles};
+use kc_conf::FileMap;
 use kc_memory::files;
 use std::alloc::Global;
+use std::process::Abort;
 use std::test::Fail;
 
 // The definitions of so many symbols without a type.
@@ -25,36 +27,35 @@ fn untyped_notes(alloc: Global, count: u32) -> Result<Vec<u8>, Fail> {
     Ok(notes)
 }
 
+fn over<'a>(files: &'a FileMap, room: usize) -> Long<'a, 'static> {
+    Long {
+        files,
+        root: "Kconfig",
+        settings: b"",
+        minimal: None,
+        room,
+    }
+}
+
+// The run over this tree writes no symbol, and these notes.
+fn writes_none(rt: &impl Abort, alloc: Global, tree: &[u8], notes: &[u8]) -> Result<(), Fail> {
+    let files = files(alloc, "Kconfig", tree, &[])?;
+    is_done(rt, alloc, &over(&files, 4_000_000), LARGE, b"", notes)?;
+    settles(rt, alloc, &over(&files, 4_000_000))
+}
+
 #[test]
 fn a_tree_may_have_65535_symbols(rt: HostRuntime) -> Result<(), Fail> {
     let tree = untyped(rt.alloc(), 65535)?;
     let notes = untyped_notes(rt.alloc(), 65535)?;
-    let files = files(rt.alloc(), "Kconfig", &tree, &[])?;
-    let most = Long {
-        files: &files,
-        root: "Kconfig",
-        settings: b"",
-        minimal: None,
-        room: 4_000_000,
-    };
-    let ended = run_long(rt.alloc(), &most)?;
-    is_done(&rt, rt.alloc(), &ended, b"", &notes)?;
-    settles(&rt, rt.alloc(), &most, &ended)
+    writes_none(&rt, rt.alloc(), &tree, &notes)
 }
 
 #[test]
 fn a_tree_has_65535_symbols_at_most(rt: HostRuntime) -> Result<(), Fail> {
     let tree = untyped(rt.alloc(), 65536)?;
     let files = files(rt.alloc(), "Kconfig", &tree, &[])?;
-    let over = Long {
-        files: &files,
-        root: "Kconfig",
-        settings: b"",
-        minimal: None,
-        room: 400,
-    };
-    let ended = run_long(rt.alloc(), &over)?;
     let notes = b"Kconfig:65536: error E16: more than 65535 symbols\n";
-    is_refused(&rt, &ended, notes);
+    is_refused(&rt, rt.alloc(), &over(&files, 400), LARGE, notes)?;
     Ok(())
 }

@@ -127,6 +127,7 @@ fn take(
     ensures allowed { OnOk result (effect_view names.now (statement_view statement) frame.old progress.old ≡ None) }
     ensures fault { IfErr result (λ f. IsFault f (λ c. effect_view names.now (statement_view statement) frame.old progress.old ≡ Some c)) }
 {
+    // Each early end drops the statement by a call: `?` would write out the drop of every kind of statement at each.
     if let Err(fault) = progress.see(&statement, names) {
         drop(statement);
         return Err(fault);

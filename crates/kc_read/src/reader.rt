@@ -129,6 +129,7 @@ fn depends_line<'a>(
 fn end_line<'a>(tokens: &[Token<'a>], statement: Statement) -> Result<Statement, Fault<'a>>
     ensures { (x : Written) (modules : Option SymId) (names : List (List ℕ)) → IsMade modules names names statement x → IsRead modules names names (λ r. r ≡ finish x (lexemes_from tokens.now 1)) result }
 {
+    // The call drops the statement once, where `?` would write out the drop of every kind of it.
     if let Err(fault) = end(tokens, 1) {
         drop(statement);
         return Err(fault);

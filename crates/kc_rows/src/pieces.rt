@@ -4,8 +4,7 @@ ghost use Rattle.std.specs.Prelude.{◌<◌};
 use crate::row::Accepted;
 use crate::rows::tables;
 use crate::runs::{ROOM, run_row};
-use crate::texts::holds;
-use kc_conf::Status;
+use crate::texts::{holds, is_done};
 use kc_memory::MemoryOutputs;
 use std::alloc::Global;
 use std::process::Abort;
@@ -29,7 +28,7 @@ fn holds_in_pieces(
     outputs.minimal.piece = taken;
     outputs.notes.piece = taken;
     let status = run_row(alloc, row, first, later, &mut outputs)?;
-    assert_eq!(rt; status, Status::Done, "{}", row.name);
+    is_done(rt, status, row.name);
     holds(rt, alloc, row, &outputs)
 }
 

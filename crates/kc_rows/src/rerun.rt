@@ -2,6 +2,7 @@
 use crate::row::Accepted;
 use crate::rows::tables;
 use crate::runs::run_on;
+use crate::texts::is_text;
 use kc_memory::MemoryOutputs;
 use std::alloc::Global;
 use std::process::Abort;
@@ -29,9 +30,9 @@ fn without_line(alloc: Global, text: &[u8], line: usize) -> Result<Vec<u8>, Fail
 
 // Both runs gave the same three files.
 fn is_same(rt: &impl Abort, again: &MemoryOutputs, first: &MemoryOutputs, name: &str) {
-    assert_eq!(rt; again.config.bytes, first.config.bytes, "{}", name);
-    assert_eq!(rt; again.header.bytes, first.header.bytes, "{}", name);
-    assert_eq!(rt; again.minimal.bytes, first.minimal.bytes, "{}", name);
+    is_text(rt, &again.config.bytes, &first.config.bytes, name);
+    is_text(rt, &again.header.bytes, &first.header.bytes, name);
+    is_text(rt, &again.minimal.bytes, &first.minimal.bytes, name);
 }
 
 // The minimal file gives the same files.
@@ -71,14 +72,26 @@ fn needs_line(
     Ok(())
 }
 
+// Without any of so many lines the minimal file gives another `.config`.
+fn needs_each(
+    rt: &impl Abort,
+    alloc: Global,
+    row: &Accepted,
+    first: &MemoryOutputs,
+    lines: usize,
+) -> Result<(), Fail> {
+    for line in 0..lines {
+        needs_line(rt, alloc, row, first, line)?;
+    }
+    Ok(())
+}
+
 // The minimal file gives the same values, and without any line of it others. The answer is how many lines it has.
 fn restores(rt: &impl Abort, alloc: Global, row: &Accepted) -> Result<usize, Fail> {
     let first = first_run(alloc, row)?;
     gives_again(rt, alloc, row, &first)?;
     let lines = line_ends(&first.minimal.bytes);
-    for line in 0..lines {
-        needs_line(rt, alloc, row, &first, line)?;
-    }
+    needs_each(rt, alloc, row, &first, lines)?;
     Ok(lines)
 }
 

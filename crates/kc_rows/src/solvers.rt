@@ -1,6 +1,7 @@
 //! The solver against the plain slow one.
-ghost use Rattle.std.specs.Prelude.{None, ⊤, IfOk};
+ghost use Rattle.std.specs.Prelude.{◌≡◌, None, ⊤, IfOk};
 ghost use Rattle.kc_user.specs.Places.{IsUserOf};
+ghost use Rattle.kc_values.specs.Needs.{needs};
 
 use crate::row::Accepted;
 use crate::rows::tables;
@@ -13,6 +14,7 @@ use kc_memory::files;
 use kc_solve::order::Order;
 use kc_solve::slow::slow_table;
 use kc_solve::solve::solve;
+use kc_solve::solved::Solved;
 use kc_tree::tree::Tree;
 use kc_user::user::User;
 use std::alloc::Global;
@@ -77,40 +79,75 @@ fn has_one_value<V: Values, W: Values>(
     }
 }
 
-// Both solvers give each symbol of the tree the same value. The answer is how many symbols there are.
-fn agree(
-    rt: &impl Abort,
-    alloc: Global,
-    tree: &Tree,
-    user: &User,
-    name: &str,
-) -> Result<usize, Fail>
-    requires { IsUserOf tree.now user.now }
+// The order of a tree without a loop.
+fn order_of(alloc: Global, tree: &Tree) -> Result<Order, Fail>
+    ensures { IfOk result (λ order. order ≡ needs tree.now) }
 {
-    let Ok(order) = Order::of(alloc, tree) else {
-        return Err(Fail::from("a loop"));
-    };
-    let solved = solve(alloc, tree, &order, user)?;
-    let slow = slow_table(alloc, tree, &order, user)?;
-    let count = tree.symbol_count();
-    for number in 0..count {
-        has_one_value(rt, &solved, &slow, tree.symbol(number), name);
+    match Order::of(alloc, tree) {
+        Ok(order) => Ok(order),
+        Err(_refusal) => Err(Fail::from("a loop")),
     }
-    Ok(count)
 }
 
-// Both solvers agree on the row.
-fn agree_on(rt: &impl Abort, alloc: Global, row: &Accepted) -> Result<usize, Fail> {
+// The plain slow solver gives each symbol the value that it has here.
+fn agrees(
+    rt: &impl Abort,
+    alloc: Global,
+    order: &Order,
+    user: &User,
+    solved: &Solved<'_>,
+    name: &str,
+) -> Result<(), Fail>
+    requires order { order.now ≡ needs solved.now.tree }
+    requires user { IsUserOf solved.now.tree user.now }
+{
+    let tree = solved.tree();
+    let slow = slow_table(alloc, tree, order, user)?;
+    for number in 0..tree.symbol_count() {
+        has_one_value(rt, solved, &slow, tree.symbol(number), name);
+    }
+    Ok(())
+}
+
+// Both solvers give each symbol of the tree the same value.
+fn agree(rt: &impl Abort, alloc: Global, tree: &Tree, user: &User, name: &str) -> Result<(), Fail>
+    requires { IsUserOf tree.now user.now }
+{
+    let order = order_of(alloc, tree)?;
+    let solved = solve(alloc, tree, &order, user)?;
+    agrees(rt, alloc, &order, user, &solved, name)
+}
+
+// The row's tree.
+fn tree_of(alloc: Global, row: &Accepted) -> Result<Tree, Fail> {
     let files = files(alloc, "Kconfig", row.kconfig, row.others)?;
-    let Ok(tree) = Tree::build(alloc, &files, b"Kconfig") else {
-        return Err(Fail::from("a refusal"));
-    };
-    let Some(prefix) = Prefix::new(alloc, row.prefix)? else {
-        return Err(Fail::from("no prefix"));
-    };
+    match Tree::build(alloc, &files, b"Kconfig") {
+        Ok(tree) => Ok(tree),
+        Err(_refusal) => Err(Fail::from("a refusal")),
+    }
+}
+
+// The row's prefix.
+fn prefix_of(alloc: Global, row: &Accepted) -> Result<Prefix, Fail> {
+    match Prefix::new(alloc, row.prefix)? {
+        Some(prefix) => Ok(prefix),
+        None => Err(Fail::from("no prefix")),
+    }
+}
+
+// Both solvers agree on the row's tree.
+fn agree_in(rt: &impl Abort, alloc: Global, row: &Accepted, tree: &Tree) -> Result<(), Fail> {
+    let prefix = prefix_of(alloc, row)?;
     let settings = joined(alloc, row)?;
-    let user = user_of(alloc, &tree, &prefix, &settings)?;
-    agree(rt, alloc, &tree, &user, row.name)
+    let user = user_of(alloc, tree, &prefix, &settings)?;
+    agree(rt, alloc, tree, &user, row.name)
+}
+
+// Both solvers agree on the row. The answer is how many symbols there are.
+fn agree_on(rt: &impl Abort, alloc: Global, row: &Accepted) -> Result<usize, Fail> {
+    let tree = tree_of(alloc, row)?;
+    agree_in(rt, alloc, row, &tree)?;
+    Ok(tree.symbol_count())
 }
 
 // Both solvers agree on the rows, which have this many symbols.

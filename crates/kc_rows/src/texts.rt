@@ -10,12 +10,41 @@ use std::alloc::Global;
 use std::process::Abort;
 use std::test::Fail;
 
+/// The row of this name gives this text.
+pub(crate) fn is_text(rt: &impl Abort, found: &[u8], wanted: &[u8], name: &str) {
+    assert_eq!(rt; found, wanted, "{}", name);
+}
+
+/// The run of the row of this name is done.
+pub(crate) fn is_done(rt: &impl Abort, status: Status, name: &str) {
+    assert_eq!(rt; status, Status::Done, "{}", name);
+}
+
 // An output that is wanted holds this text, and one that is not was never begun.
 fn slot_holds(rt: &impl Abort, slot: &Slot, text: Option<&[u8]>, name: &str) {
-    assert_eq!(rt; slot.bytes.as_slice(), text.unwrap_or(b""), "{}", name);
+    is_text(rt, slot.bytes.as_slice(), text.unwrap_or(b""), name);
     let is_called = slot.calls > 0;
     let calls = (slot.is_begun, is_called, slot.failures);
     assert_eq!(rt; calls, (text.is_some(), text.is_some(), 0), "{}", name);
+}
+
+// The full `.config` is the row's, behind its heading.
+fn config_holds(rt: &impl Abort, alloc: Global, row: &Accepted, slot: &Slot) -> Result<(), Fail> {
+    let config = config_text(alloc, row.title, row.config)?;
+    slot_holds(rt, slot, Some(config.as_slice()), row.name);
+    Ok(())
+}
+
+// The header is the row's, behind its heading, where the row wants one.
+fn header_holds(rt: &impl Abort, alloc: Global, row: &Accepted, slot: &Slot) -> Result<(), Fail> {
+    match row.header {
+        Some(lines) => {
+            let header = header_text(alloc, row.title, lines)?;
+            slot_holds(rt, slot, Some(header.as_slice()), row.name);
+        }
+        None => slot_holds(rt, slot, None, row.name),
+    }
+    Ok(())
 }
 
 /// The outputs hold what the row says, byte for byte.
@@ -25,16 +54,10 @@ pub(crate) fn holds(
     row: &Accepted,
     outputs: &MemoryOutputs,
 ) -> Result<(), Fail> {
-    let config = config_text(alloc, row.title, row.config)?;
-    slot_holds(rt, &outputs.config, Some(config.as_slice()), row.name);
-    let header = match row.header {
-        Some(lines) => Some(header_text(alloc, row.title, lines)?),
-        None => None,
-    };
-    let header = header.as_ref().map(|text| text.as_slice());
-    slot_holds(rt, &outputs.header, header, row.name);
+    config_holds(rt, alloc, row, &outputs.config)?;
+    header_holds(rt, alloc, row, &outputs.header)?;
     slot_holds(rt, &outputs.minimal, row.minimal, row.name);
-    assert_eq!(rt; outputs.notes.bytes.as_slice(), row.notes, "{}", row.name);
+    is_text(rt, outputs.notes.bytes.as_slice(), row.notes, row.name);
     Ok(())
 }
 
@@ -42,7 +65,7 @@ pub(crate) fn holds(
 fn gives_its_texts(rt: &impl Abort, alloc: Global, row: &Accepted) -> Result<(), Fail> {
     let mut outputs = MemoryOutputs::new(alloc, ROOM)?;
     let status = run_row(alloc, row, 4096, 4096, &mut outputs)?;
-    assert_eq!(rt; status, Status::Done, "{}", row.name);
+    is_done(rt, status, row.name);
     holds(rt, alloc, row, &outputs)
 }
 
@@ -90,7 +113,7 @@ fn is_refused(
 
 // The outputs have these notes, and none was begun.
 fn tells_alone(rt: &impl Abort, outputs: &MemoryOutputs, notes: &[u8], name: &str) {
-    assert_eq!(rt; outputs.notes.bytes.as_slice(), notes, "{}", name);
+    is_text(rt, outputs.notes.bytes.as_slice(), notes, name);
     slot_holds(rt, &outputs.config, None, name);
     slot_holds(rt, &outputs.header, None, name);
     slot_holds(rt, &outputs.minimal, None, name);

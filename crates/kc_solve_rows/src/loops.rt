@@ -3,6 +3,7 @@
 use crate::trial::tree_of;
 use kc_read::refusal::{Code, Refusal};
 use kc_solve::order::Order;
+use kc_tree::tree::Tree;
 use std::alloc::Global;
 use std::process::Abort;
 use std::test::Fail;
@@ -21,12 +22,17 @@ fn named(refusal: Refusal) -> Result<Vec<u8>, Fail> {
 }
 
 // The loop that is named of a tree; nothing where there is an order.
-fn loop_of(alloc: Global, kconfig: &[u8]) -> Result<Vec<u8>, Fail> {
-    let tree = tree_of(alloc, kconfig)?;
-    match Order::of(alloc, &tree) {
+fn loop_in(alloc: Global, tree: &Tree) -> Result<Vec<u8>, Fail> {
+    match Order::of(alloc, tree) {
         Ok(_order) => Ok(Vec::new(alloc)),
         Err(refusal) => named(refusal),
     }
+}
+
+// The loop that is named of this file's tree.
+fn loop_of(alloc: Global, kconfig: &[u8]) -> Result<Vec<u8>, Fail> {
+    let tree = tree_of(alloc, kconfig)?;
+    loop_in(alloc, &tree)
 }
 
 // The loop of each tree.

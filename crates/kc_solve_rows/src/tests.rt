@@ -1,7 +1,8 @@
 //! Each row on both solvers, and a long chain.
 
-ghost use Rattle.std.specs.Prelude.{◌<◌};
+ghost use Rattle.std.specs.Prelude.{◌≡◌, ◌<◌, IfOk};
 ghost use Rattle.kc_user.specs.Places.{IsUserOf};
+ghost use Rattle.kc_values.specs.Needs.{needs};
 
 use crate::row::Row;
 use crate::rows::{choices, numbers, truths};
@@ -19,6 +20,55 @@ use std::alloc::Global;
 use std::process::Abort;
 use std::test::Fail;
 
+// The solver tells this of the tree under these places.
+fn solver_tells(
+    rt: &impl Abort,
+    alloc: Global,
+    tree: &Tree,
+    order: &Order,
+    user: &User,
+    told: &[u8],
+) -> Result<(), Fail>
+    requires order { order.now ≡ needs tree.now }
+    requires user { IsUserOf tree.now user.now }
+{
+    let solution = solve(alloc, tree, order, user)?;
+    is_told(rt, &solved::lines_of(alloc, &solution)?, told);
+    Ok(())
+}
+
+// So does the plain slow one.
+fn slow_tells(
+    rt: &impl Abort,
+    alloc: Global,
+    tree: &Tree,
+    order: &Order,
+    user: &User,
+    told: &[u8],
+) -> Result<(), Fail>
+    requires order { order.now ≡ needs tree.now }
+    requires user { IsUserOf tree.now user.now }
+{
+    let table = slow_table(alloc, tree, order, user)?;
+    is_told(rt, &slow::lines_of(alloc, &table, user)?, told);
+    Ok(())
+}
+
+// This is told.
+fn is_told(rt: &impl Abort, found: &[u8], told: &[u8]) {
+    assert_eq!(rt; found, told);
+}
+
+// The order of a tree without a loop.
+fn order_of(alloc: Global, tree: &Tree) -> Result<Order, Fail>
+    ensures { IfOk result (λ order. order ≡ needs tree.now) }
+{
+    match Order::of(alloc, tree) {
+        Ok(order) => Ok(order),
+        Err(_refusal) => Err(Fail::from("a loop")),
+    }
+}
+
 // Both solvers tell this of the tree under these places.
 fn told_alike(
     rt: &impl Abort,
@@ -29,14 +79,9 @@ fn told_alike(
 ) -> Result<(), Fail>
     requires { IsUserOf tree.now user.now }
 {
-    let Ok(order) = Order::of(alloc, tree) else {
-        return Err(Fail::from("a loop"));
-    };
-    let solution = solve(alloc, tree, &order, user)?;
-    assert_eq!(rt; solved::lines_of(alloc, &solution)?.as_slice(), told);
-    let table = slow_table(alloc, tree, &order, user)?;
-    assert_eq!(rt; slow::lines_of(alloc, &table, user)?.as_slice(), told);
-    Ok(())
+    let order = order_of(alloc, tree)?;
+    solver_tells(rt, alloc, tree, &order, user, told)?;
+    slow_tells(rt, alloc, tree, &order, user, told)
 }
 
 // The row is told by both.
@@ -85,25 +130,27 @@ fn chain(alloc: Global, count: u32) -> Result<Vec<u8>, Fail>
     Ok(text)
 }
 
-// Each symbol is y, has no prompt, is written, and is no line of the minimal file.
-fn each_is_y(rt: &impl Abort, solved: &Solved<'_>) {
-    for i in 0..solved.tree().symbol_count() {
-        let id = SymId(i);
-        assert_eq!(rt; solved.tri(id), Tri::Y);
-        assert_eq!(rt; solved.visibility(id), Tri::N);
-        assert!(rt; solved.written(id));
+// The symbol is y, has no prompt, and is written.
+fn is_yes(rt: &impl Abort, solved: &Solved<'_>, id: SymId) {
+    let told = (solved.tri(id), solved.visibility(id), solved.written(id));
+    assert_eq!(rt; told, (Tri::Y, Tri::N, true));
+}
+
+// Each symbol is so without a user's values.
+fn each_is_yes(rt: &impl Abort, alloc: Global, tree: &Tree) -> Result<(), Fail> {
+    let order = order_of(alloc, tree)?;
+    let user = user_of(alloc, tree, &[])?;
+    let solved = solve(alloc, tree, &order, &user)?;
+    for i in 0..tree.symbol_count() {
+        is_yes(rt, &solved, SymId(i));
     }
+    Ok(())
 }
 
 #[test]
 fn a_long_chain_in_reverse(rt: HostRuntime) -> Result<(), Fail> {
-    let alloc = rt.alloc();
-    let tree = tree_of(alloc, &chain(alloc, 20_000)?)?;
+    let text = chain(rt.alloc(), 20_000)?;
+    let tree = tree_of(rt.alloc(), &text)?;
     assert_eq!(rt; tree.symbol_count(), 20_000);
-    let Ok(order) = Order::of(alloc, &tree) else {
-        return Err(Fail::from("a loop"));
-    };
-    let user = user_of(alloc, &tree, &[])?;
-    each_is_y(&rt, &solve(alloc, &tree, &order, &user)?);
-    Ok(())
+    each_is_yes(&rt, rt.alloc(), &tree)
 }

@@ -15,17 +15,22 @@ use kc_values::lookups::name;
 use std::alloc::{AllocError, Global};
 use std::test::Fail;
 
+// The map that holds this one file.
+fn files_of(alloc: Global, kconfig: &[u8]) -> Result<FileMap, Fail> {
+    let name = Vec::from_slice(alloc, b"Kconfig")?;
+    let bytes = Vec::from_slice(alloc, kconfig)?;
+    let mut files = FileMap::new(alloc);
+    files.insert(name, bytes)?;
+    Ok(files)
+}
+
 /// The tree of this file.
 pub(crate) fn tree_of(alloc: Global, kconfig: &[u8]) -> Result<Tree, Fail> {
-    let mut files = FileMap::new(alloc);
-    files.insert(
-        Vec::from_slice(alloc, b"Kconfig")?,
-        Vec::from_slice(alloc, kconfig)?,
-    )?;
-    let Ok(tree) = Tree::build(alloc, &files, b"Kconfig") else {
-        return Err(Fail::from("a refusal"));
-    };
-    Ok(tree)
+    let files = files_of(alloc, kconfig)?;
+    match Tree::build(alloc, &files, b"Kconfig") {
+        Ok(tree) => Ok(tree),
+        Err(_refusal) => Err(Fail::from("a refusal")),
+    }
 }
 
 // The symbol of this name.
