@@ -1,5 +1,5 @@
 -- What is known of outputs in memory.
-use Rattle.std.specs.Prelude.{Some}
+use Rattle.std.specs.Prelude.{◌≡◌, ℕ, Some, [], false}
 use Rattle.kc_conf.specs.Places.{Place, Places}
 use Rattle.kc_memory.specs.declared.memory.Slot.{Slot}
 use Rattle.kc_memory.specs.declared.memory.MemoryOutputs.{MemoryOutputs}
@@ -9,3 +9,19 @@ place_of slot = record { is_begun = slot.is_begun; text = Some slot.bytes.items;
 
 abbrev pub places_of : MemoryOutputs → Places
 places_of outputs = record { config = place_of outputs.config; header = place_of outputs.header; minimal = place_of outputs.minimal; notes = place_of outputs.notes }
+
+-- An output that took nothing and was asked nothing, that never fails, and has so much room; each write may take all.
+pub record IsNew (room : ℕ) (slot : Slot) : Type 0 where
+  pub unbegun : slot.is_begun ≡ false
+  pub empty : slot.bytes.items ≡ []
+  pub well : slot.failures ≡ 0
+  pub uncalled : slot.calls ≡ 0
+  pub never : slot.fail_at ≡ 0
+  pub whole : slot.piece ≡ 18446744073709551615
+  pub fits : slot.room ≡ room
+
+pub record AreNew (room : ℕ) (outputs : MemoryOutputs) : Type 0 where
+  pub config : IsNew room outputs.config
+  pub header : IsNew room outputs.header
+  pub minimal : IsNew room outputs.minimal
+  pub notes : IsNew room outputs.notes

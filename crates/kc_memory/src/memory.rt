@@ -1,5 +1,5 @@
 //! Devices in memory, which give and take pieces, and fail at a call of choice.
-ghost use Rattle.std.specs.Prelude.{◌≡◌, ◌<◌, ◌≤◌, ◌+◌, ◌-◌, ◌++◌, length, drop, take, Some, OnOk, OnErr, IfOk, Option, List, [], ℕ, false};
+ghost use Rattle.std.specs.Prelude.{◌≡◌, ◌<◌, ◌≤◌, ◌+◌, ◌-◌, ◌++◌, length, drop, take, Some, OnOk, OnErr, IfOk, Option, List, [], ℕ};
 ghost use Rattle.kc_conf.specs.Places.{at, grown, begun, failed};
 ghost use Rattle.kc_dot.specs.Sink.{next_failure};
 
@@ -33,6 +33,7 @@ impl<'a> MemoryInput<'a> {
         requires first { 0 < first }
         requires later { 0 < later }
         ensures rest { result.rest.now ≡ text.now }
+        ensures pieces { (result.piece ≡ first) × (result.later ≡ later) }
         ensures never { result.fail_at ≡ 0 }
         ensures none { (result.calls ≡ 0) × (result.failures ≡ 0) }
     {
@@ -89,11 +90,11 @@ pub struct Slot {
 }
 
 impl Slot {
-    ghost use Rattle.kc_memory.specs.Slot.{place_of};
+    ghost use Rattle.kc_memory.specs.Slot.{IsNew, place_of};
 
     /// An output with nothing in it, and room for so many bytes. `AllocError` where there is no memory for them.
     pub fn new(alloc: Global, reserved: usize) -> Result<Slot, AllocError>
-        ensures { IfOk result (λ slot. (slot.is_begun ≡ false) × (slot.bytes.items ≡ []) × (slot.failures ≡ 0) × (slot.room ≡ reserved)) }
+        ensures { IfOk result (IsNew reserved) }
     {
         Ok(Slot {
             is_begun: false,
@@ -158,11 +159,11 @@ pub struct MemoryOutputs {
 }
 
 impl MemoryOutputs {
-    ghost use Rattle.kc_memory.specs.Slot.{place_of, places_of};
+    ghost use Rattle.kc_memory.specs.Slot.{AreNew, place_of, places_of};
 
     /// Four outputs with nothing in them, each with room for so many bytes. `AllocError` where there is no memory.
     pub fn new(alloc: Global, room: usize) -> Result<MemoryOutputs, AllocError>
-        ensures empty { IfOk result (λ o. (o.config.bytes.items ≡ []) × (o.header.bytes.items ≡ []) × (o.minimal.bytes.items ≡ []) × (o.notes.bytes.items ≡ [])) }
+        ensures { IfOk result (AreNew room) }
     {
         Ok(MemoryOutputs {
             config: Slot::new(alloc, room)?,
