@@ -1,5 +1,5 @@
 # Thin: every target is one or two commands of the kit.
-.PHONY: build install example test wrong bench real clean
+.PHONY: build install example test wrong bench real refused clean
 
 PREFIX ?= /usr/local
 
@@ -29,6 +29,10 @@ bench: build
 # Runs two trees of others, fetched from Debian, and compares with the same tools.
 real: build
 	bench/real.sh
+
+# Refuses each growth of memory and fails each open, read and write of a run in turn.
+refused: build
+	bench/refused.sh
 
 clean:
 	rm -rf crates/*/out
