@@ -111,47 +111,44 @@ fn shape(
 }
 
 // The line, then what it reads as where A, B, C, .. get the next numbers from 1 on.
-fn shapes() -> &'static [(&'static [u8], &'static str)] {
-    static ROWS: [(&'static [u8], &'static str); 24] = [
-        (
-            b"A && !B = A || m) x",
-            "Any([All([One(Sym(SymId(1))), Not(Rel(Eq, Sym(SymId(2)), Sym(SymId(1))))]), One(Const([109]))]) 8",
-        ),
-        (b"!A=B", "Not(Rel(Eq, Sym(SymId(1)), Sym(SymId(2)))) 4"),
-        (b"(A)", "One(Sym(SymId(1))) 3"),
-        (
-            b"A || B && C || A",
-            "Any([One(Sym(SymId(1))), All([One(Sym(SymId(2))), One(Sym(SymId(3)))]), One(Sym(SymId(1)))]) 7",
-        ),
-        (
-            b"(A || B) && C",
-            "All([Any([One(Sym(SymId(1))), One(Sym(SymId(2)))]), One(Sym(SymId(3)))]) 7",
-        ),
-        (
-            b"A && (B && C)",
-            "All([One(Sym(SymId(1))), All([One(Sym(SymId(2))), One(Sym(SymId(3)))])]) 7",
-        ),
-        (b"!!A", "Not(Not(One(Sym(SymId(1))))) 3"),
-        (b"A = B = C", "Rel(Eq, Sym(SymId(1)), Sym(SymId(2))) 3"),
-        (b"A if B", "One(Sym(SymId(1))) 1"),
-        (b"A B", "One(Sym(SymId(1))) 1"),
-        (b"A ((", "One(Sym(SymId(1))) 1"),
-        (b"'a\\'b\\\\'", "One(Const([97, 39, 98, 92])) 1"),
-        (b"\"if\"", "One(Const([105, 102])) 1"),
-        (b"(A = B = C)", "syntax"),
-        (b"A &&", "syntax"),
-        (b"A || || B", "syntax"),
-        (b"A <=", "syntax"),
-        (b"A = if", "syntax"),
-        (b"A = !B", "syntax"),
-        (b"(A", "syntax"),
-        (b"! = A", "syntax"),
-        (b")", "syntax"),
-        (b"if A", "syntax"),
-        (b"", "syntax"),
-    ];
-    &ROWS
-}
+const SHAPES: &[(&[u8], &str)] = &[
+    (
+        b"A && !B = A || m) x",
+        "Any([All([One(Sym(SymId(1))), Not(Rel(Eq, Sym(SymId(2)), Sym(SymId(1))))]), One(Const([109]))]) 8",
+    ),
+    (b"!A=B", "Not(Rel(Eq, Sym(SymId(1)), Sym(SymId(2)))) 4"),
+    (b"(A)", "One(Sym(SymId(1))) 3"),
+    (
+        b"A || B && C || A",
+        "Any([One(Sym(SymId(1))), All([One(Sym(SymId(2))), One(Sym(SymId(3)))]), One(Sym(SymId(1)))]) 7",
+    ),
+    (
+        b"(A || B) && C",
+        "All([Any([One(Sym(SymId(1))), One(Sym(SymId(2)))]), One(Sym(SymId(3)))]) 7",
+    ),
+    (
+        b"A && (B && C)",
+        "All([One(Sym(SymId(1))), All([One(Sym(SymId(2))), One(Sym(SymId(3)))])]) 7",
+    ),
+    (b"!!A", "Not(Not(One(Sym(SymId(1))))) 3"),
+    (b"A = B = C", "Rel(Eq, Sym(SymId(1)), Sym(SymId(2))) 3"),
+    (b"A if B", "One(Sym(SymId(1))) 1"),
+    (b"A B", "One(Sym(SymId(1))) 1"),
+    (b"A ((", "One(Sym(SymId(1))) 1"),
+    (b"'a\\'b\\\\'", "One(Const([97, 39, 98, 92])) 1"),
+    (b"\"if\"", "One(Const([105, 102])) 1"),
+    (b"(A = B = C)", "syntax"),
+    (b"A &&", "syntax"),
+    (b"A || || B", "syntax"),
+    (b"A <=", "syntax"),
+    (b"A = if", "syntax"),
+    (b"A = !B", "syntax"),
+    (b"(A", "syntax"),
+    (b"! = A", "syntax"),
+    (b")", "syntax"),
+    (b"if A", "syntax"),
+    (b"", "syntax"),
+];
 
 // What the line, or condition, reads as after the name MODULES.
 fn shape_after_modules(
@@ -191,54 +188,48 @@ fn reads_as(
 
 #[test]
 fn lines_follow_the_grammar(rt: HostRuntime) -> Result<(), Fail> {
-    for (line, want) in shapes() {
+    for (line, want) in SHAPES {
         reads_as(&rt, rt.alloc(), line, false, want)?;
     }
     Ok(())
 }
 
 // The line, then what it reads as in a condition.
-fn conditions() -> &'static [(&'static [u8], &'static str)] {
-    static ROWS: [(&'static [u8], &'static str); 8] = [
-        (b"m", "All([One(Const([109])), One(Sym(SymId(0)))]) 1"),
-        (b"\"m\"", "All([One(Const([109])), One(Sym(SymId(0)))]) 1"),
-        (b"'\\m'", "All([One(Const([109])), One(Sym(SymId(0)))]) 1"),
-        (
-            b"A && m",
-            "All([One(Sym(SymId(1))), All([One(Const([109])), One(Sym(SymId(0)))])]) 3",
-        ),
-        (b"!m", "Not(All([One(Const([109])), One(Sym(SymId(0)))])) 2"),
-        (b"m = A", "Rel(Eq, Const([109]), Sym(SymId(1))) 3"),
-        (b"A != m", "Rel(Ne, Sym(SymId(1)), Const([109])) 3"),
-        (b"y", "One(Const([121])) 1"),
-    ];
-    &ROWS
-}
+const CONDITIONS: &[(&[u8], &str)] = &[
+    (b"m", "All([One(Const([109])), One(Sym(SymId(0)))]) 1"),
+    (b"\"m\"", "All([One(Const([109])), One(Sym(SymId(0)))]) 1"),
+    (b"'\\m'", "All([One(Const([109])), One(Sym(SymId(0)))]) 1"),
+    (
+        b"A && m",
+        "All([One(Sym(SymId(1))), All([One(Const([109])), One(Sym(SymId(0)))])]) 3",
+    ),
+    (b"!m", "Not(All([One(Const([109])), One(Sym(SymId(0)))])) 2"),
+    (b"m = A", "Rel(Eq, Const([109]), Sym(SymId(1))) 3"),
+    (b"A != m", "Rel(Ne, Sym(SymId(1)), Const([109])) 3"),
+    (b"y", "One(Const([121])) 1"),
+];
 
 #[test]
 fn plain_m_asks_for_modules(rt: HostRuntime) -> Result<(), Fail> {
-    for (line, want) in conditions() {
+    for (line, want) in CONDITIONS {
         reads_as(&rt, rt.alloc(), line, true, want)?;
     }
     Ok(())
 }
 
-fn numbers() -> &'static [(&'static [u8], Option<SymId>)] {
-    static ROWS: [(&'static [u8], Option<SymId>); 8] = [
-        (b"X", Some(SymId(0))),
-        (b"B", Some(SymId(1))),
-        (b"A", Some(SymId(2))),
-        (b"C", Some(SymId(3))),
-        (b"n", None),
-        (b"Q", None),
-        (b"D", None),
-        (b"x", None),
-    ];
-    &ROWS
-}
+const NUMBERS: &[(&[u8], Option<SymId>)] = &[
+    (b"X", Some(SymId(0))),
+    (b"B", Some(SymId(1))),
+    (b"A", Some(SymId(2))),
+    (b"C", Some(SymId(3))),
+    (b"n", None),
+    (b"Q", None),
+    (b"D", None),
+    (b"x", None),
+];
 
 fn finds_numbers(rt: &impl Abort, names: &Names) {
-    for (name, number) in numbers() {
+    for (name, number) in NUMBERS {
         is_symbol(rt, names.find(name), *number);
     }
 }
@@ -326,23 +317,20 @@ type Level = (
     &'static str,
 );
 
-fn levels() -> &'static [Level] {
-    static ROWS: [Level; 12] = [
-        (64, b"(", b"y", b")", "One(Const([121])) 129"),
-        (65, b"(", b"y", b")", "too deep"),
-        (65, b"!", b"y", b"", "too deep"),
-        (32, b"!(", b"=", b"", "syntax"),
-        (33, b"!(", b"y", b")", "too deep"),
-        (64, b"(", b"=", b"", "syntax"),
-        (65, b"(", b"=", b"", "too deep"),
-        (64, b"(", b"", b"", "syntax"),
-        (65, b"(", b"", b"", "too deep"),
-        (63, b"(", b"y && !A = B || (A)", b"", "syntax"),
-        (63, b"(", b"y && !(A = B) || (A)", b"", "too deep"),
-        (65, b"A (", b"", b"", "One(Sym(SymId(0))) 1"),
-    ];
-    &ROWS
-}
+const LEVELS: &[Level] = &[
+    (64, b"(", b"y", b")", "One(Const([121])) 129"),
+    (65, b"(", b"y", b")", "too deep"),
+    (65, b"!", b"y", b"", "too deep"),
+    (32, b"!(", b"=", b"", "syntax"),
+    (33, b"!(", b"y", b")", "too deep"),
+    (64, b"(", b"=", b"", "syntax"),
+    (65, b"(", b"=", b"", "too deep"),
+    (64, b"(", b"", b"", "syntax"),
+    (65, b"(", b"", b"", "too deep"),
+    (63, b"(", b"y && !A = B || (A)", b"", "syntax"),
+    (63, b"(", b"y && !(A = B) || (A)", b"", "too deep"),
+    (65, b"A (", b"", b"", "One(Sym(SymId(0))) 1"),
+];
 
 fn shape_without_names(alloc: Global, line: &[u8], condition: Option<SymId>) -> Result<String, Fail>
     requires { length line.now ≤ 8191 }
@@ -374,7 +362,7 @@ fn reads_level(rt: &impl Abort, alloc: Global, level: &Level) -> Result<(), Fail
 
 #[test]
 fn the_65th_level_is_too_deep(rt: HostRuntime) -> Result<(), Fail> {
-    for level in levels() {
+    for level in LEVELS {
         reads_level(&rt, rt.alloc(), level)?;
     }
     Ok(())
@@ -424,14 +412,7 @@ fn parts_of(alloc: Global, line: &[u8]) -> Result<Option<usize>, Fail>
 }
 
 // What is joined to an `a`, and how many parts there are then.
-fn repeated() -> &'static [(&'static [u8], usize)] {
-    static ROWS: [(&'static [u8], usize); 3] = [
-        (b" && a", 1639),
-        (b"||a=b", 1639),
-        (b"&&(((a)))", 911),
-    ];
-    &ROWS
-}
+const REPEATED: &[(&[u8], usize)] = &[(b" && a", 1639), (b"||a=b", 1639), (b"&&(((a)))", 911)];
 
 fn has_parts(rt: &impl Abort, alloc: Global, line: &[u8], count: usize) -> Result<(), Fail> {
     assert!(rt; line.len() <= 8191);
@@ -449,64 +430,58 @@ fn reads_repeated(rt: &impl Abort, alloc: Global, part: &[u8], count: usize) -> 
 
 #[test]
 fn the_longest_lines_are_read_at_once(rt: HostRuntime) -> Result<(), Fail> {
-    for (part, count) in repeated() {
+    for (part, count) in REPEATED {
         reads_repeated(&rt, rt.alloc(), part, *count)?;
     }
     Ok(())
 }
 
 // Each symbol with a type: its name, type, truth value and text.
-fn symbols() -> &'static [(&'static [u8], Kind, Tri, &'static [u8])] {
-    static ROWS: [(&'static [u8], Kind, Tri, &'static [u8]); 19] = [
-        (b"YES", Kind::Bool, Tri::Y, b""),
-        (b"NO", Kind::Bool, Tri::N, b""),
-        (b"MOD", Kind::Tristate, Tri::M, b""),
-        (b"ABC", Kind::Str, Tri::N, b"abc"),
-        (b"TEN", Kind::Str, Tri::N, b"10"),
-        (b"OCT", Kind::Str, Tri::N, b"010"),
-        (b"XTEN", Kind::Str, Tri::N, b"0X0a"),
-        (b"VOID", Kind::Str, Tri::N, b""),
-        (b"LETTER", Kind::Str, Tri::N, b"y"),
-        (b"I", Kind::Int, Tri::N, b"10"),
-        (b"LOW", Kind::Int, Tri::N, b"-9223372036854775808"),
-        (b"HIGH", Kind::Int, Tri::N, b"9223372036854775807"),
-        (b"ZERO", Kind::Int, Tri::N, b"-0"),
-        (b"ODD", Kind::Int, Tri::N, b"0x0A"),
-        (b"UNSET", Kind::Int, Tri::N, b""),
-        (b"H", Kind::Hex, Tri::N, b"0x0A"),
-        (b"BARE", Kind::Hex, Tri::N, b"a"),
-        (b"SIXTEEN", Kind::Hex, Tri::N, b"10"),
-        (b"TOP", Kind::Hex, Tri::N, b"0xffffffffffffffff"),
-    ];
-    &ROWS
-}
+const SYMBOLS: &[(&[u8], Kind, Tri, &[u8])] = &[
+    (b"YES", Kind::Bool, Tri::Y, b""),
+    (b"NO", Kind::Bool, Tri::N, b""),
+    (b"MOD", Kind::Tristate, Tri::M, b""),
+    (b"ABC", Kind::Str, Tri::N, b"abc"),
+    (b"TEN", Kind::Str, Tri::N, b"10"),
+    (b"OCT", Kind::Str, Tri::N, b"010"),
+    (b"XTEN", Kind::Str, Tri::N, b"0X0a"),
+    (b"VOID", Kind::Str, Tri::N, b""),
+    (b"LETTER", Kind::Str, Tri::N, b"y"),
+    (b"I", Kind::Int, Tri::N, b"10"),
+    (b"LOW", Kind::Int, Tri::N, b"-9223372036854775808"),
+    (b"HIGH", Kind::Int, Tri::N, b"9223372036854775807"),
+    (b"ZERO", Kind::Int, Tri::N, b"-0"),
+    (b"ODD", Kind::Int, Tri::N, b"0x0A"),
+    (b"UNSET", Kind::Int, Tri::N, b""),
+    (b"H", Kind::Hex, Tri::N, b"0x0A"),
+    (b"BARE", Kind::Hex, Tri::N, b"a"),
+    (b"SIXTEEN", Kind::Hex, Tri::N, b"10"),
+    (b"TOP", Kind::Hex, Tri::N, b"0xffffffffffffffff"),
+];
 
 // The words without a type, each worth its own name. Their numbers follow those of the symbols.
-fn words() -> &'static [&'static [u8]] {
-    static ROWS: [&'static [u8]; 14] = [
-        b"0",
-        b"1",
-        b"2",
-        b"9",
-        b"10",
-        b"0x0A",
-        b"0Xa",
-        b"0x",
-        b"a",
-        b"U",
-        b"9223372036854775807",
-        b"10000000000000000000",
-        b"0xffffffffffffffff",
-        b"0x10000000000000000",
-    ];
-    &ROWS
-}
+const WORDS: &[&[u8]] = &[
+    b"0",
+    b"1",
+    b"2",
+    b"9",
+    b"10",
+    b"0x0A",
+    b"0Xa",
+    b"0x",
+    b"a",
+    b"U",
+    b"9223372036854775807",
+    b"10000000000000000000",
+    b"0xffffffffffffffff",
+    b"0x10000000000000000",
+];
 
 fn name_symbols(names: &mut Names) -> Result<(), Fail> {
-    for (name, _, _, _) in symbols() {
+    for (name, _, _, _) in SYMBOLS {
         names.id(name)?;
     }
-    for word in words() {
+    for word in WORDS {
         names.id(word)?;
     }
     Ok(())
@@ -532,10 +507,10 @@ fn push_symbol(
 
 // What is known of the symbols goes into an empty table.
 fn fill(alloc: Global, table: &mut Table) -> Result<(), Fail> {
-    for (_, kind, tri, text) in symbols() {
+    for (_, kind, tri, text) in SYMBOLS {
         push_symbol(alloc, *kind, *tri, text, table)?;
     }
-    for word in words() {
+    for word in WORDS {
         push_symbol(alloc, Kind::Undefined, Tri::N, word, table)?;
     }
     Ok(())
@@ -611,161 +586,137 @@ fn is_worth(rt: &impl Abort, alloc: Global, line: &[u8], want: Tri) -> Result<()
     Ok(())
 }
 
-fn truths() -> &'static [(&'static [u8], Tri)] {
-    static ROWS: [(&'static [u8], Tri); 22] = [
-        (b"YES", Tri::Y),
-        (b"MOD", Tri::M),
-        (b"NO", Tri::N),
-        (b"ABC", Tri::N),
-        (b"LETTER", Tri::N),
-        (b"I", Tri::N),
-        (b"H", Tri::N),
-        (b"U", Tri::N),
-        (b"y", Tri::Y),
-        (b"'m'", Tri::M),
-        (b"\"n\"", Tri::N),
-        (b"\"\\y\"", Tri::Y),
-        (b"\"yes\"", Tri::N),
-        (b"\"\"", Tri::N),
-        (b"!YES", Tri::N),
-        (b"!MOD", Tri::M),
-        (b"!NO", Tri::Y),
-        (b"YES && MOD", Tri::M),
-        (b"MOD && NO && YES", Tri::N),
-        (b"NO || MOD", Tri::M),
-        (b"NO || MOD || YES", Tri::Y),
-        (b"!(MOD && YES) || NO && YES", Tri::M),
-    ];
-    &ROWS
-}
+const TRUTHS: &[(&[u8], Tri)] = &[
+    (b"YES", Tri::Y),
+    (b"MOD", Tri::M),
+    (b"NO", Tri::N),
+    (b"ABC", Tri::N),
+    (b"LETTER", Tri::N),
+    (b"I", Tri::N),
+    (b"H", Tri::N),
+    (b"U", Tri::N),
+    (b"y", Tri::Y),
+    (b"'m'", Tri::M),
+    (b"\"n\"", Tri::N),
+    (b"\"\\y\"", Tri::Y),
+    (b"\"yes\"", Tri::N),
+    (b"\"\"", Tri::N),
+    (b"!YES", Tri::N),
+    (b"!MOD", Tri::M),
+    (b"!NO", Tri::Y),
+    (b"YES && MOD", Tri::M),
+    (b"MOD && NO && YES", Tri::N),
+    (b"NO || MOD", Tri::M),
+    (b"NO || MOD || YES", Tri::Y),
+    (b"!(MOD && YES) || NO && YES", Tri::M),
+];
 
 #[test]
 fn truth_values(rt: HostRuntime) -> Result<(), Fail> {
-    for (line, want) in truths() {
+    for (line, want) in TRUTHS {
         is_worth(&rt, rt.alloc(), line, *want)?;
     }
     Ok(())
 }
 
 // Relations that hold, each also tried with a `!` in front: truth values as 0, 1, 2.
-fn truth_relations() -> &'static [&'static [u8]] {
-    static ROWS: [&'static [u8]; 12] = [
-        b"YES = y",
-        b"NO != y",
-        b"MOD = m",
-        b"NO < MOD",
-        b"MOD < y",
-        b"MOD > n",
-        b"YES = 2",
-        b"MOD = \"1\"",
-        b"NO = 0",
-        b"n < m",
-        b"\"m\" = 1",
-        b"'y' > \"m\"",
-    ];
-    &ROWS
-}
+const TRUTH_RELATIONS: &[&[u8]] = &[
+    b"YES = y",
+    b"NO != y",
+    b"MOD = m",
+    b"NO < MOD",
+    b"MOD < y",
+    b"MOD > n",
+    b"YES = 2",
+    b"MOD = \"1\"",
+    b"NO = 0",
+    b"n < m",
+    b"\"m\" = 1",
+    b"'y' > \"m\"",
+];
 
 // Two string symbols by bytes.
-fn string_relations() -> &'static [&'static [u8]] {
-    static ROWS: [&'static [u8]; 8] = [
-        b"ABC = ABC",
-        b"OCT != TEN",
-        b"OCT < TEN",
-        b"XTEN != TEN",
-        b"XTEN < TEN",
-        b"TEN < ABC",
-        b"VOID < OCT",
-        b"VOID = VOID",
-    ];
-    &ROWS
-}
+const STRING_RELATIONS: &[&[u8]] = &[
+    b"ABC = ABC",
+    b"OCT != TEN",
+    b"OCT < TEN",
+    b"XTEN != TEN",
+    b"XTEN < TEN",
+    b"TEN < ABC",
+    b"VOID < OCT",
+    b"VOID = VOID",
+];
 
 // A string symbol and another as numbers.
-fn numeral_relations() -> &'static [&'static [u8]] {
-    static ROWS: [&'static [u8]; 7] = [
-        b"TEN = \"010\"",
-        b"OCT = 10",
-        b"OCT = I",
-        b"XTEN = 10",
-        b"XTEN = H",
-        b"TEN > 9",
-        b"TEN > \"9\"",
-    ];
-    &ROWS
-}
+const NUMERAL_RELATIONS: &[&[u8]] = &[
+    b"TEN = \"010\"",
+    b"OCT = 10",
+    b"OCT = I",
+    b"XTEN = 10",
+    b"XTEN = H",
+    b"TEN > 9",
+    b"TEN > \"9\"",
+];
 
 // Else as texts.
-fn text_relations() -> &'static [&'static [u8]] {
-    static ROWS: [&'static [u8]; 9] = [
-        b"ABC = \"abc\"",
-        b"ABC < 'abd'",
-        b"VOID = \"\"",
-        b"VOID != 0",
-        b"LETTER = y",
-        b"LETTER != 2",
-        b"YES = LETTER",
-        b"MOD < LETTER",
-        b"NO > ABC",
-    ];
-    &ROWS
-}
+const TEXT_RELATIONS: &[&[u8]] = &[
+    b"ABC = \"abc\"",
+    b"ABC < 'abd'",
+    b"VOID = \"\"",
+    b"VOID != 0",
+    b"LETTER = y",
+    b"LETTER != 2",
+    b"YES = LETTER",
+    b"MOD < LETTER",
+    b"NO > ABC",
+];
 
 // Int.
-fn int_relations() -> &'static [&'static [u8]] {
-    static ROWS: [&'static [u8]; 23] = [
-        b"I = 10",
-        b"ODD != 10",
-        b"I <= 10",
-        b"NO <= y",
-        b"y >= MOD",
-        b"!I = 9",
-        b"!I != 10",
-        b"!I < 10",
-        b"!I > 10",
-        b"!I <= 9",
-        b"!9 >= I",
-        b"I >= \"0010\"",
-        b"I > 9",
-        b"9 < I",
-        b"ZERO = 0",
-        b"\"-0\" = 0",
-        b"UNSET = \"\"",
-        b"UNSET < 0",
-        b"UNSET != 0",
-        b"LOW < \"-9223372036854775807\"",
-        b"LOW < \"-9223372036854775809\"",
-        b"HIGH = 9223372036854775807",
-        b"HIGH > 10000000000000000000",
-    ];
-    &ROWS
-}
+const INT_RELATIONS: &[&[u8]] = &[
+    b"I = 10",
+    b"ODD != 10",
+    b"I <= 10",
+    b"NO <= y",
+    b"y >= MOD",
+    b"!I = 9",
+    b"!I != 10",
+    b"!I < 10",
+    b"!I > 10",
+    b"!I <= 9",
+    b"!9 >= I",
+    b"I >= \"0010\"",
+    b"I > 9",
+    b"9 < I",
+    b"ZERO = 0",
+    b"\"-0\" = 0",
+    b"UNSET = \"\"",
+    b"UNSET < 0",
+    b"UNSET != 0",
+    b"LOW < \"-9223372036854775807\"",
+    b"LOW < \"-9223372036854775809\"",
+    b"HIGH = 9223372036854775807",
+    b"HIGH > 10000000000000000000",
+];
 
 // Hex.
-fn hex_relations() -> &'static [&'static [u8]] {
-    static ROWS: [&'static [u8]; 13] = [
-        b"H = 0Xa",
-        b"H = I",
-        b"H > 9",
-        b"0 != 0x",
-        b"0x = \"0x\"",
-        b"SIXTEEN = \"16\"",
-        b"SIXTEEN != 10",
-        b"BARE = 10",
-        b"BARE = 0x0A",
-        b"BARE = \"a\"",
-        b"0x0A = 10",
-        b"TOP = 0xffffffffffffffff",
-        b"TOP > 0x10000000000000000",
-    ];
-    &ROWS
-}
+const HEX_RELATIONS: &[&[u8]] = &[
+    b"H = 0Xa",
+    b"H = I",
+    b"H > 9",
+    b"0 != 0x",
+    b"0x = \"0x\"",
+    b"SIXTEEN = \"16\"",
+    b"SIXTEEN != 10",
+    b"BARE = 10",
+    b"BARE = 0x0A",
+    b"BARE = \"a\"",
+    b"0x0A = 10",
+    b"TOP = 0xffffffffffffffff",
+    b"TOP > 0x10000000000000000",
+];
 
 // No types.
-fn untyped_relations() -> &'static [&'static [u8]] {
-    static ROWS: [&'static [u8]; 3] = [b"U = \"U\"", b"U < n", b"\"\" < 0"];
-    &ROWS
-}
+const UNTYPED_RELATIONS: &[&[u8]] = &[b"U = \"U\"", b"U < n", b"\"\" < 0"];
 
 fn holds(rt: &impl Abort, alloc: Global, line: &[u8]) -> Result<(), Fail> {
     is_worth(rt, alloc, line, Tri::Y)?;
@@ -782,13 +733,13 @@ fn each_holds(rt: &impl Abort, alloc: Global, lines: &[&[u8]]) -> Result<(), Fai
 
 fn relations() -> [&'static [&'static [u8]]; 7] {
     [
-        truth_relations(),
-        string_relations(),
-        numeral_relations(),
-        text_relations(),
-        int_relations(),
-        hex_relations(),
-        untyped_relations(),
+        TRUTH_RELATIONS,
+        STRING_RELATIONS,
+        NUMERAL_RELATIONS,
+        TEXT_RELATIONS,
+        INT_RELATIONS,
+        HEX_RELATIONS,
+        UNTYPED_RELATIONS,
     ]
 }
 

@@ -145,125 +145,122 @@ fn picture_of(out: &mut String, built: &Result<Tree, Refusal>) -> Result<(), All
 }
 
 // The text of `Kconfig`, that of `a`, and the tree's picture.
-fn pictures() -> &'static [(&'static str, &'static str, &'static str)] {
-    static ROWS: [(&str, &str, &str); 19] = [
-        // a dependency
-        (
-            "config A\n\tbool \"a\"\n\tdefault y\n\nconfig B\n\tbool \"b\"\n\tdepends on A\n",
-            "",
-            "Bool None\ndep []\nprompt []\ndefault One(Const([121])) []\nBool None\ndep [One(Sym(SymId(0)))]\nprompt [One(Sym(SymId(0)))]\n[0]\n[1]\n",
-        ),
-        // a choice
-        (
-            "config D\nbool \"d\"\nchoice\nprompt \"c\"\ndefault B\nconfig A\nbool \"a\"\nconfig B\nbool \"b\"\nconfig C\nbool \"c\"\ndepends on D\nendchoice\n",
-            "",
-            "Bool None\ndep []\nprompt []\nBool Some(ChoiceId(0))\ndep [] in 0\nprompt [] in 0\nBool Some(ChoiceId(0))\ndep [] in 0\nprompt [] in 0\nBool Some(ChoiceId(0))\ndep [One(Sym(SymId(0)))] in 0\nprompt [One(Sym(SymId(0)))] in 0\nchoice of [SymId(1), SymId(2), SymId(3)]\nprompt []\ndefault 2 []\n[0]\n[1]\n[2]\n[3]\n",
-        ),
-        // a hidden menu
-        (
-            "config A\ndef_bool y\nselect B\nmenu \"hidden\"\nvisible if n\nconfig B\nbool \"b\"\nconfig C\nbool \"c\"\ndefault y\nendmenu\ncomment \"end\"\n",
-            "",
-            "Bool None\ndep []\ndefault One(Const([121])) []\nBool None\ndep []\nprompt [One(Const([110]))]\nselected by 0 []\nBool None\ndep []\nprompt [One(Const([110]))]\ndefault One(Const([121])) []\n[0]\n[menu of 6] [One(Const([110]))]\n[1]\n[2]\n[end of 1]\n[comment of 3] []\n",
-        ),
-        // menus in a menu
-        (
-            "mainmenu \"Demo\"\nmenu \"one\"\nmenu \"two\"\nconfig A\nbool \"a\"\nendmenu\nendmenu\nmenuconfig B\nbool \"b\"\nmenu \"three\"\nendmenu\n",
-            "",
-            "Bool None\ndep []\nprompt []\nBool None\ndep []\nprompt []\n[menu of 3] []\n[menu of 3] []\n[0]\n[end of 1]\n[end of 0]\n[1]\n[menu of 5] []\n[end of 6]\n",
-        ),
-        // a file that is sourced twice
-        (
-            "config X\n\tbool \"x\"\nsource \"a\"\nif X\nsource \"a\"\nendif\n",
-            "config Z\n\tbool \"z\"\n",
-            "Bool None\ndep []\nprompt []\nBool None\ndep []\ndep [One(Sym(SymId(0)))]\nprompt []\nprompt [One(Sym(SymId(0)))]\n[0]\n[1]\n",
-        ),
-        // a second definition outside a menu
-        (
-            "config A\nbool \"a\"\nmenu \"m\"\ndepends on A\nconfig B\nbool \"b\"\nendmenu\nconfig B\nbool \"again\"\ndefault y\n",
-            "",
-            "Bool None\ndep []\nprompt []\nBool None\ndep [One(Sym(SymId(0)))]\ndep []\nprompt [One(Sym(SymId(0)))]\nprompt []\ndefault One(Const([121])) []\n[0]\n[menu of 1] [One(Sym(SymId(0)))]\n[1]\n[end of 1]\n",
-        ),
-        // an imply
-        (
-            "config MODULES\ndef_bool y\nconfig FOO\ntristate \"foo\"\ndefault y\nimply BAZ\nconfig BAR\ntristate \"bar\"\ndefault m\nconfig BAZ\ntristate \"baz\"\ndepends on BAR\n",
-            "",
-            "Bool None\ndep []\ndefault One(Const([121])) []\nTristate None\ndep []\nprompt []\ndefault One(Const([121])) []\nTristate None\ndep []\nprompt []\ndefault One(Const([109])) []\nTristate None\ndep [One(Sym(SymId(2)))]\nprompt [One(Sym(SymId(2)))]\nimplied by 1 []\n[0]\n[1]\n[2]\n[3]\n",
-        ),
-        // a select, and a prompt with a condition
-        (
-            "config MODULES\ndef_bool y\nconfig T\ntristate\ndefault m\nselect A\nconfig A\ntristate \"a\" if T\ndefault y\n",
-            "",
-            "Bool None\ndep []\ndefault One(Const([121])) []\nTristate None\ndep []\ndefault One(Const([109])) []\nTristate None\ndep []\nprompt [One(Sym(SymId(1)))]\ndefault One(Const([121])) []\nselected by 1 []\n[0]\n[1]\n[2]\n",
-        ),
-        // a range, and a default that is not defined
-        (
-            "config I\nint \"i\"\nrange -5 -2\ndefault FOO\n",
-            "",
-            "Int None\ndep []\nprompt []\ndefault One(Sym(SymId(4))) []\nrange Sym(SymId(2)) Sym(SymId(3)) []\n[0]\n",
-        ),
-        // a plain m, where no symbol stands for modules
-        (
-            "config A\nbool \"a\"\ndepends on m\n",
-            "",
-            "Bool None\ndep [All([One(Const([109])), One(Sym(SymId(1)))])]\nprompt [All([One(Const([109])), One(Sym(SymId(1)))])]\n[0]\n",
-        ),
-        // a plain m before the modules symbol
-        (
-            "config A\nbool \"a\"\ndepends on m\nconfig LKM\nbool \"l\"\nmodules\n",
-            "",
-            "Bool None\ndep [All([One(Const([109])), One(Sym(SymId(1)))])]\nprompt [All([One(Const([109])), One(Sym(SymId(1)))])]\nBool None\ndep []\nprompt []\n[0]\n[1]\n",
-        ),
-        // m as a value and as a condition
-        (
-            "config A\ntristate\ndefault m if m\n",
-            "",
-            "Tristate None\ndep []\ndefault One(Const([109])) [All([One(Const([109])), One(Sym(SymId(1)))])]\n[0]\n",
-        ),
-        // relations
-        (
-            "config I\nint\ndefault 10\nconfig S\nstring\ndefault \"FOO\"\nconfig A\ndef_bool I > 9\nconfig B\ndef_bool \"10\" < \"9\"\nconfig D\ndef_bool S = FOO\nconfig E\ndef_bool !I=9\n",
-            "",
-            "Int None\ndep []\ndefault One(Sym(SymId(7))) []\nStr None\ndep []\ndefault One(Const([70, 79, 79])) []\nBool None\ndep []\ndefault Rel(Gt, Sym(SymId(0)), Sym(SymId(8))) []\nBool None\ndep []\ndefault Rel(Lt, Const([49, 48]), Const([57])) []\nBool None\ndep []\ndefault Rel(Eq, Sym(SymId(1)), Sym(SymId(9))) []\nBool None\ndep []\ndefault Not(Rel(Eq, Sym(SymId(0)), Sym(SymId(8)))) []\n[0]\n[1]\n[2]\n[3]\n[4]\n[5]\n",
-        ),
-        // help is no line
-        (
-            "config A\n\tbool \"a\"\n\thelp\n\t  text\n\n\t  config Q\ndefault y\n",
-            "",
-            "Bool None\ndep []\nprompt []\ndefault One(Const([121])) []\n[0]\n",
-        ),
-        // hidden menus, an if, and a second definition with two dependencies
-        (
-            "menu \"o\"\nvisible if A\nvisible if B\ndepends on C\nmenu \"i\"\nvisible if D\ncomment \"text\"\ndepends on E\nif F\nconfig X\nbool \"x\" if G\ndefault y if H\nendif\nendmenu\nendmenu\nif X\nconfig X\nprompt \"again\"\ndepends on I\ndepends on J\nendif\n",
-            "",
-            "Bool None\ndep [One(Sym(SymId(4))), One(Sym(SymId(7)))]\ndep [One(Sym(SymId(0))), All([One(Sym(SymId(10))), One(Sym(SymId(11)))])]\nprompt [One(Sym(SymId(4))), One(Sym(SymId(7))), All([One(Sym(SymId(2))), One(Sym(SymId(3)))]), One(Sym(SymId(5))), One(Sym(SymId(8)))]\nprompt [One(Sym(SymId(0))), All([One(Sym(SymId(10))), One(Sym(SymId(11)))])]\ndefault One(Const([121])) [One(Sym(SymId(4))), One(Sym(SymId(7))), One(Sym(SymId(9)))]\n[menu of 1] [One(Sym(SymId(4))), All([One(Sym(SymId(2))), One(Sym(SymId(3)))])]\n[menu of 1] [One(Sym(SymId(4))), All([One(Sym(SymId(2))), One(Sym(SymId(3)))]), One(Sym(SymId(5)))]\n[comment of 4] [One(Sym(SymId(4))), One(Sym(SymId(6)))]\n[0]\n[end of 1]\n[end of 0]\n",
-        ),
-        // choices with conditions, and a member that selects
-        (
-            "choice\nbool \"c\"\nprompt \"d\" if X\ndefault A if Y\ndepends on Z\ncomment \"in\"\nconfig A\nif W\nconfig B\nbool \"b\" if V\nselect D\nimply A\nendif\nendchoice\nif X\nchoice\nprompt \"e\"\nconfig E\nendchoice\nendif\nconfig D\nbool\n",
-            "",
-            "Bool Some(ChoiceId(0))\ndep [] in 0\nBool Some(ChoiceId(0))\ndep [One(Sym(SymId(8)))] in 0\nprompt [One(Sym(SymId(8))), One(Sym(SymId(9)))] in 0\nBool Some(ChoiceId(1))\ndep [One(Sym(SymId(5)))] in 1\nBool None\ndep []\nselected by 1 [One(Sym(SymId(8)))] in 0\nchoice of [SymId(0), SymId(1)]\nprompt [One(Sym(SymId(7))), One(Sym(SymId(5)))]\ndefault 0 [One(Sym(SymId(7))), One(Sym(SymId(6)))]\nchoice of [SymId(2)]\nprompt [One(Sym(SymId(5)))]\n[comment of 2] [] in 0\n[0]\n[1]\n[2]\n[3]\n",
-        ),
-        // lines that have no effect
-        (
-            "config A\nbool \"a\"\nstring \"s\"\nconfig B\nconfig C\ndef_bool y\nselect D\nimply D\nselect E\nconfig D\nint \"d\"\nchoice\nprompt \"ch\"\ndefault C\nconfig E\nbool \"e\"\nendchoice\n",
-            "",
-            "Bool None\ndep []\nprompt []\nUndefined None\ndep []\nBool None\ndep []\ndefault One(Const([121])) []\nInt None\ndep []\nprompt []\nBool Some(ChoiceId(0))\ndep [] in 0\nprompt [] in 0\nchoice of [SymId(4)]\nprompt []\n[0]\n[1]\n[2]\n[3]\n[4]\n",
-        ),
-        // two prompts, in one entry and in two
-        (
-            "config A\nbool \"a\" if X\nprompt \"b\" if Y\nprompt \"c\"\nconfig A\nprompt \"d\" if Z\n",
-            "",
-            "Bool None\ndep []\ndep []\nprompt []\nprompt [One(Sym(SymId(4)))]\n[0]\n",
-        ),
-        // a dependency on each of two lines
-        (
-            "config A\nbool\ndepends on B\ndepends on C || D\nconfig B\nbool\n",
-            "",
-            "Bool None\ndep [All([One(Sym(SymId(1))), Any([One(Sym(SymId(3))), One(Sym(SymId(4)))])])]\nBool None\ndep []\n[0]\n[1]\n",
-        ),
-    ];
-    &ROWS
-}
+const PICTURES: &[(&str, &str, &str)] = &[
+    // a dependency
+    (
+        "config A\n\tbool \"a\"\n\tdefault y\n\nconfig B\n\tbool \"b\"\n\tdepends on A\n",
+        "",
+        "Bool None\ndep []\nprompt []\ndefault One(Const([121])) []\nBool None\ndep [One(Sym(SymId(0)))]\nprompt [One(Sym(SymId(0)))]\n[0]\n[1]\n",
+    ),
+    // a choice
+    (
+        "config D\nbool \"d\"\nchoice\nprompt \"c\"\ndefault B\nconfig A\nbool \"a\"\nconfig B\nbool \"b\"\nconfig C\nbool \"c\"\ndepends on D\nendchoice\n",
+        "",
+        "Bool None\ndep []\nprompt []\nBool Some(ChoiceId(0))\ndep [] in 0\nprompt [] in 0\nBool Some(ChoiceId(0))\ndep [] in 0\nprompt [] in 0\nBool Some(ChoiceId(0))\ndep [One(Sym(SymId(0)))] in 0\nprompt [One(Sym(SymId(0)))] in 0\nchoice of [SymId(1), SymId(2), SymId(3)]\nprompt []\ndefault 2 []\n[0]\n[1]\n[2]\n[3]\n",
+    ),
+    // a hidden menu
+    (
+        "config A\ndef_bool y\nselect B\nmenu \"hidden\"\nvisible if n\nconfig B\nbool \"b\"\nconfig C\nbool \"c\"\ndefault y\nendmenu\ncomment \"end\"\n",
+        "",
+        "Bool None\ndep []\ndefault One(Const([121])) []\nBool None\ndep []\nprompt [One(Const([110]))]\nselected by 0 []\nBool None\ndep []\nprompt [One(Const([110]))]\ndefault One(Const([121])) []\n[0]\n[menu of 6] [One(Const([110]))]\n[1]\n[2]\n[end of 1]\n[comment of 3] []\n",
+    ),
+    // menus in a menu
+    (
+        "mainmenu \"Demo\"\nmenu \"one\"\nmenu \"two\"\nconfig A\nbool \"a\"\nendmenu\nendmenu\nmenuconfig B\nbool \"b\"\nmenu \"three\"\nendmenu\n",
+        "",
+        "Bool None\ndep []\nprompt []\nBool None\ndep []\nprompt []\n[menu of 3] []\n[menu of 3] []\n[0]\n[end of 1]\n[end of 0]\n[1]\n[menu of 5] []\n[end of 6]\n",
+    ),
+    // a file that is sourced twice
+    (
+        "config X\n\tbool \"x\"\nsource \"a\"\nif X\nsource \"a\"\nendif\n",
+        "config Z\n\tbool \"z\"\n",
+        "Bool None\ndep []\nprompt []\nBool None\ndep []\ndep [One(Sym(SymId(0)))]\nprompt []\nprompt [One(Sym(SymId(0)))]\n[0]\n[1]\n",
+    ),
+    // a second definition outside a menu
+    (
+        "config A\nbool \"a\"\nmenu \"m\"\ndepends on A\nconfig B\nbool \"b\"\nendmenu\nconfig B\nbool \"again\"\ndefault y\n",
+        "",
+        "Bool None\ndep []\nprompt []\nBool None\ndep [One(Sym(SymId(0)))]\ndep []\nprompt [One(Sym(SymId(0)))]\nprompt []\ndefault One(Const([121])) []\n[0]\n[menu of 1] [One(Sym(SymId(0)))]\n[1]\n[end of 1]\n",
+    ),
+    // an imply
+    (
+        "config MODULES\ndef_bool y\nconfig FOO\ntristate \"foo\"\ndefault y\nimply BAZ\nconfig BAR\ntristate \"bar\"\ndefault m\nconfig BAZ\ntristate \"baz\"\ndepends on BAR\n",
+        "",
+        "Bool None\ndep []\ndefault One(Const([121])) []\nTristate None\ndep []\nprompt []\ndefault One(Const([121])) []\nTristate None\ndep []\nprompt []\ndefault One(Const([109])) []\nTristate None\ndep [One(Sym(SymId(2)))]\nprompt [One(Sym(SymId(2)))]\nimplied by 1 []\n[0]\n[1]\n[2]\n[3]\n",
+    ),
+    // a select, and a prompt with a condition
+    (
+        "config MODULES\ndef_bool y\nconfig T\ntristate\ndefault m\nselect A\nconfig A\ntristate \"a\" if T\ndefault y\n",
+        "",
+        "Bool None\ndep []\ndefault One(Const([121])) []\nTristate None\ndep []\ndefault One(Const([109])) []\nTristate None\ndep []\nprompt [One(Sym(SymId(1)))]\ndefault One(Const([121])) []\nselected by 1 []\n[0]\n[1]\n[2]\n",
+    ),
+    // a range, and a default that is not defined
+    (
+        "config I\nint \"i\"\nrange -5 -2\ndefault FOO\n",
+        "",
+        "Int None\ndep []\nprompt []\ndefault One(Sym(SymId(4))) []\nrange Sym(SymId(2)) Sym(SymId(3)) []\n[0]\n",
+    ),
+    // a plain m, where no symbol stands for modules
+    (
+        "config A\nbool \"a\"\ndepends on m\n",
+        "",
+        "Bool None\ndep [All([One(Const([109])), One(Sym(SymId(1)))])]\nprompt [All([One(Const([109])), One(Sym(SymId(1)))])]\n[0]\n",
+    ),
+    // a plain m before the modules symbol
+    (
+        "config A\nbool \"a\"\ndepends on m\nconfig LKM\nbool \"l\"\nmodules\n",
+        "",
+        "Bool None\ndep [All([One(Const([109])), One(Sym(SymId(1)))])]\nprompt [All([One(Const([109])), One(Sym(SymId(1)))])]\nBool None\ndep []\nprompt []\n[0]\n[1]\n",
+    ),
+    // m as a value and as a condition
+    (
+        "config A\ntristate\ndefault m if m\n",
+        "",
+        "Tristate None\ndep []\ndefault One(Const([109])) [All([One(Const([109])), One(Sym(SymId(1)))])]\n[0]\n",
+    ),
+    // relations
+    (
+        "config I\nint\ndefault 10\nconfig S\nstring\ndefault \"FOO\"\nconfig A\ndef_bool I > 9\nconfig B\ndef_bool \"10\" < \"9\"\nconfig D\ndef_bool S = FOO\nconfig E\ndef_bool !I=9\n",
+        "",
+        "Int None\ndep []\ndefault One(Sym(SymId(7))) []\nStr None\ndep []\ndefault One(Const([70, 79, 79])) []\nBool None\ndep []\ndefault Rel(Gt, Sym(SymId(0)), Sym(SymId(8))) []\nBool None\ndep []\ndefault Rel(Lt, Const([49, 48]), Const([57])) []\nBool None\ndep []\ndefault Rel(Eq, Sym(SymId(1)), Sym(SymId(9))) []\nBool None\ndep []\ndefault Not(Rel(Eq, Sym(SymId(0)), Sym(SymId(8)))) []\n[0]\n[1]\n[2]\n[3]\n[4]\n[5]\n",
+    ),
+    // help is no line
+    (
+        "config A\n\tbool \"a\"\n\thelp\n\t  text\n\n\t  config Q\ndefault y\n",
+        "",
+        "Bool None\ndep []\nprompt []\ndefault One(Const([121])) []\n[0]\n",
+    ),
+    // hidden menus, an if, and a second definition with two dependencies
+    (
+        "menu \"o\"\nvisible if A\nvisible if B\ndepends on C\nmenu \"i\"\nvisible if D\ncomment \"text\"\ndepends on E\nif F\nconfig X\nbool \"x\" if G\ndefault y if H\nendif\nendmenu\nendmenu\nif X\nconfig X\nprompt \"again\"\ndepends on I\ndepends on J\nendif\n",
+        "",
+        "Bool None\ndep [One(Sym(SymId(4))), One(Sym(SymId(7)))]\ndep [One(Sym(SymId(0))), All([One(Sym(SymId(10))), One(Sym(SymId(11)))])]\nprompt [One(Sym(SymId(4))), One(Sym(SymId(7))), All([One(Sym(SymId(2))), One(Sym(SymId(3)))]), One(Sym(SymId(5))), One(Sym(SymId(8)))]\nprompt [One(Sym(SymId(0))), All([One(Sym(SymId(10))), One(Sym(SymId(11)))])]\ndefault One(Const([121])) [One(Sym(SymId(4))), One(Sym(SymId(7))), One(Sym(SymId(9)))]\n[menu of 1] [One(Sym(SymId(4))), All([One(Sym(SymId(2))), One(Sym(SymId(3)))])]\n[menu of 1] [One(Sym(SymId(4))), All([One(Sym(SymId(2))), One(Sym(SymId(3)))]), One(Sym(SymId(5)))]\n[comment of 4] [One(Sym(SymId(4))), One(Sym(SymId(6)))]\n[0]\n[end of 1]\n[end of 0]\n",
+    ),
+    // choices with conditions, and a member that selects
+    (
+        "choice\nbool \"c\"\nprompt \"d\" if X\ndefault A if Y\ndepends on Z\ncomment \"in\"\nconfig A\nif W\nconfig B\nbool \"b\" if V\nselect D\nimply A\nendif\nendchoice\nif X\nchoice\nprompt \"e\"\nconfig E\nendchoice\nendif\nconfig D\nbool\n",
+        "",
+        "Bool Some(ChoiceId(0))\ndep [] in 0\nBool Some(ChoiceId(0))\ndep [One(Sym(SymId(8)))] in 0\nprompt [One(Sym(SymId(8))), One(Sym(SymId(9)))] in 0\nBool Some(ChoiceId(1))\ndep [One(Sym(SymId(5)))] in 1\nBool None\ndep []\nselected by 1 [One(Sym(SymId(8)))] in 0\nchoice of [SymId(0), SymId(1)]\nprompt [One(Sym(SymId(7))), One(Sym(SymId(5)))]\ndefault 0 [One(Sym(SymId(7))), One(Sym(SymId(6)))]\nchoice of [SymId(2)]\nprompt [One(Sym(SymId(5)))]\n[comment of 2] [] in 0\n[0]\n[1]\n[2]\n[3]\n",
+    ),
+    // lines that have no effect
+    (
+        "config A\nbool \"a\"\nstring \"s\"\nconfig B\nconfig C\ndef_bool y\nselect D\nimply D\nselect E\nconfig D\nint \"d\"\nchoice\nprompt \"ch\"\ndefault C\nconfig E\nbool \"e\"\nendchoice\n",
+        "",
+        "Bool None\ndep []\nprompt []\nUndefined None\ndep []\nBool None\ndep []\ndefault One(Const([121])) []\nInt None\ndep []\nprompt []\nBool Some(ChoiceId(0))\ndep [] in 0\nprompt [] in 0\nchoice of [SymId(4)]\nprompt []\n[0]\n[1]\n[2]\n[3]\n[4]\n",
+    ),
+    // two prompts, in one entry and in two
+    (
+        "config A\nbool \"a\" if X\nprompt \"b\" if Y\nprompt \"c\"\nconfig A\nprompt \"d\" if Z\n",
+        "",
+        "Bool None\ndep []\ndep []\nprompt []\nprompt [One(Sym(SymId(4)))]\n[0]\n",
+    ),
+    // a dependency on each of two lines
+    (
+        "config A\nbool\ndepends on B\ndepends on C || D\nconfig B\nbool\n",
+        "",
+        "Bool None\ndep [All([One(Sym(SymId(1))), Any([One(Sym(SymId(3))), One(Sym(SymId(4)))])])]\nBool None\ndep []\n[0]\n[1]\n",
+    ),
+];
 
 fn text_is(rt: &impl Abort, root: &str, text: &str, want: &str) {
     assert!(rt; text == want, "{root}: {text}");
@@ -288,70 +285,67 @@ fn picture_is(
 
 #[test]
 fn trees_say_what_their_files_say(rt: HostRuntime) -> Result<(), Fail> {
-    for (root, other, want) in pictures() {
+    for (root, other, want) in PICTURES {
         picture_is(&rt, rt.alloc(), root, other, want)?;
     }
     Ok(())
 }
 
 // The text of `Kconfig`, that of `a`, and the warnings, each with a line's end.
-fn warned() -> &'static [(&'static str, &'static str, &'static str)] {
-    static ROWS: [(&str, &str, &str); 12] = [
-        (
-            "config A\nbool \"a\"\nstring \"s\"\nconfig B\nconfig C\ndef_bool y\nselect D\nimply D\nselect E\nconfig D\nint \"d\"\nchoice\nprompt \"ch\"\ndefault C\nconfig E\nbool \"e\"\nendchoice\n",
-            "",
-            "Kconfig:3: warning K1: type of A redefined, the first is kept\nKconfig:3: warning K2: prompt of A redefined, the last is kept\nKconfig:4: warning K3: B has no type\nKconfig:7: warning K4: D is not bool or tristate, the select has no effect\nKconfig:8: warning K4: D is not bool or tristate, the imply has no effect\nKconfig:9: warning K6: E is a choice member, the select has no effect\nKconfig:14: warning K5: C is not a member of the choice\n",
-        ),
-        (
-            "config A\nbool \"a\"\nprompt \"b\"\nprompt \"c\"\n",
-            "",
-            "Kconfig:3: warning K2: prompt of A redefined, the last is kept\nKconfig:4: warning K2: prompt of A redefined, the last is kept\n",
-        ),
-        (
-            "choice\nprompt \"c\"\nprompt \"d\"\nconfig A\nbool \"a\"\nendchoice\n",
-            "",
-            "Kconfig:3: warning K2: prompt of choice redefined, the last is kept\n",
-        ),
-        ("config A\nbool \"a\"\nconfig A\nprompt \"b\"\n", "", ""),
-        (
-            "choice\nprompt \"c\"\ndefault Q\nconfig A\nbool \"a\"\nendchoice\n",
-            "",
-            "Kconfig:3: warning K5: Q is not a member of the choice\n",
-        ),
-        (
-            "config A\nbool \"a\"\nsource \"a\"\n",
-            "config A\nstring\n",
-            "a:2: warning K1: type of A redefined, the first is kept\n",
-        ),
-        (
-            "source \"a\"\nsource \"a\"\n",
-            "config Z\nbool \"z\"\nprompt \"y\"\n",
-            "a:3: warning K2: prompt of Z redefined, the last is kept\na:3: warning K2: prompt of Z redefined, the last is kept\n",
-        ),
-        (
-            "config A\nconfig B\nconfig A\nstring\nselect A\nconfig B\n",
-            "",
-            "Kconfig:2: warning K3: B has no type\nKconfig:5: warning K4: A is not bool or tristate, the select has no effect\n",
-        ),
-        (
-            "config A\nbool\nselect Q\nimply R\nconfig R\n",
-            "",
-            "Kconfig:5: warning K3: R has no type\n",
-        ),
-        (
-            "config A\nint\ndef_bool 1\nimply A\n",
-            "",
-            "Kconfig:3: warning K1: type of A redefined, the first is kept\nKconfig:4: warning K4: A is not bool or tristate, the imply has no effect\n",
-        ),
-        (
-            "choice\nconfig A\nimply B\nconfig B\nbool \"b\"\nbool \"b\"\nendchoice\nchoice\ndefault A\nendchoice\n",
-            "",
-            "Kconfig:3: warning K6: B is a choice member, the imply has no effect\nKconfig:6: warning K2: prompt of B redefined, the last is kept\nKconfig:9: warning K5: A is not a member of the choice\n",
-        ),
-        ("config A\nbool \"a\"\nhelp\n  config B\n", "", ""),
-    ];
-    &ROWS
-}
+const WARNED: &[(&str, &str, &str)] = &[
+    (
+        "config A\nbool \"a\"\nstring \"s\"\nconfig B\nconfig C\ndef_bool y\nselect D\nimply D\nselect E\nconfig D\nint \"d\"\nchoice\nprompt \"ch\"\ndefault C\nconfig E\nbool \"e\"\nendchoice\n",
+        "",
+        "Kconfig:3: warning K1: type of A redefined, the first is kept\nKconfig:3: warning K2: prompt of A redefined, the last is kept\nKconfig:4: warning K3: B has no type\nKconfig:7: warning K4: D is not bool or tristate, the select has no effect\nKconfig:8: warning K4: D is not bool or tristate, the imply has no effect\nKconfig:9: warning K6: E is a choice member, the select has no effect\nKconfig:14: warning K5: C is not a member of the choice\n",
+    ),
+    (
+        "config A\nbool \"a\"\nprompt \"b\"\nprompt \"c\"\n",
+        "",
+        "Kconfig:3: warning K2: prompt of A redefined, the last is kept\nKconfig:4: warning K2: prompt of A redefined, the last is kept\n",
+    ),
+    (
+        "choice\nprompt \"c\"\nprompt \"d\"\nconfig A\nbool \"a\"\nendchoice\n",
+        "",
+        "Kconfig:3: warning K2: prompt of choice redefined, the last is kept\n",
+    ),
+    ("config A\nbool \"a\"\nconfig A\nprompt \"b\"\n", "", ""),
+    (
+        "choice\nprompt \"c\"\ndefault Q\nconfig A\nbool \"a\"\nendchoice\n",
+        "",
+        "Kconfig:3: warning K5: Q is not a member of the choice\n",
+    ),
+    (
+        "config A\nbool \"a\"\nsource \"a\"\n",
+        "config A\nstring\n",
+        "a:2: warning K1: type of A redefined, the first is kept\n",
+    ),
+    (
+        "source \"a\"\nsource \"a\"\n",
+        "config Z\nbool \"z\"\nprompt \"y\"\n",
+        "a:3: warning K2: prompt of Z redefined, the last is kept\na:3: warning K2: prompt of Z redefined, the last is kept\n",
+    ),
+    (
+        "config A\nconfig B\nconfig A\nstring\nselect A\nconfig B\n",
+        "",
+        "Kconfig:2: warning K3: B has no type\nKconfig:5: warning K4: A is not bool or tristate, the select has no effect\n",
+    ),
+    (
+        "config A\nbool\nselect Q\nimply R\nconfig R\n",
+        "",
+        "Kconfig:5: warning K3: R has no type\n",
+    ),
+    (
+        "config A\nint\ndef_bool 1\nimply A\n",
+        "",
+        "Kconfig:3: warning K1: type of A redefined, the first is kept\nKconfig:4: warning K4: A is not bool or tristate, the imply has no effect\n",
+    ),
+    (
+        "choice\nconfig A\nimply B\nconfig B\nbool \"b\"\nbool \"b\"\nendchoice\nchoice\ndefault A\nendchoice\n",
+        "",
+        "Kconfig:3: warning K6: B is a choice member, the imply has no effect\nKconfig:6: warning K2: prompt of B redefined, the last is kept\nKconfig:9: warning K5: A is not a member of the choice\n",
+    ),
+    ("config A\nbool \"a\"\nhelp\n  config B\n", "", ""),
+];
 
 // A tree's warnings, each with a line's end, or its refusal.
 fn warnings_of(out: &mut Vec<u8>, built: &Result<Tree, Refusal>) -> Result<(), AllocError> {
@@ -388,171 +382,161 @@ fn warnings_are(
 
 #[test]
 fn warnings_come_in_the_order_of_the_lines(rt: HostRuntime) -> Result<(), Fail> {
-    for (root, other, want) in warned() {
+    for (root, other, want) in WARNED {
         warnings_are(&rt, rt.alloc(), root, other, want)?;
     }
     Ok(())
 }
 
 // The text of `Kconfig`, that of `a`, and the refusal: its code, file, line and detail.
-fn refusals() -> &'static [(
-    &'static str,
-    &'static str,
-    Code,
-    &'static str,
-    u32,
-    &'static str,
-)] {
-    static ROWS: [(&str, &str, Code, &str, u32, &str); 20] = [
-        (
-            "choice\nprompt \"c\"\nconfig A\ntristate \"a\"\nendchoice\n",
-            "",
-            Code::ChoiceMember,
-            "Kconfig",
-            3,
-            "A",
-        ),
-        (
-            "config A\nint \"a\"\nchoice\nprompt \"c\"\nconfig A\nbool\nendchoice\n",
-            "",
-            Code::ChoiceMember,
-            "Kconfig",
-            5,
-            "A",
-        ),
-        (
-            "choice\nconfig A\nendchoice\nconfig A\ntristate\n",
-            "",
-            Code::ChoiceMember,
-            "Kconfig",
-            2,
-            "A",
-        ),
-        (
-            "choice\nconfig A\nendchoice\nconfig B\nbool\nconfig A\n",
-            "",
-            Code::ChoiceMember,
-            "Kconfig",
-            6,
-            "A",
-        ),
-        (
-            "choice\nif y\nconfig A\nint\nendif\nendchoice\n",
-            "",
-            Code::ChoiceMember,
-            "Kconfig",
-            3,
-            "A",
-        ),
-        (
-            "source \"a\"\nsource \"a\"\n",
-            "choice\nconfig A\nbool \"a\"\nendchoice\n",
-            Code::ChoiceMember,
-            "a",
-            2,
-            "A",
-        ),
-        (
-            "choice\nsource \"a\"\nendchoice\n",
-            "config A\nhex \"a\"\n",
-            Code::ChoiceMember,
-            "a",
-            1,
-            "A",
-        ),
-        (
-            "config S\nstring \"s\"\ndefault A && B\n",
-            "",
-            Code::BadDefault,
-            "Kconfig",
-            3,
-            "S",
-        ),
-        (
-            "config S\nhex\ndefault ((\"x\"))\ndefault !A\nconfig T\nint\ndefault A = B\n",
-            "",
-            Code::BadDefault,
-            "Kconfig",
-            4,
-            "S",
-        ),
-        (
-            "config S\ndef_bool A && B\nconfig T\nhex\ndef_bool A && B\n",
-            "",
-            Code::BadDefault,
-            "Kconfig",
-            5,
-            "T",
-        ),
-        (
-            "config S\ndefault A || B\nconfig S\nint\n",
-            "",
-            Code::BadDefault,
-            "Kconfig",
-            2,
-            "S",
-        ),
-        (
-            "choice\nprompt \"c\"\ndefault \"A\"\nconfig A\nbool \"a\"\nendchoice\n",
-            "",
-            Code::BadDefault,
-            "Kconfig",
-            3,
-            "choice",
-        ),
-        (
-            "choice\ndefault (A)\ndefault n\nconfig A\nendchoice\n",
-            "",
-            Code::BadDefault,
-            "Kconfig",
-            3,
-            "choice",
-        ),
-        (
-            "choice\ndefault A && A\nconfig A\nendchoice\n",
-            "",
-            Code::BadDefault,
-            "Kconfig",
-            2,
-            "choice",
-        ),
-        (
-            "config S\nstring \"s\"\ndefault A && B\nchoice\nprompt \"c\"\nconfig T\ntristate \"t\"\nendchoice\n",
-            "",
-            Code::ChoiceMember,
-            "Kconfig",
-            6,
-            "T",
-        ),
-        (
-            "choice\nconfig A\nint\nconfig B\ntristate\nendchoice\nconfig A\n",
-            "",
-            Code::ChoiceMember,
-            "Kconfig",
-            2,
-            "A",
-        ),
-        (
-            "config S\nstring\ndefault A && B\nendif\n",
-            "",
-            Code::Block,
-            "Kconfig",
-            4,
-            "",
-        ),
-        (
-            "choice\nconfig A\nint\nendchoice\nfoo\n",
-            "",
-            Code::Syntax,
-            "Kconfig",
-            5,
-            "",
-        ),
-        ("choice\nconfig A\nint\n", "", Code::Block, "Kconfig", 1, ""),
-        ("source \"b\"\n", "", Code::NoFile, "Kconfig", 1, "b"),
-    ];
-    &ROWS
-}
+const REFUSALS: &[(&str, &str, Code, &str, u32, &str)] = &[
+    (
+        "choice\nprompt \"c\"\nconfig A\ntristate \"a\"\nendchoice\n",
+        "",
+        Code::ChoiceMember,
+        "Kconfig",
+        3,
+        "A",
+    ),
+    (
+        "config A\nint \"a\"\nchoice\nprompt \"c\"\nconfig A\nbool\nendchoice\n",
+        "",
+        Code::ChoiceMember,
+        "Kconfig",
+        5,
+        "A",
+    ),
+    (
+        "choice\nconfig A\nendchoice\nconfig A\ntristate\n",
+        "",
+        Code::ChoiceMember,
+        "Kconfig",
+        2,
+        "A",
+    ),
+    (
+        "choice\nconfig A\nendchoice\nconfig B\nbool\nconfig A\n",
+        "",
+        Code::ChoiceMember,
+        "Kconfig",
+        6,
+        "A",
+    ),
+    (
+        "choice\nif y\nconfig A\nint\nendif\nendchoice\n",
+        "",
+        Code::ChoiceMember,
+        "Kconfig",
+        3,
+        "A",
+    ),
+    (
+        "source \"a\"\nsource \"a\"\n",
+        "choice\nconfig A\nbool \"a\"\nendchoice\n",
+        Code::ChoiceMember,
+        "a",
+        2,
+        "A",
+    ),
+    (
+        "choice\nsource \"a\"\nendchoice\n",
+        "config A\nhex \"a\"\n",
+        Code::ChoiceMember,
+        "a",
+        1,
+        "A",
+    ),
+    (
+        "config S\nstring \"s\"\ndefault A && B\n",
+        "",
+        Code::BadDefault,
+        "Kconfig",
+        3,
+        "S",
+    ),
+    (
+        "config S\nhex\ndefault ((\"x\"))\ndefault !A\nconfig T\nint\ndefault A = B\n",
+        "",
+        Code::BadDefault,
+        "Kconfig",
+        4,
+        "S",
+    ),
+    (
+        "config S\ndef_bool A && B\nconfig T\nhex\ndef_bool A && B\n",
+        "",
+        Code::BadDefault,
+        "Kconfig",
+        5,
+        "T",
+    ),
+    (
+        "config S\ndefault A || B\nconfig S\nint\n",
+        "",
+        Code::BadDefault,
+        "Kconfig",
+        2,
+        "S",
+    ),
+    (
+        "choice\nprompt \"c\"\ndefault \"A\"\nconfig A\nbool \"a\"\nendchoice\n",
+        "",
+        Code::BadDefault,
+        "Kconfig",
+        3,
+        "choice",
+    ),
+    (
+        "choice\ndefault (A)\ndefault n\nconfig A\nendchoice\n",
+        "",
+        Code::BadDefault,
+        "Kconfig",
+        3,
+        "choice",
+    ),
+    (
+        "choice\ndefault A && A\nconfig A\nendchoice\n",
+        "",
+        Code::BadDefault,
+        "Kconfig",
+        2,
+        "choice",
+    ),
+    (
+        "config S\nstring \"s\"\ndefault A && B\nchoice\nprompt \"c\"\nconfig T\ntristate \"t\"\nendchoice\n",
+        "",
+        Code::ChoiceMember,
+        "Kconfig",
+        6,
+        "T",
+    ),
+    (
+        "choice\nconfig A\nint\nconfig B\ntristate\nendchoice\nconfig A\n",
+        "",
+        Code::ChoiceMember,
+        "Kconfig",
+        2,
+        "A",
+    ),
+    (
+        "config S\nstring\ndefault A && B\nendif\n",
+        "",
+        Code::Block,
+        "Kconfig",
+        4,
+        "",
+    ),
+    (
+        "choice\nconfig A\nint\nendchoice\nfoo\n",
+        "",
+        Code::Syntax,
+        "Kconfig",
+        5,
+        "",
+    ),
+    ("choice\nconfig A\nint\n", "", Code::Block, "Kconfig", 1, ""),
+    ("source \"b\"\n", "", Code::NoFile, "Kconfig", 1, "b"),
+];
 
 fn place_is(rt: &impl Abort, root: &str, refusal: &Refusal, file: &str, line: u32) {
     match &refusal.place {
@@ -585,7 +569,7 @@ fn refused_is(rt: &impl Abort, root: &str, built: &Result<Tree, Refusal>, want: 
 
 #[test]
 fn refusals_come_in_their_order(rt: HostRuntime) -> Result<(), Fail> {
-    for (root, other, code, file, line, detail) in refusals() {
+    for (root, other, code, file, line, detail) in REFUSALS {
         let built = build(rt.alloc(), &[("Kconfig", root), ("a", other)])?;
         refused_is(&rt, root, &built, (*code, file, *line, detail));
         drop(built);
