@@ -65,7 +65,7 @@ module _ (ls : List Line) where
   abbrev pub is_bad_given : ℕ → Bool
   is_bad_given i = list_any (is_bad_default (kind_of (said_by ls)) (owner_at (said_by ls) i)) (listed (slice_get (said_by ls) i))
 
-  pub mode_is : (i : ℕ) (openers : List (Option ℕ)) (table : List Surroundings) (o r : Surroundings) → i < length ls → openers ≡ map (opener_of (said_by ls)) (numbers (length ls)) → table ≡ map (inside_table (said_by ls)) (numbers (length ls)) → o ≡ nothing → r ≡ looked_up o openers table i → r.mode ≡ choice_round (said_by ls) i
+  pub mode_is : (i : ℕ) (openers : List (Option ℕ)) (table : List (Option Surroundings)) (o r : Surroundings) → i < length ls → openers ≡ map (opener_of (said_by ls)) (numbers (length ls)) → table ≡ map (inside_table (said_by ls)) (numbers (length ls)) → o ≡ nothing → r ≡ looked_up o openers table i → r.mode ≡ choice_round (said_by ls) i
   mode_is i openers table o r h p t e q =
       ap (λ (s : Surroundings). s.mode) (q ∙ ap (λ (w : Surroundings). looked_up w openers table i) e ∙ looked_up-is (said_by ls) (length ls) (length ls) i openers table (omega (arith, length-said_by ls)) h (omega arith) p t)
 

@@ -8,9 +8,10 @@ use Rattle.kc_expr.specs.Form.{Form}
 use Rattle.kc_expr.specs.Names.{symbol}
 use Rattle.kc_read.specs.Statements.{Numbered, SelectLine, ImplyLine}
 use Rattle.kc_read.specs.Blocks.{numbers, attributes}
+use Rattle.kc_tree.specs.declared.lines.Raise.{Raise}
 use Rattle.kc_tree.specs.declared.lines.Raise.TheVariants as raise
 use Rattle.kc_tree.specs.TreeFacts.{Condition, Guarded, SymbolFacts}
-use Rattle.kc_tree.specs.Facts.{symbol_at, kind_of, choice_of, can_be_target, select_of, imply_of, naming_at, dep}
+use Rattle.kc_tree.specs.Facts.{symbol_at, kind_of, choice_of, can_be_target, select_of, imply_of, naming_at, dep, first_of}
 use Rattle.kc_tree.specs.Definitions.{defined_symbol, raised_from}
 use Rattle.kc_tree.specs.Conditions.{with_when}
 use Rattle.kc_tree.specs.Rounds.{Surroundings, round}
@@ -18,6 +19,21 @@ use Rattle.kc_tree.specs.Passes.{target_of}
 use Rattle.kc_tree.specs.Raises.{raised_by, raise_to, raise_lines, raise_entry}
 use Rattle.kc_tree.proofs.PlaceLemmas.{flat_map-next}
 use Rattle.kc_tree.proofs.TableLemmas.{same_numbers, change_numbers}
+
+-- the first is none only where nothing is listed
+rest_none : (x : Numbered) (own : List Numbered) (o : Option (Raise × SymId × Option Form)) → target_of x ≡ o → first_of (cons_option o (filter_map target_of own)) ≡ None → first_of (filter_map target_of own) ≡ None
+rest_none x own None e h = h
+rest_none x own (Some t) e h = cc
+
+-- an entry that selects and implies nothing adds nothing
+module _ (d : Condition) (source : SymId) where
+  past : (x : Numbered) (own : List Numbered) (o : Option (Raise × SymId × Option Form)) (fs : List SymbolFacts) → target_of x ≡ o → first_of (cons_option o (filter_map target_of own)) ≡ None → fs ≡ raise_lines d source own fs → fs ≡ raise_lines d source own (raise_to d source (target_of x) fs)
+  past x own None fs e h n = rw e n
+  past x own (Some t) fs e h n = cc
+
+  pub none_raised : (own : List Numbered) (fs : List SymbolFacts) → first_of (filter_map target_of own) ≡ None → fs ≡ raise_lines d source own fs
+  none_raised [] fs h = refl
+  none_raised (x ∷ own) fs h = past x own (target_of x) fs refl h (none_raised own fs (rest_none x own (target_of x) refl h))
 
 module _ (ss : List Numbered) where
   abbrev raised_with : ℕ → List (Guarded SymId) → List (Guarded SymId) → SymbolFacts

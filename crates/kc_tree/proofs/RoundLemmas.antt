@@ -44,23 +44,23 @@ module _ (ss : List Numbered) where
       let m = ap (λ l. option_map (choice_number ss) (last_of l)) (filter-append (of_block ss block.Choice) places (k ∷ [])) ∙ chosen (of_block ss block.Choice k) (choice_number ss) (filter (of_block ss block.Choice) places) k in
       λ i. record { parts = p i; visible = v i; mode = m i }
 
-  pub round_inside : (i k : ℕ) → i ≤ length ss → opener_of ss i ≡ Some k → inside_table ss k ≡ round ss i
+  pub round_inside : (i k : ℕ) → i ≤ length ss → opener_of ss i ≡ Some k → inside_table ss k ≡ Some (round ss i)
   round_inside i k h e =
       let opens = (round_last ss i k h e).opener in
-      (rw opens refl) ∙ sym (ap round_at (enclosing-last ss i k h e) ∙ round_snoc (enclosing ss k) k)
+      (rw opens refl) ∙ ap Some (sym (ap round_at (enclosing-last ss i k h e) ∙ round_snoc (enclosing ss k) k))
 
   pub round_outside : (i : ℕ) → opener_of ss i ≡ None → nothing ≡ round ss i
   round_outside i e = ap round_at (sym (enclosing-none ss i e))
 
-  by_opener : (n m i : ℕ) (o : Option ℕ) (insides : List Surroundings) → i ≤ length ss → i ≤ m → opener_of ss i ≡ o → insides ≡ map (inside_table ss) (numbers m) → unwrap_or (option_and_then (λ k. slice_get insides k) o) nothing ≡ round ss i
+  by_opener : (n m i : ℕ) (o : Option ℕ) (insides : List (Option Surroundings)) → i ≤ length ss → i ≤ m → opener_of ss i ≡ o → insides ≡ map (inside_table ss) (numbers m) → unwrap_or (option_and_then (λ k. unwrap_or (slice_get insides k) None) o) nothing ≡ round ss i
   by_opener n m i None insides h b e t = round_outside i e
   by_opener n m i (Some k) insides h b e t =
       let before = (round_last ss i k h e).before in
       let at : slice_get insides k ≡ Some (inside_table ss k) = rw t (get-map_numbers (inside_table ss) m k (omega arith)) in
-      rw at (round_inside i k h e)
+      rw (at, round_inside i k h e) refl
 
   -- what stands in the tables is what surrounds a place
-  pub looked_up-is : (n m i : ℕ) (openers : List (Option ℕ)) (insides : List Surroundings) → i ≤ length ss → i < n → i ≤ m → openers ≡ map (opener_of ss) (numbers n) → insides ≡ map (inside_table ss) (numbers m) → looked_up nothing openers insides i ≡ round ss i
+  pub looked_up-is : (n m i : ℕ) (openers : List (Option ℕ)) (insides : List (Option Surroundings)) → i ≤ length ss → i < n → i ≤ m → openers ≡ map (opener_of ss) (numbers n) → insides ≡ map (inside_table ss) (numbers m) → looked_up nothing openers insides i ≡ round ss i
   looked_up-is n m i openers insides h b c p t =
       let at : slice_get openers i ≡ Some (opener_of ss i) = rw p (get-map_numbers (opener_of ss) n i b) in
       rw at (by_opener n m i (opener_of ss i) insides h c refl t)
@@ -80,7 +80,7 @@ module _ (ss : List Numbered) where
 
 -- The same for a walk over lines.
 module _ (ls : List Line) where
-  pub entry-is : (i : ℕ) (openers : List (Option ℕ)) (table : List Surroundings) (o r x : Surroundings) (count : ℕ) → i < length ls → openers ≡ map (opener_of (said_by ls)) (numbers (length ls)) → table ≡ map (inside_table (said_by ls)) (numbers i) → o ≡ nothing → r ≡ looked_up o openers table i → count ≡ choice_number (said_by ls) i → x ≡ entry_of (said_by ls) i r count → x ≡ inside_table (said_by ls) i
+  pub entry-is : (i : ℕ) (openers : List (Option ℕ)) (table : List (Option Surroundings)) (o r : Surroundings) (x : Option Surroundings) (count : ℕ) → i < length ls → openers ≡ map (opener_of (said_by ls)) (numbers (length ls)) → table ≡ map (inside_table (said_by ls)) (numbers i) → o ≡ nothing → r ≡ looked_up o openers table i → count ≡ choice_number (said_by ls) i → x ≡ entry_of (said_by ls) i r count → x ≡ inside_table (said_by ls) i
   entry-is i openers table o r x count h p t e q n z =
       let there : r ≡ round (said_by ls) i = q ∙ ap (λ (w : Surroundings). looked_up w openers table i) e ∙ looked_up-is (said_by ls) (length ls) i i openers table (omega (arith, length-said_by ls)) h (omega arith) p t in
       z ∙ rw (there, n) refl
@@ -97,7 +97,7 @@ module _ (ls : List Line) where
   few-is i count next s h e = rw e (few_next s count i h)
 
   -- what is looked up in the whole tables
-  pub seen-is : (i : ℕ) (openers : List (Option ℕ)) (table : List Surroundings) (o r : Surroundings) → i < length ls → openers ≡ map (opener_of (said_by ls)) (numbers (length ls)) → table ≡ map (inside_table (said_by ls)) (numbers (length ls)) → o ≡ nothing → r ≡ looked_up o openers table i → r ≡ round (said_by ls) i
+  pub seen-is : (i : ℕ) (openers : List (Option ℕ)) (table : List (Option Surroundings)) (o r : Surroundings) → i < length ls → openers ≡ map (opener_of (said_by ls)) (numbers (length ls)) → table ≡ map (inside_table (said_by ls)) (numbers (length ls)) → o ≡ nothing → r ≡ looked_up o openers table i → r ≡ round (said_by ls) i
   seen-is i openers table o r h p t e q =
       q ∙ ap (λ (w : Surroundings). looked_up w openers table i) e ∙ looked_up-is (said_by ls) (length ls) (length ls) i openers table (omega (arith, length-said_by ls)) h (omega arith) p t
 

@@ -44,13 +44,13 @@ module _ (ss : List Numbered) where
   abbrev pub inside : ℕ → Surroundings
   inside i = inside_from i (round i) (choice_number ss i)
 
-  abbrev pub entry_of : ℕ → Surroundings → ℕ → Surroundings
-  entry_of i r choices = if is_some (block_at ss i) then inside_from i r choices else nothing
+  abbrev pub entry_of : ℕ → Surroundings → ℕ → Option Surroundings
+  entry_of i r choices = if is_some (block_at ss i) then Some (inside_from i r choices) else None
 
   -- for each place what is inside the block that opens there, if one does
-  abbrev pub inside_table : ℕ → Surroundings
+  abbrev pub inside_table : ℕ → Option Surroundings
   inside_table i = entry_of i (round i) (choice_number ss i)
 
 -- what surrounds a place, by its innermost opener and what there is inside that
-abbrev pub looked_up : Surroundings → List (Option ℕ) → List Surroundings → ℕ → Surroundings
-looked_up outside openers insides i = unwrap_or (option_and_then (λ k. slice_get insides k) (unwrap_or (slice_get openers i) None)) outside
+abbrev pub looked_up : Surroundings → List (Option ℕ) → List (Option Surroundings) → ℕ → Surroundings
+looked_up outside openers insides i = unwrap_or (option_and_then (λ k. unwrap_or (slice_get insides k) None) (unwrap_or (slice_get openers i) None)) outside

@@ -12,7 +12,7 @@ use crate::choices::choices;
 use crate::collect::symbols;
 use crate::diagnoses::{Diagnosis, diagnose};
 use crate::entries::{entries, main_menu};
-use crate::firsts::firsts;
+use crate::known::Marks;
 use crate::parts::{Choice, Entry, Symbol};
 use crate::round::insides;
 use kc_expr::expression::SymId;
@@ -62,15 +62,15 @@ pub fn assemble(
     let openers = openers(alloc, lines)?;
     let insides = insides(alloc, lines, &openers)?;
     let symbols = symbols(alloc, lines, &openers, &insides, count)?;
-    match diagnose(alloc, names, lines, &openers, &insides, &symbols, count)? {
+    let marks = Marks::of(alloc, lines, count)?;
+    match diagnose(alloc, names, lines, &openers, &insides, &symbols, &marks)? {
         Diagnosis::Refused(refusal) => Ok(Assembled::Refused(refusal)),
         Diagnosis::Warned(warnings) => {
-            let firsts = firsts(alloc, lines, count)?;
             let choices = choices(alloc, lines, &openers, &insides, &symbols)?;
             Ok(Assembled::Whole(TreeParts {
                 symbols,
                 choices,
-                entries: entries(alloc, lines, &openers, &insides, &firsts)?,
+                entries: entries(alloc, lines, &openers, &insides, &marks.firsts)?,
                 warnings,
                 main_menu: main_menu(alloc, lines)?,
                 modules: defined(modules, count),

@@ -10,6 +10,7 @@ ghost use Rattle.kc_tree.specs.Passes.{said_by, asks_form};
 
 use crate::copies::expression_copy;
 use crate::lines::{asked_of, depends_of, is_attribute, type_of, visible_of};
+use crate::lists::push_one;
 use kc_expr::expression::{Expr, Kind};
 use kc_read::line::Line;
 use kc_read::statement::{Prompt, Statement};
@@ -85,7 +86,7 @@ fn asked_parts(alloc: Global, attributes: &[Line], asks: Asks) -> Result<Vec<Exp
     let mut parts = Vec::new(alloc);
     for line in attributes {
         if let Some(part) = asks_of(&line.statement, asks) {
-            parts.push(expression_copy(alloc, part)?)?;
+            push_one(&mut parts, expression_copy(alloc, part)?)?;
         }
     }
     Ok(parts)

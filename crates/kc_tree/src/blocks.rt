@@ -46,7 +46,7 @@ fn next_opener(
 pub fn openers(alloc: Global, lines: &[Line]) -> Result<Vec<Option<usize>>, AllocError>
     ensures { IfOk result (λ v. v.items ≡ map (opener_of (said_by lines.now)) (numbers (length lines.now))) }
 {
-    let mut openers = Vec::new(alloc);
+    let mut openers = Vec::with_capacity(alloc, lines.len())?;
     let mut now = None;
     for (i, line) in lines.iter().enumerate() {
         openers.push(now)?;

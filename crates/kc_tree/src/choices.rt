@@ -10,7 +10,7 @@ ghost use Rattle.kc_tree.specs.Choices.{named_view, named_member, member_line, c
 ghost use Rattle.kc_tree.specs.Facts.{choice_number, choices, is_block, opener_of, same_symbol};
 ghost use Rattle.kc_tree.specs.Known.{IsKnown};
 ghost use Rattle.kc_tree.specs.Passes.{said_by};
-ghost use Rattle.kc_tree.specs.RoundViews.{round_view};
+ghost use Rattle.kc_tree.specs.RoundViews.{round_view, inside_view};
 ghost use Rattle.kc_tree.specs.Rounds.{inside_table};
 ghost use Rattle.kc_tree.specs.Views.{choice_facts_of, condition_of};
 ghost use Rattle.kc_tree.specs.Views as views;
@@ -137,11 +137,11 @@ pub fn choices(
     alloc: Global,
     lines: &[Line],
     openers: &[Option<usize>],
-    insides: &[Round],
+    insides: &[Option<Box<Round>>],
     symbols: &[Symbol],
 ) -> Result<Vec<Choice>, AllocError>
     requires openers { openers.now ≡ map (opener_of (said_by lines.now)) (numbers (length lines.now)) }
-    requires insides { map round_view insides.now ≡ map (inside_table (said_by lines.now)) (numbers (length lines.now)) }
+    requires insides { map inside_view insides.now ≡ map (inside_table (said_by lines.now)) (numbers (length lines.now)) }
     requires symbols { IsKnown (said_by lines.now) symbols.now }
     requires members { bad_members (said_by lines.now) ≡ [] }
     ensures { IfOk result (λ v. map choice_facts_of v.items ≡ choices (said_by lines.now)) }

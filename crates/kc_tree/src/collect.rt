@@ -6,7 +6,7 @@ ghost use Rattle.kc_read.specs.Blocks.{numbers};
 ghost use Rattle.kc_tree.specs.Definitions.{bare_from, kind_by};
 ghost use Rattle.kc_tree.specs.Facts.{opener_of, symbol_facts};
 ghost use Rattle.kc_tree.specs.Passes.{said_by};
-ghost use Rattle.kc_tree.specs.RoundViews.{round_view};
+ghost use Rattle.kc_tree.specs.RoundViews.{inside_view};
 ghost use Rattle.kc_tree.specs.Rounds.{inside_table};
 ghost use Rattle.kc_tree.specs.Views.{facts_of};
 
@@ -56,7 +56,7 @@ fn bare_symbols(
     requires { length types.now ≡ length choices.now }
     ensures { IfOk result (λ v. map facts_of v.items ≡ map (λ s. bare_from (unwrap_or (slice_get types.now s) None) (option_map (λ k. k.0) (unwrap_or (slice_get choices.now s) None))) (numbers (length types.now))) }
 {
-    let mut symbols = Vec::new(alloc);
+    let mut symbols = Vec::with_capacity(alloc, types.len())?;
     for i in 0..types.len() {
         symbols.push(bare_symbol(alloc, types[i], choices[i]))?;
     }
@@ -68,11 +68,11 @@ pub fn symbols(
     alloc: Global,
     lines: &[Line],
     openers: &[Option<usize>],
-    insides: &[Round],
+    insides: &[Option<Box<Round>>],
     count: usize,
 ) -> Result<Vec<Symbol>, AllocError>
     requires openers { openers.now ≡ map (opener_of (said_by lines.now)) (numbers (length lines.now)) }
-    requires insides { map round_view insides.now ≡ map (inside_table (said_by lines.now)) (numbers (length lines.now)) }
+    requires insides { map inside_view insides.now ≡ map (inside_table (said_by lines.now)) (numbers (length lines.now)) }
     ensures { IfOk result (λ v. map facts_of v.items ≡ map (λ s. symbol_facts (said_by lines.now) (symbol s)) (numbers count)) }
 {
     let types = types(alloc, lines, count)?;

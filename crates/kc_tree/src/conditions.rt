@@ -11,8 +11,9 @@ ghost use Rattle.kc_tree.specs.Views.{condition_of, default_view, range_view};
 use crate::attributes::{Asks, joined, last_prompt};
 use crate::copies::{expression_copy, operand_copy};
 use crate::lines::{given_of, range_of};
+use crate::lists::push_one;
 use crate::parts::Cond;
-use crate::round::{Round, shares, with_part};
+use crate::round::{Round, add_part, shares, with_part};
 use kc_expr::expression::{Expr, Operand};
 use kc_read::line::Line;
 use std::alloc::{AllocError, Global};
@@ -51,11 +52,17 @@ fn both(alloc: Global, first: &[Rc<Expr>], second: &[Rc<Expr>]) -> Result<Vec<Rc
     Ok(all)
 }
 
-// The condition, and what menus ask of prompts.
-fn seen(alloc: Global, base: &Cond, visible: &[Rc<Expr>]) -> Result<Cond, AllocError>
-    ensures { IfOk result (λ c. condition_of c ≡ with_visible (condition_of base.now) (map (λ p. form_of p.value) visible.now)) }
+// The condition, what menus ask of prompts, and one more part where there is one.
+fn seen(
+    alloc: Global,
+    base: &Cond,
+    visible: &[Rc<Expr>],
+    more: Option<Expr>,
+) -> Result<Cond, AllocError>
+    ensures { IfOk result (λ c. condition_of c ≡ with_when (with_visible (condition_of base.now) (map (λ p. form_of p.value) visible.now)) (option_map form_of more)) }
 {
-    let parts = both(alloc, &base.parts, visible)?;
+    let mut parts = both(alloc, &base.parts, visible)?;
+    add_part(alloc, &mut parts, more)?;
     Ok(Cond {
         parts,
         mode: base.mode,
@@ -86,8 +93,8 @@ pub fn prompt_condition(
 {
     match last_prompt(own) {
         Some(prompt) => {
-            let base = seen(alloc, dep, &around.visible)?;
-            Ok(Some(under(alloc, &base, prompt.when.as_ref())?))
+            let when = optional_copy(alloc, prompt.when.as_ref())?;
+            Ok(Some(seen(alloc, dep, &around.visible, when)?))
         }
         None => Ok(None),
     }
@@ -98,13 +105,8 @@ pub fn menu_condition(alloc: Global, own: &[Line], around: &Round) -> Result<Con
     ensures { IfOk result (λ c. condition_of c ≡ shown_of (round_view around.now) (said_by own.now)) }
 {
     let dep = dependency(alloc, own, around)?;
-    let base = seen(alloc, &dep, &around.visible)?;
     let more = joined(alloc, own, Asks::Visible)?;
-    let parts = with_part(alloc, &base.parts, more)?;
-    Ok(Cond {
-        parts,
-        mode: base.mode,
-    })
+    seen(alloc, &dep, &around.visible, more)
 }
 
 /// Adds an entry's defaults.
@@ -120,7 +122,7 @@ pub fn add_defaults(
         if let Some(given) = given_of(&line.statement) {
             let when = under(alloc, dep, given.when)?;
             let value = expression_copy(alloc, given.value)?;
-            defaults.push((value, when))?;
+            push_one(defaults, (value, when))?;
         }
     }
     Ok(())
@@ -140,7 +142,7 @@ pub fn add_ranges(
             let when = under(alloc, dep, range.when)?;
             let low = operand_copy(alloc, range.low)?;
             let high = operand_copy(alloc, range.high)?;
-            ranges.push((low, high, when))?;
+            push_one(ranges, (low, high, when))?;
         }
     }
     Ok(())

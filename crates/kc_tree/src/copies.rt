@@ -26,14 +26,14 @@ pub fn expression_copy(alloc: Global, e: &Expr) -> Result<Expr, AllocError>
         Expr::Rel(op, a, b) => Ok(Expr::Rel(*op, operand_copy(alloc, a)?, operand_copy(alloc, b)?)),
         Expr::Not(e) => Ok(Expr::Not(Box::new(alloc, expression_copy(alloc, e)?)?)),
         Expr::All(parts) => {
-            let mut all = Vec::new(alloc);
+            let mut all = Vec::with_capacity(alloc, parts.len())?;
             for part in parts {
                 all.push(expression_copy(alloc, part)?)?;
             }
             Ok(Expr::All(all))
         }
         Expr::Any(parts) => {
-            let mut any = Vec::new(alloc);
+            let mut any = Vec::with_capacity(alloc, parts.len())?;
             for part in parts {
                 any.push(expression_copy(alloc, part)?)?;
             }

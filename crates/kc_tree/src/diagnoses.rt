@@ -1,16 +1,14 @@
 //! The warnings about a list of lines, or the refusal that the whole list shows.
 
 ghost use Rattle.std.specs.Prelude.{◌≡◌, length, map, IfOk, Some, None};
-ghost use Rattle.kc_expr.specs.Names.{symbol};
 ghost use Rattle.kc_read.specs.Blocks.{numbers};
 ghost use Rattle.kc_read.specs.Reads.{line_view};
-ghost use Rattle.kc_tree.specs.Facts.{first_of, opener_of, symbol_facts};
-ghost use Rattle.kc_tree.specs.Firsts.{AreBelow};
+ghost use Rattle.kc_tree.specs.Facts.{first_of, opener_of};
+ghost use Rattle.kc_tree.specs.Known.{AreMarks, IsKnown};
 ghost use Rattle.kc_tree.specs.Late.{IsDiagnosis};
 ghost use Rattle.kc_tree.specs.Passes.{said_by};
-ghost use Rattle.kc_tree.specs.RoundViews.{round_view};
+ghost use Rattle.kc_tree.specs.RoundViews.{inside_view};
 ghost use Rattle.kc_tree.specs.Rounds.{inside_table};
-ghost use Rattle.kc_tree.specs.Views.{facts_of};
 
 use crate::known::Marks;
 use crate::late::late_refusal;
@@ -29,26 +27,25 @@ pub enum Diagnosis {
     Warned(Vec<Vec<u8>>),
 }
 
-/// The first refusal that the whole list of lines shows, and where there is none the warnings about them. The
-/// symbols that are defined are those below `count`; the tables say what the lines say.
+/// The first refusal that the whole list of lines shows, and where there is none the warnings about them. The tables,
+/// the symbols and the marks say what the lines say.
 pub fn diagnose(
     alloc: Global,
     names: &Names,
     lines: &[Line],
     openers: &[Option<usize>],
-    insides: &[Round],
+    insides: &[Option<Box<Round>>],
     symbols: &[Symbol],
-    count: usize,
+    marks: &Marks,
 ) -> Result<Diagnosis, AllocError>
-    requires below { AreBelow count (said_by lines.now) }
     requires openers { openers.now ≡ map (opener_of (said_by lines.now)) (numbers (length lines.now)) }
-    requires insides { map round_view insides.now ≡ map (inside_table (said_by lines.now)) (numbers (length lines.now)) }
-    requires symbols { map facts_of symbols.now ≡ map (λ s. symbol_facts (said_by lines.now) (symbol s)) (numbers count) }
+    requires insides { map inside_view insides.now ≡ map (inside_table (said_by lines.now)) (numbers (length lines.now)) }
+    requires symbols { IsKnown (said_by lines.now) symbols.now }
+    requires marks { AreMarks (said_by lines.now) marks.now }
     ensures { IfOk result (λ d. IsDiagnosis names.now (map line_view lines.now) d) }
 {
-    let marks = Marks::of(alloc, lines, count)?;
-    match late_refusal(alloc, names, lines, openers, insides, symbols, &marks)? {
+    match late_refusal(alloc, names, lines, openers, insides, symbols, marks)? {
         Some(refusal) => Ok(Diagnosis::Refused(refusal)),
-        None => Ok(Diagnosis::Warned(warnings(alloc, names, lines, symbols, &marks)?)),
+        None => Ok(Diagnosis::Warned(warnings(alloc, names, lines, symbols, marks)?)),
     }
 }

@@ -10,7 +10,7 @@ ghost use Rattle.kc_tree.specs.Facts as facts;
 ghost use Rattle.kc_tree.specs.Facts.{entry_number, entries, opener_of};
 ghost use Rattle.kc_tree.specs.Firsts.{is_first_at};
 ghost use Rattle.kc_tree.specs.Passes.{said_by};
-ghost use Rattle.kc_tree.specs.RoundViews.{round_view};
+ghost use Rattle.kc_tree.specs.RoundViews.{round_view, inside_view};
 ghost use Rattle.kc_tree.specs.Rounds.{inside_table};
 ghost use Rattle.kc_tree.specs.Views.{shown_of};
 
@@ -76,7 +76,7 @@ pub fn entry_numbers(
     requires { firsts.now ≡ map (is_first_at (said_by lines.now)) (numbers (length lines.now)) }
     ensures { IfOk result (λ v. v.items ≡ map (entry_number (said_by lines.now)) (numbers (length lines.now))) }
 {
-    let mut entry_numbers = Vec::new(alloc);
+    let mut entry_numbers = Vec::with_capacity(alloc, lines.len())?;
     let mut number = 0;
     for (i, line) in lines.iter().enumerate() {
         entry_numbers.push(number)?;
@@ -154,11 +154,11 @@ pub fn entries(
     alloc: Global,
     lines: &[Line],
     openers: &[Option<usize>],
-    insides: &[Round],
+    insides: &[Option<Box<Round>>],
     firsts: &[bool],
 ) -> Result<Vec<Entry>, AllocError>
     requires openers { openers.now ≡ map (opener_of (said_by lines.now)) (numbers (length lines.now)) }
-    requires insides { map round_view insides.now ≡ map (inside_table (said_by lines.now)) (numbers (length lines.now)) }
+    requires insides { map inside_view insides.now ≡ map (inside_table (said_by lines.now)) (numbers (length lines.now)) }
     requires firsts { firsts.now ≡ map (is_first_at (said_by lines.now)) (numbers (length lines.now)) }
     ensures { IfOk result (λ v. map shown_of v.items ≡ entries (said_by lines.now)) }
 {

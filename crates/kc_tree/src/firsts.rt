@@ -44,7 +44,7 @@ pub fn firsts(alloc: Global, lines: &[Line], count: usize) -> Result<Vec<bool>, 
     ensures { IfOk result (λ v. v.items ≡ map (is_first_at (said_by lines.now)) (numbers (length lines.now))) }
 {
     let mut seen = none_seen(alloc, count)?;
-    let mut firsts = Vec::new(alloc);
+    let mut firsts = Vec::with_capacity(alloc, lines.len())?;
     for line in lines {
         let first = see(&mut seen, symbol_of(&line.statement));
         firsts.push(first)?;

@@ -10,7 +10,7 @@ ghost use Rattle.kc_tree.specs.Facts as facts;
 ghost use Rattle.kc_tree.specs.Known.{kind_by, choice_by, IsKnown, AreMarks};
 ghost use Rattle.kc_tree.specs.Late as spec;
 ghost use Rattle.kc_tree.specs.Passes.{said_by};
-ghost use Rattle.kc_tree.specs.RoundViews.{round_view};
+ghost use Rattle.kc_tree.specs.RoundViews.{inside_view};
 ghost use Rattle.kc_tree.specs.Rounds.{inside_table};
 ghost use Rattle.kc_tree.specs.Warnings as warnings;
 ghost use Rattle.kc_tree.specs.Warnings.{bad_members, bad_defaults, late_refusals};
@@ -74,12 +74,12 @@ fn first_bad_member(
     alloc: Global,
     lines: &[Line],
     openers: &[Option<usize>],
-    insides: &[Round],
+    insides: &[Option<Box<Round>>],
     symbols: &[Symbol],
     marks: &Marks,
 ) -> Option<usize>
     requires openers { openers.now ≡ map (opener_of (said_by lines.now)) (numbers (length lines.now)) }
-    requires insides { map round_view insides.now ≡ map (inside_table (said_by lines.now)) (numbers (length lines.now)) }
+    requires insides { map inside_view insides.now ≡ map (inside_table (said_by lines.now)) (numbers (length lines.now)) }
     requires symbols { IsKnown (said_by lines.now) symbols.now }
     requires marks { AreMarks (said_by lines.now) marks.now }
     ensures first { result ≡ first_of (bad_members (said_by lines.now)) }
@@ -137,12 +137,12 @@ pub fn late_refusal(
     names: &Names,
     lines: &[Line],
     openers: &[Option<usize>],
-    insides: &[Round],
+    insides: &[Option<Box<Round>>],
     symbols: &[Symbol],
     marks: &Marks,
 ) -> Result<Option<Refusal>, AllocError>
     requires openers { openers.now ≡ map (opener_of (said_by lines.now)) (numbers (length lines.now)) }
-    requires insides { map round_view insides.now ≡ map (inside_table (said_by lines.now)) (numbers (length lines.now)) }
+    requires insides { map inside_view insides.now ≡ map (inside_table (said_by lines.now)) (numbers (length lines.now)) }
     requires symbols { IsKnown (said_by lines.now) symbols.now }
     requires marks { AreMarks (said_by lines.now) marks.now }
     ensures refusal { IfOk result (λ o. option_map refusal_view o ≡ first_of (late_refusals names.now (map line_view lines.now))) }

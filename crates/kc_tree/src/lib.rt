@@ -16,6 +16,7 @@ mod known;
 mod late;
 pub mod laws;
 mod lines;
+mod lists;
 mod marks;
 mod members;
 mod numbering;

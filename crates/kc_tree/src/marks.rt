@@ -23,7 +23,7 @@ fn next_prompted(statement: &Statement, now: bool) -> bool
 pub fn prompts(alloc: Global, lines: &[Line]) -> Result<Vec<bool>, AllocError>
     ensures { IfOk result (λ v. v.items ≡ map (prompt_before (said_by lines.now)) (numbers (length lines.now))) }
 {
-    let mut prompts = Vec::new(alloc);
+    let mut prompts = Vec::with_capacity(alloc, lines.len())?;
     let mut now = false;
     for line in lines {
         prompts.push(now)?;

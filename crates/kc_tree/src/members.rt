@@ -5,7 +5,7 @@ ghost use Rattle.kc_read.specs.Blocks.{numbers};
 ghost use Rattle.kc_tree.specs.Facts.{opener_of, members_of};
 ghost use Rattle.kc_tree.specs.Members.{member_added};
 ghost use Rattle.kc_tree.specs.Passes.{said_by};
-ghost use Rattle.kc_tree.specs.RoundViews.{round_view};
+ghost use Rattle.kc_tree.specs.RoundViews.{inside_view};
 ghost use Rattle.kc_tree.specs.Rounds.{inside_table};
 
 use crate::lines::symbol_of;
@@ -49,11 +49,11 @@ pub fn members(
     alloc: Global,
     lines: &[Line],
     openers: &[Option<usize>],
-    insides: &[Round],
+    insides: &[Option<Box<Round>>],
     count: usize,
 ) -> Result<Vec<Vec<SymId>>, AllocError>
     requires openers { openers.now ≡ map (opener_of (said_by lines.now)) (numbers (length lines.now)) }
-    requires insides { map round_view insides.now ≡ map (inside_table (said_by lines.now)) (numbers (length lines.now)) }
+    requires insides { map inside_view insides.now ≡ map (inside_table (said_by lines.now)) (numbers (length lines.now)) }
     ensures { IfOk result (λ v. map (λ l. l.items) v.items ≡ map (members_of (said_by lines.now)) (numbers count)) }
 {
     let mut members = no_members(alloc, count)?;

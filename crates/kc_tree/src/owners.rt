@@ -64,7 +64,7 @@ fn next_owner(statement: &Statement, now: Owner, choices: usize) -> Owner
 pub fn owners(alloc: Global, lines: &[Line]) -> Result<Vec<Owner>, AllocError>
     ensures { IfOk result (λ v. v.items ≡ map (spec_warnings.owner_at (said_by lines.now)) (numbers (length lines.now))) }
 {
-    let mut owners = Vec::new(alloc);
+    let mut owners = Vec::with_capacity(alloc, lines.len())?;
     let mut now = Owner::Other;
     let mut choices = 0;
     for line in lines {

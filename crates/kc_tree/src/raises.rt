@@ -1,20 +1,22 @@
 //! Who selects and implies whom.
 
-ghost use Rattle.std.specs.Prelude.{◌≡◌, ◌<◌, length, map, OnOk, Some};
+ghost use Rattle.std.specs.Prelude.{◌≡◌, ◌<◌, length, map, option_map, OnOk, Some};
+ghost use Rattle.std.specs.List.{filter_map};
 ghost use Rattle.kc_read.specs.Blocks as blocks;
 ghost use Rattle.kc_read.specs.Blocks.{numbers};
 ghost use Rattle.kc_read.specs.Reads.{statement_view};
 ghost use Rattle.kc_tree.specs.Definitions.{defined_symbol, raised_symbol};
-ghost use Rattle.kc_tree.specs.Facts.{opener_of, symbol_at, takes_kind};
-ghost use Rattle.kc_tree.specs.Passes.{said_by, change};
+ghost use Rattle.kc_tree.specs.Facts.{first_of, opener_of, symbol_at, takes_kind};
+ghost use Rattle.kc_tree.specs.Passes.{said_by, change, target_of, target_view};
 ghost use Rattle.kc_tree.specs.Raises.{is_target, raised_by, with_raiser, raise_lines, raise_entry};
-ghost use Rattle.kc_tree.specs.RoundViews.{round_view};
+ghost use Rattle.kc_tree.specs.RoundViews.{round_view, inside_view};
 ghost use Rattle.kc_tree.specs.Rounds.{inside_table};
 ghost use Rattle.kc_tree.specs.Views.{condition_of, facts_of, named_view};
 
 use crate::attributes::attributes;
 use crate::conditions::{dependency, under};
-use crate::lines::{Raise, symbol_of, target_of};
+use crate::lines::{Raise, Target, symbol_of, target_of};
+use crate::lists::push_one;
 use crate::parts::{Cond, Symbol};
 use crate::round::{Round, around, outside};
 use kc_expr::expression::{Kind, SymId};
@@ -52,14 +54,8 @@ fn add_raiser(
     ensures { OnOk result (facts_of symbol.new ≡ with_raiser raise (named_view (source, when)) (facts_of symbol.old)) }
 {
     match raise {
-        Raise::Select => {
-            symbol.selectors.push((source, when))?;
-            Ok(())
-        }
-        Raise::Imply => {
-            symbol.impliers.push((source, when))?;
-            Ok(())
-        }
+        Raise::Select => push_one(&mut symbol.selectors, (source, when)),
+        Raise::Imply => push_one(&mut symbol.impliers, (source, when)),
     }
 }
 
@@ -109,7 +105,19 @@ fn raise_lines(
     Ok(())
 }
 
-// Adds what the entry at a place selects and implies, where it is a symbol's.
+// The first symbol that the lines of one entry select or imply.
+fn first_target(own: &[Line]) -> Option<Target<'_>>
+    ensures { option_map target_view result ≡ first_of (filter_map target_of (said_by own.now)) }
+{
+    for line in own {
+        if let Some(target) = target_of(&line.statement) {
+            return Some(target);
+        }
+    }
+    None
+}
+
+// Adds what the entry at a place selects and implies, where it is a symbol's. Most select and imply nothing.
 fn raise_entry(
     alloc: Global,
     lines: &[Line],
@@ -123,8 +131,13 @@ fn raise_entry(
     match symbol_of(&lines[place].statement) {
         Some(source) => {
             let own = attributes(lines, place);
-            let dep = dependency(alloc, own, around)?;
-            raise_lines(alloc, own, &dep, source, symbols)
+            match first_target(own) {
+                Some(_) => {
+                    let dep = dependency(alloc, own, around)?;
+                    raise_lines(alloc, own, &dep, source, symbols)
+                }
+                None => Ok(()),
+            }
         }
         None => Ok(()),
     }
@@ -135,11 +148,11 @@ pub fn raise_all(
     alloc: Global,
     lines: &[Line],
     openers: &[Option<usize>],
-    insides: &[Round],
+    insides: &[Option<Box<Round>>],
     symbols: &mut Vec<Symbol>,
 ) -> Result<(), AllocError>
     requires openers { openers.now ≡ map (opener_of (said_by lines.now)) (numbers (length lines.now)) }
-    requires insides { map round_view insides.now ≡ map (inside_table (said_by lines.now)) (numbers (length lines.now)) }
+    requires insides { map inside_view insides.now ≡ map (inside_table (said_by lines.now)) (numbers (length lines.now)) }
     requires defined { map facts_of symbols.old.items ≡ map (defined_symbol (said_by lines.now)) (numbers (length symbols.old.items)) }
     ensures { OnOk result (map facts_of symbols.new.items ≡ map (raised_symbol (said_by lines.now)) (numbers (length symbols.old.items))) }
 {

@@ -1,17 +1,18 @@
 //! What the blocks round a line ask for.
 
-ghost use Rattle.std.specs.Prelude.{◌≡◌, ◌<◌, ◌+◌, ◌^◌, ◌++◌, length, map, option_map, slice_get, unwrap_or, IfOk, Some, None, [], if◌then◌else◌};
+ghost use Rattle.std.specs.Prelude.{◌≡◌, ◌<◌, ◌+◌, ◌^◌, ◌++◌, length, map, option_map, slice_get, unwrap_or, IfOk, OnOk, Some, None, [], if◌then◌else◌};
 ghost use Rattle.kc_expr.specs.Form.{form_of};
 ghost use Rattle.kc_read.specs.Blocks.{numbers};
 ghost use Rattle.kc_read.specs.Reads.{statement_view};
 ghost use Rattle.kc_tree.specs.Facts.{listed, block_parts, opener_of};
 ghost use Rattle.kc_tree.specs.Passes.{said_by};
 ghost use Rattle.kc_tree.specs.Rounds.{block_visible, inside_mode, inside_from, inside_table, entry_of, next_count, looked_up};
-ghost use Rattle.kc_tree.specs.RoundViews.{round_view};
+ghost use Rattle.kc_tree.specs.RoundViews.{round_view, inside_view};
 
 use crate::attributes::{Asks, attributes, joined};
 use crate::copies::expression_copy;
 use crate::lines::opened;
+use crate::lists::push_one;
 use crate::parts::ChoiceId;
 use kc_expr::expression::Expr;
 use kc_read::line::Line;
@@ -39,6 +40,20 @@ pub fn shares(alloc: Global, parts: &[Rc<Expr>]) -> Result<Vec<Rc<Expr>>, AllocE
     Ok(all)
 }
 
+/// Adds a part where there is one.
+pub fn add_part(
+    alloc: Global,
+    parts: &mut Vec<Rc<Expr>>,
+    more: Option<Expr>,
+) -> Result<(), AllocError>
+    ensures { OnOk result (map (λ p. form_of p.value) parts.new.items ≡ map (λ p. form_of p.value) parts.old.items ++ listed (option_map form_of more)) }
+{
+    match more {
+        Some(part) => push_one(parts, Rc::new(alloc, part)?),
+        None => Ok(()),
+    }
+}
+
 /// Shared parts, and one more where there is one.
 pub fn with_part(
     alloc: Global,
@@ -48,13 +63,8 @@ pub fn with_part(
     ensures { IfOk result (λ v. map (λ p. form_of p.value) v.items ≡ map (λ p. form_of p.value) parts.now ++ listed (option_map form_of more)) }
 {
     let mut all = shares(alloc, parts)?;
-    match more {
-        Some(part) => {
-            all.push(Rc::new(alloc, part)?)?;
-            Ok(all)
-        }
-        None => Ok(all),
-    }
+    add_part(alloc, &mut all, more)?;
+    Ok(all)
 }
 
 // What the block that opens at a place asks for.
@@ -124,20 +134,23 @@ pub fn outside(alloc: Global) -> Round
     }
 }
 
-// What the lines in the block that a line opens have round them; nothing where it opens none.
+// What the lines in the block that a line opens have round them, where it opens one.
 fn table_entry(
     alloc: Global,
     lines: &[Line],
     place: usize,
     around: &Round,
     choices: usize,
-) -> Result<Round, AllocError>
+) -> Result<Option<Box<Round>>, AllocError>
     requires { place < length lines.now }
-    ensures { IfOk result (λ r. round_view r ≡ entry_of (said_by lines.now) place (round_view around.now) choices) }
+    ensures { IfOk result (λ r. inside_view r ≡ entry_of (said_by lines.now) place (round_view around.now) choices) }
 {
     match opened(&lines[place].statement) {
-        Some(_) => inside(alloc, lines, place, around, choices),
-        None => Ok(outside(alloc)),
+        Some(_) => {
+            let round = inside(alloc, lines, place, around, choices)?;
+            Ok(Some(Box::new(alloc, round)?))
+        }
+        None => Ok(None),
     }
 }
 
@@ -155,15 +168,18 @@ pub fn next_count(statement: &Statement, choices: usize) -> usize
 /// What surrounds a line.
 pub fn around<'a>(
     openers: &[Option<usize>],
-    insides: &'a [Round],
+    insides: &'a [Option<Box<Round>>],
     outside: &'a Round,
     place: usize,
 ) -> &'a Round
     requires { place < length openers.now }
-    ensures { round_view result.now ≡ looked_up (round_view outside.now) openers.now (map round_view insides.now) place }
+    ensures { round_view result.now ≡ looked_up (round_view outside.now) openers.now (map inside_view insides.now) place }
 {
     match openers[place] {
-        Some(k) => insides.get(k).unwrap_or(outside),
+        Some(k) => match insides.get(k) {
+            Some(Some(round)) => round,
+            _ => outside,
+        },
         None => outside,
     }
 }
@@ -173,11 +189,11 @@ pub fn insides(
     alloc: Global,
     lines: &[Line],
     openers: &[Option<usize>],
-) -> Result<Vec<Round>, AllocError>
+) -> Result<Vec<Option<Box<Round>>>, AllocError>
     requires { openers.now ≡ map (opener_of (said_by lines.now)) (numbers (length lines.now)) }
-    ensures { IfOk result (λ v. map round_view v.items ≡ map (inside_table (said_by lines.now)) (numbers (length lines.now))) }
+    ensures { IfOk result (λ v. map inside_view v.items ≡ map (inside_table (said_by lines.now)) (numbers (length lines.now))) }
 {
-    let mut insides = Vec::new(alloc);
+    let mut insides = Vec::with_capacity(alloc, lines.len())?;
     let outside = outside(alloc);
     let mut choices = 0;
     for (i, line) in lines.iter().enumerate() {

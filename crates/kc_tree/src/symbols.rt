@@ -11,13 +11,14 @@ ghost use Rattle.kc_tree.specs.Conditions.{defined_by};
 ghost use Rattle.kc_tree.specs.Definitions.{bare_symbol, defined_symbol};
 ghost use Rattle.kc_tree.specs.Facts.{listed, symbol_at, first_of, type_of, attributes_of, choice_of, opener_of};
 ghost use Rattle.kc_tree.specs.Passes.{said_by, changed, type_at};
-ghost use Rattle.kc_tree.specs.RoundViews.{round_view};
+ghost use Rattle.kc_tree.specs.RoundViews.{round_view, inside_view};
 ghost use Rattle.kc_tree.specs.Rounds.{inside_table};
 ghost use Rattle.kc_tree.specs.Views.{condition_of, facts_of};
 
 use crate::attributes::{attributes, first_type};
 use crate::conditions::{add_defaults, add_ranges, dependency, prompt_condition};
 use crate::lines::symbol_of;
+use crate::lists::push_one;
 use crate::parts::{ChoiceId, Cond, Symbol};
 use crate::round::{Round, around, outside};
 use kc_expr::expression::{Kind, SymId};
@@ -29,10 +30,7 @@ fn push_condition(conditions: &mut Vec<Cond>, more: Option<Cond>) -> Result<(), 
     ensures { OnOk result (map condition_of conditions.new.items ≡ map condition_of conditions.old.items ++ listed (option_map condition_of more)) }
 {
     match more {
-        Some(condition) => {
-            conditions.push(condition)?;
-            Ok(())
-        }
+        Some(condition) => push_one(conditions, condition),
         None => Ok(()),
     }
 }
@@ -51,7 +49,7 @@ fn define(
     push_condition(&mut symbol.prompts, prompt)?;
     add_defaults(alloc, own, &dep, &mut symbol.defaults)?;
     add_ranges(alloc, own, &dep, &mut symbol.ranges)?;
-    symbol.deps.push(dep)?;
+    push_one(&mut symbol.deps, dep)?;
     Ok(())
 }
 
@@ -114,7 +112,7 @@ fn note_choice(choices: &mut Vec<Option<ChoiceId>>, symbol: Option<SymId>, found
 fn no_types(alloc: Global, count: usize) -> Result<Vec<Option<Kind>>, AllocError>
     ensures { IfOk result (λ v. v.items ≡ map (λ _. None) (numbers count)) }
 {
-    let mut types = Vec::new(alloc);
+    let mut types = Vec::with_capacity(alloc, count)?;
     for _ in 0..count {
         types.push(None)?;
     }
@@ -136,7 +134,7 @@ pub fn types(alloc: Global, lines: &[Line], count: usize) -> Result<Vec<Option<K
 fn no_choices(alloc: Global, count: usize) -> Result<Vec<Option<ChoiceId>>, AllocError>
     ensures { IfOk result (λ v. map (option_map (λ k. k.0)) v.items ≡ map (λ _. None) (numbers count)) }
 {
-    let mut choices = Vec::new(alloc);
+    let mut choices = Vec::with_capacity(alloc, count)?;
     for _ in 0..count {
         choices.push(None)?;
     }
@@ -148,11 +146,11 @@ pub fn choices(
     alloc: Global,
     lines: &[Line],
     openers: &[Option<usize>],
-    insides: &[Round],
+    insides: &[Option<Box<Round>>],
     count: usize,
 ) -> Result<Vec<Option<ChoiceId>>, AllocError>
     requires openers { openers.now ≡ map (opener_of (said_by lines.now)) (numbers (length lines.now)) }
-    requires insides { map round_view insides.now ≡ map (inside_table (said_by lines.now)) (numbers (length lines.now)) }
+    requires insides { map inside_view insides.now ≡ map (inside_table (said_by lines.now)) (numbers (length lines.now)) }
     ensures { IfOk result (λ v. map (option_map (λ k. k.0)) v.items ≡ map (λ s. choice_of (said_by lines.now) (symbol s)) (numbers count)) }
 {
     let mut choices = no_choices(alloc, count)?;
@@ -169,11 +167,11 @@ pub fn define_all(
     alloc: Global,
     lines: &[Line],
     openers: &[Option<usize>],
-    insides: &[Round],
+    insides: &[Option<Box<Round>>],
     symbols: &mut Vec<Symbol>,
 ) -> Result<(), AllocError>
     requires openers { openers.now ≡ map (opener_of (said_by lines.now)) (numbers (length lines.now)) }
-    requires insides { map round_view insides.now ≡ map (inside_table (said_by lines.now)) (numbers (length lines.now)) }
+    requires insides { map inside_view insides.now ≡ map (inside_table (said_by lines.now)) (numbers (length lines.now)) }
     requires bare { map facts_of symbols.old.items ≡ map (bare_symbol (said_by lines.now)) (numbers (length symbols.old.items)) }
     ensures { OnOk result (map facts_of symbols.new.items ≡ map (defined_symbol (said_by lines.now)) (numbers (length symbols.old.items))) }
 {

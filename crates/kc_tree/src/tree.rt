@@ -15,7 +15,8 @@ use std::marker::Model;
 
 /// The symbols, choices and entries of a Kconfig file and of the files that it sources, and the warnings about them.
 /// The symbols are numbered in the order of their first definition, from 0; the numbers from `symbol_count` on are
-/// those of names that are not defined.
+/// those of names that are not defined. What a tree holds is the kernel's kconfig-language document's; the numbers are
+/// our own.
 #[derive(Drop)]
 pub struct Tree {
     names: Names,
@@ -67,7 +68,8 @@ impl Tree {
         }
     }
 
-    /// How many symbols are defined: 65,535 at most.
+    /// How many symbols are defined, each counted once: 65,535 at most (the limit is our own; kconfiglib's
+    /// `unique_defined_syms` are the same symbols).
     pub fn symbol_count(&self) -> usize
         ensures count { result ≡ length self.now.symbols }
         ensures formed { IsWellFormed self.now }
@@ -75,7 +77,8 @@ impl Tree {
         self.symbols.len()
     }
 
-    /// The symbol of a number below `symbol_count`, by which the symbols stand in the order of their first definition.
+    /// The symbol of a number, by which the symbols stand in the order of their first definition, as in kconfiglib's
+    /// `unique_defined_syms`. The caller owes a number below `symbol_count`.
     pub fn symbol(&self, i: usize) -> SymId
         requires { i < length self.now.symbols }
         ensures { result ≡ symbol i }
@@ -83,21 +86,24 @@ impl Tree {
         SymId(i)
     }
 
-    /// The number of a name that the tree mentions; `None` for another name.
+    /// The number of a name that the tree mentions, defined or not; `None` for another name (the numbers are our own;
+    /// kconfiglib's `syms` finds the same names).
     pub fn find(&self, name: &[u8]) -> Option<SymId>
         ensures { result ≡ option_map symbol (position (same_name name.now) self.now.names) }
     {
         self.names.find(name)
     }
 
-    /// How many names the tree mentions: the symbols' and those that are not defined.
+    /// How many names the tree mentions: the symbols' and those that are not defined (our own; they are the names of
+    /// kconfiglib's `syms`).
     pub fn name_count(&self) -> usize
         ensures { result ≡ length self.now.names }
     {
         self.names.count()
     }
 
-    /// The name of a symbol, or of a name that is mentioned and not defined.
+    /// The name of a symbol, or one that is mentioned and not defined (kconfiglib's `name` of a symbol). The caller owes
+    /// a number below `name_count`.
     pub fn name(&self, id: SymId) -> &[u8]
         requires { id.0 < length self.now.names }
         ensures { slice_get self.now.names id.0 ≡ Some result.now }
@@ -105,14 +111,16 @@ impl Tree {
         self.names.name(id)
     }
 
-    /// What the tree says of a symbol; `None` where the name is not defined.
+    /// What the tree says of a symbol: the menu attributes of all its definitions, by the kernel's kconfig-language
+    /// document; `None` where the name is not defined.
     pub fn facts(&self, id: SymId) -> Option<&Symbol>
         ensures { MatchOption result (slice_get self.now.symbols id.0 ≡ None) (λ s. slice_get self.now.symbols id.0 ≡ Some (facts_of s.now)) }
     {
         self.symbols.get(id.0)
     }
 
-    /// What a configuration file shows, in order.
+    /// What a configuration file shows, in order: the symbols, menus and comments among the menu entries of the kernel's
+    /// kconfig-language document (kconfiglib's `node_iter` walks the same ones).
     pub fn entries(&self) -> &[Entry]
         ensures shown { map shown_of result.now ≡ self.now.entries }
         ensures formed { IsWellFormed self.now }
@@ -120,28 +128,32 @@ impl Tree {
         &self.entries
     }
 
-    /// The choices, in the order in which they open: choice k has number k.
+    /// The choices, in the order in which they open: choice k has number k (the choices are the kernel's kconfig-language
+    /// document's, the numbers our own).
     pub fn choices(&self) -> &[Choice]
         ensures { map choice_facts_of result.now ≡ self.now.choices }
     {
         &self.choices
     }
 
-    /// The warnings about the tree, in the order of the lines that they are about, without a line's end.
+    /// The warnings about the tree, in the order of the lines that they are about, without a line's end (their texts are
+    /// our own).
     pub fn parse_warnings(&self) -> &[Vec<u8>]
         ensures { map (λ w. w.items) result.now ≡ self.now.warnings }
     {
         &self.warnings
     }
 
-    /// The title of the main menu: the last `mainmenu` line's, or `Main menu`.
+    /// The title of the main menu: that of the last `mainmenu` line, by the kernel's kconfig-language document, or
+    /// `Main menu` (kconfiglib's `mainmenu_text`).
     pub fn main_menu(&self) -> &[u8]
         ensures { result.now ≡ self.now.main_menu }
     {
         &self.main_menu
     }
 
-    /// The symbol that stands for modules, where it is defined.
+    /// The symbol that stands for modules, where it is defined: the one with the first `modules` line, by the kernel's
+    /// kconfig-language document, and without such a line the one named `MODULES`.
     pub fn modules_symbol(&self) -> Option<SymId>
         ensures { result ≡ self.now.modules }
     {

@@ -7,6 +7,11 @@ use Rattle.kc_tree.proofs.AssemblyLemmas.{no_bad_member, whole}
 use Rattle.kc_tree.proofs.KnownLemmas.{known_is}
 use Rattle.kc_tree.proofs.assembly.assemble.Goals as goal
 
+pub diagnose-requires-clause-symbols : goal.diagnose-requires-clause-symbols
+diagnose-requires-clause-symbols c =
+    let known = known_is (said_by c.args.lines.now) c.args.count c.requires in
+    search (rules, known)
+
 pub choices-requires-clause-symbols : goal.choices-requires-clause-symbols
 choices-requires-clause-symbols c =
     let known = known_is (said_by c.args.lines.now) c.args.count c.requires in

@@ -4,7 +4,7 @@ use Rattle.std.specs.declared.alloc.Global.{Global}
 use Rattle.kc_expr.specs.declared.expression.SymId.{SymId}
 use Rattle.kc_tree.specs.Facts.{members_of}
 use Rattle.kc_tree.specs.Passes.{said_by}
-use Rattle.kc_tree.specs.RoundViews.{round_view}
+use Rattle.kc_tree.specs.RoundViews.{round_view, inside_view}
 use Rattle.kc_tree.proofs.ChoiceLemmas.{listed_is, so_far, members_fit, members_are, choice_next, none_more, opens_choice}
 use Rattle.kc_tree.proofs.RoundLemmas.{seen-is, openers_reach}
 use Rattle.kc_tree.proofs.choices.choices.Goals as goal
@@ -42,7 +42,7 @@ loop-i-preserved c =
           let many = so_far ls i c.loop-i.choices.items c.loop-i.invariant in
           let k : w.len-number.result ≡ length c.loop-i.choices.items = omega (arith, w.len-number.ensures, c.loop-i.choices.ok) in
           let opens = opens_choice ls i c.index-lines-i.result true c.loop-i-test.true c.index-lines-i.is w.if-is_choice.ensures in
-          let seen = seen-is ls i c.args.openers.now (map round_view c.args.insides.now) (round_view c.outside-outside.result) (round_view w.around-around.result.now) c.loop-i-test.true c.requires.openers c.requires.insides c.outside-outside.ensures w.around-around.ensures in
+          let seen = seen-is ls i c.args.openers.now (map inside_view c.args.insides.now) (round_view c.outside-outside.result) (round_view w.around-around.result.now) c.loop-i-test.true c.requires.openers c.requires.insides c.outside-outside.ensures w.around-around.ensures in
           let own = members_are ls (λ (v : Vec SymId Global). v.items) c.in_ok-lists.lists.items i w.len-number.result c.choice_count.result w.index.result.now c.in_ok-lists.ensures c.choice_count.ensures c.loop-i-test.true opens (k ∙ many) w.index.ensures in
           rw w.choices-is (choice_next ls i c.loop-i.choices.items w.push.new.self.items w.in_ok-choice.field-0 (round_view w.around-around.result.now) (said_by w.attributes-own.result.now) w.deref.result.now c.loop-i.invariant opens seen w.attributes-own.ensures (w.deref.ensures.value ∙ own) w.in_ok-choice.ensures w.in_ok-push.ensures.items)
       | else-is_choice w ↦

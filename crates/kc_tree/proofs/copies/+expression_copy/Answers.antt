@@ -4,7 +4,7 @@ use Rattle.kc_tree.proofs.copies.+expression_copy.Goals as goal
 
 pub loop-part-init : goal.loop-part-init
 loop-part-init t c =
-    start_all c.args.e.now c.in-All.parts c.new-all.result.items c.deref-part-items.result.now c.in-All.is c.deref-part-items.ensures.value c.new-all.ensures.items
+    start_all c.args.e.now c.in-All.parts c.in_ok-all-in-All.all.items c.deref-part-items.result.now c.in-All.is c.deref-part-items.ensures.value c.in_ok-all-in-All.ensures.items
 
 pub loop-part-preserved : goal.loop-part-preserved
 loop-part-preserved t c =
@@ -12,7 +12,7 @@ loop-part-preserved t c =
 
 pub loop-part-2-init : goal.loop-part-2-init
 loop-part-2-init t c =
-    start_any c.args.e.now c.in-Any.parts c.new-any.result.items c.deref-part-items-in-Any.result.now c.in-Any.is c.deref-part-items-in-Any.ensures.value c.new-any.ensures.items
+    start_any c.args.e.now c.in-Any.parts c.in_ok-any-in-Any.any.items c.deref-part-items-in-Any.result.now c.in-Any.is c.deref-part-items-in-Any.ensures.value c.in_ok-any-in-Any.ensures.items
 
 pub loop-part-2-preserved : goal.loop-part-2-preserved
 loop-part-2-preserved t c =

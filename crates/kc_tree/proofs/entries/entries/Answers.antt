@@ -3,7 +3,7 @@ use Rattle.kc_read.specs.Blocks.{attributes}
 use Rattle.std.specs.Option.{option_map}
 use Rattle.kc_tree.specs.Firsts.{is_first_at}
 use Rattle.kc_tree.specs.Passes.{said_by}
-use Rattle.kc_tree.specs.RoundViews.{round_view}
+use Rattle.kc_tree.specs.RoundViews.{round_view, inside_view}
 use Rattle.kc_tree.specs.Views.{shown_of}
 use Rattle.kc_tree.proofs.OpenerLemmas.{length-said_by}
 use Rattle.kc_tree.proofs.PlaceLemmas.{length-map_numbers}
@@ -26,6 +26,6 @@ pub loop-i-preserved : goal.loop-i-preserved
 loop-i-preserved c =
     let ls = c.args.lines.now in
     let i = c.loop-i.i in
-    let seen = seen-is ls i c.args.openers.now (map round_view c.args.insides.now) (round_view c.outside-outside.result) (round_view c.around-around.result.now) c.loop-i-test.true c.requires.openers c.requires.insides c.outside-outside.ensures c.around-around.ensures in
+    let seen = seen-is ls i c.args.openers.now (map inside_view c.args.insides.now) (round_view c.outside-outside.result) (round_view c.around-around.result.now) c.loop-i-test.true c.requires.openers c.requires.insides c.outside-outside.ensures c.around-around.ensures in
     let menu = c.menu_of-menu.ensures ∙ menu-is (said_by ls) (length ls) i c.args.openers.now c.deref.result.now c.loop-i-test.true (omega (arith, length-said_by ls)) c.requires.openers (c.deref.ensures.value ∙ c.in_ok-entry_numbers.ensures) in
     entries_next ls i c.index-lines-i.result (round_view c.around-around.result.now) (attributes (said_by ls) i) _ c.menu_of-menu.result (map shown_of c.loop-i.entries.items) (map shown_of c.push_entry.new.entries.items) (option_map shown_of c.in_ok-entry.entry) c.loop-i-test.true c.index-lines-i.is seen refl (read_at (is_first_at (said_by ls)) (length ls) i c.args.firsts.now _ c.loop-i-test.true c.requires.firsts) menu c.in_ok-entry.ensures c.loop-i.invariant c.in_ok-push_entry.ensures

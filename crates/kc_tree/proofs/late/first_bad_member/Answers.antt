@@ -3,7 +3,7 @@ use Rattle.std.specs.Option.{option_map}
 use Rattle.kc_tree.specs.declared.parts.ChoiceId.{ChoiceId}
 use Rattle.kc_tree.specs.Facts.{opener_of}
 use Rattle.kc_tree.specs.Passes.{said_by}
-use Rattle.kc_tree.specs.RoundViews.{round_view}
+use Rattle.kc_tree.specs.RoundViews.{round_view, inside_view}
 use Rattle.kc_tree.proofs.LateLemmas.{from_start, from_next, from_here, from_end, is_bad_config, bad_config-is, mode_is}
 use Rattle.kc_tree.proofs.OpenerLemmas.{length-said_by}
 use Rattle.kc_tree.proofs.PlaceLemmas.{length-map_numbers}
@@ -25,14 +25,14 @@ at-requires c =
 pub returns-then-is_bad_member-clause-first : goal.returns-then-is_bad_member-clause-first
 returns-then-is_bad_member-clause-first c =
     let ls = c.args.lines.now in
-    let mode = mode_is ls c.loop-i.i c.args.openers.now (map round_view c.args.insides.now) (round_view c.outside-outside.result) (round_view c.around.result.now) c.loop-i-test.true c.requires.openers c.requires.insides c.outside-outside.ensures c.around.ensures in
+    let mode = mode_is ls c.loop-i.i c.args.openers.now (map inside_view c.args.insides.now) (round_view c.outside-outside.result) (round_view c.around.result.now) c.loop-i-test.true c.requires.openers c.requires.insides c.outside-outside.ensures c.around.ensures in
     let test = bad_config-is ls c.loop-i.i c.index-lines-i.result c.args.symbols.now c.args.marks.now c.at.result (option_map (λ (k : ChoiceId). k.0) c.around.result.now.mode) c.is_bad_member.result c.requires.symbols c.requires.marks c.loop-i-test.true c.index-lines-i.is c.at.ensures mode c.is_bad_member.ensures in
     from_here (is_bad_config ls) (length (said_by ls)) c.loop-i.i c.loop-i.invariant (omega (arith, length-said_by ls)) (test ∙ c.if-is_bad_member.true)
 
 pub loop-i-preserved : goal.loop-i-preserved
 loop-i-preserved c =
     let ls = c.args.lines.now in
-    let mode = mode_is ls c.loop-i.i c.args.openers.now (map round_view c.args.insides.now) (round_view c.outside-outside.result) (round_view c.around.result.now) c.loop-i-test.true c.requires.openers c.requires.insides c.outside-outside.ensures c.around.ensures in
+    let mode = mode_is ls c.loop-i.i c.args.openers.now (map inside_view c.args.insides.now) (round_view c.outside-outside.result) (round_view c.around.result.now) c.loop-i-test.true c.requires.openers c.requires.insides c.outside-outside.ensures c.around.ensures in
     let test = bad_config-is ls c.loop-i.i c.index-lines-i.result c.args.symbols.now c.args.marks.now c.at.result (option_map (λ (k : ChoiceId). k.0) c.around.result.now.mode) c.is_bad_member.result c.requires.symbols c.requires.marks c.loop-i-test.true c.index-lines-i.is c.at.ensures mode c.is_bad_member.ensures in
     from_next (is_bad_config ls) (length (said_by ls)) c.loop-i.i c.loop-i.invariant (omega (arith, length-said_by ls)) (test ∙ c.if-is_bad_member.false)
 

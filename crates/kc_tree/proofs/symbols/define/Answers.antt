@@ -12,7 +12,7 @@ pub returns : goal.returns
 returns c =
     let own = said_by c.args.own.now in
     let old = c.args.symbol.now in
-    let d = ap (map condition_of) c.in_ok-push.ensures.items ∙ map-append condition_of old.deps.items (c.in_ok-dep.dep ∷ []) ∙ ap (λ (x : Condition). map condition_of old.deps.items ++ x ∷ []) c.in_ok-dep.ensures in
+    let d = ap (map condition_of) c.in_ok-push_one.ensures ∙ map-append condition_of old.deps.items (c.in_ok-dep.dep ∷ []) ∙ ap (λ (x : Condition). map condition_of old.deps.items ++ x ∷ []) c.in_ok-dep.ensures in
     let p = c.in_ok-push_condition.ensures ∙ ap (λ (o : Option Condition). map condition_of old.prompts.items ++ listed o) c.in_ok-prompt.ensures in
     let v = c.in_ok-add_defaults.ensures ∙ ap (λ (x : Condition). map default_view old.defaults.items ++ filter_map (default_line x) own) c.in_ok-dep.ensures in
     let r = c.in_ok-add_ranges.ensures ∙ ap (λ (x : Condition). map range_view old.ranges.items ++ filter_map (range_line x) own) c.in_ok-dep.ensures in

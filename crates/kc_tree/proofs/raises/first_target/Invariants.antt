@@ -1,0 +1,6 @@
+use Rattle.kc_tree.specs.Passes.{target_of}
+use Rattle.kc_tree.proofs.ScanLemmas.{FirstIs}
+use Rattle.kc_tree.proofs.raises.first_target.Given as goal
+
+abbrev pub invariant-loop-line : goal.invariant-loop-line
+invariant-loop-line l = FirstIs target_of l.own l.line-index
