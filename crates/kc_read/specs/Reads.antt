@@ -1,6 +1,9 @@
 -- What the calls that read a line answer.
 use Rattle.std.specs.Prelude.{◌≡◌, ◌≢◌, ℕ, ◌+◌, ◌<◌, List, [], ◌∷◌, length, Option, Some, None, Result, Ok, Err, option_map}
+use Rattle.std.specs.declared.boxed.Box.{Box}
+use Rattle.std.specs.declared.alloc.Global.{Global}
 use Rattle.kc_expr.specs.declared.expression.SymId.{SymId}
+use Rattle.kc_expr.specs.declared.expression.Expr.{Expr}
 use Rattle.kc_expr.specs.Form.{Form, form_of, Leaf, leaf_of}
 use Rattle.kc_expr.specs.Grammar.{Disjunction, Atom, leaf, lexemes_from, meaning_or, words, atom_words}
 use Rattle.kc_expr.specs.Names.{number_of, all_mentioned, Extends}
@@ -16,9 +19,12 @@ use Rattle.kc_read.specs.Statements.{Written, Numbered, Asked, Placed, numbered,
 use Rattle.kc_read.specs.Lines.{Cause, front, StartsExpression, IsWhole, IsCondition}
 use Rattle.kc_text.specs.declared.tokens.TokenKind.{TokenKind}
 
--- a prompt and a statement without where they lie in memory
+-- a condition, a prompt and a statement without where they lie in memory
+abbrev pub when_view : Option (Box Expr Global) → Option Form
+when_view = option_map (λ b. form_of b.value)
+
 abbrev pub asked_view : Prompt → Asked Form
-asked_view p = record { text = p.text.items; when = option_map form_of p.when }
+asked_view p = record { text = p.text.items; when = when_view p.when }
 
 abbrev pub statement_view : Statement → Numbered
 statement_view (made.Config s) = ConfigLine s
@@ -33,13 +39,13 @@ statement_view made.EndChoice = EndChoiceLine
 statement_view (made.MainMenu t) = MainMenuLine t.items
 statement_view (made.Type k p) = TypeLine k (option_map asked_view p)
 statement_view (made.Prompt p) = PromptLine (asked_view p)
-statement_view (made.Default v w) = DefaultLine (form_of v) (option_map form_of w)
-statement_view (made.Def k v w) = DefLine k (form_of v) (option_map form_of w)
+statement_view (made.Default v w) = DefaultLine (form_of v) (when_view w)
+statement_view (made.Def k v w) = DefLine k (form_of v) (when_view w)
 statement_view (made.Depends e) = DependsLine (form_of e)
 statement_view (made.Visible e) = VisibleLine (form_of e)
-statement_view (made.Select s w) = SelectLine s (option_map form_of w)
-statement_view (made.Imply s w) = ImplyLine s (option_map form_of w)
-statement_view (made.Range a b w) = RangeLine (leaf_of a) (leaf_of b) (option_map form_of w)
+statement_view (made.Select s w) = SelectLine s (when_view w)
+statement_view (made.Imply s w) = ImplyLine s (when_view w)
+statement_view (made.Range a b w) = RangeLine (leaf_of a) (leaf_of b) (when_view w)
 statement_view made.Help = HelpLine
 statement_view made.Modules = ModulesLine
 statement_view made.Ignored = IgnoredLine

@@ -10,7 +10,7 @@ ghost use Rattle.kc_read.specs.Lines as spec;
 ghost use Rattle.kc_read.specs.Lines.{syntax_cause, IsMore, ExpressionFault, WholeFault, ConditionFault};
 ghost use Rattle.std.specs.Prelude.{List, Option};
 ghost use Rattle.kc_expr.specs.declared.expression.SymId.{SymId};
-ghost use Rattle.kc_read.specs.Reads.{IsToken, IsFault, IsPart, IsFront, IsWholeForm, IsConditionForm, IsOperand, cause_of};
+ghost use Rattle.kc_read.specs.Reads.{IsToken, IsFault, IsPart, IsFront, IsWholeForm, IsConditionForm, IsOperand, cause_of, when_view};
 
 use crate::refusal::Code;
 use crate::statement::Fault;
@@ -188,15 +188,15 @@ pub fn condition<'a>(
     at: usize,
     modules: Option<SymId>,
     names: &mut Names,
-) -> Result<Option<Expr>, Fault<'a>>
+) -> Result<Option<Box<Expr>>, Fault<'a>>
     requires { at ≤ length tokens.now }
-    ensures condition { IfOk result (λ e. IsConditionForm modules names.old names.new (lexemes_from tokens.now at) (option_map form_of e)) }
+    ensures condition { IfOk result (λ e. IsConditionForm modules names.old names.new (lexemes_from tokens.now at) (when_view e)) }
     ensures fault { IfErr result (λ f. IsFault f (ConditionFault (lexemes_from tokens.now at))) }
     ensures names { Extends names.old names.new }
 {
     if begins_with(tokens, at, b"if") {
         let when = whole(alloc, tokens, at + 1, modules, names)?;
-        return Ok(Some(when));
+        return Ok(Some(Box::new(alloc, when)?));
     }
     end(tokens, at)?;
     Ok(None)

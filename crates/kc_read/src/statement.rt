@@ -11,10 +11,10 @@ use std::alloc::{AllocError, AllocFailed};
 #[derive(Debug, Drop)]
 pub struct Prompt {
     pub text: Vec<u8>,
-    pub when: Option<Expr>,
+    pub when: Option<Box<Expr>>,
 }
 
-/// A line's statement.
+/// A line's statement. A condition is apart, since most lines have none.
 #[derive(Debug, Drop)]
 pub enum Statement {
     Config(SymId),
@@ -29,13 +29,13 @@ pub enum Statement {
     MainMenu(Vec<u8>),
     Type(Kind, Option<Prompt>),
     Prompt(Prompt),
-    Default(Expr, Option<Expr>),
-    Def(Kind, Expr, Option<Expr>),
+    Default(Expr, Option<Box<Expr>>),
+    Def(Kind, Expr, Option<Box<Expr>>),
     Depends(Expr),
     Visible(Expr),
-    Select(SymId, Option<Expr>),
-    Imply(SymId, Option<Expr>),
-    Range(Operand, Operand, Option<Expr>),
+    Select(SymId, Option<Box<Expr>>),
+    Imply(SymId, Option<Box<Expr>>),
+    Range(Operand, Operand, Option<Box<Expr>>),
     Help,
     Modules,
     Ignored,

@@ -10,7 +10,7 @@ ghost use Rattle.kc_tree.specs.Views.{condition_of, default_view, range_view};
 
 use crate::attributes::{Asks, joined, last_prompt};
 use crate::copies::{expression_copy, operand_copy};
-use crate::lines::{given_of, range_of};
+use crate::lines::{condition, given_of, range_of};
 use crate::lists::push_one;
 use crate::parts::Cond;
 use crate::round::{Round, add_part, shares, with_part};
@@ -93,7 +93,7 @@ pub fn prompt_condition(
 {
     match last_prompt(own) {
         Some(prompt) => {
-            let when = optional_copy(alloc, prompt.when.as_ref())?;
+            let when = optional_copy(alloc, condition(&prompt.when))?;
             Ok(Some(seen(alloc, dep, &around.visible, when)?))
         }
         None => Ok(None),

@@ -5,7 +5,7 @@ ghost use Rattle.std.specs.Option.{option_copied};
 ghost use Rattle.kc_expr.specs.Form.{form_of, leaf_of};
 ghost use Rattle.kc_read.specs.Blocks.{bracket, opened};
 ghost use Rattle.kc_read.specs.Blocks as blocks;
-ghost use Rattle.kc_read.specs.Reads.{statement_view, asked_view};
+ghost use Rattle.kc_read.specs.Reads.{statement_view, asked_view, when_view};
 ghost use Rattle.kc_tree.specs.Facts as facts;
 ghost use Rattle.kc_tree.specs.Passes.{given_view, target_view, range_view};
 ghost use Rattle.kc_tree.specs.Passes as spec;
@@ -108,6 +108,16 @@ pub fn asked_of(statement: &Statement) -> Option<&Prompt>
     }
 }
 
+/// A condition, where there is one.
+pub fn condition(when: &Option<Box<Expr>>) -> Option<&Expr>
+    ensures { option_map (λ e. form_of e.now) result ≡ when_view when.now }
+{
+    match when {
+        Some(e) => Some(e),
+        None => None,
+    }
+}
+
 /// The default of a line.
 pub fn given_of(statement: &Statement) -> Option<Given<'_>>
     ensures { option_map given_view result ≡ facts.given_of (statement_view statement.now) }
@@ -115,11 +125,11 @@ pub fn given_of(statement: &Statement) -> Option<Given<'_>>
     match statement {
         Statement::Default(value, when) => Some(Given {
             value,
-            when: when.as_ref(),
+            when: condition(when),
         }),
         Statement::Def(_, value, when) => Some(Given {
             value,
-            when: when.as_ref(),
+            when: condition(when),
         }),
         _ => None,
     }
@@ -163,12 +173,12 @@ pub fn target_of(statement: &Statement) -> Option<Target<'_>>
         Statement::Select(symbol, when) => Some(Target {
             raise: Raise::Select,
             symbol: *symbol,
-            when: when.as_ref(),
+            when: condition(when),
         }),
         Statement::Imply(symbol, when) => Some(Target {
             raise: Raise::Imply,
             symbol: *symbol,
-            when: when.as_ref(),
+            when: condition(when),
         }),
         _ => None,
     }
@@ -182,7 +192,7 @@ pub fn range_of(statement: &Statement) -> Option<Range<'_>>
         Statement::Range(low, high, when) => Some(Range {
             low,
             high,
-            when: when.as_ref(),
+            when: condition(when),
         }),
         _ => None,
     }

@@ -2,7 +2,7 @@
 
 ghost use Rattle.std.specs.Prelude.{◌≡◌, map, option_map};
 ghost use Rattle.kc_expr.specs.Form.{form_of, leaf_of};
-ghost use Rattle.kc_read.specs.Reads.{line_view, statement_view};
+ghost use Rattle.kc_read.specs.Reads.{line_view, statement_view, when_view};
 ghost use Rattle.kc_tree.specs.Renamings.{final, renamed, leaf_renamed, statement_renamed, line_renamed};
 
 use kc_expr::expression::{Expr, Operand, SymId};
@@ -54,8 +54,8 @@ fn rename_expression(e: &mut Expr, numbers: &[SymId], modules: SymId)
 }
 
 // The same of a condition, if there is one.
-fn rename_condition(when: &mut Option<Expr>, numbers: &[SymId], modules: SymId)
-    ensures { option_map form_of when.new ≡ option_map (renamed (final numbers.now modules)) (option_map form_of when.old) }
+fn rename_condition(when: &mut Option<Box<Expr>>, numbers: &[SymId], modules: SymId)
+    ensures { when_view when.new ≡ option_map (renamed (final numbers.now modules)) (when_view when.old) }
 {
     if let Some(e) = when {
         rename_expression(e, numbers, modules);
@@ -63,18 +63,18 @@ fn rename_condition(when: &mut Option<Expr>, numbers: &[SymId], modules: SymId)
 }
 
 // The same of an expression and its condition.
-fn rename_given(value: &mut Expr, when: &mut Option<Expr>, numbers: &[SymId], modules: SymId)
+fn rename_given(value: &mut Expr, when: &mut Option<Box<Expr>>, numbers: &[SymId], modules: SymId)
     ensures value { form_of value.new ≡ renamed (final numbers.now modules) (form_of value.old) }
-    ensures when { option_map form_of when.new ≡ option_map (renamed (final numbers.now modules)) (option_map form_of when.old) }
+    ensures when { when_view when.new ≡ option_map (renamed (final numbers.now modules)) (when_view when.old) }
 {
     rename_expression(value, numbers, modules);
     rename_condition(when, numbers, modules);
 }
 
 // The same of a symbol and its condition.
-fn rename_target(symbol: &mut SymId, when: &mut Option<Expr>, numbers: &[SymId], modules: SymId)
+fn rename_target(symbol: &mut SymId, when: &mut Option<Box<Expr>>, numbers: &[SymId], modules: SymId)
     ensures symbol { symbol.new ≡ final numbers.now modules symbol.old }
-    ensures when { option_map form_of when.new ≡ option_map (renamed (final numbers.now modules)) (option_map form_of when.old) }
+    ensures when { when_view when.new ≡ option_map (renamed (final numbers.now modules)) (when_view when.old) }
 {
     *symbol = final_number(numbers, modules, *symbol);
     rename_condition(when, numbers, modules);
