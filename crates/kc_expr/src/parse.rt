@@ -134,7 +134,7 @@ fn chain(
     if !is_joined(tokens, end, connective) {
         return Ok((first, end));
     }
-    let mut parts = Vec::new(alloc);
+    let mut parts = Vec::with_capacity(alloc, 2)?;
     parts.push(first)?;
     let mut place = end;
     loop {
@@ -259,7 +259,7 @@ fn plain(alloc: Global, operand: Operand, condition: Option<SymId>) -> Result<Ex
     if !is_m(&operand) {
         return Ok(Expr::One(operand));
     }
-    let mut parts = Vec::new(alloc);
+    let mut parts = Vec::with_capacity(alloc, 2)?;
     parts.push(Expr::One(operand))?;
     parts.push(Expr::One(Operand::Sym(modules)))?;
     Ok(Expr::All(parts))

@@ -25,7 +25,7 @@ chain-returns-then-not-is_joined-clause-parsed t c = parsed_only _ _ _ _ _ _ _ _
 
 pub chain-loop-parts-init : goal.chain-loop-parts-init
 chain-loop-parts-init t c = record {
-  parts = parts_one c.args.connective c.args.condition c.args.levels c.args.tokens.now c.args.at 0 c.in_ok-first.end c.args.names.now c.part.new.names [] [] c.push.new.self.items c.in_ok-first.first (c.in_ok-push.ensures.items ∙ ap (λ l. l ++ c.in_ok-first.first ∷ []) c.new-parts.ensures.items) c.in_ok-first.ensures.parsed c.in_ok-first.ensures.within.0 c.if-not-is_joined.ensures.0 c.if-not-is_joined.ensures.1;
+  parts = parts_one c.args.connective c.args.condition c.args.levels c.args.tokens.now c.args.at 0 c.in_ok-first.end c.args.names.now c.part.new.names [] [] c.push.new.self.items c.in_ok-first.first (c.in_ok-push.ensures.items ∙ ap (λ l. l ++ c.in_ok-first.first ∷ []) c.in_ok-parts.ensures.items) c.in_ok-first.ensures.parsed c.in_ok-first.ensures.within.0 c.if-not-is_joined.ensures.0 c.if-not-is_joined.ensures.1;
   names = c.part.ensures.names;
 }
 

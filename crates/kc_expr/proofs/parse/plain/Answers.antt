@@ -7,7 +7,7 @@ use Rattle.kc_expr.proofs.parse.plain.Goals as goal
 
 pub returns-clause-plain : goal.returns-clause-plain
 returns-clause-plain c =
-    let items = two_pushed _ _ _ (One c.args.operand) (One (Sym c.in-Some.modules)) c.new-parts.ensures.items c.in_ok-push.ensures.items c.in_ok-push-2.ensures.items in
+    let items = two_pushed _ _ _ (One c.args.operand) (One (Sym c.in-Some.modules)) c.in_ok-parts.ensures.items c.in_ok-push.ensures.items c.in_ok-push-2.ensures.items in
     let is_m = sym c.is_m.ensures ∙ c.if-not-is_m.false in
     form_of_two c.push-2.new.self c.args.operand c.in-Some.modules items
     ∙ rw (c.in-Some.is, is_m)
