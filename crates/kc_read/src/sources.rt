@@ -10,7 +10,7 @@ ghost use Rattle.kc_read.specs.Sources.{GoesOn, IsFound};
 use crate::parts::begins_with;
 use crate::reader::source_name;
 use crate::refusal::Code;
-use crate::step::begins_help;
+use crate::step::{begins_help, token_list};
 use kc_text::{LogicalLines, TextFault, lex};
 use std::alloc::{AllocError, Global};
 
@@ -48,7 +48,7 @@ fn next_source(
         Ok(None) => return Ok(Found::Nothing),
         Err(fault) => return ended(fault),
     }
-    let mut tokens = Vec::new(alloc);
+    let mut tokens = token_list(alloc, text)?;
     match lex(text, &mut tokens) {
         Ok(()) => {}
         Err(fault) => return ended(fault),

@@ -12,7 +12,7 @@ ghost use Rattle.kc_read.specs.Steps.{IsMemory, IsStep, IsStepRefusal, out_of_me
 use crate::parts::begins_with;
 use crate::reader::read_line;
 use crate::refusal::{Code, Refusal};
-use crate::refuse::refuse;
+use crate::refuse::{memory, refuse};
 use crate::statement::{Context, Fault, Statement};
 use kc_expr::expression::SymId;
 use kc_expr::names::Names;
@@ -49,6 +49,19 @@ fn long_line(fault: TextFault) -> u32
     }
 }
 
+// How many tokens get room at once: nearly no line has more.
+const TOKENS: usize = 8;
+
+// No tokens yet, with room for those of the line where it has a byte.
+pub fn token_list<'a>(alloc: Global, line: &[u8]) -> Result<Vec<Token<'a>>, AllocError>
+    ensures { IfOk result (λ v. v.items ≡ []) }
+{
+    if line.is_empty() {
+        return Ok(Vec::new(alloc));
+    }
+    Vec::with_capacity(alloc, TOKENS)
+}
+
 // Whether a help text follows.
 pub fn begins_help(tokens: &[Token]) -> bool
     ensures { result ≡ is_help (lexemes (pieces tokens.now)) }
@@ -77,7 +90,9 @@ pub fn next_step(
         Ok(None) => return Ok(Step::End),
         Err(fault) => return Err(refuse(alloc, text_fault(fault), file, long_line(fault))),
     };
-    let mut tokens = Vec::new(alloc);
+    let Ok(mut tokens) = token_list(alloc, text) else {
+        return Err(memory(alloc));
+    };
     match lex(text, &mut tokens) {
         Ok(()) => {}
         Err(fault) => return Err(refuse(alloc, text_fault(fault), file, number)),
