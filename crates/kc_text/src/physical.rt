@@ -74,10 +74,13 @@ pub(crate) fn first_physical(rest: &[u8]) -> PhysicalLine<'_>
     }
 }
 
-// How many of the bytes are line feeds.
-fn line_feeds(bytes: &[u8]) -> usize
-    ensures count { result ≡ count_by (λ b. b == 10) bytes.now }
-    ensures within { result ≤ length bytes.now }
+// How many bytes are counted in a byte, which the compiler does many at a time: at most 255.
+const BLOCK: usize = 224;
+
+// How many of a few bytes are line feeds.
+fn few_line_feeds(bytes: &[u8]) -> u8
+    requires { length bytes.now ≤ 255 }
+    ensures { result ≡ count_by (λ b. b == 10) bytes.now }
 {
     let mut count = 0;
     for b in bytes {
@@ -86,6 +89,21 @@ fn line_feeds(bytes: &[u8]) -> usize
         }
     }
     count
+}
+
+// How many of the bytes are line feeds.
+fn line_feeds(bytes: &[u8]) -> usize
+    ensures count { result ≡ count_by (λ b. b == 10) bytes.now }
+    ensures within { result ≤ length bytes.now }
+{
+    let mut count = 0;
+    let mut rest = bytes;
+    'along: while rest.len() >= BLOCK {
+        let (block, after) = rest.split_at(BLOCK);
+        count += few_line_feeds(block) as usize;
+        rest = after;
+    }
+    count + few_line_feeds(rest) as usize
 }
 
 /// The number of a file's physical lines: one for each line feed, and one more where bytes follow
