@@ -1,5 +1,5 @@
 //! What the symbols of a tree are worth: the equations of the language, one for each symbol, and what holds of them.
-#![tactic(auto, using(crate::proofs::Assoc::assoc))]
+#![tactic(auto)]
 
 pub mod choices;
 pub mod conditions;
