@@ -7,9 +7,9 @@ use Rattle.kc_tree.specs.Trees.{IsTreeOf}
 use Rattle.kc_user.specs.Places.{Places, no_places}
 use Rattle.kc_values.specs.Laws.{IsAccepted}
 use Rattle.kc_solve.specs.Refused.{IsLoopText, loop_refused}
-use Rattle.kc_solve.specs.Solved.{Solution, IsSolution, known, written, differs, truth, warnings}
+use Rattle.kc_solve.specs.Solved.{Solution, IsSolution, warnings}
 use Rattle.kc_dot.specs.Reading.{Read, Stop, Stream, reading_of}
-use Rattle.kc_dot.specs.Told.{Told}
+use Rattle.kc_dot.specs.SolutionTold.{told_of}
 use Rattle.kc_dot.specs.Texts.{config_text, header_text, minimal_text}
 use Rattle.kc_words.specs.declared.options.Options.{Options}
 use Rattle.kc_conf.specs.ErrorLines.{refusal_line, too_long_line}
@@ -75,10 +75,6 @@ pub record IsSolutionFor (tree : TreeFacts) (places : Places) (solution : Soluti
   pub tree_is : solution.tree ≡ tree
   pub places_are : solution.places ≡ places
   pub solves : IsSolution solution
-
--- what a solution tells of symbols and conditions
-abbrev pub told_of : Solution → Told
-told_of s = record { value = known s; written = written s; differs = differs s; truth = truth s }
 
 -- the text, where it is wanted
 abbrev pub text_if : {T : Type 0} → Option T → List ℕ → Option (List ℕ)

@@ -1,9 +1,10 @@
 //! The files of a solution.
 ghost use Rattle.std.specs.Prelude.{◌≡◌, Some, OnOk, IfErr};
+ghost use Rattle.kc_dot.specs.SolutionTold.{told_of};
 ghost use Rattle.kc_dot.specs.Texts.{config_text, header_text, minimal_text};
 ghost use Rattle.kc_solve.specs.Solved.{Solution};
 ghost use Rattle.kc_conf.specs.Faults.{files_made, BreaksFile, BreaksFiles, IsOfOutputs, write_cause};
-ghost use Rattle.kc_conf.specs.Outcome.{outcome_of, text_if, told_of};
+ghost use Rattle.kc_conf.specs.Outcome.{outcome_of, text_if};
 ghost use Rattle.kc_conf.specs.Places.{made_if};
 
 use crate::cause::Cause;
