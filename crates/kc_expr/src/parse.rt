@@ -9,7 +9,7 @@ ghost use Rattle.kc_expr.specs.Parsing.{IsParsed, IsDetermined, IsRefused};
 ghost use Rattle.kc_expr.specs.Reading.{ParsedNot, ParsedPart, ParsedChain, FailsNot, FailsPart, FailsChain, IsNext, ReadsOperand, ReadsRelation, IsMemory, IsOp, IsJoined, StartsNoOperand};
 ghost use Rattle.kc_expr.specs.Names.{Extends, mention};
 
-use crate::expression::{Expr, Operand, SymId};
+use crate::expression::{Expr, Operand, Sides, SymId};
 use crate::names::Names;
 use crate::values::letter_of;
 use kc_text::{Op, Token, TokenKind, unescape_into};
@@ -245,7 +245,8 @@ fn relation(
     let Some(right) = operand(alloc, tokens, at + 2, names)? else {
         return Err(ExprFault::Syntax);
     };
-    Ok((Expr::Rel(op, left, right), at + 3))
+    let sides = Box::new(alloc, Sides { left, right })?;
+    Ok((Expr::Rel(op, sides), at + 3))
 }
 
 // An operand that is alone: a plain m of a condition stands for m && the modules symbol.

@@ -17,7 +17,7 @@ use crate::parts::{
 };
 use crate::place::{left_out, place_fault};
 use crate::refusal::Code;
-use crate::statement::{Context, Fault, Keyword, Prompt, Statement};
+use crate::statement::{Bounds, Context, Fault, Keyword, Prompt, Statement};
 use kc_expr::expression::{Kind, SymId};
 use kc_expr::names::Names;
 use kc_text::Token;
@@ -173,7 +173,8 @@ fn range_line<'a>(
     let low = operand_at(alloc, tokens, 1, names)?;
     let high = operand_at(alloc, tokens, 2, names)?;
     let when = condition(alloc, tokens, 3, modules, names)?;
-    Ok(Statement::Range(low, high, when))
+    let bounds = Box::new(alloc, Bounds { low, high })?;
+    Ok(Statement::Range(bounds, when))
 }
 
 fn option_line<'a>(tokens: &[Token<'a>]) -> Result<Statement, Fault<'a>>

@@ -14,7 +14,14 @@ pub struct Prompt {
     pub when: Option<Box<Expr>>,
 }
 
-/// A line's statement. A condition is apart, since most lines have none.
+/// The bounds of a range.
+#[derive(Debug, Drop)]
+pub struct Bounds {
+    pub low: Operand,
+    pub high: Operand,
+}
+
+/// A line's statement. What few lines have is apart, so that a list of lines stays small.
 #[derive(Debug, Drop)]
 pub enum Statement {
     Config(SymId),
@@ -35,7 +42,7 @@ pub enum Statement {
     Visible(Expr),
     Select(SymId, Option<Box<Expr>>),
     Imply(SymId, Option<Box<Expr>>),
-    Range(Operand, Operand, Option<Box<Expr>>),
+    Range(Box<Bounds>, Option<Box<Expr>>),
     Help,
     Modules,
     Ignored,

@@ -275,7 +275,7 @@ mainmenu m => +-+++
 
 // Each statement, where the modules symbol has the number 0.
 const STATEMENTS: &str = r#"mainmenu "D" => MainMenu([68])
-if A = m && m => If(All([Rel(Eq, Sym(SymId(1)), Const([109])), All([One(Const([109])), One(Sym(SymId(0)))])]))
+if A = m && m => If(All([Rel(Eq, Sides { left: Sym(SymId(1)), right: Const([109]) }), All([One(Const([109])), One(Sym(SymId(0)))])]))
 endif => EndIf
 menu 'a\'b' => Menu([97, 39, 98])
 visible if A => Visible(One(Sym(SymId(1))))
@@ -297,7 +297,7 @@ def_bool y => Def(Bool, One(Const([121])), None)
 def_tristate A || C if B => Def(Tristate, Any([One(Sym(SymId(1))), One(Sym(SymId(3)))]), Some(One(Sym(SymId(2)))))
 select config => Select(SymId(4), None)
 imply A if C => Imply(SymId(1), Some(One(Sym(SymId(3)))))
-range -5 "9" if y => Range(Sym(SymId(5)), Const([57]), Some(One(Const([121]))))
+range -5 "9" if y => Range(Bounds { low: Sym(SymId(5)), high: Const([57]) }, Some(One(Const([121]))))
 help => Help
 option modules => Modules
 option allnoconfig_y => Ignored"#;

@@ -3,7 +3,7 @@
 ghost use Rattle.std.specs.Prelude.{◌≡◌, IfOk};
 ghost use Rattle.kc_expr.specs.Form.{form_of, leaf_of};
 
-use kc_expr::expression::{Expr, Operand};
+use kc_expr::expression::{Expr, Operand, Sides};
 use std::alloc::{AllocError, Global};
 
 /// An operand of its own.
@@ -23,7 +23,11 @@ pub fn expression_copy(alloc: Global, e: &Expr) -> Result<Expr, AllocError>
 {
     match e {
         Expr::One(o) => Ok(Expr::One(operand_copy(alloc, o)?)),
-        Expr::Rel(op, a, b) => Ok(Expr::Rel(*op, operand_copy(alloc, a)?, operand_copy(alloc, b)?)),
+        Expr::Rel(op, sides) => {
+            let left = operand_copy(alloc, &sides.left)?;
+            let right = operand_copy(alloc, &sides.right)?;
+            Ok(Expr::Rel(*op, Box::new(alloc, Sides { left, right })?))
+        }
         Expr::Not(e) => Ok(Expr::Not(Box::new(alloc, expression_copy(alloc, e)?)?)),
         Expr::All(parts) => {
             let mut all = Vec::with_capacity(alloc, parts.len())?;

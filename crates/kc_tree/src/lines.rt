@@ -68,7 +68,7 @@ pub fn is_attribute(statement: &Statement) -> bool
         Statement::Visible(_) => true,
         Statement::Select(_, _) => true,
         Statement::Imply(_, _) => true,
-        Statement::Range(_, _, _) => true,
+        Statement::Range(_, _) => true,
         Statement::Help => true,
         Statement::Modules => true,
         Statement::Ignored => true,
@@ -189,9 +189,9 @@ pub fn range_of(statement: &Statement) -> Option<Range<'_>>
     ensures { option_map range_view result ≡ spec.range_of (statement_view statement.now) }
 {
     match statement {
-        Statement::Range(low, high, when) => Some(Range {
-            low,
-            high,
+        Statement::Range(bounds, when) => Some(Range {
+            low: &bounds.low,
+            high: &bounds.high,
             when: condition(when),
         }),
         _ => None,

@@ -35,9 +35,9 @@ fn rename_expression(e: &mut Expr, numbers: &[SymId], modules: SymId)
 {
     match e {
         Expr::One(operand) => rename_operand(operand, numbers, modules),
-        Expr::Rel(_, left, right) => {
-            rename_operand(left, numbers, modules);
-            rename_operand(right, numbers, modules);
+        Expr::Rel(_, sides) => {
+            rename_operand(&mut sides.left, numbers, modules);
+            rename_operand(&mut sides.right, numbers, modules);
         }
         Expr::Not(inner) => rename_expression(inner, numbers, modules),
         Expr::All(parts) => {
@@ -95,9 +95,9 @@ fn rename_statement(statement: &mut Statement, numbers: &[SymId], modules: SymId
         Statement::Def(_, value, when) => rename_given(value, when, numbers, modules),
         Statement::Select(symbol, when) => rename_target(symbol, when, numbers, modules),
         Statement::Imply(symbol, when) => rename_target(symbol, when, numbers, modules),
-        Statement::Range(low, high, when) => {
-            rename_operand(low, numbers, modules);
-            rename_operand(high, numbers, modules);
+        Statement::Range(bounds, when) => {
+            rename_operand(&mut bounds.low, numbers, modules);
+            rename_operand(&mut bounds.high, numbers, modules);
             rename_condition(when, numbers, modules);
         }
         _ => {}

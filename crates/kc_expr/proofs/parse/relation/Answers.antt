@@ -30,4 +30,4 @@ returns-clause-parsed c =
     let f : c.args.at + 2 + 1 ≡ c.args.at + 3 = omega arith in
     let third = ap (terminals_from c.args.tokens.now) e ∙ right.next ∙ ap (λ n. Plain right.atom ∷ terminals_from c.args.tokens.now n) f in
     let text = left.next ∙ ap (λ l. Plain left.atom ∷ l) (op.1 ∙ ap (λ l. Compares c.in-Some-relation_op.op ∷ l) third) in
-    parsed_compare _ _ _ _ _ _ left.atom right.atom c.in-Some-relation_op.op _ _ text left.mentions right.mentions left.leaf_is right.leaf_is
+    rw c.in_ok-sides.ensures.ok (parsed_compare _ _ _ _ _ _ left.atom right.atom c.in-Some-relation_op.op _ _ text left.mentions right.mentions left.leaf_is right.leaf_is)

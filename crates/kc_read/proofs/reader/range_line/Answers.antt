@@ -1,5 +1,8 @@
 use Rattle.kc_expr.specs.Grammar.{atom_words}
-use Rattle.std.proofs.Common.{◌++◌}
+use Rattle.std.proofs.Common.{◌++◌, ◌∙◌, ap}
+use Rattle.kc_expr.specs.Form.{leaf_of}
+use Rattle.kc_read.specs.declared.statement.Bounds.{Bounds}
+use Rattle.kc_read.specs.Reads.{when_view}
 use Rattle.kc_read.specs.Statements.{condition_words}
 use Rattle.kc_expr.specs.Grammar.{lexemes_from}
 use Rattle.kc_expr.proofs.NamesLemmas.{extends_on, mentioned_on}
@@ -22,7 +25,7 @@ returns-clause-read c =
         mentions =
             mentioned_on c.args.names.now c.operand_at.new.names c.condition.new.names (atom_words a.atom) (atom_words b.atom ++ condition_words w.tree) a.mentions
             (mentioned_on c.operand_at.new.names c.operand_at-2.new.names c.condition.new.names (atom_words b.atom) (condition_words w.tree) b.mentions w.mentions);
-        form = λ later x. λ i. RangeLine (a.form later (extends_on c.operand_at.new.names c.operand_at-2.new.names later c.in_ok-high.ensures.names (mid later c.in_ok-when.ensures.names x)) i) (b.form later (mid later c.in_ok-when.ensures.names x) i) (w.form later x i);
+        form = λ later x. ap (λ (b : Bounds). RangeLine (leaf_of b.low) (leaf_of b.high) (when_view c.in_ok-when.when)) c.in_ok-bounds.ensures.ok ∙ (λ i. RangeLine (a.form later (extends_on c.operand_at.new.names c.operand_at-2.new.names later c.in_ok-high.ensures.names (mid later c.in_ok-when.ensures.names x)) i) (b.form later (mid later c.in_ok-when.ensures.names x) i) (w.form later x i));
       },
     )
 
