@@ -26,16 +26,12 @@ module _ (tree : TreeFacts) (k : SymId → Known) where
       ∙ ap (λ y. D (y ∷ drop (suc i) xs)) (sym at)
       ∙ ap (λ b. v.default_value tree k (cond (not b) (Some (F x)) (v.first_open tree k (map F (drop (suc i) xs))))) here
 
-  pub truth_joined : (f : SymbolFacts) (user : Option Given) (d weak direct vis imp base sel all r : Tri) → d ≡ v.default_value tree k (v.first_open tree k f.defaults) → weak ≡ v.weak tree k f → direct ≡ v.direct tree k f → vis ≡ v.visibility tree k f → imp ≡ v.implied d weak direct → base ≡ v.based user vis imp → sel ≡ v.rev tree k f → all ≡ greater base sel → r ≡ v.raised tree k f.kind all → r ≡ v.truth_equation tree k f user
-  truth_joined f user d weak direct vis imp base sel all r e1 e2 e3 e4 e5 e6 e7 e8 e9 =
-      let D = v.default_value tree k (v.first_open tree k f.defaults) in
-      let imp_is : imp ≡ v.implied D (v.weak tree k f) (v.direct tree k f) =
-      e5 ∙ ap (λ x. v.implied x weak direct) e1 ∙ ap (λ x. v.implied D x direct) e2 ∙ ap (v.implied D (v.weak tree k f)) e3
-      in
-      let base_is : base ≡ v.based user (v.visibility tree k f) (v.implied D (v.weak tree k f) (v.direct tree k f)) =
-      e6 ∙ ap (λ x. v.based user x imp) e4 ∙ ap (v.based user (v.visibility tree k f)) imp_is
-      in
-      e9 ∙ ap (v.raised tree k f.kind) (e8 ∙ ap (λ x. greater x sel) base_is ∙ ap (greater (v.based user (v.visibility tree k f) (v.implied D (v.weak tree k f) (v.direct tree k f)))) e7)
+  abbrev without_user : SymbolFacts → Tri
+  without_user f = v.implied (v.default_value tree k (v.first_open tree k f.defaults)) (v.weak tree k f) (v.direct tree k f)
+
+  pub truth_joined : (f : SymbolFacts) (user : Option Given) (base sel all r : Tri) → base ≡ v.based user (v.visibility tree k f) (without_user f) → sel ≡ v.rev tree k f → all ≡ greater base sel → r ≡ v.raised tree k f.kind all → r ≡ v.truth_equation tree k f user
+  truth_joined f user base sel all r e1 e2 e3 e4 =
+      e4 ∙ ap (v.raised tree k f.kind) (e3 ∙ ap (λ x. greater x sel) e1 ∙ ap (greater (v.based user (v.visibility tree k f) (without_user f))) e2)
 
   pub text_joined : (f : SymbolFacts) (user : Option Given) (vis : Tri) (given : Option (List ℕ)) (default chosen copy : List ℕ) → vis ≡ v.visibility tree k f → given ≡ v.typed user vis → default ≡ v.default_text k (v.first_open tree k f.defaults) → chosen ≡ unwrap_or given default → copy ≡ chosen → copy ≡ v.text_equation tree k f user
   text_joined f user vis given default chosen copy e1 e2 e3 e4 e5 =

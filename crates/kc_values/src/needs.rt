@@ -18,6 +18,9 @@ use kc_tree::tree::Tree;
 use std::alloc::{AllocError, Global};
 use std::rc::Rc;
 
+// Room for the names of an equation at first, since few have more.
+const ROOM: usize = 16;
+
 // The names in the parts of a condition.
 fn parts_into(parts: &[Rc<Expr>], out: &mut Vec<SymId>) -> Result<(), AllocError>
     ensures { OnOk result (out.new.items ≡ out.old.items ++ flat_map symbols (map (λ p. form_of p.value) parts.now)) }
@@ -221,7 +224,7 @@ fn defined_numbers(alloc: Global, tree: &Tree, names: &[SymId]) -> Result<Vec<u3
     ensures { IfOk result (λ v. v.items ≡ spec.defined_numbers tree.now names.now) }
 {
     let count = tree.symbol_count();
-    let mut numbers = Vec::new(alloc);
+    let mut numbers = Vec::with_capacity(alloc, names.len())?;
     for name in names {
         if name.0 < count {
             numbers.push(name.0 as u32)?;
@@ -236,7 +239,7 @@ fn defined_numbers(alloc: Global, tree: &Tree, names: &[SymId]) -> Result<Vec<u3
 pub fn needs_of(alloc: Global, tree: &Tree, id: SymId) -> Result<Vec<u32>, AllocError>
     ensures { IfOk result (λ v. v.items ≡ spec.needs_of tree.now id.0) }
 {
-    let mut names = Vec::new(alloc);
+    let mut names = Vec::with_capacity(alloc, ROOM)?;
     if let Some(symbol) = facts(tree, id) {
         symbol_into(tree, symbol, &mut names)?;
     }

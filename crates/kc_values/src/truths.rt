@@ -79,16 +79,6 @@ fn pulled<V: Values>(tree: &Tree, lines: &[(SymId, Cond)], values: &V) -> Tri
     greatest
 }
 
-// An imply raises the default, up to the direct dependency.
-fn implied(default: Tri, weak: Tri, direct: Tri) -> Tri
-    ensures { result ≡ spec.implied default weak direct }
-{
-    match weak {
-        Tri::N => default,
-        _ => lesser(greater(default, weak), direct),
-    }
-}
-
 /// The direct dependency of a symbol: the greatest that its definitions depend on, raised (kconfiglib's `direct_dep`).
 pub fn direct<V: Values>(tree: &Tree, symbol: &Symbol, values: &V) -> Tri
     ensures { result ≡ spec.direct tree.now (known_by (V.kind_of values.now) (V.tri_of values.now) (V.text_of values.now)) (facts_of symbol.now) }
@@ -115,6 +105,36 @@ pub fn weak<V: Values>(tree: &Tree, symbol: &Symbol, values: &V) -> Tri
     raised(tree, symbol.kind, wanted, values)
 }
 
+// The default, which an imply raises up to the direct dependency. That is looked at only where something implies the symbol.
+fn implied<V: Values>(tree: &Tree, symbol: &Symbol, values: &V) -> Tri
+    ensures { result ≡ spec.implied (spec.default_value tree.now (known_by (V.kind_of values.now) (V.tri_of values.now) (V.text_of values.now)) (spec.first_open tree.now (known_by (V.kind_of values.now) (V.tri_of values.now) (V.text_of values.now)) (facts_of symbol.now).defaults)) (spec.weak tree.now (known_by (V.kind_of values.now) (V.tri_of values.now) (V.text_of values.now)) (facts_of symbol.now)) (spec.direct tree.now (known_by (V.kind_of values.now) (V.tri_of values.now) (V.text_of values.now)) (facts_of symbol.now)) }
+{
+    let default = default_truth(tree, &symbol.defaults, values);
+    let weak = weak(tree, symbol, values);
+    match weak {
+        Tri::N => default,
+        _ => lesser(greater(default, weak), direct(tree, symbol, values)),
+    }
+}
+
+// The user's truth up to the visibility, where the symbol is visible, and else its default. Only what counts is looked at.
+fn based<V: Values>(
+    tree: &Tree,
+    symbol: &Symbol,
+    user: Option<&UserValue>,
+    values: &V,
+) -> Tri
+    ensures { result ≡ spec.based (place user.entry) (spec.visibility tree.now (known_by (V.kind_of values.now) (V.tri_of values.now) (V.text_of values.now)) (facts_of symbol.now)) (spec.implied (spec.default_value tree.now (known_by (V.kind_of values.now) (V.tri_of values.now) (V.text_of values.now)) (spec.first_open tree.now (known_by (V.kind_of values.now) (V.tri_of values.now) (V.text_of values.now)) (facts_of symbol.now).defaults)) (spec.weak tree.now (known_by (V.kind_of values.now) (V.tri_of values.now) (V.text_of values.now)) (facts_of symbol.now)) (spec.direct tree.now (known_by (V.kind_of values.now) (V.tri_of values.now) (V.text_of values.now)) (facts_of symbol.now))) }
+{
+    match user {
+        Some(UserValue::Tri(given)) => match visibility(tree, symbol, values) {
+            Tri::N => implied(tree, symbol, values),
+            shown => lesser(*given, shown),
+        },
+        _ => implied(tree, symbol, values),
+    }
+}
+
 /// The value of a bool or tristate symbol outside a choice: the user's up to the visibility where it is visible, else its
 /// default, which an imply raises up to the direct dependency (that order is our own); at least the reverse dependency,
 /// even against the direct one; raised (the kernel's kconfig-language document, "Menu attributes"; kconfiglib's
@@ -127,24 +147,7 @@ pub fn truth_equation<V: Values>(
 ) -> Tri
     ensures { result ≡ spec.truth_equation tree.now (known_by (V.kind_of values.now) (V.tri_of values.now) (V.text_of values.now)) (facts_of symbol.now) (place user.entry) }
 {
-    let default = default_truth(tree, &symbol.defaults, values);
-    let weak = weak(tree, symbol, values);
-    let direct = direct(tree, symbol, values);
-    let shown = visibility(tree, symbol, values);
-    let base = based(user, shown, implied(default, weak, direct));
+    let base = based(tree, symbol, user, values);
     let selected = reverse(tree, symbol, values);
     raised(tree, symbol.kind, greater(base, selected), values)
-}
-
-// The user's truth up to the visibility, where the symbol is visible.
-fn based(user: Option<&UserValue>, vis: Tri, otherwise: Tri) -> Tri
-    ensures { result ≡ spec.based (place user.entry) vis otherwise }
-{
-    match user {
-        Some(UserValue::Tri(given)) => match vis {
-            Tri::N => otherwise,
-            _ => lesser(*given, vis),
-        },
-        _ => otherwise,
-    }
 }

@@ -7,12 +7,7 @@ use Rattle.kc_values.proofs.truths.truth_equation.Goals as goal
 pub returns : goal.returns
 returns g c =
     let k = known_by (g.V.Values.kind_of c.args.values.now) (g.V.Values.tri_of c.args.values.now) (g.V.Values.text_of c.args.values.now) in
-    truth_joined c.args.tree.now k (facts_of c.args.symbol.now) (place c.args.user) _ _ _ _ _ _ _ _ _
-    (rw c.deref.ensures.value at c.default_truth-default.ensures)
-    c.weak-weak.ensures
-    c.direct-direct.ensures
-    c.visibility-shown.ensures
-    c.implied.ensures
+    truth_joined c.args.tree.now k (facts_of c.args.symbol.now) (place c.args.user) _ _ _ _
     c.based-base.ensures
     c.reverse-selected.ensures
     c.greater.ensures
