@@ -247,6 +247,10 @@ fn select_warnings<V: Values>(
     ensures { OnOk result (map (λ w. w.items) out.new.items ≡ map (λ w. w.items) out.old.items ++ spec.select_warnings tree.now (known_by (V.kind_of values.now) (V.tri_of values.now) (V.text_of values.now)) name.now (facts_of symbol.now)) }
 {
     let reverse = reverse(tree, symbol, values);
+    // What nothing selects is above no direct dependency.
+    if let Tri::N = reverse {
+        return Ok(());
+    }
     let direct = direct(tree, symbol, values);
     if !is_above(reverse, direct) {
         return Ok(());
