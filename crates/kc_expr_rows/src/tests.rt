@@ -116,7 +116,10 @@ const SHAPES: &[(&[u8], &str)] = &[
         b"A && !B = A || m) x",
         "Any([All([One(Sym(SymId(1))), Not(Rel(Eq, Sides { left: Sym(SymId(2)), right: Sym(SymId(1)) }))]), One(Const([109]))]) 8",
     ),
-    (b"!A=B", "Not(Rel(Eq, Sides { left: Sym(SymId(1)), right: Sym(SymId(2)) })) 4"),
+    (
+        b"!A=B",
+        "Not(Rel(Eq, Sides { left: Sym(SymId(1)), right: Sym(SymId(2)) })) 4",
+    ),
     (b"(A)", "One(Sym(SymId(1))) 3"),
     (
         b"A || B && C || A",
@@ -131,7 +134,10 @@ const SHAPES: &[(&[u8], &str)] = &[
         "All([One(Sym(SymId(1))), All([One(Sym(SymId(2))), One(Sym(SymId(3)))])]) 7",
     ),
     (b"!!A", "Not(Not(One(Sym(SymId(1))))) 3"),
-    (b"A = B = C", "Rel(Eq, Sides { left: Sym(SymId(1)), right: Sym(SymId(2)) }) 3"),
+    (
+        b"A = B = C",
+        "Rel(Eq, Sides { left: Sym(SymId(1)), right: Sym(SymId(2)) }) 3",
+    ),
     (b"A if B", "One(Sym(SymId(1))) 1"),
     (b"A B", "One(Sym(SymId(1))) 1"),
     (b"A ((", "One(Sym(SymId(1))) 1"),
@@ -204,8 +210,14 @@ const CONDITIONS: &[(&[u8], &str)] = &[
         "All([One(Sym(SymId(1))), All([One(Const([109])), One(Sym(SymId(0)))])]) 3",
     ),
     (b"!m", "Not(All([One(Const([109])), One(Sym(SymId(0)))])) 2"),
-    (b"m = A", "Rel(Eq, Sides { left: Const([109]), right: Sym(SymId(1)) }) 3"),
-    (b"A != m", "Rel(Ne, Sides { left: Sym(SymId(1)), right: Const([109]) }) 3"),
+    (
+        b"m = A",
+        "Rel(Eq, Sides { left: Const([109]), right: Sym(SymId(1)) }) 3",
+    ),
+    (
+        b"A != m",
+        "Rel(Ne, Sides { left: Sym(SymId(1)), right: Const([109]) }) 3",
+    ),
     (b"y", "One(Const([121])) 1"),
 ];
 

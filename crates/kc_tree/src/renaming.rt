@@ -72,7 +72,12 @@ fn rename_given(value: &mut Expr, when: &mut Option<Box<Expr>>, numbers: &[SymId
 }
 
 // The same of a symbol and its condition.
-fn rename_target(symbol: &mut SymId, when: &mut Option<Box<Expr>>, numbers: &[SymId], modules: SymId)
+fn rename_target(
+    symbol: &mut SymId,
+    when: &mut Option<Box<Expr>>,
+    numbers: &[SymId],
+    modules: SymId,
+)
     ensures symbol { symbol.new ≡ final numbers.now modules symbol.old }
     ensures when { when_view when.new ≡ option_map (renamed (final numbers.now modules)) (when_view when.old) }
 {

@@ -1,7 +1,6 @@
 pub mod Same
 pub mod OnlyNamed
 pub mod TreeNeeds
-pub mod Assoc
 pub mod SameValue
 pub mod TruthLines
 pub mod Selection

@@ -1,16 +1,22 @@
 -- What a well-formed tree says of its choices.
-use Rattle.std.proofs.Common.{◌≡◌, Some, sym, ◌∙◌, ap}
+use Rattle.std.proofs.Common.{◌≡◌, Some, refl, sym, ◌∙◌, ap}
 use Rattle.std.proofs.lemmas.Option.{slice_get_within}
 use Rattle.std.proofs.lemmas.List.Elements.{All-contains}
+use Rattle.kc_expr.specs.declared.expression.Tri.{Tri}
+use Rattle.kc_expr.specs.declared.expression.Tri.TheVariants.{N, M, Y}
 use Rattle.kc_expr.specs.Value.{lesser}
 use Rattle.kc_tree.specs.TreeFacts.{SymbolFacts, IsMemberOf}
 use Rattle.kc_values.specs.Values.{all_hold, mode_value}
 use Rattle.kc_values.specs.Laws.{ModeIsPromptCondition, WellFormedHaveMembers}
-use Rattle.kc_values.proofs.Assoc.{lesser-y}
+
+least-y : (a : Tri) → lesser a Y ≡ a
+least-y N = refl
+least-y M = refl
+least-y Y = refl
 
 pub mode_is_prompt : ModeIsPromptCondition
 mode_is_prompt tree known c e =
-    sym (lesser-y (all_hold known c.parts)) ∙ ap (λ m. lesser (all_hold known c.parts) (mode_value tree known m)) (sym e)
+    sym (least-y (all_hold known c.parts)) ∙ ap (λ m. lesser (all_hold known c.parts) (mode_value tree known m)) (sym e)
 
 some_same : {X : Type 0} (a b : X) → Some a ≡ Some b → a ≡ b
 some_same a b e = cc

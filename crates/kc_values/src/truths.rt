@@ -118,12 +118,7 @@ fn implied<V: Values>(tree: &Tree, symbol: &Symbol, values: &V) -> Tri
 }
 
 // The user's truth up to the visibility, where the symbol is visible, and else its default. Only what counts is looked at.
-fn based<V: Values>(
-    tree: &Tree,
-    symbol: &Symbol,
-    user: Option<&UserValue>,
-    values: &V,
-) -> Tri
+fn based<V: Values>(tree: &Tree, symbol: &Symbol, user: Option<&UserValue>, values: &V) -> Tri
     ensures { result ≡ spec.based (place user.entry) (spec.visibility tree.now (known_by (V.kind_of values.now) (V.tri_of values.now) (V.text_of values.now)) (facts_of symbol.now)) (spec.implied (spec.default_value tree.now (known_by (V.kind_of values.now) (V.tri_of values.now) (V.text_of values.now)) (spec.first_open tree.now (known_by (V.kind_of values.now) (V.tri_of values.now) (V.text_of values.now)) (facts_of symbol.now).defaults)) (spec.weak tree.now (known_by (V.kind_of values.now) (V.tri_of values.now) (V.text_of values.now)) (facts_of symbol.now)) (spec.direct tree.now (known_by (V.kind_of values.now) (V.tri_of values.now) (V.text_of values.now)) (facts_of symbol.now))) }
 {
     match user {

@@ -1,4 +1,4 @@
-use Rattle.std.proofs.Common.{ap, ◌∙◌, refl}
+use Rattle.std.proofs.Common.{ap}
 use Rattle.std.specs.Option.{option_map}
 use Rattle.kc_tree.specs.Passes.{target_of, target_view}
 use Rattle.kc_tree.proofs.ScanLemmas.{first_here, first_later, first_none}
