@@ -1,5 +1,5 @@
 #!/usr/bin/env bash
-# Times kconf beside the kernel's conf and kconfiglib over a generated tree, and then kconf alone over trees of four sizes:
+# Times kconf beside the kernel's conf and kconfiglib over a generated tree, and then kconf and conf over trees of four sizes:
 # bench/run.sh [SYMBOLS]
 #
 # kconf is crates/kconf/out/kconf (make build), or the program that KCONF names; one run of it writes the full .config, the header
@@ -78,8 +78,11 @@ tree.write_autoconf("kconfiglib.h")'
 fi
 
 echo
-heads 'growth of kconf'
+heads 'growth'
 for size in 5000 10000 20000 40000; do
     make_tree "$size"
-    our_run "$size symbols"
+    our_run "kconf, $size symbols"
+    if command -v kconfig-conf >/dev/null; then
+        measure "kconfig-conf, $size symbols" kconfig-conf --olddefconfig Kconfig
+    fi
 done
