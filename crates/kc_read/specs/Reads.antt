@@ -1,6 +1,6 @@
 -- What the calls that read a line answer.
 use Rattle.std.specs.Prelude.{◌≡◌, ◌≢◌, ℕ, ◌+◌, ◌<◌, List, [], ◌∷◌, length, Option, Some, None, Result, Ok, Err, option_map}
-use Rattle.std.specs.declared.boxed.Box.{Box}
+use Rattle.std.specs.declared.rc.Rc.{Rc}
 use Rattle.std.specs.declared.alloc.Global.{Global}
 use Rattle.kc_expr.specs.declared.expression.SymId.{SymId}
 use Rattle.kc_expr.specs.declared.expression.Expr.{Expr}
@@ -20,15 +20,15 @@ use Rattle.kc_read.specs.Lines.{Cause, front, StartsExpression, IsWhole, IsCondi
 use Rattle.kc_text.specs.declared.tokens.TokenKind.{TokenKind}
 
 -- a condition, a prompt and a statement without where they lie in memory
-abbrev pub when_view : Option (Box Expr Global) → Option Form
-when_view = option_map (λ b. form_of b.value)
+abbrev pub when_view : Option (Rc Expr Global) → Option Form
+when_view = option_map (λ e. form_of e.value)
 
 abbrev pub asked_view : Prompt → Asked Form
 asked_view p = record { text = p.text.items; when = when_view p.when }
 
 abbrev pub statement_view : Statement → Numbered
 statement_view (made.Config s) = ConfigLine s
-statement_view (made.If e) = IfLine (form_of e)
+statement_view (made.If e) = IfLine (form_of e.value)
 statement_view made.EndIf = EndIfLine
 statement_view (made.Comment t) = CommentLine t.items
 statement_view (made.Source t) = SourceLine t.items
@@ -41,8 +41,8 @@ statement_view (made.Type k p) = TypeLine k (option_map asked_view p)
 statement_view (made.Prompt p) = PromptLine (asked_view p)
 statement_view (made.Default v w) = DefaultLine (form_of v) (when_view w)
 statement_view (made.Def k v w) = DefLine k (form_of v) (when_view w)
-statement_view (made.Depends e) = DependsLine (form_of e)
-statement_view (made.Visible e) = VisibleLine (form_of e)
+statement_view (made.Depends e) = DependsLine (form_of e.value)
+statement_view (made.Visible e) = VisibleLine (form_of e.value)
 statement_view (made.Select s w) = SelectLine s (when_view w)
 statement_view (made.Imply s w) = ImplyLine s (when_view w)
 statement_view (made.Range b w) = RangeLine (leaf_of b.value.low) (leaf_of b.value.high) (when_view w)

@@ -20,6 +20,7 @@ use kc_expr::parse::{ExprFault, parse};
 use kc_expr::values::letter_of;
 use kc_text::{Token, TokenKind, unescape_into};
 use std::alloc::Global;
+use std::rc::Rc;
 
 // The token at a place, if there is one.
 pub fn next<'a>(tokens: &[Token<'a>], at: usize) -> Option<TokenKind<'a>>
@@ -163,22 +164,22 @@ pub fn front<'a>(
     }
 }
 
-// An expression up to the end of the line.
+// An expression up to the end of the line. It is shared with what is made of the line.
 pub fn whole<'a>(
     alloc: Global,
     tokens: &[Token<'a>],
     at: usize,
     condition: Option<SymId>,
     names: &mut Names,
-) -> Result<Expr, Fault<'a>>
+) -> Result<Rc<Expr>, Fault<'a>>
     requires { at ≤ length tokens.now }
-    ensures whole { IfOk result (λ e. IsWholeForm condition names.old names.new (lexemes_from tokens.now at) (form_of e)) }
+    ensures whole { IfOk result (λ e. IsWholeForm condition names.old names.new (lexemes_from tokens.now at) (form_of e.value)) }
     ensures fault { IfErr result (λ f. IsFault f (WholeFault (lexemes_from tokens.now at))) }
     ensures names { Extends names.old names.new }
 {
     let (expr, after) = front(alloc, tokens, at, condition, names)?;
     end(tokens, after)?;
-    Ok(expr)
+    Ok(Rc::new(alloc, expr)?)
 }
 
 // Nothing, or `if` and an expression, up to the end of the line.
@@ -188,7 +189,7 @@ pub fn condition<'a>(
     at: usize,
     modules: Option<SymId>,
     names: &mut Names,
-) -> Result<Option<Box<Expr>>, Fault<'a>>
+) -> Result<Option<Rc<Expr>>, Fault<'a>>
     requires { at ≤ length tokens.now }
     ensures condition { IfOk result (λ e. IsConditionForm modules names.old names.new (lexemes_from tokens.now at) (when_view e)) }
     ensures fault { IfErr result (λ f. IsFault f (ConditionFault (lexemes_from tokens.now at))) }
@@ -196,7 +197,7 @@ pub fn condition<'a>(
 {
     if begins_with(tokens, at, b"if") {
         let when = whole(alloc, tokens, at + 1, modules, names)?;
-        return Ok(Some(Box::new(alloc, when)?));
+        return Ok(Some(when));
     }
     end(tokens, at)?;
     Ok(None)

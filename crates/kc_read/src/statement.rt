@@ -6,26 +6,29 @@ ghost use Rattle.kc_read.specs.declared.refusal.Code.TheVariants.{Memory};
 use crate::refusal::Code;
 use kc_expr::expression::{Expr, Kind, Operand, SymId};
 use std::alloc::{AllocError, AllocFailed};
+use std::rc::Rc;
 
-/// A prompt's text and its condition.
+/// A prompt's text and its condition (the kernel's kconfig-language document, "Menu attributes": input prompt).
 #[derive(Debug, Drop)]
 pub struct Prompt {
     pub text: Vec<u8>,
-    pub when: Option<Box<Expr>>,
+    pub when: Option<Rc<Expr>>,
 }
 
-/// The bounds of a range.
+/// The bounds of a range, each a number or a symbol (the kernel's kconfig-language document, "Menu attributes":
+/// numerical ranges).
 #[derive(Debug, Drop)]
 pub struct Bounds {
     pub low: Operand,
     pub high: Operand,
 }
 
-/// A line's statement. What few lines have is apart, so that a list of lines stays small.
+/// A line's statement (the kernel's kconfig-language document, "Menu entries" and "Menu attributes"). What few lines
+/// have is apart, so that a list of lines stays small; a condition is shared with what is made of the line.
 #[derive(Debug, Drop)]
 pub enum Statement {
     Config(SymId),
-    If(Expr),
+    If(Rc<Expr>),
     EndIf,
     Comment(Vec<u8>),
     Source(Vec<u8>),
@@ -36,19 +39,19 @@ pub enum Statement {
     MainMenu(Vec<u8>),
     Type(Kind, Option<Prompt>),
     Prompt(Prompt),
-    Default(Expr, Option<Box<Expr>>),
-    Def(Kind, Expr, Option<Box<Expr>>),
-    Depends(Expr),
-    Visible(Expr),
-    Select(SymId, Option<Box<Expr>>),
-    Imply(SymId, Option<Box<Expr>>),
-    Range(Box<Bounds>, Option<Box<Expr>>),
+    Default(Expr, Option<Rc<Expr>>),
+    Def(Kind, Expr, Option<Rc<Expr>>),
+    Depends(Rc<Expr>),
+    Visible(Rc<Expr>),
+    Select(SymId, Option<Rc<Expr>>),
+    Imply(SymId, Option<Rc<Expr>>),
+    Range(Box<Bounds>, Option<Rc<Expr>>),
     Help,
     Modules,
     Ignored,
 }
 
-/// What a first word says.
+/// What a first word says (the kernel's kconfig-language document).
 #[derive(Clone, Copy, Debug, PartialEq, Eq)]
 pub enum Keyword {
     Config,
@@ -76,7 +79,7 @@ pub enum Keyword {
     LeftOut,
 }
 
-/// A block.
+/// A block: the lines up to the word that ends it (the kernel's kconfig-language document, "Kconfig syntax").
 #[derive(Clone, Copy, Debug, PartialEq, Eq)]
 pub enum Block {
     If,
@@ -84,14 +87,14 @@ pub enum Block {
     Choice,
 }
 
-/// The line that opened a block.
+/// The line that opened a block (our own).
 #[derive(Clone, Copy, Debug)]
 pub struct Opener {
     pub block: Block,
     pub line: u32,
 }
 
-/// The entry to which an attribute would belong.
+/// The entry to which an attribute would belong (the kernel's kconfig-language document, "Menu attributes").
 #[derive(Clone, Copy, Debug, PartialEq, Eq)]
 pub enum Entry {
     Nothing,

@@ -61,6 +61,12 @@ joined_many [] h = absurd (omega arith)
 joined_many (f ∷ []) h = absurd (omega arith)
 joined_many (f ∷ g ∷ fs) h = refl
 
-pub joined-All : (v : Vec Expr Global) → 2 ≤ length v.items → form_of (All v) ∷ [] ≡ joined (map form_of v.items)
+joined-All : (v : Vec Expr Global) → 2 ≤ length v.items → form_of (All v) ∷ [] ≡ joined (map form_of v.items)
 joined-All v h =
     ap (λ f. f ∷ []) (form_of-All v) ∙ sym (joined_many (map form_of v.items) (omega (arith, length-map v.items form_of)))
+
+-- Copies of two parts and more, joined by `&&`.
+pub conjoined : {A : Type 0} (form : A → Form) (parts : List A) (v : Vec Expr Global) → 2 ≤ length parts → map form_of v.items ≡ map form parts → form_of (All v) ∷ [] ≡ joined (map form parts)
+conjoined form parts v h same =
+    let long : length v.items ≡ length parts = sym (length-map v.items form_of) ∙ ap length same ∙ length-map parts form in
+    joined-All v (omega (arith, long, h)) ∙ ap joined same

@@ -18,7 +18,7 @@ abbrev pub AreTheMembers : ChoiceMembers → Type 0
 AreTheMembers m = (s : SymId) → member_by m.symbols.now m.choice.0 s ≡ list_any (same_symbol s) m.list.now
 
 abbrev pub named_view : Named → SymId × Option Form
-named_view n = (n.member, option_map (λ e. form_of e.now) n.when)
+named_view n = (n.member, option_map (λ e. form_of e.now.value) n.when)
 
 -- what a default names alone, where it is one of these; and under which condition
 abbrev pub named_given : List SymId → Given → Option (SymId × Option Form)

@@ -43,11 +43,11 @@ abbrev pub IsBefore : ℕ → Option ℕ → Type 0
 IsBefore i o = (k : ℕ) → o ≡ Some k → k < i
 
 abbrev pub given_view : Given → spec.Given
-given_view g = record { value = form_of g.value.now; when = option_map (λ e. form_of e.now) g.when }
+given_view g = record { value = form_of g.value.now; when = option_map (λ e. form_of e.now.value) g.when }
 
 -- a line that selects or implies: which, whom, when
 abbrev pub target_view : Target → Raise × SymId × Option Form
-target_view t = (t.raise, t.symbol, option_map (λ e. form_of e.now) t.when)
+target_view t = (t.raise, t.symbol, option_map (λ e. form_of e.now.value) t.when)
 
 abbrev pub target_of : Numbered → Option (Raise × SymId × Option Form)
 target_of (SelectLine n w) = Some (raise.Select, n, w)
@@ -55,7 +55,7 @@ target_of (ImplyLine n w) = Some (raise.Imply, n, w)
 target_of _ = None
 
 abbrev pub range_view : Range → Leaf × Leaf × Option Form
-range_view r = (leaf_of r.low.now, leaf_of r.high.now, option_map (λ e. form_of e.now) r.when)
+range_view r = (leaf_of r.low.now, leaf_of r.high.now, option_map (λ e. form_of e.now.value) r.when)
 
 abbrev pub range_of : Numbered → Option (Leaf × Leaf × Option Form)
 range_of (RangeLine a b w) = Some (a, b, w)

@@ -15,6 +15,7 @@ use kc_expr::expression::{Expr, Kind};
 use kc_read::line::Line;
 use kc_read::statement::{Prompt, Statement};
 use std::alloc::{AllocError, Global};
+use std::rc::Rc;
 
 // How many attributes lines begin with.
 fn attribute_count(lines: &[Line]) -> usize
@@ -70,8 +71,8 @@ pub enum Asks {
 }
 
 // The expression of a line that asks for it.
-fn asks_of(statement: &Statement, asks: Asks) -> Option<&Expr>
-    ensures { option_map (λ e. form_of e.now) result ≡ asks_form asks (statement_view statement.now) }
+fn asks_of(statement: &Statement, asks: Asks) -> Option<&Rc<Expr>>
+    ensures { option_map (λ e. form_of e.now.value) result ≡ asks_form asks (statement_view statement.now) }
 {
     match asks {
         Asks::Depends => depends_of(statement),
@@ -80,33 +81,52 @@ fn asks_of(statement: &Statement, asks: Asks) -> Option<&Expr>
 }
 
 // The expressions of the lines that ask for it.
-fn asked_parts(alloc: Global, attributes: &[Line], asks: Asks) -> Result<Vec<Expr>, AllocError>
-    ensures { IfOk result (λ v. map form_of v.items ≡ filter_map (asks_form asks) (said_by attributes.now)) }
+fn asked_parts(
+    alloc: Global,
+    attributes: &[Line],
+    asks: Asks,
+) -> Result<Vec<Rc<Expr>>, AllocError>
+    ensures { IfOk result (λ v. map (λ p. form_of p.value) v.items ≡ filter_map (asks_form asks) (said_by attributes.now)) }
 {
     let mut parts = Vec::new(alloc);
     for line in attributes {
         if let Some(part) = asks_of(&line.statement, asks) {
-            push_one(&mut parts, expression_copy(alloc, part)?)?;
+            push_one(&mut parts, part.clone()?)?;
         }
     }
     Ok(parts)
 }
 
+// Copies of parts.
+fn copies(alloc: Global, parts: &[Rc<Expr>]) -> Result<Vec<Expr>, AllocError>
+    ensures { IfOk result (λ v. map form_of v.items ≡ map (λ p. form_of p.value) parts.now) }
+{
+    let mut all = Vec::with_capacity(alloc, parts.len())?;
+    for part in parts {
+        all.push(expression_copy(alloc, part)?)?;
+    }
+    Ok(all)
+}
+
 // None, one, or the `&&` of two and more.
-fn conjunction(mut parts: Vec<Expr>) -> Option<Expr>
-    ensures { facts.listed (option_map form_of result) ≡ facts.joined (map form_of parts.items) }
+fn conjunction(alloc: Global, mut parts: Vec<Rc<Expr>>) -> Result<Option<Rc<Expr>>, AllocError>
+    ensures { IfOk result (λ o. facts.listed (option_map (λ p. form_of p.value) o) ≡ facts.joined (map (λ p. form_of p.value) parts.items)) }
 {
     if parts.len() < 2 {
-        parts.pop()
-    } else {
-        Some(Expr::All(parts))
+        return Ok(parts.pop());
     }
+    let all = copies(alloc, &parts)?;
+    Ok(Some(Rc::new(alloc, Expr::All(all))?))
 }
 
 /// What the lines ask for together.
-pub fn joined(alloc: Global, attributes: &[Line], asks: Asks) -> Result<Option<Expr>, AllocError>
-    ensures { IfOk result (λ o. facts.listed (option_map form_of o) ≡ facts.joined (filter_map (asks_form asks) (said_by attributes.now))) }
+pub fn joined(
+    alloc: Global,
+    attributes: &[Line],
+    asks: Asks,
+) -> Result<Option<Rc<Expr>>, AllocError>
+    ensures { IfOk result (λ o. facts.listed (option_map (λ p. form_of p.value) o) ≡ facts.joined (filter_map (asks_form asks) (said_by attributes.now))) }
 {
     let parts = asked_parts(alloc, attributes, asks)?;
-    Ok(conjunction(parts))
+    conjunction(alloc, parts)
 }

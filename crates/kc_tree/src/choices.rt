@@ -27,6 +27,7 @@ use kc_expr::expression::{Expr, SymId};
 use kc_read::line::Line;
 use kc_read::statement::Statement;
 use std::alloc::{AllocError, Global};
+use std::rc::Rc;
 
 /// The members of a choice: their list, and what is known of all symbols, which says of each in one look whether it
 /// stands in that list.
@@ -41,7 +42,7 @@ pub struct ChoiceMembers<'a> {
 #[derive(Clone, Copy)]
 pub struct Named<'a> {
     pub member: SymId,
-    pub when: Option<&'a Expr>,
+    pub when: Option<&'a Rc<Expr>>,
 }
 
 // The line opens a choice.

@@ -19,21 +19,21 @@ use kc_read::line::Line;
 use std::alloc::{AllocError, Global};
 use std::rc::Rc;
 
-// A copy of an expression that may be there.
-fn optional_copy(alloc: Global, e: Option<&Expr>) -> Result<Option<Expr>, AllocError>
-    ensures { IfOk result (λ o. option_map form_of o ≡ option_map (λ x. form_of x.now) e.entry) }
+// A share of an expression that may be there.
+fn share(e: Option<&Rc<Expr>>) -> Result<Option<Rc<Expr>>, AllocError>
+    ensures { IfOk result (λ o. option_map (λ p. form_of p.value) o ≡ option_map (λ x. form_of x.now.value) e.entry) }
 {
     match e {
-        Some(e) => Ok(Some(expression_copy(alloc, e)?)),
+        Some(e) => Ok(Some(e.clone()?)),
         None => Ok(None),
     }
 }
 
 /// The condition, and one more part where there is one.
-pub fn under(alloc: Global, base: &Cond, when: Option<&Expr>) -> Result<Cond, AllocError>
-    ensures { IfOk result (λ c. condition_of c ≡ with_when (condition_of base.now) (option_map (λ x. form_of x.now) when.entry)) }
+pub fn under(alloc: Global, base: &Cond, when: Option<&Rc<Expr>>) -> Result<Cond, AllocError>
+    ensures { IfOk result (λ c. condition_of c ≡ with_when (condition_of base.now) (option_map (λ x. form_of x.now.value) when.entry)) }
 {
-    let more = optional_copy(alloc, when)?;
+    let more = share(when)?;
     let parts = with_part(alloc, &base.parts, more)?;
     Ok(Cond {
         parts,
@@ -57,12 +57,12 @@ fn seen(
     alloc: Global,
     base: &Cond,
     visible: &[Rc<Expr>],
-    more: Option<Expr>,
+    more: Option<Rc<Expr>>,
 ) -> Result<Cond, AllocError>
-    ensures { IfOk result (λ c. condition_of c ≡ with_when (with_visible (condition_of base.now) (map (λ p. form_of p.value) visible.now)) (option_map form_of more)) }
+    ensures { IfOk result (λ c. condition_of c ≡ with_when (with_visible (condition_of base.now) (map (λ p. form_of p.value) visible.now)) (option_map (λ p. form_of p.value) more)) }
 {
     let mut parts = both(alloc, &base.parts, visible)?;
-    add_part(alloc, &mut parts, more)?;
+    add_part(&mut parts, more)?;
     Ok(Cond {
         parts,
         mode: base.mode,
@@ -93,7 +93,7 @@ pub fn prompt_condition(
 {
     match last_prompt(own) {
         Some(prompt) => {
-            let when = optional_copy(alloc, condition(&prompt.when))?;
+            let when = share(condition(&prompt.when))?;
             Ok(Some(seen(alloc, dep, &around.visible, when)?))
         }
         None => Ok(None),

@@ -12,12 +12,13 @@ ghost use Rattle.kc_tree.specs.Passes as spec;
 
 use kc_expr::expression::{Expr, Kind, Operand, SymId};
 use kc_read::statement::{Block, Prompt, Statement};
+use std::rc::Rc;
 
 /// A default: its value and its condition.
 #[derive(Clone, Copy)]
 pub struct Given<'a> {
     pub value: &'a Expr,
-    pub when: Option<&'a Expr>,
+    pub when: Option<&'a Rc<Expr>>,
 }
 
 /// Which of the two raises a symbol.
@@ -32,7 +33,7 @@ pub enum Raise {
 pub struct Target<'a> {
     pub raise: Raise,
     pub symbol: SymId,
-    pub when: Option<&'a Expr>,
+    pub when: Option<&'a Rc<Expr>>,
 }
 
 /// A `range` line.
@@ -40,7 +41,7 @@ pub struct Target<'a> {
 pub struct Range<'a> {
     pub low: &'a Operand,
     pub high: &'a Operand,
-    pub when: Option<&'a Expr>,
+    pub when: Option<&'a Rc<Expr>>,
 }
 
 /// The block that a statement opens.
@@ -109,8 +110,8 @@ pub fn asked_of(statement: &Statement) -> Option<&Prompt>
 }
 
 /// A condition, where there is one.
-pub fn condition(when: &Option<Box<Expr>>) -> Option<&Expr>
-    ensures { option_map (λ e. form_of e.now) result ≡ when_view when.now }
+pub fn condition(when: &Option<Rc<Expr>>) -> Option<&Rc<Expr>>
+    ensures { option_map (λ e. form_of e.now.value) result ≡ when_view when.now }
 {
     match when {
         Some(e) => Some(e),
@@ -136,8 +137,8 @@ pub fn given_of(statement: &Statement) -> Option<Given<'_>>
 }
 
 /// The expression of a `depends on` line.
-pub fn depends_of(statement: &Statement) -> Option<&Expr>
-    ensures { option_map (λ e. form_of e.now) result ≡ facts.depends_form (statement_view statement.now) }
+pub fn depends_of(statement: &Statement) -> Option<&Rc<Expr>>
+    ensures { option_map (λ e. form_of e.now.value) result ≡ facts.depends_form (statement_view statement.now) }
 {
     match statement {
         Statement::Depends(e) => Some(e),
@@ -146,21 +147,11 @@ pub fn depends_of(statement: &Statement) -> Option<&Expr>
 }
 
 /// The expression of a `visible if` line.
-pub fn visible_of(statement: &Statement) -> Option<&Expr>
-    ensures { option_map (λ e. form_of e.now) result ≡ facts.visible_form (statement_view statement.now) }
+pub fn visible_of(statement: &Statement) -> Option<&Rc<Expr>>
+    ensures { option_map (λ e. form_of e.now.value) result ≡ facts.visible_form (statement_view statement.now) }
 {
     match statement {
         Statement::Visible(e) => Some(e),
-        _ => None,
-    }
-}
-
-/// The expression of an `if` line.
-pub fn condition_of(statement: &Statement) -> Option<&Expr>
-    ensures { facts.listed (option_map (λ e. form_of e.now) result) ≡ facts.if_condition (Some (statement_view statement.now)) }
-{
-    match statement {
-        Statement::If(e) => Some(e),
         _ => None,
     }
 }

@@ -88,7 +88,7 @@ fn number_lines(
     let modules = names.id(modules_name(mentioned, expansion.modules))?;
     let numbers = number_again(alloc, mentioned, &mut names)?;
     let mut lines = expansion.lines;
-    rename_lines(&mut lines, &numbers, modules);
+    rename_lines(alloc, &mut lines, &numbers, modules)?;
     Ok(Listing {
         names,
         count: expansion.symbols,

@@ -10,7 +10,6 @@ ghost use Rattle.kc_tree.specs.Rounds.{block_visible, inside_mode, inside_from, 
 ghost use Rattle.kc_tree.specs.RoundViews.{round_view, inside_view};
 
 use crate::attributes::{Asks, attributes, joined};
-use crate::copies::expression_copy;
 use crate::lines::opened;
 use crate::lists::push_one;
 use crate::parts::ChoiceId;
@@ -41,15 +40,11 @@ pub fn shares(alloc: Global, parts: &[Rc<Expr>]) -> Result<Vec<Rc<Expr>>, AllocE
 }
 
 /// Adds a part where there is one.
-pub fn add_part(
-    alloc: Global,
-    parts: &mut Vec<Rc<Expr>>,
-    more: Option<Expr>,
-) -> Result<(), AllocError>
-    ensures { OnOk result (map (λ p. form_of p.value) parts.new.items ≡ map (λ p. form_of p.value) parts.old.items ++ listed (option_map form_of more)) }
+pub fn add_part(parts: &mut Vec<Rc<Expr>>, more: Option<Rc<Expr>>) -> Result<(), AllocError>
+    ensures { OnOk result (map (λ p. form_of p.value) parts.new.items ≡ map (λ p. form_of p.value) parts.old.items ++ listed (option_map (λ p. form_of p.value) more)) }
 {
     match more {
-        Some(part) => push_one(parts, Rc::new(alloc, part)?),
+        Some(part) => push_one(parts, part),
         None => Ok(()),
     }
 }
@@ -58,31 +53,35 @@ pub fn add_part(
 pub fn with_part(
     alloc: Global,
     parts: &[Rc<Expr>],
-    more: Option<Expr>,
+    more: Option<Rc<Expr>>,
 ) -> Result<Vec<Rc<Expr>>, AllocError>
-    ensures { IfOk result (λ v. map (λ p. form_of p.value) v.items ≡ map (λ p. form_of p.value) parts.now ++ listed (option_map form_of more)) }
+    ensures { IfOk result (λ v. map (λ p. form_of p.value) v.items ≡ map (λ p. form_of p.value) parts.now ++ listed (option_map (λ p. form_of p.value) more)) }
 {
     let mut all = shares(alloc, parts)?;
-    add_part(alloc, &mut all, more)?;
+    add_part(&mut all, more)?;
     Ok(all)
 }
 
 // What the block that opens at a place asks for.
-fn block_part(alloc: Global, lines: &[Line], place: usize) -> Result<Option<Expr>, AllocError>
+fn block_part(alloc: Global, lines: &[Line], place: usize) -> Result<Option<Rc<Expr>>, AllocError>
     requires { place < length lines.now }
-    ensures { IfOk result (λ o. listed (option_map form_of o) ≡ block_parts (said_by lines.now) place) }
+    ensures { IfOk result (λ o. listed (option_map (λ p. form_of p.value) o) ≡ block_parts (said_by lines.now) place) }
 {
     match &lines[place].statement {
-        Statement::If(e) => Ok(Some(expression_copy(alloc, e)?)),
+        Statement::If(e) => Ok(Some(e.clone()?)),
         Statement::Menu(_) => joined(alloc, attributes(lines, place), Asks::Depends),
         _ => Ok(None),
     }
 }
 
 // What it asks for besides, of prompts and menus.
-fn block_visible(alloc: Global, lines: &[Line], place: usize) -> Result<Option<Expr>, AllocError>
+fn block_visible(
+    alloc: Global,
+    lines: &[Line],
+    place: usize,
+) -> Result<Option<Rc<Expr>>, AllocError>
     requires { place < length lines.now }
-    ensures { IfOk result (λ o. listed (option_map form_of o) ≡ block_visible (said_by lines.now) place) }
+    ensures { IfOk result (λ o. listed (option_map (λ p. form_of p.value) o) ≡ block_visible (said_by lines.now) place) }
 {
     match &lines[place].statement {
         Statement::Menu(_) => joined(alloc, attributes(lines, place), Asks::Visible),
