@@ -10,6 +10,7 @@ use kc_conf::{Status, run};
 use kc_load::{LoadFault, load};
 use kc_words::{Options, Usage, options_of};
 use std::alloc::AllocError;
+use std::mem;
 
 // Writes the parts of a line to standard error. A fault in it changes nothing.
 fn complain(rt: &HostRuntime, parts: &[&[u8]]) {
@@ -61,6 +62,8 @@ fn run_files(rt: &HostRuntime, options: &Options) -> Result<Status, LoadFault> {
     let mut inputs = inputs_of(rt, options)?;
     let mut outputs = FileOutputs::new(alloc, rt, options)?;
     let status = run(alloc, &files, options, &mut inputs, &mut outputs);
+    // The process ends after this, and the system takes back the files' memory at once.
+    mem::forget(files);
     match outputs.finish(status) {
         None => Ok(status),
         Some(which) => {

@@ -13,7 +13,7 @@ use crate::copies::{expression_copy, operand_copy};
 use crate::lines::{condition, given_of, range_of};
 use crate::lists::push_one;
 use crate::parts::Cond;
-use crate::round::{Round, add_part, shares, with_part};
+use crate::round::{Round, add_part, added, shares, with_part};
 use kc_expr::expression::{Expr, Operand};
 use kc_read::line::Line;
 use std::alloc::{AllocError, Global};
@@ -41,11 +41,16 @@ pub fn under(alloc: Global, base: &Cond, when: Option<&Rc<Expr>>) -> Result<Cond
     })
 }
 
-// The parts of both.
-fn both(alloc: Global, first: &[Rc<Expr>], second: &[Rc<Expr>]) -> Result<Vec<Rc<Expr>>, AllocError>
+// The parts of both, in a list with room for a few more.
+fn both(
+    alloc: Global,
+    first: &[Rc<Expr>],
+    second: &[Rc<Expr>],
+    few: usize,
+) -> Result<Vec<Rc<Expr>>, AllocError>
     ensures { IfOk result (λ v. map (λ p. form_of p.value) v.items ≡ map (λ p. form_of p.value) first.now ++ map (λ p. form_of p.value) second.now) }
 {
-    let mut all = shares(alloc, first)?;
+    let mut all = shares(alloc, first, second.len().saturating_add(few))?;
     for part in second {
         all.push(part.clone()?)?;
     }
@@ -61,7 +66,7 @@ fn seen(
 ) -> Result<Cond, AllocError>
     ensures { IfOk result (λ c. condition_of c ≡ with_when (with_visible (condition_of base.now) (map (λ p. form_of p.value) visible.now)) (option_map (λ p. form_of p.value) more)) }
 {
-    let mut parts = both(alloc, &base.parts, visible)?;
+    let mut parts = both(alloc, &base.parts, visible, added(&more))?;
     add_part(&mut parts, more)?;
     Ok(Cond {
         parts,

@@ -28,11 +28,25 @@ pub struct Round {
     pub mode: Option<ChoiceId>,
 }
 
-/// The same parts, shared.
-pub fn shares(alloc: Global, parts: &[Rc<Expr>]) -> Result<Vec<Rc<Expr>>, AllocError>
+/// How many parts are added.
+pub fn added(more: &Option<Rc<Expr>>) -> usize
+    ensures { result ≡ length (listed more.now) }
+{
+    match more {
+        Some(_) => 1,
+        None => 0,
+    }
+}
+
+/// The same parts, shared, in a list with room for a few more.
+pub fn shares(
+    alloc: Global,
+    parts: &[Rc<Expr>],
+    few: usize,
+) -> Result<Vec<Rc<Expr>>, AllocError>
     ensures { IfOk result (λ v. map (λ p. form_of p.value) v.items ≡ map (λ p. form_of p.value) parts.now) }
 {
-    let mut all = Vec::new(alloc);
+    let mut all = Vec::with_capacity(alloc, parts.len().saturating_add(few))?;
     for part in parts {
         all.push(part.clone()?)?;
     }
@@ -57,7 +71,7 @@ pub fn with_part(
 ) -> Result<Vec<Rc<Expr>>, AllocError>
     ensures { IfOk result (λ v. map (λ p. form_of p.value) v.items ≡ map (λ p. form_of p.value) parts.now ++ listed (option_map (λ p. form_of p.value) more)) }
 {
-    let mut all = shares(alloc, parts)?;
+    let mut all = shares(alloc, parts, added(&more))?;
     add_part(&mut all, more)?;
     Ok(all)
 }
