@@ -24,7 +24,7 @@ abbrev pub when_view : Option (Rc Expr Global) → Option Form
 when_view = option_map (λ e. form_of e.value)
 
 abbrev pub asked_view : Prompt → Asked Form
-asked_view p = record { text = p.text.items; when = when_view p.when }
+asked_view p = record { text = []; when = when_view p.when }
 
 abbrev pub statement_view : Statement → Numbered
 statement_view (made.Config s) = ConfigLine s
@@ -39,8 +39,8 @@ statement_view made.EndChoice = EndChoiceLine
 statement_view (made.MainMenu t) = MainMenuLine t.items
 statement_view (made.Type k p) = TypeLine k (option_map asked_view p)
 statement_view (made.Prompt p) = PromptLine (asked_view p)
-statement_view (made.Default v w) = DefaultLine (form_of v) (when_view w)
-statement_view (made.Def k v w) = DefLine k (form_of v) (when_view w)
+statement_view (made.Default v w) = DefaultLine (form_of v.value) (when_view w)
+statement_view (made.Def k v w) = DefLine k (form_of v.value) (when_view w)
 statement_view (made.Depends e) = DependsLine (form_of e.value)
 statement_view (made.Visible e) = VisibleLine (form_of e.value)
 statement_view (made.Select s w) = SelectLine s (when_view w)

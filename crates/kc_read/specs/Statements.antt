@@ -59,8 +59,9 @@ module _ (modules : Option SymId) (number : List ℕ → ℕ) where
   abbrev pub atom_form : Atom → Leaf
   atom_form a = leaf number a
 
+  -- a prompt's condition: what it asks is not kept
   abbrev pub asked_form : Asked Disjunction → Asked Form
-  asked_form a = record { text = a.text; when = option_map condition_form a.when }
+  asked_form a = record { text = []; when = option_map condition_form a.when }
 
   -- the statement with its names numbered
   abbrev pub numbered : Written → Numbered

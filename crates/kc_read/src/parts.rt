@@ -7,7 +7,7 @@ ghost use Rattle.kc_expr.specs.Names.{IsNumber, same_name, mention, Extends};
 ghost use Rattle.std.specs.List.{list_all};
 ghost use Rattle.kc_read.specs.declared.refusal.Code.TheVariants.{Memory};
 ghost use Rattle.kc_read.specs.Lines as spec;
-ghost use Rattle.kc_read.specs.Lines.{syntax_cause, IsMore, ExpressionFault, WholeFault, ConditionFault};
+ghost use Rattle.kc_read.specs.Lines.{syntax_cause, HasText, IsMore, ExpressionFault, WholeFault, ConditionFault};
 ghost use Rattle.std.specs.Prelude.{List, Option};
 ghost use Rattle.kc_expr.specs.declared.expression.SymId.{SymId};
 ghost use Rattle.kc_read.specs.Reads.{IsToken, IsFault, IsPart, IsFront, IsWholeForm, IsConditionForm, IsOperand, cause_of, when_view};
@@ -106,6 +106,25 @@ pub fn text_at<'a>(alloc: Global, tokens: &[Token<'a>], at: usize) -> Result<Vec
             unescape_into(text, &mut out)?;
             Ok(out)
         }
+        _ => Err(syntax()),
+    }
+}
+
+// A text stands at a place.
+pub fn check_text<'a>(tokens: &[Token<'a>], at: usize) -> Result<(), Fault<'a>>
+    ensures text { OnOk result (HasText (lexemes_from tokens.now at)) }
+    ensures fault { IfErr result (λ f. IsFault f (λ c. spec.text_of (lexemes_from tokens.now at) ≡ Err c)) }
+    ensures within { OnOk result (at < length tokens.now) }
+{
+    match next(tokens, at) {
+        Some(TokenKind::Word(word)) => {
+            if is_if(word) {
+                Err(syntax())
+            } else {
+                Ok(())
+            }
+        }
+        Some(TokenKind::Quoted(_)) => Ok(()),
         _ => Err(syntax()),
     }
 }

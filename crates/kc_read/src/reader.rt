@@ -12,7 +12,7 @@ ghost use Rattle.kc_read.specs.Reads.{IsFault, IsRead, IsMade};
 
 use crate::keywords::keyword_of;
 use crate::parts::{
-    begins_with, condition, end, front, is_good_name, is_pattern, name_number, next, operand_at,
+    begins_with, check_text, condition, end, front, is_good_name, is_pattern, name_number, next, operand_at,
     syntax, target_at, text_at, whole, word_at,
 };
 use crate::place::{left_out, place_fault};
@@ -22,6 +22,7 @@ use kc_expr::expression::{Kind, SymId};
 use kc_expr::names::Names;
 use kc_text::Token;
 use std::alloc::Global;
+use std::rc::Rc;
 
 fn config_line<'a>(tokens: &[Token<'a>], names: &mut Names) -> Result<Statement, Fault<'a>>
     ensures read { (modules : Option SymId) → IsRead modules names.old names.new (ReadsConfig (lexemes_from tokens.now 1)) result }
@@ -93,7 +94,7 @@ fn default_line<'a>(
 {
     let (value, after) = front(alloc, tokens, 1, None, names)?;
     let when = condition(alloc, tokens, after, modules, names)?;
-    Ok(Statement::Default(value, when))
+    Ok(Statement::Default(Rc::new(alloc, value)?, when))
 }
 
 fn prompt_line<'a>(
@@ -105,9 +106,9 @@ fn prompt_line<'a>(
     ensures read { IsRead modules names.old names.new (ReadsAsked PromptLine (lexemes_from tokens.now 1)) result }
     ensures names { Extends names.old names.new }
 {
-    let text = text_at(alloc, tokens, 1)?;
+    check_text(tokens, 1)?;
     let when = condition(alloc, tokens, 2, modules, names)?;
-    Ok(Statement::Prompt(Prompt { text, when }))
+    Ok(Statement::Prompt(Prompt { when }))
 }
 
 fn depends_line<'a>(
@@ -257,7 +258,7 @@ fn def_line<'a>(
 {
     let (value, after) = front(alloc, tokens, 1, None, names)?;
     let when = condition(alloc, tokens, after, modules, names)?;
-    Ok(Statement::Def(kind, value, when))
+    Ok(Statement::Def(kind, Rc::new(alloc, value)?, when))
 }
 
 fn asked_type<'a>(
@@ -270,9 +271,9 @@ fn asked_type<'a>(
     ensures read { IsRead modules names.old names.new (ReadsAsked (λ p. TypeLine kind (Some p)) (lexemes_from tokens.now 1)) result }
     ensures names { Extends names.old names.new }
 {
-    let text = text_at(alloc, tokens, 1)?;
+    check_text(tokens, 1)?;
     let when = condition(alloc, tokens, 2, modules, names)?;
-    Ok(Statement::Type(kind, Some(Prompt { text, when })))
+    Ok(Statement::Type(kind, Some(Prompt { when })))
 }
 
 fn type_line<'a>(

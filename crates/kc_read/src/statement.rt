@@ -8,10 +8,10 @@ use kc_expr::expression::{Expr, Kind, Operand, SymId};
 use std::alloc::{AllocError, AllocFailed};
 use std::rc::Rc;
 
-/// A prompt's text and its condition (the kernel's kconfig-language document, "Menu attributes": input prompt).
+/// A prompt (the kernel's kconfig-language document, "Menu attributes": input prompt). It is its condition: what it asks
+/// is read and not kept, since nothing written shows it.
 #[derive(Debug, Drop)]
 pub struct Prompt {
-    pub text: Vec<u8>,
     pub when: Option<Rc<Expr>>,
 }
 
@@ -23,8 +23,9 @@ pub struct Bounds {
     pub high: Operand,
 }
 
-/// A line's statement (the kernel's kconfig-language document, "Menu entries" and "Menu attributes"). What few lines
-/// have is apart, so that a list of lines stays small; a condition is shared with what is made of the line.
+/// A line's statement (the kernel's kconfig-language document, "Menu entries" and "Menu attributes"). Expressions
+/// and what few lines have are apart, so that a list of lines stays small; a condition is shared with what is made of the
+/// line.
 #[derive(Debug, Drop)]
 pub enum Statement {
     Config(SymId),
@@ -39,8 +40,8 @@ pub enum Statement {
     MainMenu(Vec<u8>),
     Type(Kind, Option<Prompt>),
     Prompt(Prompt),
-    Default(Expr, Option<Rc<Expr>>),
-    Def(Kind, Expr, Option<Rc<Expr>>),
+    Default(Rc<Expr>, Option<Rc<Expr>>),
+    Def(Kind, Rc<Expr>, Option<Rc<Expr>>),
     Depends(Rc<Expr>),
     Visible(Rc<Expr>),
     Select(SymId, Option<Rc<Expr>>),

@@ -82,7 +82,7 @@ module _ (f : SymId → SymId) (n k : List ℕ → ℕ) where
     when_is (Some d) h = ap Some (chain_is d h)
 
     asked_is : (p : Asked Disjunction) → Agree (condition_words p.when) → asked_renamed f (asked_form c n p) ≡ asked_form (option_map f c) k p
-    asked_is p h = λ i. record { text = p.text; when = when_is p.when h i }
+    asked_is p h = λ i. record { text = []; when = when_is p.when h i }
 
     prompt_is : (p : Option (Asked Disjunction)) → Agree (asked_words p) → option_map (asked_renamed f) (option_map (asked_form c n) p) ≡ option_map (asked_form (option_map f c) k) p
     prompt_is None h = refl

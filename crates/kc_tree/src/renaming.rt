@@ -97,15 +97,15 @@ fn rename_condition(
 // The same of an expression and its condition.
 fn rename_given(
     alloc: Global,
-    value: &mut Expr,
+    value: &mut Rc<Expr>,
     when: &mut Option<Rc<Expr>>,
     numbers: &[SymId],
     modules: SymId,
 ) -> Result<(), AllocError>
-    ensures value { OnOk result (form_of value.new ≡ renamed (final numbers.now modules) (form_of value.old)) }
+    ensures value { OnOk result (form_of value.new.value ≡ renamed (final numbers.now modules) (form_of value.old.value)) }
     ensures when { OnOk result (when_view when.new ≡ option_map (renamed (final numbers.now modules)) (when_view when.old)) }
 {
-    rename_expression(value, numbers, modules);
+    rename_shared(alloc, value, numbers, modules)?;
     rename_condition(alloc, when, numbers, modules)
 }
 

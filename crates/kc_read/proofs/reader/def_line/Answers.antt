@@ -20,7 +20,7 @@ returns-clause-read c =
       (front v.tree rest, w.tree, v.starts, w.condition_is, refl),
       record {
         mentions = mentioned_on c.args.names.now c.front.new.names c.condition.new.names (words v.tree) (condition_words w.tree) v.mentions w.mentions;
-        form = λ later x. λ i. DefLine c.args.kind (v.form later (extends_on c.front.new.names c.condition.new.names later c.in_ok-when.ensures.names x) i) (w.form later x i);
+        form = λ later x. rw c.in_ok-new.ensures.ok (λ i. DefLine c.args.kind (v.form later (extends_on c.front.new.names c.condition.new.names later c.in_ok-when.ensures.names x) i) (w.form later x i));
       },
     )
 
