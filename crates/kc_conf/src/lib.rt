@@ -16,4 +16,4 @@ pub use kc_read::{Code, FileMap, Refusal};
 pub use kc_words::Options;
 pub use options::Status;
 pub use outputs::{Outputs, Which};
-pub use runs::{one_outcome, run};
+pub use runs::{Kept, one_outcome, run, run_keeping};

@@ -34,6 +34,13 @@ use kc_user::user::User;
 use kc_words::Options;
 use std::alloc::Global;
 
+/// What a run made of a tree that it accepted: the tree, and an order of its symbols.
+#[derive(Drop)]
+pub struct Kept {
+    tree: Tree,
+    order: Order,
+}
+
 // The tree of the root file and an order of its symbols, or why no tree is accepted.
 fn accepted(alloc: Global, files: &FileMap, root: &[u8]) -> Result<(Tree, Order), Refusal>
     ensures ok { IfOk result (λ both. IsAcceptedTree (bytes_in files.now) root.now both.0) }
@@ -161,6 +168,7 @@ fn run_through<I: Input, O: Outputs>(
     options: &Options,
     inputs: &mut [I],
     outputs: &mut O,
+    kept: &mut Option<Kept>,
 ) -> Result<Status, Cause>
     requires { length inputs.old ≡ length options.now.fragments.items + 1 }
     ensures ok { IfOk result (λ status. (all : List (List ℕ)) × AreAllToCome (map I.remaining inputs.old) all
@@ -177,7 +185,11 @@ fn run_through<I: Input, O: Outputs>(
     one_outcome();
     one_answer();
     match accepted(alloc, files, options.kconfig.as_bytes()) {
-        Ok((tree, order)) => run_tree(alloc, options, &tree, &order, inputs, outputs),
+        Ok((tree, order)) => {
+            let ended = run_tree(alloc, options, &tree, &order, inputs, outputs);
+            *kept = Some(Kept { tree, order });
+            ended
+        }
         Err(refusal) => match refusal.code {
             Code::Memory => Err(Cause::Memory),
             _ => refuse_tree(outputs, &refusal),
@@ -217,7 +229,36 @@ pub fn run<I: Input, O: Outputs>(
     ensures refused_inputs { (r : Refused) → IsRefusedTree (bytes_in files.now) (root_of options.now) r → inputs.new ≡ inputs.old }
     ensures refused_outputs { (r : Refused) → IsRefusedTree (bytes_in files.now) (root_of options.now) r → Only Which.Notes (O.seen outputs.old) (O.seen outputs.new) }
 {
-    match run_through(alloc, files, options, inputs, outputs) {
+    let mut kept = None;
+    run_keeping(alloc, files, options, inputs, outputs, &mut kept)
+}
+
+/// [`run`], word for word, but that the tree which it made is put into `kept`, in place of what that held, where it
+/// accepted one. To give back the memory of a large tree takes a while: a program that ends anyway may forget `kept`.
+pub fn run_keeping<I: Input, O: Outputs>(
+    alloc: Global,
+    files: &FileMap,
+    options: &Options,
+    inputs: &mut [I],
+    outputs: &mut O,
+    kept: &mut Option<Kept>,
+) -> Status
+    requires { length inputs.old ≡ length options.now.fragments.items + 1 }
+    // Without a fault the outputs and the status are the outcome's, and no count rose.
+    ensures exactly { result ≢ Status.Faulted → (all : List (List ℕ)) × AreAllToCome (map I.remaining inputs.old) all
+        × ((outcome : Outcome) × IsOutcome (bytes_in files.now) options.now all outcome
+        × Finishes outcome result (O.seen outputs.old) (O.seen outputs.new)) }
+    ensures quiet_inputs { result ≢ Status.Faulted → map I.failures inputs.new ≡ map I.failures inputs.old }
+    // After a fault there is its cause, whose count rose by one and no other, and all before it is whole.
+    ensures fault { result ≡ Status.Faulted → (cause : Cause) × (all : List (List ℕ)) × AreAllToCome (map I.remaining inputs.old) all
+        × CountsInputs cause (map I.failures inputs.old) (map I.failures inputs.new)
+        × ((outcome : Outcome) → IsOutcome (bytes_in files.now) options.now all outcome
+        → Faults options.now outcome cause (O.seen outputs.old) (O.seen outputs.new)) }
+    // A refused tree leaves the inputs untouched, and begins nothing.
+    ensures refused_inputs { (r : Refused) → IsRefusedTree (bytes_in files.now) (root_of options.now) r → inputs.new ≡ inputs.old }
+    ensures refused_outputs { (r : Refused) → IsRefusedTree (bytes_in files.now) (root_of options.now) r → Only Which.Notes (O.seen outputs.old) (O.seen outputs.new) }
+{
+    match run_through(alloc, files, options, inputs, outputs, kept) {
         Ok(status) => status,
         Err(cause) => {
             report(options, cause, outputs);

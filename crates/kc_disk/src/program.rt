@@ -6,7 +6,7 @@ use crate::folder::Disk;
 use crate::input::FileInput;
 use crate::outputs::{FileOutputs, name_of};
 use crate::words::words;
-use kc_conf::{Status, run};
+use kc_conf::{Status, run_keeping};
 use kc_load::{LoadFault, load};
 use kc_words::{Options, Usage, options_of};
 use std::alloc::AllocError;
@@ -61,9 +61,11 @@ fn run_files(rt: &HostRuntime, options: &Options) -> Result<Status, LoadFault> {
     let files = load(alloc, &mut Disk::new(rt), root, kconfig)?;
     let mut inputs = inputs_of(rt, options)?;
     let mut outputs = FileOutputs::new(alloc, rt, options)?;
-    let status = run(alloc, &files, options, &mut inputs, &mut outputs);
-    // The process ends after this, and the system takes back the files' memory at once.
+    let mut kept = None;
+    let status = run_keeping(alloc, &files, options, &mut inputs, &mut outputs, &mut kept);
+    // The process ends after this: the system takes back the memory of the files and of the tree at once.
     mem::forget(files);
+    mem::forget(kept);
     match outputs.finish(status) {
         None => Ok(status),
         Some(which) => {

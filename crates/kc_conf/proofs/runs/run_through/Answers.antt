@@ -14,17 +14,17 @@ pub returns-in-Ok-clause-ok : goal.returns-in-Ok-clause-ok
 returns-in-Ok-clause-ok g c =
     let files = bytes_in c.args.files.now in
     let accepted = subst (λ root. IsAcceptedTree files root c.in-Ok.tree) c.as_bytes.ensures.value c.in-Ok.ensures.ok in
-    IfOk-weaker c.run_tree.result _ _ (λ status. λ (all, are, (outcome, is, finishes)). (all, are, (outcome, accepted_tree c.in-Ok.tree accepted is, finishes))) c.run_tree.ensures.ok
+    IfOk-weaker c.run_tree-ended.result _ _ (λ status. λ (all, are, (outcome, is, finishes)). (all, are, (outcome, accepted_tree c.in-Ok.tree accepted is, finishes))) c.run_tree-ended.ensures.ok
 
 pub returns-in-Ok-clause-err : goal.returns-in-Ok-clause-err
 returns-in-Ok-clause-err g c =
     let files = bytes_in c.args.files.now in
     let accepted = subst (λ root. IsAcceptedTree files root c.in-Ok.tree) c.as_bytes.ensures.value c.in-Ok.ensures.ok in
-    IfErr-weaker c.run_tree.result _ _ (λ cause. λ (all, are, broken). (
+    IfErr-weaker c.run_tree-ended.result _ _ (λ cause. λ (all, are, broken). (
       all,
       are,
-      Broken-outcome_of_tree c.one_answer.ensures files c.args.options.now c.in-Ok.tree all cause (g.O.Outputs.seen c.args.outputs.now) (g.O.Outputs.seen c.run_tree.new.outputs) accepted broken,
-    )) c.run_tree.ensures.err
+      Broken-outcome_of_tree c.one_answer.ensures files c.args.options.now c.in-Ok.tree all cause (g.O.Outputs.seen c.args.outputs.now) (g.O.Outputs.seen c.run_tree-ended.new.outputs) accepted broken,
+    )) c.run_tree-ended.ensures.err
 
 pub returns-in-Ok-clause-refused_inputs : goal.returns-in-Ok-clause-refused_inputs
 returns-in-Ok-clause-refused_inputs g c = λ r refused.

@@ -2,7 +2,7 @@
 use Rattle.kc_conf.specs.Places.{Only-only}
 use Rattle.kc_conf.specs.declared.outputs.Which.TheVariants.{Notes}
 use Rattle.kc_conf.proofs.PlacesLemmas.{Reports-only}
-use Rattle.kc_conf.proofs.runs.run.Goals as goal
+use Rattle.kc_conf.proofs.runs.run_keeping.Goals as goal
 
 pub returns-in-Err-clause-fault : goal.returns-in-Err-clause-fault
 returns-in-Err-clause-fault g c = λ _.
