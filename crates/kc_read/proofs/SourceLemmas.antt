@@ -77,17 +77,33 @@ follows_name start now next name names f h = λ rest g.
     subst (Names start) (sym (ap (λ ns. ns ++ rest) (map-push (λ n. n.items) names name) ∙ append_assoc (map (λ n. n.items) names) (name.items ∷ []) rest))
     (f (name.items ∷ rest) (spec.source now next h.0 name.items rest h.1 h.2 h.3 g))
 
--- a found line goes on
-pub found_clear : (old new : Left) (ts : List Piece) → NextLine old new ts None → new.refusal ≡ None
-found_clear old new ts n = next_clear old new ts None n
+-- a line after which another follows
+pub found_clear : (old new : Left) (f : Found) → IsFound old new f → GoesOn f → new.refusal ≡ None
+found_clear old new found.Nothing h g = absurd g
+found_clear old new found.Other h g = next_clear old new h.0 None h.1
+found_clear old new (found.Name t) h g = next_clear old new h.0 None h.1
 
-pub found_less : (old new : Left) (ts : List Piece) → NextLine old new ts None → length new.lines < length old.lines
-found_less old new ts n = next_less old new ts None n
+pub found_less : (old new : Left) (f : Found) → IsFound old new f → GoesOn f → length new.lines < length old.lines
+found_less old new found.Nothing h g = absurd g
+found_less old new found.Other h g = next_less old new h.0 None h.1
+found_less old new (found.Name t) h g = next_less old new h.0 None h.1
+
+-- what a line says, whatever the lines were before it
+abbrev pub SaysSource : Left → Left → List ℕ → Found → Type 0
+SaysSource mid new text f = (before : Left) → TakesLine before mid text → IsFound before new f
+
+pub says_clear : (old mid new : Left) (text : List ℕ) (r : Result Found AllocError) → TakesLine old mid text → IfOk r (SaysSource mid new text) → IfOk r (λ f. GoesOn f → new.refusal ≡ None)
+says_clear old mid new text (Ok f) taken says = found_clear old new f (says old taken)
+says_clear old mid new text (Err e) taken says = says
+
+pub says_less : (old mid new : Left) (text : List ℕ) (r : Result Found AllocError) → TakesLine old mid text → IfOk r (SaysSource mid new text) → IfOk r (λ f. GoesOn f → length new.lines < length old.lines)
+says_less old mid new text (Ok f) taken says = found_less old new f (says old taken)
+says_less old mid new text (Err e) taken says = says
 
 -- a line that could not be taken or cut
-pub ended_found : (l m : Left) (r : Result Found AllocError) (why : TextFault) → IfOk r (λ f. (f ≡ found.Nothing) × (why ≢ fault.Memory)) → (why ≢ fault.Memory → Names l []) → IfOk r (IsFound l m)
-ended_found l m (Ok f) why h names = subst (IsFound l m) (sym h.0) (names h.1)
-ended_found l m (Err e) why h names = h
+pub ended_found : (P : Found → Type 0) (r : Result Found AllocError) (why : TextFault) → IfOk r (λ f. (f ≡ found.Nothing) × (why ≢ fault.Memory)) → (why ≢ fault.Memory → P found.Nothing) → IfOk r P
+ended_found P (Ok f) why h names = subst P (sym h.0) (names h.1)
+ended_found P (Err e) why h names = h
 
 -- the line after a line that is taken
 pub left_of : (ls : List Lexeme) (b : Bool) (mid new : Left) → mid.refusal ≡ None → b ≡ is_help ls → ((b ≡ true) × Drops mid new (after_help mid.lines)) ⊎ ((b ≡ false) × (new ≡ mid)) → new ≡ cond (is_help ls) (without_help mid) mid

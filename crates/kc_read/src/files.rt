@@ -23,7 +23,7 @@ use crate::statement::{Entry, Fault, Statement};
 use crate::step::{Step, next_step};
 use kc_expr::expression::SymId;
 use kc_expr::names::Names;
-use kc_text::{LogicalLines, line_count};
+use kc_text::{LogicalLines, Token, line_count};
 use std::alloc::{AllocError, Global};
 use std::rc::Rc;
 
@@ -218,16 +218,26 @@ pub fn read_file(
     let mut frame = frame;
     let mut lines = LogicalLines::new(bytes);
     let mut text = Vec::new(reader.alloc);
-    while read_next(reader, &mut lines, &mut text, &mut frame, progress, names)? {}
+    let mut tokens = Vec::new(reader.alloc);
+    while read_next(
+        reader,
+        &mut lines,
+        &mut text,
+        &mut tokens,
+        &mut frame,
+        progress,
+        names,
+    )? {}
     Ok(())
 }
 
-// Reads one line of a file; false at its end. `text` holds the line while it is read, in place of what it held.
+// Reads one line of a file; false at its end. `text` and `tokens` hold it while it is read, in place of what they held.
 #[cycle(files)]
-fn read_next(
+fn read_next<'a>(
     reader: &Reader,
-    lines: &mut LogicalLines,
+    lines: &mut LogicalLines<'a>,
     text: &mut Vec<u8>,
+    tokens: &mut Vec<Token<'a>>,
     frame: &mut Frame,
     progress: &mut Progress,
     names: &mut Names,
@@ -249,6 +259,7 @@ fn read_next(
         &frame.file,
         lines,
         text,
+        tokens,
         context,
         reader.modules,
         names,

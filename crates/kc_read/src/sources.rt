@@ -1,7 +1,7 @@
 //! The files that a file names in its `source` lines.
 
-ghost use Rattle.std.specs.Prelude.{◌≡◌, ◌≢◌, ◌<◌, IfOk, length, map, None};
-ghost use Rattle.kc_text.specs.Lines.{left};
+ghost use Rattle.std.specs.Prelude.{◌≡◌, ◌≢◌, ◌<◌, ◌≤◌, IfOk, length, map, None};
+ghost use Rattle.kc_text.specs.Lines.{Left, TakesLine, left};
 ghost use Rattle.kc_text.specs.declared.faults.TextFault.TheVariants.{Memory};
 ghost use Rattle.kc_read.specs.declared.sources.Found.TheVariants.{Nothing};
 ghost use Rattle.kc_read.specs.Sources as spec;
@@ -11,7 +11,7 @@ use crate::parts::begins_with;
 use crate::reader::source_name;
 use crate::refusal::Code;
 use crate::step::{begins_help, token_list};
-use kc_text::{LogicalLines, TextFault, lex};
+use kc_text::{LogicalLines, TextFault, Token, lex};
 use std::alloc::{AllocError, Global};
 
 /// What the next line says: no name and none after it, none, or this one.
@@ -32,40 +32,60 @@ fn ended(fault: TextFault) -> Result<Found, AllocError>
     }
 }
 
-// What the next line of a file says. `text` holds the line while it is read, in place of what it held.
-fn next_source(
+// What a line that was taken says; `tokens` holds the line's while it is read, in place of what it held.
+fn source_of_line<'l>(
     alloc: Global,
+    line: &'l [u8],
+    tokens: &mut Vec<Token<'l>>,
     lines: &mut LogicalLines,
-    text: &mut Vec<u8>,
 ) -> Result<Found, AllocError>
-    requires { lines.old.refusal ≡ None }
-    ensures found { IfOk result (IsFound lines.old lines.new) }
-    ensures clear { IfOk result (λ f. GoesOn f → lines.new.refusal ≡ None) }
-    ensures less { IfOk result (λ f. GoesOn f → length lines.new.lines < length lines.old.lines) }
+    requires clear { lines.old.refusal ≡ None }
+    requires short { length line.now ≤ 8191 }
+    // Whatever the lines were before.
+    ensures { IfOk result (λ f. (before : Left) → TakesLine before lines.old line.now → IsFound before lines.new f) }
 {
-    match lines.next_into(text) {
-        Ok(Some(_)) => {}
-        Ok(None) => return Ok(Found::Nothing),
-        Err(fault) => return ended(fault),
-    }
-    let mut tokens = token_list(alloc, text)?;
-    match lex(text, &mut tokens) {
+    match lex(line, tokens) {
         Ok(()) => {}
         Err(fault) => return ended(fault),
     }
-    if begins_help(&tokens) {
+    if begins_help(tokens) {
         lines.skip_help();
     }
-    if !begins_with(&tokens, 0, b"source") {
+    if !begins_with(tokens, 0, b"source") {
         return Ok(Found::Other);
     }
-    match source_name(alloc, &tokens) {
+    match source_name(alloc, tokens) {
         Ok(name) => Ok(Found::Name(name)),
         Err(fault) => match fault.code {
             Code::Memory => Err(AllocError),
             _ => Ok(Found::Nothing),
         },
     }
+}
+
+// What the next line of a file says. `tokens` holds those of a line that is lent from the file while it is read, and
+// `text` the bytes of one that is joined, each in place of what it held.
+fn next_source<'a>(
+    alloc: Global,
+    lines: &mut LogicalLines<'a>,
+    text: &mut Vec<u8>,
+    tokens: &mut Vec<Token<'a>>,
+) -> Result<Found, AllocError>
+    requires { lines.old.refusal ≡ None }
+    ensures found { IfOk result (IsFound lines.old lines.new) }
+    ensures clear { IfOk result (λ f. GoesOn f → lines.new.refusal ≡ None) }
+    ensures less { IfOk result (λ f. GoesOn f → length lines.new.lines < length lines.old.lines) }
+{
+    if let Some((_, line)) = lines.next_single() {
+        return source_of_line(alloc, line, tokens, lines);
+    }
+    match lines.next_into(text) {
+        Ok(Some(_)) => {}
+        Ok(None) => return Ok(Found::Nothing),
+        Err(fault) => return ended(fault),
+    }
+    let mut own = token_list(alloc, text)?;
+    source_of_line(alloc, text, &mut own, lines)
 }
 
 /// The names of the file's `source` lines in order, up to the first line that is too long or cannot be cut into tokens,
@@ -78,8 +98,9 @@ pub fn sources_of(alloc: Global, file: &[u8]) -> Result<Vec<Vec<u8>>, AllocError
     let mut names = Vec::new(alloc);
     let mut lines = LogicalLines::new(file);
     let mut text = Vec::new(alloc);
+    let mut tokens = Vec::new(alloc);
     'along: loop {
-        match next_source(alloc, &mut lines, &mut text)? {
+        match next_source(alloc, &mut lines, &mut text, &mut tokens)? {
             Found::Nothing => return Ok(names),
             Found::Other => {}
             Found::Name(name) => names.push(name)?,

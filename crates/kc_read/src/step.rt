@@ -1,8 +1,9 @@
 //! The next line of a file.
 
-ghost use Rattle.std.specs.Prelude.{◌≡◌, ◌≢◌, [], IfOk, IfErr, IsTrue, None, Some};
+ghost use Rattle.std.specs.Prelude.{◌≡◌, ◌≢◌, ◌≤◌, [], length, IfOk, IfErr, IsTrue, None, Some};
 ghost use Rattle.kc_expr.specs.Grammar.{lexemes_from};
 ghost use Rattle.kc_expr.specs.Names.{Extends};
+ghost use Rattle.kc_text.specs.Lines.{Left, TakesLine};
 ghost use Rattle.kc_text.specs.Tokens.{pieces};
 ghost use Rattle.kc_read.specs.declared.refusal.Code.TheVariants.{Memory};
 ghost use Rattle.kc_read.specs.Expansion.{is_help, long_line, lexemes, refused, text_cause};
@@ -69,12 +70,50 @@ pub fn begins_help(tokens: &[Token]) -> bool
     begins_with(tokens, 0, b"help") || begins_with(tokens, 0, b"---help---")
 }
 
-/// What stands next in a file. `text` holds the line while it is read, in place of what it held.
-pub fn next_step(
+// What a line that was taken says; `tokens` holds the line's while it is read, in place of what it held.
+fn step_of_line<'l>(
     alloc: Global,
     file: &[u8],
+    number: u32,
+    line: &'l [u8],
+    tokens: &mut Vec<Token<'l>>,
     lines: &mut LogicalLines,
+    context: Context,
+    modules: Option<SymId>,
+    names: &mut Names,
+) -> Result<Step, Refusal>
+    requires clear { lines.old.refusal ≡ None }
+    requires short { length line.now ≤ 8191 }
+    // Whatever the lines were before.
+    ensures step { IfOk result (λ s. (before : Left) → number ≡ before.number → TakesLine before lines.old line.now → IsStep modules names.old names.new context before lines.new s) }
+    ensures refused { IfErr result (λ r. (before : Left) → number ≡ before.number → TakesLine before lines.old line.now → IsStepRefusal file.now context before r) }
+    ensures memory { IfErr result IsMemory }
+    ensures names { Extends names.old names.new }
+{
+    match lex(line, tokens) {
+        Ok(()) => {}
+        Err(fault) => return Err(refuse(alloc, text_fault(fault), file, number)),
+    }
+    if begins_help(tokens) {
+        lines.skip_help();
+    }
+    if tokens.is_empty() {
+        return Ok(Step::Blank);
+    }
+    match read_line(alloc, tokens, context, modules, names) {
+        Ok(statement) => Ok(Step::Next(number, statement)),
+        Err(fault) => Err(refuse(alloc, fault, file, number)),
+    }
+}
+
+/// What stands next in a file. `tokens` holds those of a line that is lent from the file while it is read, and `text` the
+/// bytes of one that is joined, each in place of what it held.
+pub fn next_step<'a>(
+    alloc: Global,
+    file: &[u8],
+    lines: &mut LogicalLines<'a>,
     text: &mut Vec<u8>,
+    tokens: &mut Vec<Token<'a>>,
     context: Context,
     modules: Option<SymId>,
     names: &mut Names,
@@ -85,26 +124,20 @@ pub fn next_step(
     ensures memory { IfErr result IsMemory }
     ensures names { Extends names.old names.new }
 {
+    if let Some((number, line)) = lines.next_single() {
+        return step_of_line(
+            alloc, file, number, line, tokens, lines, context, modules, names,
+        );
+    }
     let number = match lines.next_into(text) {
         Ok(Some(number)) => number,
         Ok(None) => return Ok(Step::End),
         Err(fault) => return Err(refuse(alloc, text_fault(fault), file, long_line(fault))),
     };
-    let Ok(mut tokens) = token_list(alloc, text) else {
+    let Ok(mut own) = token_list(alloc, text) else {
         return Err(memory(alloc));
     };
-    match lex(text, &mut tokens) {
-        Ok(()) => {}
-        Err(fault) => return Err(refuse(alloc, text_fault(fault), file, number)),
-    }
-    if begins_help(&tokens) {
-        lines.skip_help();
-    }
-    if tokens.is_empty() {
-        return Ok(Step::Blank);
-    }
-    match read_line(alloc, &tokens, context, modules, names) {
-        Ok(statement) => Ok(Step::Next(number, statement)),
-        Err(fault) => Err(refuse(alloc, fault, file, number)),
-    }
+    step_of_line(
+        alloc, file, number, text, &mut own, lines, context, modules, names,
+    )
 }

@@ -18,8 +18,8 @@ decreases-read_statement l = 4 * (64 - length l.progress.now.open_files.items) +
 abbrev pub decreases-source : goal.decreases-source
 decreases-source l = 4 * (64 - length l.progress.now.open_files.items)
 
-abbrev pub invariant-read_file-loop-text : goal.invariant-read_file-loop-text
-invariant-read_file-loop-text l = record {
+abbrev pub invariant-read_file-loop-tokens : goal.invariant-read_file-loop-tokens
+invariant-read_file-loop-tokens l = record {
   read : (first : List (List ℕ)) (a : Around) (log : Log) → IsState first l.reader.modules l.fn.names a [] log l.fn.progress l.fn.frame → GoesOn (bytes_in l.reader.map.now) first l.reader.modules l.names a (left l.bytes 1) l.lines [] log l.progress l.frame;
   clear : l.lines.refusal ≡ None;
   shallow : IsShallow l.frame;
@@ -27,5 +27,5 @@ invariant-read_file-loop-text l = record {
   same_open : l.progress.open_files.items ≡ l.fn.progress.open_files.items;
 }
 
-abbrev pub decreases-read_file-loop-text : goal.decreases-read_file-loop-text
-decreases-read_file-loop-text l = length l.lines.lines
+abbrev pub decreases-read_file-loop-tokens : goal.decreases-read_file-loop-tokens
+decreases-read_file-loop-tokens l = length l.lines.lines

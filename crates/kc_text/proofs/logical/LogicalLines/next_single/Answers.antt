@@ -14,8 +14,11 @@ returns-clause-some c =
     c.args.self.now c.self.inside.refusal c.self.view_is (sym c.is_some.ensures ∙ c.if-is_some.false)
 
 pub returns-then-is_some-clause-none : goal.returns-then-is_some-clause-none
-returns-then-is_some-clause-none c = (refl, λ clear one.
-  elim c.then-is_some.branch [
-    | then-is_some-via-then-is_some w ↦ refused_none c.self.inside.refusal (sym c.is_some.ensures ∙ w.if-is_some.true) (ap (λ (v : Left). v.refusal) c.self.view_is ∙ clear)
-    | then-is_some-via-else-is_some+then-is_empty w ↦ none_single c.args.self.now (ap (λ (v : Left). v.lines) (sym c.self.view_is) ∙ lines_at_end c.self.inside.rest.now (eqb-true _ 0 (sym w.is_empty.ensures ∙ w.if-is_empty.true))) one
-  ])
+returns-then-is_some-clause-none c = (
+  refl,
+  λ clear one.
+      elim c.then-is_some.branch [
+        | then-is_some-via-then-is_some w ↦ refused_none c.self.inside.refusal (sym c.is_some.ensures ∙ w.if-is_some.true) (ap (λ (v : Left). v.refusal) c.self.view_is ∙ clear)
+        | then-is_some-via-else-is_some+then-is_empty w ↦ none_single c.args.self.now (ap (λ (v : Left). v.lines) (sym c.self.view_is) ∙ lines_at_end c.self.inside.rest.now (eqb-true _ 0 (sym w.is_empty.ensures ∙ w.if-is_empty.true))) one
+      ],
+)
