@@ -1,4 +1,4 @@
--- The selection of one more choice.
+-- The selection of one more choice, and the flags of one more symbol.
 use Rattle.std.proofs.Common.{◌≡◌, ℕ, ◌+◌, ◌<◌, ◌&&◌, not, Bool, Some, List, [], ◌∷◌, ◌++◌, map, length, Option, None, refl, sym, ◌∙◌, ap, arith}
 use Rattle.std.specs.List.{range_with_len}
 use Rattle.std.proofs.lemmas.List.FromFn.{map-range_with_len_more}
@@ -14,8 +14,9 @@ use Rattle.kc_user.specs.Given.{Slot, In, Given}
 use Rattle.kc_values.specs.Solution.{symbol_count, slot_by, slot_of_facts, rhs}
 use Rattle.kc_values.specs.Differs.{same_value, selection, default_selection, differs, differs_at}
 use Rattle.kc_values.specs.Values.{selected, names_symbol, equation, by_choice}
+use Rattle.kc_values.specs.Written.{written}
 use Rattle.kc_values.specs.declared.table.Value.{Value}
-use Rattle.kc_solve.specs.Flags.{differs_by}
+use Rattle.kc_solve.specs.Flags.{differs_by, is_written}
 use Rattle.kc_solve.specs.Places.{known_in, valuation}
 use Rattle.kc_solve.proofs.WarningSteps.{tables_seen}
 
@@ -30,6 +31,10 @@ one_more_selected tree values U c x old new l e n h =
 pub one_more_default : (tree : TreeFacts) (values : List (Option Value)) (U : Slot → Option Given) (c : ℕ) (x : Option SymId) (old new : List (Option SymId)) → length values ≡ symbol_count tree → old ≡ map (default_selection tree U (valuation tree values)) (range_with_len 0 c) → new ≡ old ++ x ∷ [] → x ≡ selected tree (known_in tree values) (choice_at tree c) None → new ≡ map (default_selection tree U (valuation tree values)) (range_with_len 0 (c + 1))
 one_more_default tree values U c x old new l e n h =
     one_more (default_selection tree U (valuation tree values)) c x old new e n (h ∙ ap (λ k. selected tree k (choice_at tree c) None) (tables_seen tree values l))
+
+pub one_more_written : (tree : TreeFacts) (values : List (Option Value)) (i : ℕ) (x : Bool) (old new : List Bool) → length values ≡ symbol_count tree → old ≡ map (is_written tree (valuation tree values)) (range_with_len 0 i) → new ≡ old ++ x ∷ [] → x ≡ written tree (known_in tree values) (symbol i) → new ≡ map (is_written tree (valuation tree values)) (range_with_len 0 (i + 1))
+one_more_written tree values i x old new l e n h =
+    one_more (is_written tree (valuation tree values)) i x old new e n (h ∙ ap (λ k. written tree k (symbol i)) (tables_seen tree values l))
 
 module _ (tree : TreeFacts) (values : List (Option Value)) (full : length values ≡ symbol_count tree) (U : Slot → Option Given) (i : ℕ) (f : SymbolFacts) (at : slice_get tree.symbols i ≡ Some f) (chosen defaults : List (Option SymId)) (sel : chosen ≡ map (selection tree U (valuation tree values)) (range_with_len 0 (length tree.choices))) (def : defaults ≡ map (default_selection tree U (valuation tree values)) (range_with_len 0 (length tree.choices))) where
   abbrev V : ℕ → Known

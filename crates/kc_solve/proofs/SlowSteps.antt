@@ -1,9 +1,9 @@
 -- One more equation computed anew.
-use Rattle.std.proofs.Common.{◌≡◌, ℕ, ◌<◌, ◌+◌, suc, false, List, length, Option, Some, None, sym, ◌∙◌, ap, subst, arith}
+use Rattle.std.proofs.Common.{◌≡◌, ℕ, ◌<◌, ◌+◌, suc, false, List, length, Option, Some, sym, ◌∙◌, ap, subst, arith}
 use Rattle.std.specs.Prelude.{slice_set}
 use Rattle.std.specs.Option.{option_map}
 use Rattle.kc_expr.specs.Names.{symbol}
-use Rattle.kc_expr.specs.Value.{Known, DependsOnSymbols}
+use Rattle.kc_expr.specs.Value.{DependsOnSymbols}
 use Rattle.kc_expr.specs.declared.expression.SymId.{SymId}
 use Rattle.kc_order.specs.Needs.{needs_in, stuck_after, IsAccepted as AreAccepted}
 use Rattle.kc_order.specs.Solution.{IsUpdate, Solves}

@@ -1,9 +1,11 @@
 -- What a full table tells, as a solution.
-use Rattle.std.proofs.Common.{◌≡◌, ℕ, ◌<◌, Bool, false, not, ◌&&◌, cond, List, [], length, Option, Some, None, refl, sym, ◌∙◌, ap, subst, inl, inr, arith}
+use Rattle.std.proofs.Common.{◌≡◌, ℕ, ◌<◌, ◌≤◌, Bool, false, not, ◌&&◌, cond, List, [], length, Option, Some, None, refl, sym, ◌∙◌, ap, subst, inl, inr, arith}
 use Rattle.std.specs.Prelude.{slice_index_or}
 use Rattle.std.specs.List.{flat_map, range_with_len}
-use Rattle.std.proofs.lemmas.Bool.{cases_Bool, ltb-true}
+use Rattle.std.proofs.lemmas.Bool.{cases_Bool, ltb-false, ltb-true}
+use Rattle.std.proofs.lemmas.List.{get_or_past}
 use Rattle.std.proofs.lemmas.List.FromFn.{get_or-map-range_with_len, length-map-range_with_len}
+use Rattle.std.proofs.lemmas.Option.{slice_get_past}
 use Rattle.kc_expr.specs.Names.{symbol}
 use Rattle.kc_expr.specs.Value.{Known, Written, known_of, truth_of_known, text_of_known}
 use Rattle.kc_expr.specs.declared.expression.SymId.{SymId}
@@ -21,8 +23,10 @@ use Rattle.kc_values.specs.Solution.{equations, rhs, seen, slot, symbol_count}
 use Rattle.kc_values.specs.Table.{kind_in, value_in, tri_in, text_in}
 use Rattle.kc_values.specs.Values.{equation, names_symbol, selected, visibility}
 use Rattle.kc_values.specs.Warnings.{warnings_of}
+use Rattle.kc_values.specs.Written as writing
 use Rattle.kc_values.specs.declared.table.Value.{Value}
 use Rattle.kc_solve.proofs.WarningSteps.{tables_seen}
+use Rattle.kc_solve.specs.Flags.{is_written}
 use Rattle.kc_solve.specs.Places.{known_in, valuation}
 use Rattle.kc_solve.specs.Solved as solved
 use Rattle.kc_solve.specs.Solved.{IsMinimal, IsSolution, IsSolved, SettledWhere, Solution, TellsKnown, known, solution_in, value_of}
@@ -93,7 +97,7 @@ module _ (tree : TreeFacts) (places : Places) (values : List (Option Value)) whe
       subst (λ (y : Solution). t ≡ solved.visibility y id) e
       (h ∙ ap (λ (k : SymId → Known). visibility tree k f) (table_tells full) ∙ ap (solved.visibility_by (solution_in tree places values)) at)
 
-  module _ (chosen defaults : List (Option SymId)) (differing : List Bool) (lines : List (List ℕ)) (is : IsSolved tree places values chosen defaults differing lines) where
+  module _ (chosen defaults : List (Option SymId)) (differing written : List Bool) (lines : List (List ℕ)) (is : IsSolved tree places values chosen defaults differing written lines) where
     pub is_solution : IsSolution (solution_in tree places values)
     is_solution = record {
       places = is.user;
@@ -132,6 +136,24 @@ module _ (tree : TreeFacts) (places : Places) (values : List (Option Value)) whe
         ∙ get_or-map-range_with_len (differs tree (place_at places) V) 0 (symbol_count tree) s.0 s.0 false l (omega arith)
         ∙ sym (same_differs s.0 (slot tree s.0) l)
 
+    written_long : length written ≡ symbol_count tree
+    written_long = ap length is.written_are ∙ length-map-range_with_len (is_written tree V) 0 (symbol_count tree)
+
+    -- a name that is not defined has no facts, and no flag
+    pub written_at : (s : SymId) → slice_index_or written s.0 false ≡ solved.written (solution_in tree places values) s
+    written_at s =
+        elim (cases_Bool (is_defined tree s)) [
+          | inl t ↦
+              let l = ltb-true s.0 (symbol_count tree) t in
+              ap (λ xs. slice_index_or xs s.0 false) is.written_are
+              ∙ get_or-map-range_with_len (is_written tree V) 0 (symbol_count tree) s.0 s.0 false l (omega arith)
+              ∙ ap (λ (k : SymId → Known). writing.written tree k s) (sym same_seen)
+          | inr f ↦
+              let past = ltb-false s.0 (symbol_count tree) f in
+              get_or_past written s.0 false (subst (λ n. n ≤ s.0) (sym written_long) past)
+              ∙ sym (ap (writing.written_facts tree (seen tree W)) (slice_get_past tree.symbols s.0 past))
+        ]
+
     pub lines_too : lines ≡ solved.warnings (solution_in tree places values)
     lines_too =
         is.lines_are
@@ -142,9 +164,6 @@ module _ (tree : TreeFacts) (places : Places) (values : List (Option Value)) whe
 
     pub defaults_long : length defaults ≡ length tree.choices
     defaults_long = ap length is.defaults_are ∙ length-map-range_with_len (default_selection tree (place_at places) V) 0 (length tree.choices)
-
-    pub differing_long : length differing ≡ symbol_count tree
-    differing_long = ap length is.differing_are ∙ length-map-range_with_len (differs tree (place_at places) V) 0 (symbol_count tree)
 
     -- the same at a solution that is this one
     module _ (s : Solution) (e : solution_in tree places values ≡ s) where
@@ -162,12 +181,12 @@ module _ (tree : TreeFacts) (places : Places) (values : List (Option Value)) whe
       default_is c l =
           subst (λ (x : Solution). slice_index_or defaults c None ≡ solved.default_selection x c) e (default_at c (subst (λ (x : Solution). c < length x.tree.choices) (sym e) l))
 
-      pub differing_within : (i : SymId) → i.0 < symbol_count s.tree → i.0 < length differing
-      differing_within i l = subst (λ n. i.0 < n) (sym differing_long) (subst (λ (x : Solution). i.0 < symbol_count x.tree) (sym e) l)
-
       pub differing_is : (i : SymId) → i.0 < symbol_count s.tree → slice_index_or differing i.0 false ≡ solved.differs s i
       differing_is i l =
           subst (λ (x : Solution). slice_index_or differing i.0 false ≡ solved.differs x i) e (differing_at i (subst (λ (x : Solution). i.0 < symbol_count x.tree) (sym e) l))
+
+      pub written_is : (i : SymId) → slice_index_or written i.0 false ≡ solved.written s i
+      written_is i = subst (λ (x : Solution). slice_index_or written i.0 false ≡ solved.written x i) e (written_at i)
 
 -- a solution is the only one for its tree and places
 pub only_here : (s : Solution) (t : TreeFacts) (u : Places) → IsSolution s → s.tree ≡ t → s.places ≡ u → IsOnlySolution (symbol_count t) (equations t (place_at u)) (value_of s)

@@ -22,6 +22,7 @@ use Rattle.kc_values.specs.Values as value
 use Rattle.kc_values.specs.Warnings as warning
 use Rattle.kc_values.specs.Written as writing
 use Rattle.kc_values.specs.declared.table.Value.{Value}
+use Rattle.kc_solve.specs.Flags.{is_written}
 use Rattle.kc_solve.specs.Places.{valuation}
 
 -- the tree, the places that the user filled, and what is known of each defined symbol, by number
@@ -114,8 +115,9 @@ solution_in tree places table = record {
   values = map (valuation tree table) (range_with_len 0 (symbol_count tree));
 }
 
--- What is kept of a solution: the full table, the selections, the default selections, which symbols differ, the warnings.
-pub record IsSolved (tree : TreeFacts) (places : Places) (table : List (Option Value)) (chosen defaults : List (Option SymId)) (differing : List Bool) (lines : List (List ℕ)) : Type 0 where
+-- What is kept of a solution: the full table, the selections, the default selections, which symbols differ, which are
+-- written, the warnings.
+pub record IsSolved (tree : TreeFacts) (places : Places) (table : List (Option Value)) (chosen defaults : List (Option SymId)) (differing written : List Bool) (lines : List (List ℕ)) : Type 0 where
   pub accepted : IsAccepted tree
   pub user : IsUserOf tree places
   pub full : length table ≡ symbol_count tree
@@ -124,4 +126,5 @@ pub record IsSolved (tree : TreeFacts) (places : Places) (table : List (Option V
   pub chosen_are : chosen ≡ map (values.selection tree (place_at places) (valuation tree table)) (range_with_len 0 (length tree.choices))
   pub defaults_are : defaults ≡ map (values.default_selection tree (place_at places) (valuation tree table)) (range_with_len 0 (length tree.choices))
   pub differing_are : differing ≡ map (values.differs tree (place_at places) (valuation tree table)) (range_with_len 0 (symbol_count tree))
+  pub written_are : written ≡ map (is_written tree (valuation tree table)) (range_with_len 0 (symbol_count tree))
   pub lines_are : lines ≡ warning.value_warnings tree (place_at places) (valuation tree table)

@@ -1,4 +1,4 @@
-//! What each choice selects and which symbols differ, under the values of a full table.
+//! What each choice selects, which symbols differ and which are written, under the values of a full table.
 
 ghost use Rattle.std.specs.Prelude.{◌≡◌, ◌<◌, false, length, map, slice_get, slice_index_or, Some, None, IfOk, IfSome};
 ghost use Rattle.std.specs.List.{range_with_len};
@@ -17,6 +17,7 @@ use kc_user::user::User;
 use kc_values::differs::{member_differs, own_differs};
 use kc_values::members::selected_in;
 use kc_values::table::Table;
+use kc_values::written::written;
 use std::alloc::{AllocError, Global};
 
 // How many choices a tree has.
@@ -36,8 +37,9 @@ pub fn selections(
     requires user { IsUserOf table.now.tree.now user.now }
     ensures { IfOk result (λ v. v.items ≡ map (spec.selection table.now.tree.now (place_at user.now) (valuation table.now.tree.now table.now.values.items)) (range_with_len 0 (length table.now.tree.now.choices))) }
 {
-    let mut selected = Vec::new(alloc);
-    for c in 0..choice_count(table.tree) {
+    let count = choice_count(table.tree);
+    let mut selected = Vec::with_capacity(alloc, count)?;
+    for c in 0..count {
         let choice = ChoiceId(c);
         selected.push(selected_in(table.tree, choice, user.selected(choice), table))?;
     }
@@ -54,8 +56,9 @@ pub fn default_selections(
     ensures { IfOk result (λ v. v.items ≡ map (spec.default_selection table.now.tree.now (place_at user.now) (valuation table.now.tree.now table.now.values.items)) (range_with_len 0 (length table.now.tree.now.choices))) }
 {
     let _ = user;
-    let mut selected = Vec::new(alloc);
-    for c in 0..choice_count(table.tree) {
+    let count = choice_count(table.tree);
+    let mut selected = Vec::with_capacity(alloc, count)?;
+    for c in 0..count {
         selected.push(selected_in(table.tree, ChoiceId(c), None, table))?;
     }
     Ok(selected)
@@ -69,12 +72,11 @@ pub(crate) fn at_choice(selections: &[Option<SymId>], choice: ChoiceId) -> Optio
     selections[choice.0]
 }
 
-/// The flag at the place of a symbol.
+/// The flag at the place of a symbol, or false where there is none.
 pub(crate) fn at_symbol(flags: &[bool], id: SymId) -> bool
-    requires { id.0 < length flags.now }
     ensures { result ≡ slice_index_or flags.now id.0 false }
 {
-    flags[id.0]
+    id.0 < flags.len() && flags[id.0]
 }
 
 // Whether a symbol differs.
@@ -117,11 +119,26 @@ pub fn differing(
     ensures { IfOk result (λ v. v.items ≡ map (spec.differs table.now.tree.now (place_at user.now) (valuation table.now.tree.now table.now.values.items)) (range_with_len 0 (symbol_count table.now.tree.now))) }
 {
     let _ = user;
-    let mut differ = Vec::new(alloc);
-    for i in 0..table.tree.symbol_count() {
+    let count = table.tree.symbol_count();
+    let mut differ = Vec::with_capacity(alloc, count)?;
+    for i in 0..count {
         let id = SymId(i);
         let symbol = symbol_facts(table.tree, id);
         differ.push(symbol_differs(alloc, table, id, symbol, selections, defaults)?)?;
     }
     Ok(differ)
+}
+
+/// Which symbols are written under the values of a full table: for each symbol, by number, whether it has a line in the
+/// `.config`.
+pub fn written_symbols(alloc: Global, table: &Table) -> Result<Vec<bool>, AllocError>
+    requires full { length table.now.values.items ≡ symbol_count table.now.tree.now }
+    ensures { IfOk result (λ v. v.items ≡ map (flag.is_written table.now.tree.now (valuation table.now.tree.now table.now.values.items)) (range_with_len 0 (symbol_count table.now.tree.now))) }
+{
+    let count = table.tree.symbol_count();
+    let mut flags = Vec::with_capacity(alloc, count)?;
+    for i in 0..count {
+        flags.push(written(table.tree, SymId(i), table))?;
+    }
+    Ok(flags)
 }

@@ -10,7 +10,7 @@ ghost use Rattle.kc_values.specs.Needs.{needs};
 ghost use Rattle.kc_values.specs.Solution.{symbol_count, equations};
 
 use crate::fill::fill;
-use crate::flags::{default_selections, differing, selections};
+use crate::flags::{default_selections, differing, selections, written_symbols};
 use crate::order::Order;
 use crate::solved::Solved;
 use crate::warnings::value_warnings;
@@ -66,6 +66,7 @@ pub fn solve<'a>(
     let selections = selections(alloc, &table, user)?;
     let default_selections = default_selections(alloc, &table, user)?;
     let differing = differing(alloc, &table, user, &selections, &default_selections)?;
+    let written = written_symbols(alloc, &table)?;
     let warnings = value_warnings(alloc, &table, user)?;
     let solved = Solved {
         table,
@@ -73,6 +74,7 @@ pub fn solve<'a>(
         selections,
         default_selections,
         differing,
+        written,
         warnings,
     };
     solved.is_solution();

@@ -20,7 +20,6 @@ use kc_values::laws::{choices_stand_alone, minimal_restores, settled_where};
 use kc_values::lookups::facts;
 use kc_values::table::Table;
 use kc_values::truths::{truth_of, visibility};
-use kc_values::written::written;
 use std::marker::Model;
 
 /// The one solution of a tree's equations under a user's places, as [`crate::solve::solve`] finds it, with the flags and
@@ -32,6 +31,7 @@ pub struct Solved<'a> {
     pub(crate) selections: Vec<Option<SymId>>,
     pub(crate) default_selections: Vec<Option<SymId>>,
     pub(crate) differing: Vec<bool>,
+    pub(crate) written: Vec<bool>,
     pub(crate) warnings: Vec<Vec<u8>>,
 }
 
@@ -46,7 +46,7 @@ impl<'a> Model for Solved<'a> {
 
     ghost view = { λ s. solution_in s.table.tree.now s.user.now s.table.values.items };
 
-    ghost invariant = { λ s. IsSolved s.table.tree.now s.user.now s.table.values.items s.selections.items s.default_selections.items s.differing.items (map (λ w. w.items) s.warnings.items) };
+    ghost invariant = { λ s. IsSolved s.table.tree.now s.user.now s.table.values.items s.selections.items s.default_selections.items s.differing.items s.written.items (map (λ w. w.items) s.warnings.items) };
 }
 
 impl<'a> Solved<'a> {
@@ -131,7 +131,7 @@ impl<'a> Solved<'a> {
     pub fn written(&self, id: SymId) -> bool
         ensures { result ≡ spec.written self.now id }
     {
-        written(self.table.tree, id, &self.table)
+        at_symbol(&self.written, id)
     }
 
     /// The selected member of a choice: where its mode is not n the user's member if it is visible, else the default

@@ -28,5 +28,5 @@ loop-i-preserved c =
     let t = c.args.table.now.tree.now in
     let f = facts_of c.symbol_facts-symbol.result.now in
     one_more_differs t c.args.table.now.values.items c.requires.full (place_at c.args.user.now) c.loop-i.i f c.symbol_facts-symbol.ensures.facts c.args.selections.now c.args.defaults.now c.requires.selections c.requires.defaults
-    (λ d e. choice_at_most t c.symbol_count-i-end.ensures.formed c.loop-i.i f d c.symbol_facts-symbol.ensures.facts e)
+    (λ d e. choice_at_most t c.symbol_count-count.ensures.formed c.loop-i.i f d c.symbol_facts-symbol.ensures.facts e)
     c.in_ok-symbol_differs.field-0 c.loop-i.differ.items c.push.new.self.items c.loop-i.invariant c.in_ok-push.ensures.items c.in_ok-symbol_differs.ensures

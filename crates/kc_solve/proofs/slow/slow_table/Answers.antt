@@ -1,4 +1,4 @@
-use Rattle.std.proofs.Common.{◌≡◌, ℕ, List, length, refl, subst, sym, ◌∙◌, arith}
+use Rattle.std.proofs.Common.{◌≡◌, ℕ, List, refl, subst, ◌∙◌, arith}
 use Rattle.std.proofs.lemmas.List.{length-set}
 use Rattle.std.specs.Prelude.{Some}
 use Rattle.kc_expr.specs.Names.{symbol}
@@ -10,7 +10,6 @@ use Rattle.kc_user.specs.Given.{At}
 use Rattle.kc_user.specs.Places.{place_at}
 use Rattle.kc_values.specs.Needs.{needs}
 use Rattle.kc_values.specs.Selections.{given_for}
-use Rattle.kc_values.specs.Solution.{symbol_count}
 use Rattle.kc_values.specs.Table.{known_value}
 use Rattle.kc_values.specs.Values.{by_choice}
 use Rattle.kc_solve.proofs.SlowSteps.{computed, ended, round_ended}

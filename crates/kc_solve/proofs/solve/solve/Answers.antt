@@ -22,6 +22,7 @@ invariant_of-solved c =
       chosen_are = c.in_ok-selections.ensures;
       defaults_are = c.in_ok-default_selections.ensures;
       differing_are = c.in_ok-differing.ensures;
+      written_are = c.in_ok-written.ensures;
       lines_are = c.in_ok-warnings.ensures;
     }
 

@@ -1,9 +1,6 @@
-use Rattle.std.proofs.Common.{◌∙◌, ◌<◌, Bool, List, ap, false, get_or, length, subst, sym}
-use Rattle.kc_solve.proofs.SolvedSteps.{differing_is, differing_within}
+use Rattle.std.proofs.Common.{◌∙◌, Bool, List, ap, false, get_or}
+use Rattle.kc_solve.proofs.SolvedSteps.{differing_is}
 use Rattle.kc_solve.proofs.solved.Solved.differs.Goals as goal
 
-pub at_symbol-requires : goal.at_symbol-requires
-at_symbol-requires c = subst (λ (xs : List Bool). c.args.id.0 < length xs) (sym c.deref.ensures.value) (differing_within c.self.inside.table.tree.now c.self.inside.user.now c.self.inside.table.values.items _ _ _ _ c.self.invariant _ c.self.view_is c.args.id c.requires)
-
 pub returns : goal.returns
-returns c = c.at_symbol.ensures ∙ ap (λ (xs : List Bool). get_or xs c.args.id.0 false) c.deref.ensures.value ∙ differing_is c.self.inside.table.tree.now c.self.inside.user.now c.self.inside.table.values.items _ _ _ _ c.self.invariant _ c.self.view_is c.args.id c.requires
+returns c = c.at_symbol.ensures ∙ ap (λ (xs : List Bool). get_or xs c.args.id.0 false) c.deref.ensures.value ∙ differing_is c.self.inside.table.tree.now c.self.inside.user.now c.self.inside.table.values.items _ _ _ _ _ c.self.invariant _ c.self.view_is c.args.id c.requires

@@ -1,9 +1,6 @@
-use Rattle.kc_expr.specs.Value.{Known}
-use Rattle.kc_expr.specs.declared.expression.SymId.{SymId}
-use Rattle.kc_tree.specs.TreeFacts.{TreeFacts}
-use Rattle.kc_values.specs.Written.{written}
-use Rattle.kc_solve.proofs.SolvedSteps.{told}
+use Rattle.std.proofs.Common.{◌∙◌, Bool, List, ap, false, get_or}
+use Rattle.kc_solve.proofs.SolvedSteps.{written_is}
 use Rattle.kc_solve.proofs.solved.Solved.written.Goals as goal
 
 pub returns : goal.returns
-returns c = told c.self.inside.table.tree.now c.self.inside.user.now c.self.inside.table.values.items c.self.invariant.full _ c.self.view_is (λ (t : TreeFacts) (k : SymId → Known). written t k c.args.id) _ c.written.ensures
+returns c = c.at_symbol.ensures ∙ ap (λ (xs : List Bool). get_or xs c.args.id.0 false) c.deref.ensures.value ∙ written_is c.self.inside.table.tree.now c.self.inside.user.now c.self.inside.table.values.items _ _ _ _ _ c.self.invariant _ c.self.view_is c.args.id
