@@ -66,11 +66,12 @@ pub fn assemble(
     match diagnose(alloc, names, lines, &openers, &insides, &symbols, &marks)? {
         Diagnosis::Refused(refusal) => Ok(Assembled::Refused(refusal)),
         Diagnosis::Warned(warnings) => {
+            let firsts = marks.into_firsts();
             let choices = choices(alloc, lines, &openers, &insides, &symbols)?;
             Ok(Assembled::Whole(TreeParts {
                 symbols,
                 choices,
-                entries: entries(alloc, lines, &openers, &insides, &marks.firsts)?,
+                entries: entries(alloc, lines, &openers, &insides, &firsts)?,
                 warnings,
                 main_menu: main_menu(alloc, lines)?,
                 modules: defined(modules, count),

@@ -77,6 +77,13 @@ impl Marks {
         })
     }
 
+    /// Which lines are the first definitions of their symbols. The rest of what is known gives its memory back.
+    pub fn into_firsts(self) -> Vec<bool>
+        ensures { result.items ≡ self.firsts.items }
+    {
+        self.firsts
+    }
+
     /// What is known of the line at a place.
     pub fn at(&self, place: usize) -> Mark
         requires { IsPlace self.now place }
