@@ -117,13 +117,7 @@ pub fn check_text<'a>(tokens: &[Token<'a>], at: usize) -> Result<(), Fault<'a>>
     ensures within { OnOk result (at < length tokens.now) }
 {
     match next(tokens, at) {
-        Some(TokenKind::Word(word)) => {
-            if is_if(word) {
-                Err(syntax())
-            } else {
-                Ok(())
-            }
-        }
+        Some(TokenKind::Word(word)) => { if is_if(word) { Err(syntax()) } else { Ok(()) } }
         Some(TokenKind::Quoted(_)) => Ok(()),
         _ => Err(syntax()),
     }

@@ -12,8 +12,8 @@ ghost use Rattle.kc_read.specs.Reads.{IsFault, IsRead, IsMade};
 
 use crate::keywords::keyword_of;
 use crate::parts::{
-    begins_with, check_text, condition, end, front, is_good_name, is_pattern, name_number, next, operand_at,
-    syntax, target_at, text_at, whole, word_at,
+    begins_with, check_text, condition, end, front, is_good_name, is_pattern, name_number, next,
+    operand_at, syntax, target_at, text_at, whole, word_at,
 };
 use crate::place::{left_out, place_fault};
 use crate::refusal::Code;

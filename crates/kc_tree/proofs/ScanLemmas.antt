@@ -54,13 +54,18 @@ run_all ls i h b e =
     omega arith
 
 -- the slice after a place, and its first attributes
+-- the statements behind a line
+said_behind : (ls : List Line) (i : ℕ) → said_by (take (length ls - (i + 1)) (drop (i + 1) ls)) ≡ drop (suc i) (said_by ls)
+said_behind ls i =
+    let n : length (drop (i + 1) ls) ≡ length ls - (i + 1) = length-drop (i + 1) ls in
+    let rest : take (length ls - (i + 1)) (drop (i + 1) ls) ≡ drop (suc i) ls = (rw n at (take-length (drop (i + 1) ls))) ∙ (rw add-one refl) in
+    ap said_by rest ∙ sym (drop-map (λ (l : Line). statement_view l.statement) (suc i) ls)
+
 pub run-is : (ls : List Line) (i n : ℕ) → n ≡ prefix_len is_attribute (said_by (take (length ls - (i + 1)) (drop (i + 1) ls))) → said_by (take n (take (length ls - (i + 1)) (drop (i + 1) ls))) ≡ attributes (said_by ls) i
 run-is ls i n e =
     let view = λ (l : Line). statement_view l.statement in
-    let n' : length (drop (i + 1) ls) ≡ length ls - (i + 1) = length-drop (i + 1) ls in
-    let rest : take (length ls - (i + 1)) (drop (i + 1) ls) ≡ drop (suc i) ls = (rw n' at (take-length (drop (i + 1) ls))) ∙ (rw add-one refl) in
-    let said : said_by (take (length ls - (i + 1)) (drop (i + 1) ls)) ≡ drop (suc i) (said_by ls) = ap said_by rest ∙ sym (drop-map view (suc i) ls) in
-    sym (take-map view n (take (length ls - (i + 1)) (drop (i + 1) ls))) ∙ ap (λ k. take k (said_by (take (length ls - (i + 1)) (drop (i + 1) ls)))) e ∙ ap (take_while is_attribute) said
+    let behind = take (length ls - (i + 1)) (drop (i + 1) ls) in
+    sym (take-map view n behind) ∙ ap (λ k. take k (said_by behind)) e ∙ ap (take_while is_attribute) (said_behind ls i)
 
 -- the last of what there was before and of a list
 abbrev pub last_or : {A : Type 0} → Option A → List A → Option A
@@ -126,6 +131,13 @@ module _ {A : Type 0} (f : Numbered → Option A) where
   pub list_some : (ls : List Line) (i : ℕ) (x : Line) (out : List A) (a : A) → ListIs ls i out → i < length ls → x ≡ get_or ls i x → f (statement_view x.statement) ≡ Some a → ListIs ls (i + 1) (out ++ a ∷ [])
   list_some ls i x out a h b at e =
       append_assoc out (a ∷ []) (filter_map f (drop (i + 1) (said_by ls))) ∙ (rw (said_from ls i x b at, e) at h)
+
+  -- the first element, and what comes of the lines behind it
+  pub list_first : (ls : List Line) (i : ℕ) (x : Line) (a : A) → ListIs ls i [] → i < length ls → x ≡ get_or ls i x → Some a ≡ f (statement_view x.statement) → filter_map f (said_by ls) ≡ a ∷ filter_map f (said_by (take (length ls - (i + 1)) (drop (i + 1) ls)))
+  list_first ls i x a h b at e =
+      let all : a ∷ filter_map f (drop (i + 1) (said_by ls)) ≡ filter_map f (said_by ls) = list_some ls i x [] a h b at (sym e) in
+      let same : drop (i + 1) (said_by ls) ≡ drop (suc i) (said_by ls) = (rw add-one refl) in
+      sym all ∙ ap (λ l. a ∷ filter_map f l) (same ∙ sym (said_behind ls i))
 
   pub list_end : (ls : List Line) (i : ℕ) (out : List A) → ListIs ls i out → length ls ≤ i → out ≡ filter_map f (said_by ls)
   list_end ls i out h b = sym (append-nil out) ∙ (rw (said_end ls i b) at h)

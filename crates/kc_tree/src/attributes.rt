@@ -1,6 +1,6 @@
 //! The attributes of an entry, and what they say of it.
 
-ghost use Rattle.std.specs.Prelude.{◌≡◌, ◌<◌, ◌≤◌, ◌+◌, ◌++◌, length, drop, map, option_map, IfOk, OnOk, Some};
+ghost use Rattle.std.specs.Prelude.{◌≡◌, ◌<◌, ◌≤◌, ◌+◌, ◌++◌, ◌∷◌, [], length, drop, map, option_map, IfOk, IfSome, IfNone, OnOk, Some};
 ghost use Rattle.std.specs.List.{filter_map, prefix_len};
 ghost use Rattle.kc_expr.specs.Form.{form_of};
 ghost use Rattle.kc_read.specs.Blocks as blocks;
@@ -80,12 +80,21 @@ fn asks_of(statement: &Statement, asks: Asks) -> Option<&Rc<Expr>>
     }
 }
 
+// The expression of the first line that asks for it, and the lines behind that one.
+fn first_asked(attributes: &[Line], asks: Asks) -> Option<(&Rc<Expr>, &[Line])>
+    ensures first { IfSome result (λ r. filter_map (asks_form asks) (said_by attributes.now) ≡ form_of r.0.now.value ∷ filter_map (asks_form asks) (said_by r.1.now)) }
+    ensures none { IfNone result (filter_map (asks_form asks) (said_by attributes.now) ≡ []) }
+{
+    for (i, line) in attributes.iter().enumerate() {
+        if let Some(part) = asks_of(&line.statement, asks) {
+            return Some((part, &attributes[i + 1..]));
+        }
+    }
+    None
+}
+
 // The expressions of the lines that ask for it.
-fn asked_parts(
-    alloc: Global,
-    attributes: &[Line],
-    asks: Asks,
-) -> Result<Vec<Rc<Expr>>, AllocError>
+fn asked_parts(alloc: Global, attributes: &[Line], asks: Asks) -> Result<Vec<Rc<Expr>>, AllocError>
     ensures { IfOk result (λ v. map (λ p. form_of p.value) v.items ≡ filter_map (asks_form asks) (said_by attributes.now)) }
 {
     let mut parts = Vec::new(alloc);
@@ -119,7 +128,7 @@ fn conjunction(alloc: Global, mut parts: Vec<Rc<Expr>>) -> Result<Option<Rc<Expr
     Ok(Some(Rc::new(alloc, Expr::All(all))?))
 }
 
-/// What the lines ask for together.
+/// What the lines ask for together. Most ask once or not at all, and then nothing is made.
 pub fn joined(
     alloc: Global,
     attributes: &[Line],
@@ -127,6 +136,12 @@ pub fn joined(
 ) -> Result<Option<Rc<Expr>>, AllocError>
     ensures { IfOk result (λ o. facts.listed (option_map (λ p. form_of p.value) o) ≡ facts.joined (filter_map (asks_form asks) (said_by attributes.now))) }
 {
+    let Some((first, rest)) = first_asked(attributes, asks) else {
+        return Ok(None);
+    };
+    if first_asked(rest, asks).is_none() {
+        return Ok(Some(first.clone()?));
+    }
     let parts = asked_parts(alloc, attributes, asks)?;
     conjunction(alloc, parts)
 }

@@ -39,11 +39,7 @@ pub fn added(more: &Option<Rc<Expr>>) -> usize
 }
 
 /// The same parts, shared, in a list with room for a few more.
-pub fn shares(
-    alloc: Global,
-    parts: &[Rc<Expr>],
-    few: usize,
-) -> Result<Vec<Rc<Expr>>, AllocError>
+pub fn shares(alloc: Global, parts: &[Rc<Expr>], few: usize) -> Result<Vec<Rc<Expr>>, AllocError>
     ensures { IfOk result (λ v. map (λ p. form_of p.value) v.items ≡ map (λ p. form_of p.value) parts.now) }
 {
     let mut all = Vec::with_capacity(alloc, parts.len().saturating_add(few))?;
