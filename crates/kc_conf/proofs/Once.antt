@@ -1,6 +1,5 @@
 -- A run has one outcome.
-use Rattle.std.proofs.Common.{◌≡◌, ℕ, ◌<◌, List, [], ◌++◌, length, Option, Some, None, Result, Ok, Err, true, false, refl, sym, ap, subst, ◌∙◌, slice_index}
-use Rattle.std.specs.Prelude.{slice_index_or}
+use Rattle.std.proofs.Common.{◌≡◌, ℕ, ◌<◌, List, [], ◌++◌, length, Option, Some, None, Result, Ok, Err, true, false, sym, ap, subst, ◌∙◌, slice_index}
 use Rattle.kc_read.specs.Expansion.{Refused}
 use Rattle.kc_read.specs.Files.{Files}
 use Rattle.kc_tree.specs.TreeFacts.{TreeFacts}
@@ -9,19 +8,17 @@ use Rattle.kc_user.specs.Places.{Places, place_at}
 use Rattle.kc_expr.specs.Value.{Written}
 use Rattle.kc_expr.specs.declared.expression.Kind.TheVariants.{Undefined}
 use Rattle.kc_order.specs.Laws.{OneNamedLoop}
-use Rattle.kc_order.specs.Loop.{IsNamedLoop}
-use Rattle.kc_order.specs.Needs.{needs_in}
 use Rattle.kc_order.specs.Solution.{Solves}
 use Rattle.kc_values.specs.Laws.{IsAccepted}
 use Rattle.kc_values.specs.Needs.{needs}
 use Rattle.kc_values.specs.Solution.{equations, symbol_count}
 use Rattle.kc_solve.specs.LoopText.{loop_text}
 use Rattle.kc_solve.specs.Refused.{IsLoopText, loop_refused}
-use Rattle.kc_solve.specs.Solved.{Solution, IsSolution, value_of}
-use Rattle.kc_dot.specs.Reading.{Read, Stop}
+use Rattle.kc_solve.specs.Solved.{Solution, value_of}
+use Rattle.kc_dot.specs.Reading.{Read}
 use Rattle.kc_words.specs.declared.options.Options.{Options}
 use Rattle.kc_conf.specs.ErrorLines.{refusal_line, too_long_line}
-use Rattle.kc_conf.specs.Outcome.{Outcome, OneAnswer, OneOutcome, noted, lines_text, refused, outcome_of, read_of, root_of, IsRefusedTree, no_tree, looped, IsAcceptedTree, IsSolutionFor, IsOutcome, refused_tree, accepted_tree, IsOutcomeOfReading, long_line, whole}
+use Rattle.kc_conf.specs.Outcome.{Outcome, OneAnswer, OneOutcome, noted, lines_text, refused, outcome_of, read_of, root_of, IsRefusedTree, no_tree, looped, IsAcceptedTree, IsSolutionFor, refused_tree, accepted_tree, IsOutcomeOfReading, long_line, whole}
 use Rattle.std.proofs.lemmas.List.{ext_get_or}
 
 -- ---- trees

@@ -1,5 +1,5 @@
 -- How the parts of a run make one run.
-use Rattle.std.proofs.Common.{◌≡◌, inl, inr, ℕ, List, [], ◌∷◌, ◌++◌, refl, sym, ap, subst, ◌∙◌, append_assoc, append-nil, Option, Some, None}
+use Rattle.std.proofs.Common.{◌≡◌, inl, inr, ℕ, List, [], ◌++◌, refl, sym, ap, subst, ◌∙◌, append_assoc, Option, Some, None}
 use Rattle.kc_dot.specs.Sink.{BeginsWith}
 use Rattle.kc_dot.proofs.SinkLemmas.{extended-nothing}
 use Rattle.kc_conf.specs.Places.{Place, Places, with_place, written, made, Broke}

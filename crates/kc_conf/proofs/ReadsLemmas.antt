@@ -1,9 +1,9 @@
 -- Reading piece by piece, and stream by stream.
-use Rattle.std.proofs.Common.{◌≡◌, ℕ, List, [], ◌∷◌, ◌++◌, map, refl, sym, ap, subst, ◌∙◌, append_assoc, append-nil, Option, Some, None}
+use Rattle.std.proofs.Common.{◌≡◌, ℕ, List, [], ◌∷◌, ◌++◌, map, refl, sym, ap, ◌∙◌, append_assoc, append-nil, Option, Some, None}
 use Rattle.kc_tree.specs.TreeFacts.{TreeFacts}
 use Rattle.kc_user.specs.Places.{Places}
 use Rattle.kc_dot.specs.Feeding.{Spot, first_spot, to_come, Goes, Feeds, Because, Refuses, Finishes, FailsToEnd}
-use Rattle.kc_dot.specs.Reading.{Line, Read, Stop, lines_from, lines_of, reading, told}
+use Rattle.kc_dot.specs.Reading.{Line, Read, lines_from, lines_of, reading, told}
 use Rattle.kc_dot.specs.Sink.{BeginsWith, extended}
 use Rattle.kc_dot.specs.declared.fault.DotFault.{DotFault}
 use Rattle.kc_dot.specs.declared.fault.DotFault.TheVariants.{ConfigLineTooLong, Sink, Memory}
@@ -11,7 +11,7 @@ use Rattle.kc_dot.proofs.ReadingLemmas.{reading-nothing}
 use Rattle.kc_dot.proofs.SinkLemmas.{extended-extended, extended-nothing}
 use Rattle.kc_conf.specs.Given.{preceded, IsAtEnd, AreToCome, AreAllToCome}
 use Rattle.kc_conf.specs.Outcome.{streams}
-use Rattle.kc_conf.specs.Reads.{ended_with, TakenSoFar, Takes, TakesPieces, BreaksPieces, ReadsStream, BreaksStream, ReadSoFar, ReadsStreams, BreaksStreams}
+use Rattle.kc_conf.specs.Reads.{ended_with, TakenSoFar, TakesPieces, BreaksPieces, ReadsStream, BreaksStream, ReadSoFar, ReadsStreams, BreaksStreams}
 
 -- ---- what inputs give
 

@@ -1,5 +1,5 @@
 -- What the parts of a run say of its outcome.
-use Rattle.std.proofs.Common.{◌≡◌, ℕ, List, [], ◌++◌, map, Option, Some, None, refl, sym, ap, subst, ◌∙◌, append_assoc, append-nil}
+use Rattle.std.proofs.Common.{◌≡◌, ℕ, List, [], ◌++◌, Option, Some, None, refl, sym, ap, subst, ◌∙◌, append_assoc, append-nil}
 use Rattle.kc_read.specs.Expansion.{Refused}
 use Rattle.kc_read.specs.Files.{Files}
 use Rattle.kc_tree.specs.TreeFacts.{TreeFacts}
@@ -9,7 +9,7 @@ use Rattle.kc_dot.specs.Reading.{Read, Stop, reading, lines_of}
 use Rattle.kc_dot.specs.Sink.{BeginsWith}
 use Rattle.kc_words.specs.declared.options.Options.{Options}
 use Rattle.kc_conf.specs.ErrorLines.{refusal_line, too_long_line}
-use Rattle.kc_conf.specs.Faults.{Finishes, Broken, BreaksFiles, BreaksNotes, StrikesNotes, IsOfOutputs, CountsInputs, files_made}
+use Rattle.kc_conf.specs.Faults.{Finishes, Broken, BreaksFiles, StrikesNotes, IsOfOutputs, CountsInputs, files_made}
 use Rattle.kc_conf.specs.Given.{AreAllToCome}
 use Rattle.kc_conf.specs.Outcome.{Outcome, noted, lines_text, refused, outcome_of, read_of, names_of, streams, IsSolutionFor, IsOutcomeOfReading, long_line, whole, IsOutcomeOfTree, OneAnswer, IsAcceptedTree, IsRefusedTree, IsOutcome, refused_tree, accepted_tree, root_of}
 use Rattle.kc_conf.specs.Places.{Places, Only, Broke, written}

@@ -1,6 +1,5 @@
 -- What reading the streams does.
 use Rattle.std.specs.Prelude.{◌≡◌, ℕ, List, ◌++◌, Option, Some, None}
-use Rattle.std.specs.Option.{option_map}
 use Rattle.kc_tree.specs.TreeFacts.{TreeFacts}
 use Rattle.kc_user.specs.Places.{Places as UserPlaces}
 use Rattle.kc_dot.specs.Feeding.{Spot, Goes, to_come}

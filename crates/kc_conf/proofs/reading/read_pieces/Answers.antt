@@ -1,7 +1,7 @@
 -- Piece by piece.
-use Rattle.std.proofs.Common.{◌≡◌, refl, ap, ◌∙◌}
+use Rattle.std.proofs.Common.{refl, ap, ◌∙◌}
 use Rattle.kc_dot.specs.ReaderState.{ReaderState}
-use Rattle.kc_dot.specs.declared.fault.DotFault.TheVariants.{ConfigLineTooLong, Sink, Memory}
+use Rattle.kc_dot.specs.declared.fault.DotFault.TheVariants.{Sink, Memory}
 use Rattle.kc_conf.specs.Places.{Only-same, Only-only}
 use Rattle.kc_conf.specs.declared.outputs.Which.TheVariants.{Notes}
 use Rattle.kc_conf.proofs.ReadsLemmas.{TakenSoFar-nothing, TakenSoFar-piece, TakesPieces-long, BreaksPieces-piece, BreaksPieces-so_far, begins_at_sink, begins_at_memory}

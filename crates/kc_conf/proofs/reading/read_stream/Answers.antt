@@ -1,5 +1,5 @@
 -- The pieces of a stream, and its end.
-use Rattle.std.proofs.Common.{◌≡◌, ap}
+use Rattle.std.proofs.Common.{ap}
 use Rattle.kc_dot.specs.ReaderState.{ReaderState}
 use Rattle.kc_dot.specs.declared.fault.DotFault.TheVariants.{Sink, Memory}
 use Rattle.kc_conf.proofs.ReadsLemmas.{ReadsStream-whole, BreaksStream-fails, BreaksStream-pieces}

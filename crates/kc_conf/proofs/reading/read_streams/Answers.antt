@@ -1,5 +1,5 @@
 -- Stream by stream.
-use Rattle.std.proofs.Common.{◌≡◌, ◌<◌, ◌∙◌, arith, length, map, slice_set}
+use Rattle.std.proofs.Common.{◌<◌, ◌∙◌, arith, length, map, slice_set}
 use Rattle.std.proofs.lemmas.List.{length-set}
 use Rattle.kc_conf.specs.Outcome.{names_of}
 use Rattle.kc_conf.specs.Places.{Only-only}

@@ -1,5 +1,5 @@
 -- What a run leaves, from the tree on.
-use Rattle.std.proofs.Common.{◌≡◌, subst, refl, map}
+use Rattle.std.proofs.Common.{subst, refl, map}
 use Rattle.std.proofs.lemmas.Result.{IfOk-weaker, IfErr-weaker}
 use Rattle.kc_read.specs.Files.{bytes_in}
 use Rattle.kc_read.specs.Steps.{refusal_view}

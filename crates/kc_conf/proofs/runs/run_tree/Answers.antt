@@ -1,5 +1,5 @@
 -- The tree's warnings, and what follows from the streams.
-use Rattle.std.proofs.Common.{◌∙◌, map}
+use Rattle.std.proofs.Common.{map}
 use Rattle.std.proofs.lemmas.Result.{IfOk-weaker, IfErr-weaker}
 use Rattle.kc_conf.proofs.ReadsLemmas.{left_of, AreAllToCome-self}
 use Rattle.kc_conf.proofs.RunLemmas.{Finishes-tree, Broken-tree, Broken-warnings}
