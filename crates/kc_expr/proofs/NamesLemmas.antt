@@ -7,8 +7,7 @@ use Rattle.std.proofs.lemmas.Option.{get_or_from_slice_get, slice_get_within}
 use Rattle.std.proofs.lemmas.Bool.{false≢true}
 use Rattle.std.proofs.lemmas.Grind.{flat_map-append}
 use Rattle.std.proofs.Math.ListN.{length-map}
-use Rattle.std.specs.declared.vec.Vec.{Vec}
-use Rattle.std.specs.declared.alloc.Global.{Global}
+use Rattle.kc_expr.specs.declared.name.Name.{Name}
 use Rattle.std.specs.declared.hash.FoldHasher.{FoldHasher}
 use Rattle.std.specs.declared.hash.BuildHasherDefault.{BuildHasherDefault}
 use Rattle.indexmap.specs.IndexSet.{IndexSet}
@@ -56,21 +55,21 @@ position-number p xs i h = by (nat_lt (position_or_len p xs) (length xs)) (posit
     by true n j e = cc
     by false n j e = cc
 
-module _ (names : IndexSet (Vec ℕ Global) (BuildHasherDefault FoldHasher)) (name : List ℕ) where
+module _ (names : IndexSet Name (BuildHasherDefault FoldHasher)) (name : List ℕ) where
   abbrev seen : List (List ℕ)
-  seen = map (λ v. v.items) names.keys
+  seen = map (λ v. v.bytes.items) names.keys
 
-  abbrev test : Vec ℕ Global → Bool
-  test = λ v. same_name name v.items
+  abbrev test : Name → Bool
+  test = λ v. same_name name v.bytes.items
 
   pub number_found : (i : ℕ) → Some i ≡ position test names.keys → i ≡ number_of seen name
-  number_found i h = position-number test names.keys i h ∙ sym (number_of-map (λ v. v.items) name names.keys)
+  number_found i h = position-number test names.keys i h ∙ sym (number_of-map (λ v. v.bytes.items) name names.keys)
 
   pub position_found : position test names.keys ≡ position (same_name name) seen
-  position_found = sym (position-map (λ v. v.items) (same_name name) names.keys)
+  position_found = sym (position-map (λ v. v.bytes.items) (same_name name) names.keys)
 
   pub number_new : (i : ℕ) → i ≡ position_or_len test names.keys → i ≡ number_of seen name
-  number_new i h = h ∙ sym (number_of-map (λ v. v.items) name names.keys)
+  number_new i h = h ∙ sym (number_of-map (λ v. v.bytes.items) name names.keys)
 
 same_name-comm : (v w : List ℕ) → same_name v w ≡ same_name w v
 same_name-comm [] [] = refl
@@ -85,18 +84,18 @@ same_name-refl [] = refl
 same_name-refl (b ∷ w) = let e : (b == b) ≡ true = grind (arith, nat_tests) in rw (e, same_name-refl w)
 
 -- where no two names are the same, the number of the name at a place is the place
-pub number_of-at : (ks : List (Vec ℕ Global)) (i : ℕ) (d : Vec ℕ Global) → IsDistinct (λ a b. same_name a.items b.items) ks → i < length ks → number_of (map (λ v. v.items) ks) (get_or ks i d).items ≡ i
+pub number_of-at : (ks : List Name) (i : ℕ) (d : Name) → IsDistinct (λ a b. same_name a.bytes.items b.bytes.items) ks → i < length ks → number_of (map (λ v. v.bytes.items) ks) (get_or ks i d).bytes.items ≡ i
 unfolding IsDistinct
 number_of-at [] i d u h = absurd (omega arith)
-number_of-at (k ∷ ks) zero d u h = rw (same_name-refl k.items)
+number_of-at (k ∷ ks) zero d u h = rw (same_name-refl k.bytes.items)
 number_of-at (k ∷ ks) (suc i) d u h =
-    let w = (get_or ks i d).items in
-    let apart : same_name w k.items ≡ false = same_name-comm w k.items ∙ All-from_recursion _ ks u.0 i d (omega arith) in
+    let w = (get_or ks i d).bytes.items in
+    let apart : same_name w k.bytes.items ≡ false = same_name-comm w k.bytes.items ∙ All-from_recursion _ ks u.0 i d (omega arith) in
     rw (apart, number_of-at ks i d u.1 (omega arith)) (omega arith)
 
-pub number_of-name : (ks : List (Vec ℕ Global)) (i : ℕ) (v : Vec ℕ Global) → IsDistinct (λ a b. same_name a.items b.items) ks → Some v ≡ slice_get ks i → number_of (map (λ k. k.items) ks) v.items ≡ i
+pub number_of-name : (ks : List Name) (i : ℕ) (v : Name) → IsDistinct (λ a b. same_name a.bytes.items b.bytes.items) ks → Some v ≡ slice_get ks i → number_of (map (λ k. k.bytes.items) ks) v.bytes.items ≡ i
 number_of-name ks i v u e =
-    ap (λ k. number_of (map (λ k. k.items) ks) k.items) (sym (get_or_from_slice_get ks i v v (sym e)))
+    ap (λ k. number_of (map (λ k. k.bytes.items) ks) k.bytes.items) (sym (get_or_from_slice_get ks i v v (sym e)))
     ∙ number_of-at ks i v u (slice_get_within ks i v (sym e))
 
 -- a known name keeps its number
@@ -164,11 +163,11 @@ pub words_of-closed : (a : List Terminal) → words_of (a ++ Close ∷ []) ≡ w
 words_of-closed a = words_of-append a (Close ∷ []) ∙ append-nil (words_of a)
 
 -- names that differ as the keys of a set differ as names
-pub distinct-map : (ks : List (Vec ℕ Global)) → IsDistinct (λ a b. same_name a.items b.items) ks → AreDistinct (map (λ v. v.items) ks)
+pub distinct-map : (ks : List Name) → IsDistinct (λ a b. same_name a.bytes.items b.bytes.items) ks → AreDistinct (map (λ v. v.bytes.items) ks)
 unfolding IsDistinct
 distinct-map [] d = d
 distinct-map (k ∷ ks) d = (all_map ks d.0, distinct-map ks d.1)
   where
-    all_map : (vs : List (Vec ℕ Global)) → AllByRecursion (λ v. same_name k.items v.items ≡ false) vs → AllByRecursion (λ n. same_name k.items n ≡ false) (map (λ v. v.items) vs)
+    all_map : (vs : List Name) → AllByRecursion (λ v. same_name k.bytes.items v.bytes.items ≡ false) vs → AllByRecursion (λ n. same_name k.bytes.items n ≡ false) (map (λ v. v.bytes.items) vs)
     all_map [] h = tt
     all_map (v ∷ vs) h = (h.0, all_map vs h.1)

@@ -817,3 +817,36 @@ fn symbols_are_named_from_left_to_right(rt: HostRuntime) -> Result<(), Fail> {
     are_symbols(&rt, &ids, &wanted);
     Ok(())
 }
+
+// Names as long as stand in place, one byte longer, and much longer; the last two differ in their last byte.
+static LONG_NAMES: &[&[u8]] = &[
+    b"ABCDEFGHIJKLMNOPQRSTUVW",
+    b"ABCDEFGHIJKLMNOPQRSTUVWX",
+    b"ABCDEFGHIJKLMNOPQRSTUVWXY",
+    b"ABCDEFGHIJKLMNOPQRSTUVWX_",
+    b"ABCDEFGHIJKLMNOPQRSTUVWXYZABCDEFGHIJKLMNOPQRSTUVWXYZABCDEFGH_1",
+    b"ABCDEFGHIJKLMNOPQRSTUVWXYZABCDEFGHIJKLMNOPQRSTUVWXYZABCDEFGH_2",
+];
+
+fn numbers_long_names(rt: &impl Abort, names: &mut Names) -> Result<(), Fail> {
+    for (number, name) in LONG_NAMES.iter().enumerate() {
+        is_numbered(rt, names, name, number)?;
+    }
+    Ok(())
+}
+
+fn finds_long_names(rt: &impl Abort, names: &Names) {
+    for (number, name) in LONG_NAMES.iter().enumerate() {
+        is_symbol(rt, names.find(name), Some(SymId(number)));
+        is_name(rt, names.get(SymId(number)).unwrap_or(b""), name);
+    }
+}
+
+#[test]
+fn long_names_are_kept_whole(rt: HostRuntime) -> Result<(), Fail> {
+    let mut names = Names::new(rt.alloc());
+    let outcome = numbers_long_names(&rt, &mut names);
+    finds_long_names(&rt, &names);
+    drop(names);
+    outcome
+}
