@@ -5,11 +5,13 @@ ghost use Rattle.kc_read.specs.Files.{bytes_in};
 ghost use Rattle.kc_read.specs.Steps.{refusal_view};
 ghost use Rattle.kc_read.specs.declared.refusal.Code.TheVariants.{Memory};
 ghost use Rattle.kc_user.specs.Places.{IsUserOf};
+ghost use Rattle.kc_tree.specs.TreeFacts.{TreeFacts};
 ghost use Rattle.kc_values.specs.Needs.{needs};
 ghost use Rattle.kc_solve.specs.Solved.{Solution};
 ghost use Rattle.kc_conf.specs.ErrorLines.{refusal_line, too_long_line};
 ghost use Rattle.kc_conf.specs.Faults.{Finishes, Broken, IsOfOutputs, CountsInputs, Faults};
 ghost use Rattle.kc_conf.specs.Given.{AreAllToCome};
+ghost use Rattle.kc_conf.specs.Kept.{Holds};
 ghost use Rattle.kc_conf.specs.Outcome.{Outcome, outcome_of, refused, root_of, read_of, IsAcceptedTree, IsRefusedTree, IsSolutionFor, IsOutcome, IsOutcomeOfReading, IsOutcomeOfTree, OneAnswer, OneOutcome};
 ghost use Rattle.kc_conf.specs.Places.{Only};
 ghost use Rattle.kc_conf.specs.Reads.{stop_of};
@@ -34,11 +36,13 @@ use kc_user::user::User;
 use kc_words::Options;
 use std::alloc::Global;
 
-/// What a run made of a tree that it accepted: the tree, and an order of its symbols.
+/// What a run made of a tree that it accepted.
 #[derive(Drop)]
 pub struct Kept {
-    tree: Tree,
-    order: Order,
+    /// The tree.
+    pub tree: Tree,
+    /// An order of its symbols, in which each comes after those that it needs.
+    pub order: Order,
 }
 
 // The tree of the root file and an order of its symbols, or why no tree is accepted.
@@ -181,6 +185,8 @@ fn run_through<I: Input, O: Outputs>(
     ensures counted_inputs { IfErr result (λ cause. CountsInputs cause (map I.failures inputs.old) (map I.failures inputs.new)) }
     ensures refused_inputs { (r : Refused) → IsRefusedTree (bytes_in files.now) (root_of options.now) r → inputs.new ≡ inputs.old }
     ensures refused_outputs { (r : Refused) → IsRefusedTree (bytes_in files.now) (root_of options.now) r → Only Which.Notes (O.seen outputs.old) (O.seen outputs.new) }
+    ensures kept { OnOk result ((tree : TreeFacts) → IsAcceptedTree (bytes_in files.now) (root_of options.now) tree → Holds tree kept.new) }
+    ensures refused_kept { (r : Refused) → IsRefusedTree (bytes_in files.now) (root_of options.now) r → kept.new ≡ kept.old }
 {
     one_outcome();
     one_answer();
@@ -234,7 +240,8 @@ pub fn run<I: Input, O: Outputs>(
 }
 
 /// [`run`], word for word, but that the tree which it made is put into `kept`, in place of what that held, where it
-/// accepted one. To give back the memory of a large tree takes a while: a program that ends anyway may forget `kept`.
+/// accepted one. A refused tree leaves `kept` as it was; after a fault it holds what it held, or the tree. To give back
+/// the memory of a large tree takes a while: a program that ends anyway may forget `kept`.
 pub fn run_keeping<I: Input, O: Outputs>(
     alloc: Global,
     files: &FileMap,
@@ -257,6 +264,9 @@ pub fn run_keeping<I: Input, O: Outputs>(
     // A refused tree leaves the inputs untouched, and begins nothing.
     ensures refused_inputs { (r : Refused) → IsRefusedTree (bytes_in files.now) (root_of options.now) r → inputs.new ≡ inputs.old }
     ensures refused_outputs { (r : Refused) → IsRefusedTree (bytes_in files.now) (root_of options.now) r → Only Which.Notes (O.seen outputs.old) (O.seen outputs.new) }
+    // Without a fault an accepted tree is kept; a refused one leaves what was there.
+    ensures kept { result ≢ Status.Faulted → (tree : TreeFacts) → IsAcceptedTree (bytes_in files.now) (root_of options.now) tree → Holds tree kept.new }
+    ensures refused_kept { (r : Refused) → IsRefusedTree (bytes_in files.now) (root_of options.now) r → kept.new ≡ kept.old }
 {
     match run_through(alloc, files, options, inputs, outputs, kept) {
         Ok(status) => status,

@@ -1,8 +1,13 @@
 -- What a run leaves, from the tree on.
-use Rattle.std.proofs.Common.{subst, refl, map}
+use Rattle.std.proofs.Common.{Some, Result, Ok, Err, OnOk, subst, refl, ap, ◌∙◌, map}
 use Rattle.std.proofs.lemmas.Result.{IfOk-weaker, IfErr-weaker}
 use Rattle.kc_read.specs.Files.{bytes_in}
 use Rattle.kc_read.specs.Steps.{refusal_view}
+use Rattle.kc_tree.specs.TreeFacts.{TreeFacts}
+use Rattle.kc_values.specs.Needs.{needs}
+use Rattle.kc_conf.specs.Kept.{Holds}
+use Rattle.kc_conf.specs.declared.cause.Cause.{Cause}
+use Rattle.kc_conf.specs.declared.options.Status.{Status}
 use Rattle.kc_conf.specs.Outcome.{accepted_tree, refused_tree, IsAcceptedTree, IsRefusedTree, root_of, refused}
 use Rattle.kc_conf.specs.ErrorLines.{refusal_line}
 use Rattle.kc_conf.proofs.OutcomeLemmas.{Broken-nothing}
@@ -69,3 +74,33 @@ returns-clause-err g c =
 pub returns-clause-counted_inputs : goal.returns-clause-counted_inputs
 returns-clause-counted_inputs g c =
     IfErr-weaker c.refuse_tree.result _ _ (λ cause is. CountsInputs-outputs cause (map g.I.Input.failures c.args.inputs.now) is) c.refuse_tree.ensures.cause
+
+pub returns-in-Ok-clause-kept : goal.returns-in-Ok-clause-kept
+returns-in-Ok-clause-kept g c = holds c.run_tree-ended.result
+  where
+    accepted : IsAcceptedTree (bytes_in c.args.files.now) (root_of c.args.options.now) c.in-Ok.tree
+    accepted = subst (λ root. IsAcceptedTree (bytes_in c.args.files.now) root c.in-Ok.tree) c.as_bytes.ensures.value c.in-Ok.ensures.ok
+
+    kept : (tree : TreeFacts) → IsAcceptedTree (bytes_in c.args.files.now) (root_of c.args.options.now) tree → Holds tree (Some record { tree = c.in-Ok.tree; order = c.in-Ok.order })
+    kept tree is =
+        let same = c.one_answer.ensures.one_accepted (bytes_in c.args.files.now) (root_of c.args.options.now) c.in-Ok.tree tree accepted is in
+        (same, c.in-Ok.ensures.order ∙ ap needs same)
+
+    holds : (r : Result Status Cause) → OnOk r ((tree : TreeFacts) → IsAcceptedTree (bytes_in c.args.files.now) (root_of c.args.options.now) tree → Holds tree (Some record { tree = c.in-Ok.tree; order = c.in-Ok.order }))
+    holds (Ok s) = kept
+    holds (Err e) = tt
+
+pub returns-in-Ok-clause-refused_kept : goal.returns-in-Ok-clause-refused_kept
+returns-in-Ok-clause-refused_kept g c = λ r refused.
+    let accepted = subst (λ root. IsAcceptedTree (bytes_in c.args.files.now) root c.in-Ok.tree) c.as_bytes.ensures.value c.in-Ok.ensures.ok in
+    absurd (c.one_answer.ensures.not_both (bytes_in c.args.files.now) (root_of c.args.options.now) r c.in-Ok.tree refused accepted)
+
+pub returns-clause-kept : goal.returns-clause-kept
+returns-clause-kept g c = holds c.refuse_tree.result
+  where
+    is_refused : IsRefusedTree (bytes_in c.args.files.now) (root_of c.args.options.now) (refusal_view c.in-Err.refusal)
+    is_refused = subst (λ root. IsRefusedTree (bytes_in c.args.files.now) root (refusal_view c.in-Err.refusal)) c.as_bytes.ensures.value (c.in-Err.ensures.refused c.in_default.not-Memory)
+
+    holds : (r : Result Status Cause) → OnOk r ((tree : TreeFacts) → IsAcceptedTree (bytes_in c.args.files.now) (root_of c.args.options.now) tree → Holds tree c.args.kept.now)
+    holds (Ok s) = λ tree is. absurd (c.one_answer.ensures.not_both (bytes_in c.args.files.now) (root_of c.args.options.now) (refusal_view c.in-Err.refusal) tree is_refused is)
+    holds (Err e) = tt
