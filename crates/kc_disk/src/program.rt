@@ -63,7 +63,8 @@ fn run_files(rt: &HostRuntime, options: &Options) -> Result<Status, LoadFault> {
     let mut outputs = FileOutputs::new(alloc, rt, options)?;
     let mut kept = None;
     let status = run_keeping(alloc, &files, options, &mut inputs, &mut outputs, &mut kept);
-    // The process ends after this: the system takes back the memory of the files and of the tree at once.
+    // A program ends after this, and the system takes the memory of the files and of the tree back at once, which costs
+    // less than to give back each piece: see `kconf_of`.
     mem::forget(files);
     mem::forget(kept);
     match outputs.finish(status) {
@@ -81,6 +82,9 @@ fn run_files(rt: &HostRuntime, options: &Options) -> Result<Status, LoadFault> {
 ///
 /// The help goes to standard output and a bad command line is told on standard error. A file of the tree that cannot be
 /// read is E18, want of memory E20; each is one line on standard error, and no file is begun then.
+///
+/// It is made for a program that ends afterwards: the memory of the tree and of its files is left to the end of the
+/// process, so each call of a process that goes on keeps that much.
 pub fn kconf_of(rt: &HostRuntime, words: &[String]) -> Status {
     let options = match options_of(rt.alloc(), words) {
         Ok(options) => options,
