@@ -1,9 +1,9 @@
 -- Where a reader stands after some bytes.
-use Rattle.std.proofs.Common.{◌≡◌, ℕ, ◌+◌, ◌-◌, ◌^◌, ◌<◌, ◌≤◌, List, [], ◌∷◌, ◌++◌, Bool, true, false, length, get_or, refl, sym, ap, ◌∙◌, arith, min, append_assoc, append-nil, length-append, count_by, cond, zero, suc, inl, inr}
+use Rattle.std.proofs.Common.{◌≡◌, ℕ, ◌+◌, ◌-◌, ◌^◌, ◌<◌, ◌≤◌, List, [], ◌∷◌, ◌++◌, Bool, true, false, length, take, drop, get_or, refl, sym, ap, ◌∙◌, arith, min, append_assoc, append-nil, length-append, count_by, cond, zero, suc, inl, inr}
 use Rattle.std.specs.Prelude.{not, ◌==◌}
 use Rattle.std.specs.List.{after_last, suffix_len}
 use Rattle.std.proofs.lemmas.Bool.{not_from_true, not_from_false, cases_Bool, eqb-true, eqb-false}
-use Rattle.std.proofs.lemmas.List.{reverse-append, drop-append-le, drop_all}
+use Rattle.std.proofs.lemmas.List.{reverse-append, drop-append-le, drop_all, take_all}
 use Rattle.std.proofs.lemmas.List.Elements.{All-get_or, All-append, All-from_get_or}
 use Rattle.std.proofs.lemmas.List.Sums.{suffix_len_is, suffix_len-le-length, sum_by-append}
 use Rattle.kc_dot.specs.Feeding.{Spot, IsOpen, fed, number_after}
@@ -62,6 +62,42 @@ fed-other b old opened is =
 
 pub fed-lf : (b : ℕ) (old : Spot) → is_lf b ≡ true → let new : Spot = record { number = next_number old.number; pending = [] } in new ≡ fed (b ∷ []) old
 fed-lf b old is = rw (number-lf old.number b is, after_last-lf old.pending b is) refl
+
+-- bytes without an LF wait behind what waits
+after_last-others : (bytes more : List ℕ) → HasNoLf more → after_last is_lf (bytes ++ more) ≡ after_last is_lf bytes ++ more
+after_last-others bytes [] one = ap (after_last is_lf) (append-nil bytes) ∙ sym (append-nil (after_last is_lf bytes))
+after_last-others bytes (b ∷ more) one =
+    let is : is_lf b ≡ false = All-get_or (λ x. is_lf x ≡ false) (b ∷ more) 0 b (omega arith) one in
+    let rest : HasNoLf more = All-from_get_or (λ x. is_lf x ≡ false) more b (λ i lt. All-get_or (λ x. is_lf x ≡ false) (b ∷ more) (suc i) b (omega arith) one) in
+    let e = after_last-others (bytes ++ b ∷ []) more rest in
+    let f = after_last-other bytes b is in
+    ap (after_last is_lf) (sym (append_assoc bytes (b ∷ []) more)) ∙ e ∙ ap (λ t. t ++ more) f ∙ append_assoc (after_last is_lf bytes) (b ∷ []) more
+
+count-others : (more : List ℕ) → HasNoLf more → count_by is_lf more ≡ 0
+count-others [] one = refl
+count-others (b ∷ more) one =
+    let is : is_lf b ≡ false = All-get_or (λ x. is_lf x ≡ false) (b ∷ more) 0 b (omega arith) one in
+    let rest : HasNoLf more = All-from_get_or (λ x. is_lf x ≡ false) more b (λ i lt. All-get_or (λ x. is_lf x ≡ false) (b ∷ more) (suc i) b (omega arith) one) in
+    rw is (count-others more rest)
+
+-- several bytes that are no LF wait for the end of their line
+pub fed-others : (a more : List ℕ) (old mid : Spot) → IsOpen mid → HasNoLf more → mid ≡ fed a old →
+    let new : Spot = record { number = mid.number; pending = mid.pending ++ more } in new ≡ fed (a ++ more) old
+fed-others a more old mid opened one is =
+    let n : mid.number ≡ number_after old.number (a ++ more) =
+    ap (λ (s : Spot). s.number) is ∙ let c : count_by is_lf (a ++ more) ≡ count_by is_lf a + count_by is_lf more = sum_by-append (λ x. cond (is_lf x) 1 0) a more in
+    let z = count-others more one in
+    let same : count_by is_lf (a ++ more) ≡ count_by is_lf a = omega arith in
+    rw same refl in
+    let p : mid.pending ++ more ≡ after_last is_lf (old.pending ++ (a ++ more)) =
+    ap (λ (s : Spot). s.pending ++ more) is ∙ sym (after_last-others (old.pending ++ a) more one) ∙ ap (after_last is_lf) (append_assoc old.pending a more) in
+    rw (n, p) refl
+
+-- the first bytes are the first of them, and the first that follow
+pub take_on : (at n : ℕ) (bytes : List ℕ) → take (at + n) bytes ≡ take at bytes ++ take n (drop at bytes)
+take_on zero n bytes = let e : 0 + n ≡ n = omega arith in rw e refl
+take_on (suc at) n [] = let e : suc at + n ≡ suc (at + n) = omega arith in rw e (sym (take_all n [] (omega arith)))
+take_on (suc at) n (b ∷ bytes) = let e : suc at + n ≡ suc (at + n) = omega arith in rw e (ap (λ l. b ∷ l) (take_on at n bytes))
 
 -- nothing was fed
 pub fed-nothing : (old : Spot) → IsOpen old → old ≡ fed [] old

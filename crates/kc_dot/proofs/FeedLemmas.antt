@@ -1,8 +1,8 @@
 -- Feeding in pieces is reading at once.
-use Rattle.std.proofs.Common.{◌≡◌, ℕ, ◌+◌, ◌<◌, ◌≤◌, List, [], ◌∷◌, ◌++◌, true, false, length, take, drop, get_or, refl, sym, ap, ◌∙◌, arith, append_assoc, Option, Result, Ok, Err, OnOk}
+use Rattle.std.proofs.Common.{◌≡◌, ℕ, ◌<◌, ◌≤◌, List, [], ◌∷◌, ◌++◌, true, false, length, take, drop, refl, sym, ap, ◌∙◌, arith, append_assoc, Option, Result, Ok, Err, OnOk}
 use Rattle.std.specs.Prelude.{◌==◌}
 use Rattle.std.proofs.lemmas.Bool.{ne_eqb}
-use Rattle.std.proofs.lemmas.List.{take-append-drop, drop_more}
+use Rattle.std.proofs.lemmas.List.{take-append-drop}
 use Rattle.kc_tree.specs.TreeFacts.{TreeFacts}
 use Rattle.kc_user.specs.Places.{Places}
 use Rattle.kc_dot.specs.declared.fault.DotFault.{DotFault}
@@ -76,11 +76,15 @@ module _ (tree : TreeFacts) (prefix name : List ℕ) where
   Because-longer Sink a b spot places front begins = λ rest more. rw append_assoc (begins (b ++ rest) more)
   Because-longer Memory a b spot places front nothing = nothing
 
-  -- a refusal at one byte of the piece
-  pub Refuses-at : (fault : DotFault) (piece : List ℕ) (at : ℕ) (old new : Spot) (before after : Places) (taken taken_mid taken_after : Option (List ℕ)) → at < length piece →
-      Feeds tree prefix name (take at piece) old new before after taken taken_mid → StopsAt tree prefix name fault (get_or piece at 0 ∷ []) new after taken_mid taken_after →
+  pub StopsAt-longer : (fault : DotFault) (a b : List ℕ) (spot : Spot) (places : Places) (taken taken_after : Option (List ℕ)) →
+      StopsAt tree prefix name fault a spot places taken taken_after → StopsAt tree prefix name fault (a ++ b) spot places taken taken_after
+  StopsAt-longer fault a b spot places taken taken_after (front, handed, because) = (front, handed, Because-longer fault a b spot places front because)
+
+  -- a refusal at one place of the piece
+  pub Refuses-at : (fault : DotFault) (piece : List ℕ) (at : ℕ) (old new : Spot) (before after : Places) (taken taken_mid taken_after : Option (List ℕ)) →
+      Feeds tree prefix name (take at piece) old new before after taken taken_mid → StopsAt tree prefix name fault (drop at piece) new after taken_mid taken_after →
       Refuses tree prefix name fault piece old new before after taken taken_after
-  Refuses-at fault piece at old new before after taken taken_mid taken_after within (w, t, k) (front, handed, because) =
+  Refuses-at fault piece at old new before after taken taken_mid taken_after (w, t, k) (front, handed, because) =
       record {
         done = take at piece;
         left = drop at piece;
@@ -89,7 +93,7 @@ module _ (tree : TreeFacts) (prefix name : List ℕ) where
         split = sym (take-append-drop at piece);
         goes = k;
         handed = handed ∙ ap (λ o. extended o front) t ∙ extended-extended taken w front;
-        because = rw (drop_more piece at 0 within) (Because-longer fault (get_or piece at 0 ∷ []) (drop (at + 1) piece) new after front because);
+        because = because;
       }
 
   -- an LF's warning was handed out

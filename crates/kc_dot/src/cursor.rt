@@ -1,16 +1,17 @@
 //! Where a reader stands in its stream, and what each byte does to it.
-ghost use Rattle.std.specs.Prelude.{◌≡◌, ◌∷◌, [], true, false, OnOk, OnErr, IfErr, if◌then◌else◌};
+ghost use Rattle.std.specs.Prelude.{◌≡◌, ◌<◌, ◌≤◌, ◌∷◌, ◌++◌, [], ℕ, List, true, false, length, take, All, OnOk, OnErr, IfOk, IfErr, if◌then◌else◌};
 ghost use Rattle.std.specs.Str.Lines.{strip_carriage_return};
 ghost use Rattle.kc_user.specs.Places.{IsUserOf};
-ghost use Rattle.kc_dot.specs.Feeding.{IsOpen, Feeds, Refuses, StopsAt, Finishes, FailsToEnd, fed, ended, counted_fault};
+ghost use Rattle.kc_dot.specs.Feeding.{Spot, IsOpen, Feeds, Refuses, StopsAt, Finishes, FailsToEnd, fed, ended, counted_fault};
 ghost use Rattle.kc_dot.specs.LineSteps.{FailsIn};
-ghost use Rattle.kc_dot.specs.Reading.{line, next_number, places_after, warning};
+ghost use Rattle.kc_dot.specs.Reading.{is_lf, line, next_number, places_after, warning};
 ghost use Rattle.kc_dot.specs.ReaderView.{spot_of};
 ghost use Rattle.kc_dot.specs.Sink.{extended};
 
 use crate::fault::DotFault;
 use crate::sink::Sink;
 use crate::step::{Source, read_line, without_carriage_return};
+use bstr::ByteSlice;
 use kc_user::user::User;
 use std::alloc::Global;
 
@@ -94,7 +95,53 @@ fn take_byte<S: Sink>(
     Ok(())
 }
 
-/// Takes the piece, byte by byte.
+// How many bytes stand before the first LF.
+fn bytes_before_lf(bytes: &[u8]) -> usize
+    ensures within { result ≤ length bytes.now }
+    ensures none { All (λ b. is_lf b ≡ false) (take result bytes.now) }
+{
+    match bytes.find_byte(b'\n') {
+        Some(n) => n,
+        None => bytes.len(),
+    }
+}
+
+// Takes a beginning of the bytes, and answers how many: those before the next LF, where the line does not get too long by
+// them, and else one.
+fn take_front<S: Sink>(
+    alloc: Global,
+    source: &Source<'_>,
+    cursor: &mut Cursor,
+    bytes: &[u8],
+    user: &mut User,
+    sink: &mut S,
+) -> Result<usize, DotFault>
+    requires some { 0 < length bytes.now }
+    requires user { IsUserOf source.now.tree.now user.old }
+    requires opened { IsOpen (spot_of cursor.old) }
+    ensures some { IfOk result (λ n. 0 < n) }
+    ensures within { IfOk result (λ n. n ≤ length bytes.now) }
+    ensures ok { IfOk result (λ n. Feeds source.now.tree.now source.now.prefix.now source.now.name.now (take n bytes.now) (spot_of cursor.old) (spot_of cursor.new) user.old user.new (S.taken sink.old) (S.taken sink.new)) }
+    ensures spot { IfOk result (λ n. (before : List ℕ) (first : Spot) → spot_of cursor.old ≡ fed before first → spot_of cursor.new ≡ fed (before ++ take n bytes.now) first) }
+    ensures unchanged { OnErr result (user.new ≡ user.old) }
+    ensures stays { OnErr result (spot_of cursor.new ≡ spot_of cursor.old) }
+    ensures err { IfErr result (λ fault. StopsAt source.now.tree.now source.now.prefix.now source.now.name.now fault bytes.now (spot_of cursor.old) user.old (S.taken sink.old) (S.taken sink.new)) }
+    ensures quiet { OnOk result (S.failures sink.new ≡ S.failures sink.old) }
+    ensures counted { IfErr result (λ fault. S.failures sink.new ≡ counted_fault fault (S.failures sink.old)) }
+    ensures keeps { S.goes_to sink.old sink.new }
+    ensures user { OnOk result (IsUserOf source.now.tree.now user.new) }
+    ensures opened { OnOk result (IsOpen (spot_of cursor.new)) }
+{
+    let count = bytes_before_lf(bytes);
+    if count > 0 && count <= LONGEST_LINE - cursor.pending.len() {
+        cursor.pending.extend_from_slice(&bytes[..count])?;
+        return Ok(count);
+    }
+    take_byte(alloc, source, cursor, bytes[0], user, sink)?;
+    Ok(1)
+}
+
+/// Takes the piece.
 pub fn take_piece<S: Sink>(
     alloc: Global,
     source: &Source<'_>,
@@ -114,8 +161,9 @@ pub fn take_piece<S: Sink>(
     ensures user { IsUserOf source.now.tree.now user.new }
     ensures opened { IsOpen (spot_of cursor.new) }
 {
-    for byte in piece {
-        take_byte(alloc, source, cursor, *byte, user, sink)?;
+    let mut at = 0;
+    while at < piece.len() {
+        at += take_front(alloc, source, cursor, &piece[at..], user, sink)?;
     }
     Ok(())
 }

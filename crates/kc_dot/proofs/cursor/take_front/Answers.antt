@@ -1,0 +1,25 @@
+use Rattle.std.proofs.Common.{◌≡◌, [], ◌∷◌, take, drop, get_or, ◌∙◌}
+use Rattle.std.proofs.lemmas.List.{drop_more, take_more}
+use Rattle.std.proofs.lemmas.Result.{err_from_is_err_and}
+use Rattle.kc_dot.specs.ReaderView.{spot_of}
+use Rattle.kc_dot.proofs.FedLemmas.{fed-others, fed-append}
+use Rattle.kc_dot.proofs.FeedLemmas.{StopsAt-longer}
+use Rattle.kc_dot.proofs.cursor.take_front.Goals as goal
+
+pub returns-then-count-len-clause-spot : goal.returns-then-count-len-clause-spot
+returns-then-count-len-clause-spot g c = λ before first is.
+    rw c.in_ok-extend_from_slice.ensures.items
+    (fed-others before (take c.bytes_before_lf-count.result c.args.bytes.now) first (spot_of c.args.cursor.now) c.requires.opened c.bytes_before_lf-count.ensures.none is)
+
+pub returns-in_err-take_byte-clause-err : goal.returns-in_err-take_byte-clause-err
+returns-in_err-take_byte-clause-err g c =
+    let p = err_from_is_err_and c.from_residual-in_err-take_byte.result c.from_residual-in_err-take_byte.ensures.1 in
+    let source = c.args.source.now in
+    let whole : c.args.bytes.now ≡ get_or c.args.bytes.now 0 0 ∷ drop 1 c.args.bytes.now = drop_more c.args.bytes.now 0 0 c.requires.some in
+    rw (p.1, p.2, whole)
+    (StopsAt-longer source.tree.now source.prefix.now source.name.now _ (get_or c.args.bytes.now 0 0 ∷ []) (drop 1 c.args.bytes.now) (spot_of c.args.cursor.now) c.args.user.now _ _ c.in_err-take_byte.ensures.err)
+
+pub returns-clause-spot : goal.returns-clause-spot
+returns-clause-spot g c = λ before first is.
+    let more : take 1 c.args.bytes.now ≡ get_or c.args.bytes.now 0 0 ∷ [] = take_more c.args.bytes.now 0 0 c.requires.some in
+    rw more (c.in_ok-take_byte.ensures.spot ∙ fed-append before (get_or c.args.bytes.now 0 0) first (spot_of c.args.cursor.now) c.requires.opened is)
