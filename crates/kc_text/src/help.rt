@@ -5,37 +5,47 @@ ghost use Rattle.kc_text.specs.Lines.{physical_lines, left};
 
 use crate::physical::{Unread, first_physical};
 
-// The column of the first byte that is no blank.
-fn column(text: &[u8]) -> u128
-    ensures { result ≡ column 0 text.now }
+// How a line begins: the column of the first byte that is no blank, and whether there is none.
+#[derive(Drop)]
+struct LineStart {
+    column: u128,
+    is_blank: bool,
+}
+
+// One look at the blanks that a line begins with.
+fn indentation(text: &[u8]) -> LineStart
+    ensures column { result.column ≡ column 0 text.now }
+    ensures blank { result.is_blank ≡ is_blank_line text.now }
 {
     let mut at: u128 = 0;
     for b in text {
         match b {
             b' ' => at += 1,
             b'\t' => at += 8 - at % 8,
-            _ => return at,
+            _ => {
+                return LineStart {
+                    column: at,
+                    is_blank: false,
+                };
+            }
         }
     }
-    at
-}
-
-// Whether a line holds blanks alone.
-fn is_blank_line(text: &[u8]) -> bool
-    ensures { result ≡ is_blank_line text.now }
-{
-    text.iter().all(|b| *b == b' ' || *b == b'\t')
+    LineStart {
+        column: at,
+        is_blank: true,
+    }
 }
 
 // Whether a line belongs to a help text of this indentation, or stands before its first line.
 fn is_help_line(text: &[u8], indent: Option<u128>) -> bool
     ensures { result ≡ (is_blank_line text.now || is_indented indent text.now) }
 {
-    if is_blank_line(text) {
+    let line = indentation(text);
+    if line.is_blank {
         return true;
     }
     match indent {
-        Some(indent) => indent <= column(text),
+        Some(indent) => indent <= line.column,
         None => false,
     }
 }
@@ -73,9 +83,11 @@ pub(crate) fn drop_help(rest: &[u8], number: u32) -> Unread<'_>
     if start.rest.is_empty() {
         return start;
     }
-    let indent = column(first_physical(start.rest).text);
+    // The first line that is not blank belongs to the text, which has its indentation.
+    let first = first_physical(start.rest);
+    let indent = indentation(first.text).column;
     if indent == 0 {
         return start;
     }
-    drop_lines(start.rest, start.number, Some(indent))
+    drop_lines(first.after, start.number.saturating_add(1), Some(indent))
 }
