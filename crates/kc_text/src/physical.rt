@@ -54,6 +54,7 @@ fn without_carriage_return(line: &[u8]) -> &[u8]
 }
 
 // The first physical line of what is left of a file.
+#[inline(always)]
 pub(crate) fn first_physical(rest: &[u8]) -> PhysicalLine<'_>
     requires { 0 < length rest.now }
     ensures first { physical_lines rest.now
