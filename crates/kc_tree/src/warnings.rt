@@ -128,6 +128,35 @@ fn warn(
     }
 }
 
+// What there is to say of a line: two things at most.
+fn said_of(
+    statement: &Statement,
+    symbols: &[Symbol],
+    mark: Mark,
+) -> (Option<Warning>, Option<Warning>)
+    ensures { listed result.0 ++ listed result.1 ≡ said_by_mark symbols.now mark (statement_view statement.now) }
+{
+    let owner = mark.owner;
+    match statement {
+        Statement::Config(_) => (untyped(statement, mark.first, symbols), None),
+        Statement::Type(_, _) => (
+            retyped(statement, owner, symbols),
+            prompted(statement, owner, mark.prompted),
+        ),
+        Statement::Prompt(_) => (prompted(statement, owner, mark.prompted), None),
+        Statement::Default(_, _) => (stray_default(statement, owner, symbols), None),
+        Statement::Def(_, _, _) => (
+            retyped(statement, owner, symbols),
+            stray_default(statement, owner, symbols),
+        ),
+        Statement::Select(_, _) | Statement::Imply(_, _) => (
+            wordy_target(statement, symbols),
+            member_target(statement, symbols),
+        ),
+        _ => (None, None),
+    }
+}
+
 // Adds what there is to say of a line.
 fn warn_line(
     alloc: Global,
@@ -139,38 +168,9 @@ fn warn_line(
 ) -> Result<(), AllocError>
     ensures { OnOk result (map (λ v. v.items) out.new.items ≡ map (λ v. v.items) out.old.items ++ map (spec.line_of names.now (line_view line.now).file (line_view line.now).line) (said_by_mark symbols.now mark (line_view line.now).statement)) }
 {
-    let statement = &line.statement;
-    warn(
-        alloc,
-        names,
-        line,
-        retyped(statement, mark.owner, symbols),
-        out,
-    )?;
-    warn(
-        alloc,
-        names,
-        line,
-        prompted(statement, mark.owner, mark.prompted),
-        out,
-    )?;
-    warn(
-        alloc,
-        names,
-        line,
-        untyped(statement, mark.first, symbols),
-        out,
-    )?;
-    warn(alloc, names, line, wordy_target(statement, symbols), out)?;
-    warn(alloc, names, line, member_target(statement, symbols), out)?;
-    warn(
-        alloc,
-        names,
-        line,
-        stray_default(statement, mark.owner, symbols),
-        out,
-    )?;
-    Ok(())
+    let (first, second) = said_of(&line.statement, symbols, mark);
+    warn(alloc, names, line, first, out)?;
+    warn(alloc, names, line, second, out)
 }
 
 /// The warnings about a tree, each a whole line, in the order of the lines that they are about and for one line by
