@@ -2,7 +2,7 @@
 
 ghost use Rattle.std.specs.Prelude.{◌≡◌, ◌<◌, ◌≤◌, ◌+◌, ◌++◌, ◌∷◌, [], length, drop, map, option_map, IfOk, IfSome, IfNone, OnOk, Some};
 ghost use Rattle.std.specs.List.{filter_map, prefix_len};
-ghost use Rattle.kc_expr.specs.Form.{form_of};
+ghost use Rattle.kc_expr.specs.Form.{Every, form_of, forms};
 ghost use Rattle.kc_read.specs.Blocks as blocks;
 ghost use Rattle.kc_read.specs.Reads.{asked_view, statement_view};
 ghost use Rattle.kc_tree.specs.Facts as facts;
@@ -10,7 +10,6 @@ ghost use Rattle.kc_tree.specs.Passes.{said_by, asks_form};
 
 use crate::copies::expression_copy;
 use crate::lines::{asked_of, depends_of, is_attribute, type_of, visible_of};
-use crate::lists::push_one;
 use kc_expr::expression::{Expr, Kind};
 use kc_read::line::Line;
 use kc_read::statement::{Prompt, Statement};
@@ -93,39 +92,17 @@ fn first_asked(attributes: &[Line], asks: Asks) -> Option<(&Rc<Expr>, &[Line])>
     None
 }
 
-// The expressions of the lines that ask for it.
-fn asked_parts(alloc: Global, attributes: &[Line], asks: Asks) -> Result<Vec<Rc<Expr>>, AllocError>
-    ensures { IfOk result (λ v. map (λ p. form_of p.value) v.items ≡ filter_map (asks_form asks) (said_by attributes.now)) }
+// The `&&` of the expressions of the lines that ask for it, in a list that has room for two: few entries have more.
+fn conjunction(alloc: Global, attributes: &[Line], asks: Asks) -> Result<Expr, AllocError>
+    ensures { IfOk result (λ e. form_of e ≡ Every (forms (filter_map (asks_form asks) (said_by attributes.now)))) }
 {
-    let mut parts = Vec::new(alloc);
+    let mut parts = Vec::with_capacity(alloc, 2)?;
     for line in attributes {
         if let Some(part) = asks_of(&line.statement, asks) {
-            push_one(&mut parts, part.clone()?)?;
+            parts.push(expression_copy(alloc, part)?)?;
         }
     }
-    Ok(parts)
-}
-
-// Copies of parts.
-fn copies(alloc: Global, parts: &[Rc<Expr>]) -> Result<Vec<Expr>, AllocError>
-    ensures { IfOk result (λ v. map form_of v.items ≡ map (λ p. form_of p.value) parts.now) }
-{
-    let mut all = Vec::with_capacity(alloc, parts.len())?;
-    for part in parts {
-        all.push(expression_copy(alloc, part)?)?;
-    }
-    Ok(all)
-}
-
-// None, one, or the `&&` of two and more.
-fn conjunction(alloc: Global, mut parts: Vec<Rc<Expr>>) -> Result<Option<Rc<Expr>>, AllocError>
-    ensures { IfOk result (λ o. facts.listed (option_map (λ p. form_of p.value) o) ≡ facts.joined (map (λ p. form_of p.value) parts.items)) }
-{
-    if parts.len() < 2 {
-        return Ok(parts.pop());
-    }
-    let all = copies(alloc, &parts)?;
-    Ok(Some(Rc::new(alloc, Expr::All(all))?))
+    Ok(Expr::All(parts))
 }
 
 /// What the lines ask for together. Most ask once or not at all, and then nothing is made.
@@ -142,6 +119,6 @@ pub fn joined(
     if first_asked(rest, asks).is_none() {
         return Ok(Some(first.clone()?));
     }
-    let parts = asked_parts(alloc, attributes, asks)?;
-    conjunction(alloc, parts)
+    let all = conjunction(alloc, attributes, asks)?;
+    Ok(Some(Rc::new(alloc, all)?))
 }
