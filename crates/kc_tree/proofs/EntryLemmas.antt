@@ -5,7 +5,8 @@ use Rattle.std.specs.Option.{option_map, option_and_then}
 use Rattle.std.proofs.lemmas.Option.{get_or_from_slice_get}
 use Rattle.kc_read.specs.declared.line.Line.{Line}
 use Rattle.kc_read.specs.Reads.{statement_view}
-use Rattle.kc_read.specs.Statements.{Numbered, ConfigLine, EndMenuLine}
+use Rattle.std.proofs.lemmas.List.{append-nil}
+use Rattle.kc_read.specs.Statements.{Numbered, ConfigLine, MenuLine, EndMenuLine, CommentLine}
 use Rattle.kc_read.specs.Blocks.{numbers, attributes}
 use Rattle.kc_tree.specs.TreeFacts.{Shown, EndShown}
 use Rattle.kc_tree.specs.Facts.{is_entry, entry_number, entry_at, opener_of}
@@ -78,3 +79,17 @@ module _ (ls : List Line) where
       let there = statement_at ls i x h at in
       let made : o ≡ entry_at (said_by ls) i (slice_get (said_by ls) i) = e ∙ rw (a, b, f) (by_statement (said_by ls) i s menu there m) ∙ ap (entry_at (said_by ls) i) (sym there) in
       n ∙ rw (p, made) (sym (filter_map-next (λ j. entry_at (said_by ls) j (slice_get (said_by ls) j)) i))
+
+  no_entry : (r : Surroundings) (own : List Numbered) (first : Bool) (menu : Option ℕ) (s : Numbered) → false ≡ is_entry_line first s → entry_line r own first menu s ≡ None
+  no_entry r own first menu (ConfigLine t) h = rw (sym h) refl
+  no_entry r own first menu (MenuLine t) h = absurd cc
+  no_entry r own first menu EndMenuLine h = absurd cc
+  no_entry r own first menu (CommentLine t) h = absurd cc
+  no_entry r own first menu _ h = refl
+
+  -- a line that is no entry
+  pub no_entry_next : (i : ℕ) (x : Line) (first : Bool) (out : List Shown) → i < length ls → x ≡ get_or ls i x → first ≡ is_first_at (said_by ls) i → false ≡ is_entry_line first (statement_view x.statement) → out ≡ filter_map (λ j. entry_at (said_by ls) j (slice_get (said_by ls) j)) (numbers i) → out ≡ filter_map (λ j. entry_at (said_by ls) j (slice_get (said_by ls) j)) (numbers (i + 1))
+  no_entry_next i x first out h at f e p =
+      let ss = said_by ls in
+      let menu = option_map (entry_number ss) (opener_of ss i) in
+      entries_next i x (round ss i) (attributes ss i) first menu out out None h at refl refl f refl (sym (no_entry (round ss i) (attributes ss i) first menu (statement_view x.statement) e)) p (sym (append-nil out))

@@ -1,6 +1,8 @@
 -- The first refusal after the last line.
 use Rattle.std.proofs.Common.{◌≡◌, ℕ, suc, ◌+◌, ◌-◌, ◌<◌, ◌≤◌, Bool, true, false, ◌||◌, List, [], ◌∷◌, ◌++◌, length, filter, map, Option, Some, None, Ok, Err, refl, ap, sym, ◌∙◌, arith, add-one, get_or}
 use Rattle.std.specs.List.{slice_get, flat_map, list_any}
+use Rattle.std.specs.Prelude.{is_some, ◌&&◌, not}
+use Rattle.kc_expr.specs.declared.expression.Kind.TheVariants as kind
 use Rattle.kc_expr.specs.declared.expression.SymId.{SymId}
 use Rattle.kc_expr.specs.declared.expression.Kind.{Kind}
 use Rattle.kc_read.specs.declared.line.Line.{Line}
@@ -17,7 +19,7 @@ use Rattle.kc_tree.specs.declared.parts.Symbol.{Symbol}
 use Rattle.kc_tree.specs.Firsts.{is_first_at}
 use Rattle.kc_tree.specs.TreeFacts.{TreeFacts}
 use Rattle.kc_tree.specs.Trees.{unless_refused}
-use Rattle.kc_tree.specs.Facts.{listed, first_of, choice_of, kind_of, choice_round, opener_of}
+use Rattle.kc_tree.specs.Facts.{listed, first_of, choice_of, kind_of, choice_round, opener_of, same_kind, symbol_of}
 use Rattle.kc_tree.specs.Known.{IsKnown, AreMarks, IsMark, kind_by, choice_by}
 use Rattle.kc_tree.specs.Late.{late}
 use Rattle.kc_tree.specs.Passes.{said_by}
@@ -75,6 +77,18 @@ module _ (ls : List Line) where
       let first = first_read (said_by ls) m i r d (omega (arith, length-said_by ls)) p in
       let tables : is_bad_member (kind_by k) (choice_by k) r.first mode s ≡ is_bad_member (kind_of (said_by ls)) (choice_of (said_by ls)) (is_first_at (said_by ls) i) (choice_round (said_by ls) i) s = ap (λ (f : SymId → Kind). is_bad_member f (choice_by k) r.first mode s) a.kinds ∙ ap (λ (f : SymId → Option ℕ). is_bad_member (kind_of (said_by ls)) f r.first mode s) a.choices ∙ ap (λ (c : Bool). is_bad_member (kind_of (said_by ls)) (choice_of (said_by ls)) c mode s) first ∙ ap (λ (c : Option ℕ). is_bad_member (kind_of (said_by ls)) (choice_of (said_by ls)) (is_first_at (said_by ls) i) c s) g in
       ap (λ (o : Option Numbered). list_any (is_bad_member (kind_of (said_by ls)) (choice_of (said_by ls)) (is_first_at (said_by ls) i) (choice_round (said_by ls) i)) (listed o)) (statement_at ls i x h at) ∙ or_false _ ∙ sym tables ∙ sym e
+
+  abbrev is_bad_symbol : ℕ → SymId → Bool
+  is_bad_symbol i t = (is_some (choice_of (said_by ls) t) && not (is_first_at (said_by ls) i)) || (is_some (choice_round (said_by ls) i) && not (same_kind (kind_of (said_by ls) t) kind.Bool))
+
+  none_bad : (i : ℕ) (o : Option SymId) → false ≡ is_some o → list_any (is_bad_symbol i) (listed o) ≡ false
+  none_bad i None u = refl
+  none_bad i (Some t) u = absurd cc
+
+  -- a line that defines no symbol
+  pub no_config : (i : ℕ) (x : Line) (o : Option SymId) (b : Bool) → i < length ls → x ≡ get_or ls i x → o ≡ symbol_of (Some (statement_view x.statement)) → b ≡ is_some o → b ≡ false → is_bad_config i ≡ false
+  no_config i x o b h at e t f =
+      ap (λ (q : Option Numbered). list_any (is_bad_member (kind_of (said_by ls)) (choice_of (said_by ls)) (is_first_at (said_by ls) i) (choice_round (said_by ls) i)) (listed q)) (statement_at ls i x h at) ∙ or_false _ ∙ ap (λ (q : Option SymId). list_any (is_bad_symbol i) (listed q)) (sym e) ∙ none_bad i o (sym f ∙ t)
 
   pub bad_given-is : (i : ℕ) (x : Line) (k : List Symbol) (m : Marks) (r : Mark) (b : Bool) → IsKnown (said_by ls) k → AreMarks (said_by ls) m → i < length ls → x ≡ get_or ls i x → IsMark m i r → b ≡ is_bad_default (kind_by k) r.owner (statement_view x.statement) → is_bad_given i ≡ b
   bad_given-is i x k m r b a d h at p e =

@@ -53,17 +53,28 @@ pub fn main_menu(alloc: Global, lines: &[Line]) -> Result<Vec<u8>, AllocError>
     }
 }
 
+// The line is an entry.
+fn is_entry(statement: &Statement, first: bool) -> bool
+    ensures { result ≡ is_entry_line first (statement_view statement.now) }
+{
+    match statement {
+        Statement::Config(_) => first,
+        Statement::Menu(_) => true,
+        Statement::EndMenu => true,
+        Statement::Comment(_) => true,
+        _ => false,
+    }
+}
+
 // How many entries there are after a line.
 fn next_number(statement: &Statement, first: bool, number: usize) -> usize
     requires { number + 1 < 2 ^ 64 }
     ensures { result ≡ counted (is_entry_line first (statement_view statement.now)) number }
 {
-    match statement {
-        Statement::Config(_) => { if first { number + 1 } else { number } }
-        Statement::Menu(_) => number + 1,
-        Statement::EndMenu => number + 1,
-        Statement::Comment(_) => number + 1,
-        _ => number,
+    if is_entry(statement, first) {
+        number + 1
+    } else {
+        number
     }
 }
 
@@ -166,10 +177,12 @@ pub fn entries(
     let mut entries = Vec::new(alloc);
     let outside = outside(alloc);
     for (i, line) in lines.iter().enumerate() {
-        let around = around(openers, insides, &outside, i);
-        let menu = menu_of(openers, &entry_numbers, i);
-        let entry = entry_at(alloc, &line.statement, lines, i, around, firsts[i], menu)?;
-        push_entry(&mut entries, entry)?;
+        if is_entry(&line.statement, firsts[i]) {
+            let around = around(openers, insides, &outside, i);
+            let menu = menu_of(openers, &entry_numbers, i);
+            let entry = entry_at(alloc, &line.statement, lines, i, around, firsts[i], menu)?;
+            push_entry(&mut entries, entry)?;
+        }
     }
     Ok(entries)
 }

@@ -87,9 +87,11 @@ fn first_bad_member(
 {
     let outside = outside(alloc);
     for (i, line) in lines.iter().enumerate() {
-        let round = around(openers, insides, &outside, i).mode;
-        if is_bad_member(&line.statement, marks.at(i).first, round, symbols) {
-            return Some(i);
+        if symbol_of(&line.statement).is_some() {
+            let round = around(openers, insides, &outside, i).mode;
+            if is_bad_member(&line.statement, marks.at(i).first, round, symbols) {
+                return Some(i);
+            }
         }
     }
     None

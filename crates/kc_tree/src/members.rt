@@ -1,6 +1,6 @@
 //! The members of each choice.
 
-ghost use Rattle.std.specs.Prelude.{◌≡◌, ◌<◌, [], length, map, option_map, IfOk, OnOk};
+ghost use Rattle.std.specs.Prelude.{◌≡◌, ◌<◌, [], length, map, option_map, IfOk, OnOk, Some};
 ghost use Rattle.kc_read.specs.Blocks.{numbers};
 ghost use Rattle.kc_tree.specs.Facts.{opener_of, members_of};
 ghost use Rattle.kc_tree.specs.Members.{member_added};
@@ -29,16 +29,14 @@ fn no_members(alloc: Global, count: usize) -> Result<Vec<Vec<SymId>>, AllocError
 // Adds the symbol of a line to the choice round it.
 fn add_member(
     members: &mut Vec<Vec<SymId>>,
-    symbol: Option<SymId>,
+    symbol: SymId,
     choice: Option<ChoiceId>,
 ) -> Result<(), AllocError>
-    ensures { OnOk result (map (λ l. l.items) members.new.items ≡ member_added symbol (option_map (λ k. k.0) choice) (map (λ l. l.items) members.old.items)) }
+    ensures { OnOk result (map (λ l. l.items) members.new.items ≡ member_added (Some symbol) (option_map (λ k. k.0) choice) (map (λ l. l.items) members.old.items)) }
 {
-    if let Some(s) = symbol {
-        if let Some(k) = choice {
-            if k.0 < members.len() {
-                members[k.0].push(s)?;
-            }
+    if let Some(k) = choice {
+        if k.0 < members.len() {
+            members[k.0].push(symbol)?;
         }
     }
     Ok(())
@@ -59,8 +57,10 @@ pub fn members(
     let mut members = no_members(alloc, count)?;
     let outside = outside(alloc);
     for (i, line) in lines.iter().enumerate() {
-        let around = around(openers, insides, &outside, i);
-        add_member(&mut members, symbol_of(&line.statement), around.mode)?;
+        if let Some(symbol) = symbol_of(&line.statement) {
+            let around = around(openers, insides, &outside, i);
+            add_member(&mut members, symbol, around.mode)?;
+        }
     }
     Ok(members)
 }

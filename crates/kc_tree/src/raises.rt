@@ -117,27 +117,23 @@ fn first_target(own: &[Line]) -> Option<Target<'_>>
     None
 }
 
-// Adds what the entry at a place selects and implies, where it is a symbol's. Most select and imply nothing.
+// Adds what the symbol's entry at a place selects and implies. Most select and imply nothing.
 fn raise_entry(
     alloc: Global,
     lines: &[Line],
     place: usize,
+    source: SymId,
     around: &Round,
     symbols: &mut Vec<Symbol>,
 ) -> Result<(), AllocError>
     requires { place < length lines.now }
-    ensures { OnOk result (map facts_of symbols.new.items ≡ raise_entry (round_view around.now) (blocks.attributes (said_by lines.now) place) (symbol_at (said_by lines.now) place) (map facts_of symbols.old.items)) }
+    ensures { OnOk result (map facts_of symbols.new.items ≡ raise_entry (round_view around.now) (blocks.attributes (said_by lines.now) place) (Some source) (map facts_of symbols.old.items)) }
 {
-    match symbol_of(&lines[place].statement) {
-        Some(source) => {
-            let own = attributes(lines, place);
-            match first_target(own) {
-                Some(_) => {
-                    let dep = dependency(alloc, own, around)?;
-                    raise_lines(alloc, own, &dep, source, symbols)
-                }
-                None => Ok(()),
-            }
+    let own = attributes(lines, place);
+    match first_target(own) {
+        Some(_) => {
+            let dep = dependency(alloc, own, around)?;
+            raise_lines(alloc, own, &dep, source, symbols)
         }
         None => Ok(()),
     }
@@ -157,9 +153,11 @@ pub fn raise_all(
     ensures { OnOk result (map facts_of symbols.new.items ≡ map (raised_symbol (said_by lines.now)) (numbers (length symbols.old.items))) }
 {
     let outside = outside(alloc);
-    for i in 0..lines.len() {
-        let around = around(openers, insides, &outside, i);
-        raise_entry(alloc, lines, i, around, symbols)?;
+    for (i, line) in lines.iter().enumerate() {
+        if let Some(source) = symbol_of(&line.statement) {
+            let around = around(openers, insides, &outside, i);
+            raise_entry(alloc, lines, i, source, around, symbols)?;
+        }
     }
     Ok(())
 }

@@ -148,14 +148,18 @@ fn table_entry(
     alloc: Global,
     lines: &[Line],
     place: usize,
-    around: &Round,
+    openers: &[Option<usize>],
+    insides: &[Option<Box<Round>>],
+    outside: &Round,
     choices: usize,
 ) -> Result<Option<Box<Round>>, AllocError>
-    requires { place < length lines.now }
-    ensures { IfOk result (λ r. inside_view r ≡ entry_of (said_by lines.now) place (round_view around.now) choices) }
+    requires lines { place < length lines.now }
+    requires openers { place < length openers.now }
+    ensures { IfOk result (λ r. inside_view r ≡ entry_of (said_by lines.now) place (looked_up (round_view outside.now) openers.now (map inside_view insides.now) place) choices) }
 {
     match opened(&lines[place].statement) {
         Some(_) => {
+            let around = around(openers, insides, outside, place);
             let round = inside(alloc, lines, place, around, choices)?;
             Ok(Some(Box::new(alloc, round)?))
         }
@@ -206,8 +210,7 @@ pub fn insides(
     let outside = outside(alloc);
     let mut choices = 0;
     for (i, line) in lines.iter().enumerate() {
-        let surrounding = around(openers, &insides, &outside, i);
-        let inside = table_entry(alloc, lines, i, surrounding, choices)?;
+        let inside = table_entry(alloc, lines, i, openers, &insides, &outside, choices)?;
         insides.push(inside)?;
         choices = next_count(&line.statement, choices);
     }

@@ -53,26 +53,27 @@ fn define(
     Ok(())
 }
 
-// Adds the definition of a line to its symbol, where it defines one.
+// Adds the definition at a place to its symbol, where that is one of the list.
 fn define_at(
     alloc: Global,
     lines: &[Line],
     place: usize,
+    symbol: SymId,
     around: &Round,
     symbols: &mut Vec<Symbol>,
 ) -> Result<(), AllocError>
     requires { place < length lines.now }
-    ensures { OnOk result (map facts_of symbols.new.items ≡ changed (defined_by (round_view around.now) (blocks.attributes (said_by lines.now) place)) (symbol_at (said_by lines.now) place) (map facts_of symbols.old.items)) }
+    ensures { OnOk result (map facts_of symbols.new.items ≡ changed (defined_by (round_view around.now) (blocks.attributes (said_by lines.now) place)) (Some symbol) (map facts_of symbols.old.items)) }
 {
-    match symbol_of(&lines[place].statement) {
-        Some(s) => {
-            if s.0 < symbols.len() {
-                define(alloc, attributes(lines, place), around, &mut symbols[s.0])?;
-            }
-            Ok(())
-        }
-        None => Ok(()),
+    if symbol.0 < symbols.len() {
+        define(
+            alloc,
+            attributes(lines, place),
+            around,
+            &mut symbols[symbol.0],
+        )?;
     }
+    Ok(())
 }
 
 // The type that a line's entry gives its symbol.
@@ -98,13 +99,11 @@ fn note_type(types: &mut Vec<Option<Kind>>, symbol: Option<SymId>, found: Option
 }
 
 // The same for choices.
-fn note_choice(choices: &mut Vec<Option<ChoiceId>>, symbol: Option<SymId>, found: Option<ChoiceId>)
-    ensures { map (option_map (λ k. k.0)) choices.new.items ≡ changed (λ o. option_or o (option_map (λ k. k.0) found)) symbol (map (option_map (λ k. k.0)) choices.old.items) }
+fn note_choice(choices: &mut Vec<Option<ChoiceId>>, symbol: SymId, found: Option<ChoiceId>)
+    ensures { map (option_map (λ k. k.0)) choices.new.items ≡ changed (λ o. option_or o (option_map (λ k. k.0) found)) (Some symbol) (map (option_map (λ k. k.0)) choices.old.items) }
 {
-    if let Some(s) = symbol {
-        if s.0 < choices.len() {
-            choices[s.0] = choices[s.0].or(found);
-        }
+    if symbol.0 < choices.len() {
+        choices[symbol.0] = choices[symbol.0].or(found);
     }
 }
 
@@ -156,8 +155,10 @@ pub fn choices(
     let mut choices = no_choices(alloc, count)?;
     let outside = outside(alloc);
     for (i, line) in lines.iter().enumerate() {
-        let around = around(openers, insides, &outside, i);
-        note_choice(&mut choices, symbol_of(&line.statement), around.mode);
+        if let Some(symbol) = symbol_of(&line.statement) {
+            let around = around(openers, insides, &outside, i);
+            note_choice(&mut choices, symbol, around.mode);
+        }
     }
     Ok(choices)
 }
@@ -176,9 +177,11 @@ pub fn define_all(
     ensures { OnOk result (map facts_of symbols.new.items ≡ map (defined_symbol (said_by lines.now)) (numbers (length symbols.old.items))) }
 {
     let outside = outside(alloc);
-    for i in 0..lines.len() {
-        let around = around(openers, insides, &outside, i);
-        define_at(alloc, lines, i, around, symbols)?;
+    for (i, line) in lines.iter().enumerate() {
+        if let Some(symbol) = symbol_of(&line.statement) {
+            let around = around(openers, insides, &outside, i);
+            define_at(alloc, lines, i, symbol, around, symbols)?;
+        }
     }
     Ok(())
 }

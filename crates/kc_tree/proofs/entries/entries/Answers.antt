@@ -8,8 +8,9 @@ use Rattle.kc_tree.specs.Views.{shown_of}
 use Rattle.kc_tree.proofs.OpenerLemmas.{length-said_by}
 use Rattle.kc_tree.proofs.PlaceLemmas.{length-map_numbers}
 use Rattle.kc_tree.proofs.RoundLemmas.{seen-is, openers_reach}
-use Rattle.kc_tree.proofs.EntryLemmas.{read_at, menu-is, entries_next}
+use Rattle.kc_tree.proofs.EntryLemmas.{read_at, menu-is, entries_next, no_entry_next}
 use Rattle.kc_tree.proofs.entries.entries.Goals as goal
+use Rattle.kc_tree.proofs.entries.entries.Goals.{then-is_entry+in_ok-entry+in_ok-push_entry, else-is_entry}
 
 pub around-around-requires : goal.around-around-requires
 around-around-requires c = openers_reach c.args.lines.now c.loop-i.i c.args.openers.now c.loop-i-test.true c.requires.openers
@@ -22,10 +23,22 @@ bounds-firsts-i c =
     let n : length c.args.firsts.now ≡ length c.args.lines.now = ap length c.requires.firsts ∙ length-map_numbers (is_first_at (said_by c.args.lines.now)) (length c.args.lines.now) in
     omega arith
 
+pub bounds-firsts-i-then-is_entry : goal.bounds-firsts-i-then-is_entry
+bounds-firsts-i-then-is_entry c =
+    let n : length c.args.firsts.now ≡ length c.args.lines.now = ap length c.requires.firsts ∙ length-map_numbers (is_first_at (said_by c.args.lines.now)) (length c.args.lines.now) in
+    omega arith
+
 pub loop-i-preserved : goal.loop-i-preserved
 loop-i-preserved c =
     let ls = c.args.lines.now in
+    let ss = said_by ls in
     let i = c.loop-i.i in
-    let seen = seen-is ls i c.args.openers.now (map inside_view c.args.insides.now) (round_view c.outside-outside.result) (round_view c.around-around.result.now) c.loop-i-test.true c.requires.openers c.requires.insides c.outside-outside.ensures c.around-around.ensures in
-    let menu = c.menu_of-menu.ensures ∙ menu-is (said_by ls) (length ls) i c.args.openers.now c.deref.result.now c.loop-i-test.true (omega (arith, length-said_by ls)) c.requires.openers (c.deref.ensures.value ∙ c.in_ok-entry_numbers.ensures) in
-    entries_next ls i c.index-lines-i.result (round_view c.around-around.result.now) (attributes (said_by ls) i) _ c.menu_of-menu.result (map shown_of c.loop-i.entries.items) (map shown_of c.push_entry.new.entries.items) (option_map shown_of c.in_ok-entry.entry) c.loop-i-test.true c.index-lines-i.is seen refl (read_at (is_first_at (said_by ls)) (length ls) i c.args.firsts.now _ c.loop-i-test.true c.requires.firsts) menu c.in_ok-entry.ensures c.loop-i.invariant c.in_ok-push_entry.ensures
+    let out = map shown_of c.loop-i.entries.items in
+    elim c.if-is_entry.branch [
+      | then-is_entry+in_ok-entry+in_ok-push_entry w ↦
+          let r = round_view w.around-around.result.now in
+          let seen = seen-is ls i c.args.openers.now (map inside_view c.args.insides.now) (round_view c.outside-outside.result) r c.loop-i-test.true c.requires.openers c.requires.insides c.outside-outside.ensures w.around-around.ensures in
+          let menu = w.menu_of-menu.ensures ∙ menu-is ss (length ls) i c.args.openers.now w.deref.result.now c.loop-i-test.true (omega (arith, length-said_by ls)) c.requires.openers (w.deref.ensures.value ∙ c.in_ok-entry_numbers.ensures) in
+          rw w.entries-is (entries_next ls i c.index-lines-i.result r (attributes ss i) _ w.menu_of-menu.result out (map shown_of w.push_entry.new.entries.items) (option_map shown_of w.in_ok-entry.entry) c.loop-i-test.true c.index-lines-i.is seen refl (read_at (is_first_at ss) (length ls) i c.args.firsts.now _ c.loop-i-test.true c.requires.firsts) menu w.in_ok-entry.ensures c.loop-i.invariant w.in_ok-push_entry.ensures)
+      | else-is_entry w ↦ rw w.entries-is (no_entry_next ls i c.index-lines-i.result _ out c.loop-i-test.true c.index-lines-i.is (read_at (is_first_at ss) (length ls) i c.args.firsts.now _ c.loop-i-test.true c.requires.firsts) w.if-is_entry.ensures c.loop-i.invariant)
+    ]

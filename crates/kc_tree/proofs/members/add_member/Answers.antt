@@ -7,8 +7,8 @@ use Rattle.kc_tree.proofs.members.add_member.Goals as goal
 
 pub returns-in_ok-push : goal.returns-in_ok-push
 returns-in_ok-push c =
-    rw (c.in-Some.is, c.in-Some-choice.is) (set_changed (λ (v : Vec SymId Global). v.items) (λ (l : List SymId). l ++ c.in-Some.s ∷ []) c.args.members.now.items c.in-Some-choice.k.0 c.index_mut.result.now c.push.new.self (omega (arith, c.args.members.now.ok)) c.index_mut.ensures.value c.in_ok-push.ensures.items)
+    rw c.in-Some.is (set_changed (λ (v : Vec SymId Global). v.items) (λ (l : List SymId). l ++ c.args.symbol ∷ []) c.args.members.now.items c.in-Some.k.0 c.index_mut.result.now c.push.new.self (omega (arith, c.args.members.now.ok)) c.index_mut.ensures.value c.in_ok-push.ensures.items)
 
 pub returns-else-k-len : goal.returns-else-k-len
 returns-else-k-len c =
-    rw (c.in-Some.is, c.in-Some-choice.is) (unchanged_past (λ (v : Vec SymId Global). v.items) (λ (l : List SymId). l ++ c.in-Some.s ∷ []) c.args.members.now.items c.in-Some-choice.k.0 (omega (arith, c.args.members.now.ok)))
+    rw c.in-Some.is (unchanged_past (λ (v : Vec SymId Global). v.items) (λ (l : List SymId). l ++ c.args.symbol ∷ []) c.args.members.now.items c.in-Some.k.0 (omega (arith, c.args.members.now.ok)))

@@ -1,13 +1,17 @@
-use Rattle.std.proofs.Common.{◌∙◌, map, length, ℕ}
-use Rattle.kc_read.specs.Blocks.{numbers}
+use Rattle.std.proofs.Common.{◌∙◌, map, length, ℕ, ap, Some, None, refl, Option}
+use Rattle.kc_expr.specs.declared.expression.SymId.{SymId}
+use Rattle.kc_read.specs.Blocks.{numbers, attributes}
 use Rattle.kc_tree.specs.Definitions.{raised_from}
 use Rattle.kc_tree.specs.Passes.{said_by}
+use Rattle.kc_tree.specs.Raises.{raise_entry}
+use Rattle.kc_tree.specs.Rounds.{round}
 use Rattle.kc_tree.specs.RoundViews.{round_view, inside_view}
 use Rattle.kc_tree.specs.Views.{facts_of}
 use Rattle.kc_tree.proofs.RaiseLemmas.{raised_next}
 use Rattle.kc_tree.proofs.RoundLemmas.{seen-is, openers_reach}
-use Rattle.kc_tree.proofs.TableLemmas.{all_passed}
+use Rattle.kc_tree.proofs.TableLemmas.{all_passed, symbol-at}
 use Rattle.kc_tree.proofs.raises.raise_all.Goals as goal
+use Rattle.kc_tree.proofs.raises.raise_all.Goals.{in-Some+in_ok-raise_entry, in_default}
 
 pub around-around-requires : goal.around-around-requires
 around-around-requires c = openers_reach c.args.lines.now c.loop-i.i c.args.openers.now c.loop-i-test.true c.requires.openers
@@ -15,8 +19,19 @@ around-around-requires c = openers_reach c.args.lines.now c.loop-i.i c.args.open
 pub loop-i-preserved : goal.loop-i-preserved
 loop-i-preserved c =
     let ls = c.args.lines.now in
-    let seen = seen-is ls c.loop-i.i c.args.openers.now (map inside_view c.args.insides.now) (round_view c.outside-outside.result) (round_view c.around-around.result.now) c.loop-i-test.true c.requires.openers c.requires.insides c.outside-outside.ensures c.around-around.ensures in
-    raised_next (said_by ls) c.loop-i.i (length c.args.symbols.now.items) (map facts_of c.loop-i.symbols.items) (map facts_of c.raise_entry.new.symbols.items) (round_view c.around-around.result.now) c.loop-i.invariant seen c.in_ok-raise_entry.ensures
+    let ss = said_by ls in
+    let i = c.loop-i.i in
+    let table = map facts_of c.loop-i.symbols.items in
+    elim c.match-symbol_of.branch [
+      | in-Some+in_ok-raise_entry w ↦
+          let r = round_view w.around-around.result.now in
+          let seen = seen-is ls i c.args.openers.now (map inside_view c.args.insides.now) (round_view c.outside-outside.result) r c.loop-i-test.true c.requires.openers c.requires.insides c.outside-outside.ensures w.around-around.ensures in
+          let at = symbol-at ls i c.index-lines-i.result (Some w.in-Some.source) c.loop-i-test.true c.index-lines-i.is w.in-Some.ensures in
+          rw w.symbols-is (raised_next ss i (length c.args.symbols.now.items) table (map facts_of w.raise_entry.new.symbols.items) r c.loop-i.invariant seen (w.in_ok-raise_entry.ensures ∙ ap (λ (o : Option SymId). raise_entry r (attributes ss i) o table) at))
+      | in_default w ↦
+          let at = symbol-at ls i c.index-lines-i.result None c.loop-i-test.true c.index-lines-i.is w.in_default.ensures in
+          rw w.symbols-is (raised_next ss i (length c.args.symbols.now.items) table table (round ss i) c.loop-i.invariant refl (ap (λ (o : Option SymId). raise_entry (round ss i) (attributes ss i) o table) at))
+    ]
 
 pub returns : goal.returns
 returns c =
