@@ -6,7 +6,7 @@ ghost use Rattle.kc_read.specs.Blocks as blocks;
 ghost use Rattle.kc_read.specs.Blocks.{numbers};
 ghost use Rattle.kc_read.specs.Reads.{statement_view};
 ghost use Rattle.kc_tree.specs.Definitions.{defined_symbol, raised_symbol};
-ghost use Rattle.kc_tree.specs.Facts.{first_of, opener_of, symbol_at, takes_kind};
+ghost use Rattle.kc_tree.specs.Facts.{first_of, opener_of, takes_kind};
 ghost use Rattle.kc_tree.specs.Passes.{said_by, change, target_of, target_view};
 ghost use Rattle.kc_tree.specs.Raises.{is_target, raised_by, with_raiser, raise_lines, raise_entry};
 ghost use Rattle.kc_tree.specs.RoundViews.{round_view, inside_view};

@@ -9,7 +9,7 @@ ghost use Rattle.kc_read.specs.Blocks.{numbers};
 ghost use Rattle.kc_read.specs.Reads.{statement_view};
 ghost use Rattle.kc_tree.specs.Conditions.{defined_by};
 ghost use Rattle.kc_tree.specs.Definitions.{bare_symbol, defined_symbol};
-ghost use Rattle.kc_tree.specs.Facts.{listed, symbol_at, first_of, type_of, attributes_of, choice_of, opener_of};
+ghost use Rattle.kc_tree.specs.Facts.{listed, first_of, type_of, attributes_of, choice_of, opener_of};
 ghost use Rattle.kc_tree.specs.Passes.{said_by, changed, type_at};
 ghost use Rattle.kc_tree.specs.RoundViews.{round_view, inside_view};
 ghost use Rattle.kc_tree.specs.Rounds.{inside_table};

@@ -168,9 +168,13 @@ fn warn_line(
 ) -> Result<(), AllocError>
     ensures { OnOk result (map (λ v. v.items) out.new.items ≡ map (λ v. v.items) out.old.items ++ map (spec.line_of names.now (line_view line.now).file (line_view line.now).line) (said_by_mark symbols.now mark (line_view line.now).statement)) }
 {
-    let (first, second) = said_of(&line.statement, symbols, mark);
-    warn(alloc, names, line, first, out)?;
-    warn(alloc, names, line, second, out)
+    match said_of(&line.statement, symbols, mark) {
+        (None, None) => Ok(()),
+        (first, second) => {
+            warn(alloc, names, line, first, out)?;
+            warn(alloc, names, line, second, out)
+        }
+    }
 }
 
 /// The warnings about a tree, each a whole line, in the order of the lines that they are about and for one line by
