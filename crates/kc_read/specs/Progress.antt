@@ -13,6 +13,7 @@ use Rattle.kc_read.specs.declared.frame.Frame.{Frame}
 use Rattle.kc_read.specs.declared.progress.Progress.{Progress}
 use Rattle.kc_read.specs.declared.refusal.Code.TheVariants as code
 use Rattle.kc_read.specs.declared.refusal.Refusal.{Refusal}
+use Rattle.kc_read.specs.declared.statement.Context.{Context}
 use Rattle.kc_read.specs.declared.statement.Entry.{Entry}
 use Rattle.kc_read.specs.declared.statement.Entry.TheVariants as entry
 use Rattle.kc_read.specs.declared.statement.Opener.{Opener}
@@ -68,6 +69,15 @@ abbrev pub ids_match : Option SymId → Option SymId → Bool
 ids_match None now = true
 ids_match (Some i) None = false
 ids_match (Some i) (Some j) = i.0 == j.0
+
+-- what surrounds the next line of a file
+abbrev pub context_in : Frame → Progress → Context
+context_in f p = record {
+  entry = f.entry;
+  own = option_map (λ o. o.block) (last_of f.blocks.items);
+  in_choice = f.in_choice || list_any (λ o. is_choice o.block) f.blocks.items;
+  modules = ids_match p.modules p.config;
+}
 
 -- what is remembered of all files: the names stood at first, and are names now
 pub record IsProgress (first : List (List ℕ)) (modules : Option SymId) (names : List (List ℕ)) (log : Log) (p : Progress) : Type 0 where

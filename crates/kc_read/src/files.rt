@@ -253,14 +253,13 @@ fn read_next<'a>(
     ensures bounded { OnOk result (IsBounded progress.new) }
     ensures memory { IfErr result IsMemory }
 {
-    let context = frame.context(progress.may_be_modules());
     match next_step(
         reader.alloc,
-        &frame.file,
+        frame,
+        progress,
         lines,
         text,
         tokens,
-        context,
         reader.modules,
         names,
     )? {

@@ -10,7 +10,7 @@ ghost use Rattle.kc_read.specs.Lines.{cause};
 ghost use Rattle.kc_read.specs.declared.refusal.Code.TheVariants.{TooDeep};
 
 use crate::refusal::Code;
-use crate::statement::{Block, Context, Entry, Fault, Opener, Statement};
+use crate::statement::{Block, Entry, Fault, Opener, Statement};
 use std::rc::Rc;
 
 /// How many blocks may be open at once.
@@ -85,26 +85,18 @@ impl Frame {
         self.blocks.last().copied()
     }
 
-    // Whether a choice is open.
+    /// Whether a choice is open.
     pub fn is_in_choice(&self) -> bool
         ensures { result ≡ (self.now.in_choice || list_any (λ o. expansion.is_choice o.block) self.now.blocks.items) }
     {
         self.in_choice || self.blocks.iter().any(|opener| is_choice(opener.block))
     }
 
-    /// The context of the next line; `modules` says whether it may be a line of the modules symbol.
-    pub fn context(&self, modules: bool) -> Context
-        ensures entry { result.entry ≡ self.now.entry }
-        ensures own { result.own ≡ option_map (λ o. o.block) (blocks.last_of self.now.blocks.items) }
-        ensures in_choice { result.in_choice ≡ (self.now.in_choice || list_any (λ o. expansion.is_choice o.block) self.now.blocks.items) }
-        ensures modules { result.modules ≡ modules }
+    /// The innermost open block of the file.
+    pub fn own_block(&self) -> Option<Block>
+        ensures { result ≡ option_map (λ o. o.block) (blocks.last_of self.now.blocks.items) }
     {
-        Context {
-            entry: self.entry,
-            own: self.innermost().map(|opener| opener.block),
-            in_choice: self.is_in_choice(),
-            modules,
-        }
+        self.innermost().map(|opener| opener.block)
     }
 
     /// Takes a statement: a block is opened or closed, and the entry goes on or ends. The 65th open block is refused.

@@ -4,48 +4,54 @@ ghost use Rattle.std.specs.Prelude.{◌≡◌, option_map, false, Some, None, �
 ghost use Rattle.kc_expr.specs.Grammar.{lexemes_from};
 ghost use Rattle.kc_read.specs.Lines as spec;
 ghost use Rattle.kc_read.specs.Lines.{place_cause};
+ghost use Rattle.kc_read.specs.Progress.{context_in};
 ghost use Rattle.std.specs.Prelude.{Option};
 ghost use Rattle.kc_expr.specs.declared.expression.SymId.{SymId};
 ghost use Rattle.kc_read.specs.Reads.{cause_of};
 
+use crate::frame::Frame;
 use crate::parts::begins_with;
+use crate::progress::Progress;
 use crate::refusal::Code;
-use crate::statement::{Block, Context, Entry, Fault, Keyword, Prompt};
+use crate::statement::{Block, Entry, Fault, Keyword, Prompt};
 use kc_expr::expression::{Kind, SymId};
 use kc_text::Token;
 
 // What is wrong with the place of a line.
 pub fn place_fault<'a>(
-    context: Context,
+    frame: &Frame,
+    progress: &Progress,
     word: &'a [u8],
     tokens: &[Token<'a>],
     keyword: Keyword,
 ) -> Option<Fault<'a>>
-    ensures { option_map cause_of result ≡ place_cause context word.now (lexemes_from tokens.now 1) keyword }
+    ensures { option_map cause_of result ≡ place_cause (context_in frame.now progress.now) word.now (lexemes_from tokens.now 1) keyword }
 {
     match keyword {
         Keyword::Config | Keyword::If | Keyword::Comment | Keyword::Source => None,
-        Keyword::EndIf => closes(Block::If, context.own),
-        Keyword::EndMenu => closes(Block::Menu, context.own),
-        Keyword::EndChoice => closes(Block::Choice, context.own),
-        Keyword::Menu | Keyword::Choice | Keyword::MainMenu => unless(!context.in_choice),
-        Keyword::Type(kind) => type_place(context.entry, kind),
+        Keyword::EndIf => closes(Block::If, frame.own_block()),
+        Keyword::EndMenu => closes(Block::Menu, frame.own_block()),
+        Keyword::EndChoice => closes(Block::Choice, frame.own_block()),
+        Keyword::Menu | Keyword::Choice | Keyword::MainMenu => unless(!frame.is_in_choice()),
+        Keyword::Type(kind) => type_place(frame.entry, kind),
         Keyword::Prompt | Keyword::Default | Keyword::Help => unless(matches!(
-            context.entry,
+            frame.entry,
             Entry::Config | Entry::Choice
         )),
         Keyword::Def(_) | Keyword::Select | Keyword::Imply | Keyword::Range => unless(matches!(
-            context.entry,
+            frame.entry,
             Entry::Config
         )),
-        Keyword::Depends => unless(!matches!(context.entry, Entry::Nothing)),
-        Keyword::Visible => unless(matches!(context.entry, Entry::Menu)),
-        Keyword::Modules => unless(matches!(context.entry, Entry::Config) && context.modules),
+        Keyword::Depends => unless(!matches!(frame.entry, Entry::Nothing)),
+        Keyword::Visible => unless(matches!(frame.entry, Entry::Menu)),
+        Keyword::Modules => unless(
+            matches!(frame.entry, Entry::Config) && progress.may_be_modules(),
+        ),
         Keyword::Option => {
             if begins_with(tokens, 1, b"modules") {
-                unless(matches!(context.entry, Entry::Config) && context.modules)
+                unless(matches!(frame.entry, Entry::Config) && progress.may_be_modules())
             } else {
-                unless(matches!(context.entry, Entry::Config))
+                unless(matches!(frame.entry, Entry::Config))
             }
         }
         Keyword::LeftOut => Some(left_out(word)),

@@ -9,15 +9,18 @@ ghost use Rattle.std.specs.Prelude.{List, Option};
 ghost use Rattle.kc_expr.specs.declared.expression.SymId.{SymId};
 ghost use Rattle.kc_read.specs.Statements.{Written, SourceLine, IfLine, CommentLine, DefaultLine, PromptLine, SelectLine, ImplyLine, MenuLine, MainMenuLine, DefLine, TypeLine};
 ghost use Rattle.kc_read.specs.Reads.{IsFault, IsRead, IsMade};
+ghost use Rattle.kc_read.specs.Progress.{context_in};
 
+use crate::frame::Frame;
 use crate::keywords::keyword_of;
 use crate::parts::{
     begins_with, check_text, condition, end, front, is_good_name, is_pattern, name_number, next,
     operand_at, syntax, target_at, text_at, whole, word_at,
 };
 use crate::place::{left_out, place_fault};
+use crate::progress::Progress;
 use crate::refusal::Code;
-use crate::statement::{Bounds, Context, Fault, Keyword, Prompt, Statement};
+use crate::statement::{Bounds, Fault, Keyword, Prompt, Statement};
 use kc_expr::expression::{Kind, SymId};
 use kc_expr::names::Names;
 use kc_text::Token;
@@ -336,18 +339,19 @@ fn rest_of_line<'a>(
 pub fn read_line<'a>(
     alloc: Global,
     tokens: &[Token<'a>],
-    context: Context,
+    frame: &Frame,
+    progress: &Progress,
     modules: Option<SymId>,
     names: &mut Names,
 ) -> Result<Statement, Fault<'a>>
-    ensures read { IsRead modules names.old names.new (ReadsLine context (lexemes_from tokens.now 0)) result }
+    ensures read { IsRead modules names.old names.new (ReadsLine (context_in frame.now progress.now) (lexemes_from tokens.now 0)) result }
     ensures names { Extends names.old names.new }
 {
     let word = word_at(tokens, 0)?;
     let Some(keyword) = keyword_of(word) else {
         return Err(syntax());
     };
-    if let Some(fault) = place_fault(context, word, tokens, keyword) {
+    if let Some(fault) = place_fault(frame, progress, word, tokens, keyword) {
         return Err(fault);
     }
     rest_of_line(alloc, tokens, word, keyword, modules, names)

@@ -33,6 +33,7 @@ fn ended(fault: TextFault) -> Result<Found, AllocError>
 }
 
 // What a line that was taken says; `tokens` holds the line's while it is read, in place of what it held.
+#[inline(always)]
 fn source_of_line<'l>(
     alloc: Global,
     line: &'l [u8],

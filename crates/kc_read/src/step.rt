@@ -8,13 +8,16 @@ ghost use Rattle.kc_text.specs.Tokens.{pieces};
 ghost use Rattle.kc_read.specs.declared.refusal.Code.TheVariants.{Memory};
 ghost use Rattle.kc_read.specs.Expansion.{is_help, long_line, lexemes, refused, text_cause};
 ghost use Rattle.kc_read.specs.Reads.{cause_of};
+ghost use Rattle.kc_read.specs.Progress.{context_in};
 ghost use Rattle.kc_read.specs.Steps.{IsMemory, IsStep, IsStepRefusal, out_of_memory, refusal_view};
 
+use crate::frame::Frame;
 use crate::parts::begins_with;
+use crate::progress::Progress;
 use crate::reader::read_line;
 use crate::refusal::{Code, Refusal};
 use crate::refuse::{memory, refuse};
-use crate::statement::{Context, Fault, Statement};
+use crate::statement::{Fault, Statement};
 use kc_expr::expression::SymId;
 use kc_expr::names::Names;
 use kc_text::{LogicalLines, TextFault, Token, lex};
@@ -73,26 +76,26 @@ pub fn begins_help(tokens: &[Token]) -> bool
 // What a line that was taken says; `tokens` holds the line's while it is read, in place of what it held.
 fn step_of_line<'l>(
     alloc: Global,
-    file: &[u8],
+    frame: &Frame,
+    progress: &Progress,
     number: u32,
     line: &'l [u8],
     tokens: &mut Vec<Token<'l>>,
     lines: &mut LogicalLines,
-    context: Context,
     modules: Option<SymId>,
     names: &mut Names,
 ) -> Result<Step, Refusal>
     requires clear { lines.old.refusal ≡ None }
     requires short { length line.now ≤ 8191 }
     // Whatever the lines were before.
-    ensures step { IfOk result (λ s. (before : Left) → number ≡ before.number → TakesLine before lines.old line.now → IsStep modules names.old names.new context before lines.new s) }
-    ensures refused { IfErr result (λ r. (before : Left) → number ≡ before.number → TakesLine before lines.old line.now → IsStepRefusal file.now context before r) }
+    ensures step { IfOk result (λ s. (before : Left) → number ≡ before.number → TakesLine before lines.old line.now → IsStep modules names.old names.new (context_in frame.now progress.now) before lines.new s) }
+    ensures refused { IfErr result (λ r. (before : Left) → number ≡ before.number → TakesLine before lines.old line.now → IsStepRefusal frame.now.file.value.items (context_in frame.now progress.now) before r) }
     ensures memory { IfErr result IsMemory }
     ensures names { Extends names.old names.new }
 {
     match lex(line, tokens) {
         Ok(()) => {}
-        Err(fault) => return Err(refuse(alloc, text_fault(fault), file, number)),
+        Err(fault) => return Err(refuse(alloc, text_fault(fault), &frame.file, number)),
     }
     if begins_help(tokens) {
         lines.skip_help();
@@ -100,44 +103,64 @@ fn step_of_line<'l>(
     if tokens.is_empty() {
         return Ok(Step::Blank);
     }
-    match read_line(alloc, tokens, context, modules, names) {
+    match read_line(alloc, tokens, frame, progress, modules, names) {
         Ok(statement) => Ok(Step::Next(number, statement)),
-        Err(fault) => Err(refuse(alloc, fault, file, number)),
+        Err(fault) => Err(refuse(alloc, fault, &frame.file, number)),
     }
+}
+
+// What stands next in a file that has no line to lend next: a line that is joined, or one that is too long, or its end.
+// `text` holds the bytes of the joined line, in place of what it held.
+fn next_joined(
+    alloc: Global,
+    frame: &Frame,
+    progress: &Progress,
+    lines: &mut LogicalLines,
+    text: &mut Vec<u8>,
+    modules: Option<SymId>,
+    names: &mut Names,
+) -> Result<Step, Refusal>
+    requires { lines.old.refusal ≡ None }
+    ensures step { IfOk result (IsStep modules names.old names.new (context_in frame.now progress.now) lines.old lines.new) }
+    ensures refused { IfErr result (IsStepRefusal frame.now.file.value.items (context_in frame.now progress.now) lines.old) }
+    ensures memory { IfErr result IsMemory }
+    ensures names { Extends names.old names.new }
+{
+    let number = match lines.next_into(text) {
+        Ok(Some(number)) => number,
+        Ok(None) => return Ok(Step::End),
+        Err(fault) => return Err(refuse(alloc, text_fault(fault), &frame.file, long_line(fault))),
+    };
+    let Ok(mut own) = token_list(alloc, text) else {
+        return Err(memory(alloc));
+    };
+    step_of_line(
+        alloc, frame, progress, number, text, &mut own, lines, modules, names,
+    )
 }
 
 /// What stands next in a file. `tokens` holds those of a line that is lent from the file while it is read, and `text` the
 /// bytes of one that is joined, each in place of what it held.
 pub fn next_step<'a>(
     alloc: Global,
-    file: &[u8],
+    frame: &Frame,
+    progress: &Progress,
     lines: &mut LogicalLines<'a>,
     text: &mut Vec<u8>,
     tokens: &mut Vec<Token<'a>>,
-    context: Context,
     modules: Option<SymId>,
     names: &mut Names,
 ) -> Result<Step, Refusal>
     requires { lines.old.refusal ≡ None }
-    ensures step { IfOk result (IsStep modules names.old names.new context lines.old lines.new) }
-    ensures refused { IfErr result (IsStepRefusal file.now context lines.old) }
+    ensures step { IfOk result (IsStep modules names.old names.new (context_in frame.now progress.now) lines.old lines.new) }
+    ensures refused { IfErr result (IsStepRefusal frame.now.file.value.items (context_in frame.now progress.now) lines.old) }
     ensures memory { IfErr result IsMemory }
     ensures names { Extends names.old names.new }
 {
-    if let Some((number, line)) = lines.next_single() {
-        return step_of_line(
-            alloc, file, number, line, tokens, lines, context, modules, names,
-        );
+    match lines.next_single() {
+        Some((number, line)) => step_of_line(
+            alloc, frame, progress, number, line, tokens, lines, modules, names,
+        ),
+        None => next_joined(alloc, frame, progress, lines, text, modules, names),
     }
-    let number = match lines.next_into(text) {
-        Ok(Some(number)) => number,
-        Ok(None) => return Ok(Step::End),
-        Err(fault) => return Err(refuse(alloc, text_fault(fault), file, long_line(fault))),
-    };
-    let Ok(mut own) = token_list(alloc, text) else {
-        return Err(memory(alloc));
-    };
-    step_of_line(
-        alloc, file, number, text, &mut own, lines, context, modules, names,
-    )
 }

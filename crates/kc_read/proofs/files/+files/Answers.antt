@@ -5,7 +5,7 @@ use Rattle.kc_read.specs.Expansion.{NextStatement, context_of, inside, opening}
 use Rattle.kc_read.specs.Reads.{cause_of}
 use Rattle.kc_read.specs.declared.statement.Entry.TheVariants as entry
 use Rattle.kc_read.specs.Files.{bytes_in}
-use Rattle.kc_read.specs.Progress.{GoesOn, IsEnded, IsState}
+use Rattle.kc_read.specs.Progress.{context_in, GoesOn, IsEnded, IsState}
 use Rattle.kc_read.specs.Statements.{SourceLine, statement_words}
 use Rattle.kc_expr.specs.Names.{number_of}
 use Rattle.kc_read.proofs.NameLemmas.{extends_none}
@@ -49,10 +49,9 @@ pub read_next-returns-in_err-next_step-clause-read : goal.read_next-returns-in_e
 read_next-returns-in_err-next_step-clause-read t c = λ first a own log i.
     let files = bytes_in c.args.reader.now.map.now in
     let modules = c.args.reader.now.modules in
-    let x = c.context-context.ensures in
-    let same = context_same first modules c.args.names.now a own log c.args.frame.now c.args.progress.now c.context-context.result i x.entry x.own x.in_choice (x.modules ∙ c.may_be_modules.ensures) in
+    let same = context_same first modules c.args.names.now a own log c.args.frame.now c.args.progress.now (context_in c.args.frame.now c.args.progress.now) i refl refl refl refl in
     next_passed files first modules c.next_step.new.names a c.args.lines.now c.next_step.new.lines own log c.args.progress.now c.args.frame.now c.from_residual.result c.in_err-next_step.field-0.0 c.from_residual.ensures.1
-    (step_refused files a c.args.lines.now own log c.context-context.result c.deref-2.result.now c.in_err-next_step.field-0.0 same (c.deref-2.ensures.value ∙ ap (λ v. v.items) c.deref.ensures ∙ i.frame.file) c.in_err-next_step.ensures.refused)
+    (step_refused files a c.args.lines.now own log (context_in c.args.frame.now c.args.progress.now) c.args.frame.now.file.value.items c.in_err-next_step.field-0.0 same i.frame.file c.in_err-next_step.ensures.refused)
 
 pub read_next-returns-in_err-end-in-End-clause-read : goal.read_next-returns-in_err-end-in-End-clause-read
 read_next-returns-in_err-end-in-End-clause-read t c = λ first a own log i.
@@ -93,8 +92,7 @@ pub read_next-returns-in_err-read_statement-in-Next-clause-read : goal.read_next
 read_next-returns-in_err-read_statement-in-Next-clause-read t c = λ first a own log i.
     let files = bytes_in c.args.reader.now.map.now in
     let modules = c.args.reader.now.modules in
-    let x = c.context-context.ensures in
-    let same = context_same first modules c.args.names.now a own log c.args.frame.now c.args.progress.now c.context-context.result i x.entry x.own x.in_choice (x.modules ∙ c.may_be_modules.ensures) in
+    let same = context_same first modules c.args.names.now a own log c.args.frame.now c.args.progress.now (context_in c.args.frame.now c.args.progress.now) i refl refl refl refl in
     let step = rw c.in-Next.is at c.in_ok-next_step.ensures.step in
     next_passed files first modules c.read_statement.new.names a c.args.lines.now c.next_step.new.lines own log c.read_statement.new.progress c.read_statement.new.frame c.from_residual-in_err-read_statement-in-Next.result c.in_err-read_statement-in-Next.field-0.0 c.from_residual-in_err-read_statement-in-Next.ensures.1
     (c.in_err-read_statement-in-Next.ensures.read first c.args.names.now a own log step.0 c.args.lines.now c.next_step.new.lines i step.3 (subst (λ k. NextStatement c.args.lines.now c.next_step.new.lines k (Ok step.0)) same step.2) step.1)
@@ -102,8 +100,7 @@ read_next-returns-in_err-read_statement-in-Next-clause-read t c = λ first a own
 pub read_next-returns-in_ok-read_statement-in-Next-clause-read : goal.read_next-returns-in_ok-read_statement-in-Next-clause-read
 read_next-returns-in_ok-read_statement-in-Next-clause-read t c = λ first a own log i.
     let modules = c.args.reader.now.modules in
-    let x = c.context-context.ensures in
-    let same = context_same first modules c.args.names.now a own log c.args.frame.now c.args.progress.now c.context-context.result i x.entry x.own x.in_choice (x.modules ∙ c.may_be_modules.ensures) in
+    let same = context_same first modules c.args.names.now a own log c.args.frame.now c.args.progress.now (context_in c.args.frame.now c.args.progress.now) i refl refl refl refl in
     let step = rw c.in-Next.is at c.in_ok-next_step.ensures.step in
     c.in_ok-read_statement-in-Next.ensures.read first c.args.names.now a own log step.0 c.args.lines.now c.next_step.new.lines i step.3 (subst (λ k. NextStatement c.args.lines.now c.next_step.new.lines k (Ok step.0)) same step.2) step.1
 
