@@ -157,6 +157,7 @@ fn chain(
 
 // One part of a chain: conjunctions are joined by `||`, negations by `&&`.
 #[cycle(parse)]
+#[inline(always)]
 fn part(
     alloc: Global,
     tokens: &[Token],
@@ -223,6 +224,7 @@ fn negation(
 }
 
 // An operand, perhaps with an operator and another.
+#[inline(always)]
 fn relation(
     alloc: Global,
     tokens: &[Token],
@@ -277,6 +279,7 @@ fn is_m(operand: &Operand) -> bool
 }
 
 // The operand at a place, if there is one.
+#[inline(always)]
 fn operand(
     alloc: Global,
     tokens: &[Token],
