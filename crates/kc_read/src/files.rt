@@ -16,6 +16,7 @@ ghost use Rattle.kc_read.specs.Steps.{IsMemory, refusal_view};
 use crate::file_map::FileMap;
 use crate::frame::Frame;
 use crate::line::Line;
+use crate::position::Position;
 use crate::progress::Progress;
 use crate::refusal::{Code, Refusal};
 use crate::refuse::{memory, refuse};
@@ -253,16 +254,13 @@ fn read_next<'a>(
     ensures bounded { OnOk result (IsBounded progress.new) }
     ensures memory { IfErr result IsMemory }
 {
-    match next_step(
-        reader.alloc,
+    let position = Position {
+        alloc: reader.alloc,
+        modules: reader.modules,
         frame,
         progress,
-        lines,
-        text,
-        tokens,
-        reader.modules,
-        names,
-    )? {
+    };
+    match next_step(&position, lines, text, tokens, names)? {
         Step::End => {
             end(reader.alloc, frame)?;
             Ok(false)

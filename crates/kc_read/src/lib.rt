@@ -10,6 +10,7 @@ pub mod laws;
 pub mod line;
 mod parts;
 mod place;
+mod position;
 mod progress;
 mod reader;
 pub mod refusal;

@@ -11,14 +11,13 @@ ghost use Rattle.kc_read.specs.Statements.{Written, SourceLine, IfLine, CommentL
 ghost use Rattle.kc_read.specs.Reads.{IsFault, IsRead, IsMade};
 ghost use Rattle.kc_read.specs.Progress.{context_in};
 
-use crate::frame::Frame;
 use crate::keywords::keyword_of;
 use crate::parts::{
     begins_with, check_text, condition, end, front, is_good_name, is_pattern, name_number, next,
     operand_at, syntax, target_at, text_at, whole, word_at,
 };
 use crate::place::{left_out, place_fault};
-use crate::progress::Progress;
+use crate::position::Position;
 use crate::refusal::Code;
 use crate::statement::{Bounds, Fault, Keyword, Prompt, Statement};
 use kc_expr::expression::{Kind, SymId};
@@ -337,22 +336,26 @@ fn rest_of_line<'a>(
 
 /// The statement of a line that has tokens, or why it is refused.
 pub fn read_line<'a>(
-    alloc: Global,
+    position: &Position<'_>,
     tokens: &[Token<'a>],
-    frame: &Frame,
-    progress: &Progress,
-    modules: Option<SymId>,
     names: &mut Names,
 ) -> Result<Statement, Fault<'a>>
-    ensures read { IsRead modules names.old names.new (ReadsLine (context_in frame.now progress.now) (lexemes_from tokens.now 0)) result }
+    ensures read { IsRead position.now.modules names.old names.new (ReadsLine (context_in position.now.frame.now position.now.progress.now) (lexemes_from tokens.now 0)) result }
     ensures names { Extends names.old names.new }
 {
     let word = word_at(tokens, 0)?;
     let Some(keyword) = keyword_of(word) else {
         return Err(syntax());
     };
-    if let Some(fault) = place_fault(frame, progress, word, tokens, keyword) {
+    if let Some(fault) = place_fault(position.frame, position.progress, word, tokens, keyword) {
         return Err(fault);
     }
-    rest_of_line(alloc, tokens, word, keyword, modules, names)
+    rest_of_line(
+        position.alloc,
+        tokens,
+        word,
+        keyword,
+        position.modules,
+        names,
+    )
 }

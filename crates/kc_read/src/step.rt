@@ -11,14 +11,12 @@ ghost use Rattle.kc_read.specs.Reads.{cause_of};
 ghost use Rattle.kc_read.specs.Progress.{context_in};
 ghost use Rattle.kc_read.specs.Steps.{IsMemory, IsStep, IsStepRefusal, out_of_memory, refusal_view};
 
-use crate::frame::Frame;
 use crate::parts::begins_with;
-use crate::progress::Progress;
+use crate::position::Position;
 use crate::reader::read_line;
 use crate::refusal::{Code, Refusal};
 use crate::refuse::{memory, refuse};
 use crate::statement::{Fault, Statement};
-use kc_expr::expression::SymId;
 use kc_expr::names::Names;
 use kc_text::{LogicalLines, TextFault, Token, lex};
 use std::alloc::{AllocError, Global};
@@ -75,27 +73,29 @@ pub fn begins_help(tokens: &[Token]) -> bool
 
 // What a line that was taken says; `tokens` holds the line's while it is read, in place of what it held.
 fn step_of_line<'l>(
-    alloc: Global,
-    frame: &Frame,
-    progress: &Progress,
+    position: &Position<'_>,
     number: u32,
     line: &'l [u8],
     tokens: &mut Vec<Token<'l>>,
     lines: &mut LogicalLines,
-    modules: Option<SymId>,
     names: &mut Names,
 ) -> Result<Step, Refusal>
     requires clear { lines.old.refusal ≡ None }
     requires short { length line.now ≤ 8191 }
     // Whatever the lines were before.
-    ensures step { IfOk result (λ s. (before : Left) → number ≡ before.number → TakesLine before lines.old line.now → IsStep modules names.old names.new (context_in frame.now progress.now) before lines.new s) }
-    ensures refused { IfErr result (λ r. (before : Left) → number ≡ before.number → TakesLine before lines.old line.now → IsStepRefusal frame.now.file.value.items (context_in frame.now progress.now) before r) }
+    ensures step { IfOk result (λ s. (before : Left) → number ≡ before.number → TakesLine before lines.old line.now → IsStep position.now.modules names.old names.new (context_in position.now.frame.now position.now.progress.now) before lines.new s) }
+    ensures refused { IfErr result (λ r. (before : Left) → number ≡ before.number → TakesLine before lines.old line.now → IsStepRefusal position.now.frame.now.file.value.items (context_in position.now.frame.now position.now.progress.now) before r) }
     ensures memory { IfErr result IsMemory }
     ensures names { Extends names.old names.new }
 {
     match lex(line, tokens) {
         Ok(()) => {}
-        Err(fault) => return Err(refuse(alloc, text_fault(fault), &frame.file, number)),
+        Err(fault) => return Err(refuse(
+            position.alloc,
+            text_fault(fault),
+            &position.frame.file,
+            number,
+        )),
     }
     if begins_help(tokens) {
         lines.skip_help();
@@ -103,64 +103,62 @@ fn step_of_line<'l>(
     if tokens.is_empty() {
         return Ok(Step::Blank);
     }
-    match read_line(alloc, tokens, frame, progress, modules, names) {
+    match read_line(position, tokens, names) {
         Ok(statement) => Ok(Step::Next(number, statement)),
-        Err(fault) => Err(refuse(alloc, fault, &frame.file, number)),
+        Err(fault) => Err(refuse(position.alloc, fault, &position.frame.file, number)),
     }
 }
 
 // What stands next in a file that has no line to lend next: a line that is joined, or one that is too long, or its end.
 // `text` holds the bytes of the joined line, in place of what it held.
 fn next_joined(
-    alloc: Global,
-    frame: &Frame,
-    progress: &Progress,
+    position: &Position<'_>,
     lines: &mut LogicalLines,
     text: &mut Vec<u8>,
-    modules: Option<SymId>,
     names: &mut Names,
 ) -> Result<Step, Refusal>
     requires { lines.old.refusal ≡ None }
-    ensures step { IfOk result (IsStep modules names.old names.new (context_in frame.now progress.now) lines.old lines.new) }
-    ensures refused { IfErr result (IsStepRefusal frame.now.file.value.items (context_in frame.now progress.now) lines.old) }
+    ensures step { IfOk result (IsStep position.now.modules names.old names.new (context_in position.now.frame.now position.now.progress.now) lines.old lines.new) }
+    ensures refused { IfErr result (IsStepRefusal position.now.frame.now.file.value.items (context_in position.now.frame.now position.now.progress.now) lines.old) }
     ensures memory { IfErr result IsMemory }
     ensures names { Extends names.old names.new }
 {
     let number = match lines.next_into(text) {
         Ok(Some(number)) => number,
         Ok(None) => return Ok(Step::End),
-        Err(fault) => return Err(refuse(alloc, text_fault(fault), &frame.file, long_line(fault))),
+        Err(fault) => {
+            let cause = text_fault(fault);
+            return Err(refuse(
+                position.alloc,
+                cause,
+                &position.frame.file,
+                long_line(fault),
+            ));
+        }
     };
-    let Ok(mut own) = token_list(alloc, text) else {
-        return Err(memory(alloc));
+    let Ok(mut own) = token_list(position.alloc, text) else {
+        return Err(memory(position.alloc));
     };
-    step_of_line(
-        alloc, frame, progress, number, text, &mut own, lines, modules, names,
-    )
+    step_of_line(position, number, text, &mut own, lines, names)
 }
 
 /// What stands next in a file. `tokens` holds those of a line that is lent from the file while it is read, and `text` the
 /// bytes of one that is joined, each in place of what it held.
 pub fn next_step<'a>(
-    alloc: Global,
-    frame: &Frame,
-    progress: &Progress,
+    position: &Position<'_>,
     lines: &mut LogicalLines<'a>,
     text: &mut Vec<u8>,
     tokens: &mut Vec<Token<'a>>,
-    modules: Option<SymId>,
     names: &mut Names,
 ) -> Result<Step, Refusal>
     requires { lines.old.refusal ≡ None }
-    ensures step { IfOk result (IsStep modules names.old names.new (context_in frame.now progress.now) lines.old lines.new) }
-    ensures refused { IfErr result (IsStepRefusal frame.now.file.value.items (context_in frame.now progress.now) lines.old) }
+    ensures step { IfOk result (IsStep position.now.modules names.old names.new (context_in position.now.frame.now position.now.progress.now) lines.old lines.new) }
+    ensures refused { IfErr result (IsStepRefusal position.now.frame.now.file.value.items (context_in position.now.frame.now position.now.progress.now) lines.old) }
     ensures memory { IfErr result IsMemory }
     ensures names { Extends names.old names.new }
 {
     match lines.next_single() {
-        Some((number, line)) => step_of_line(
-            alloc, frame, progress, number, line, tokens, lines, modules, names,
-        ),
-        None => next_joined(alloc, frame, progress, lines, text, modules, names),
+        Some((number, line)) => step_of_line(position, number, line, tokens, lines, names),
+        None => next_joined(position, lines, text, names),
     }
 }
