@@ -1,5 +1,6 @@
--- A table of 256 bytes is held against a definition at each byte, by computing.
-use Rattle.std.proofs.Common.{◌≡◌, ℕ, zero, suc, ◌<◌, Bool, true, false, ◌&&◌, refl, arith, inl, inr}
+-- A map of 256 bytes is held against a definition at each byte, by computing.
+use Rattle.std.proofs.Common.{◌≡◌, ◌≢◌, ℕ, zero, suc, ◌<◌, List, Bool, true, false, ◌&&◌, not, nat_eq, get_or, refl, arith, inl, inr}
+use Rattle.std.specs.Prelude.{IsTrue}
 use Rattle.std.specs.Bool.{beq}
 use Rattle.std.proofs.lemmas.Bool.{cases_eq}
 
@@ -14,9 +15,23 @@ both_of true false rest h = cc
 both_of false true rest h = cc
 both_of false false rest h = (refl, h)
 
-pub agree_at : (f g : ℕ → Bool) (n : ℕ) → agree_below f g n ≡ true → (b : ℕ) → b < n → f b ≡ g b
+agree_at : (f g : ℕ → Bool) (n : ℕ) → agree_below f g n ≡ true → (b : ℕ) → b < n → f b ≡ g b
 unfolding agree_below
 agree_at f g zero h b lt = absurd (omega arith)
 agree_at f g (suc n) h b lt =
     let both = both_of (f n) (g n) (agree_below f g n) h in
     elim (cases_eq b n) [ inl same ↦ rw same both.0 | inr other ↦ agree_at f g n both.1 b (omega arith) ]
+
+-- no comma stands at the byte's place in the map
+abbrev pub has_sign : List ℕ → ℕ → Bool
+has_sign map b = not (nat_eq (get_or map b 0) 44)
+
+module _ (map : List ℕ) (p : ℕ → Bool) (b : ℕ) where
+  pub from_map : b < 256 → agree_below (has_sign map) p 256 ≡ true → has_sign map b ≡ p b
+  from_map lt h = agree_at (has_sign map) p 256 h b lt
+
+  pub sign_passes : b < 256 → get_or map b 0 ≢ 44 → agree_below (has_sign map) p 256 ≡ true → IsTrue (p b)
+  sign_passes lt other h = grind (arith, from_map lt h)
+
+  pub comma_stops : b < 256 → get_or map b 0 ≡ 44 → agree_below (has_sign map) p 256 ≡ true → p b ≡ false
+  comma_stops lt comma h = grind (arith, from_map lt h)

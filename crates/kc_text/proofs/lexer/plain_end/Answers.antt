@@ -1,8 +1,14 @@
--- Why `plain_end` keeps its contract.
-use Rattle.std.proofs.Common.{arith}
+-- Why `plain_end` keeps its contract: the map is held against the definition at each of the 256 bytes, by computing.
+use Rattle.std.proofs.Common.{refl}
+use Rattle.kc_text.specs.declared.lexer.TheConstants.{PLAIN_MAP}
 use Rattle.kc_text.specs.Lexemes.{is_plain}
-use Rattle.kc_text.proofs.Runs.{run_four}
+use Rattle.kc_text.proofs.Tables.{agree_below, sign_passes, comma_stops}
 use Rattle.kc_text.proofs.lexer.plain_end.Goals as goal
 
-pub fours-preserved : goal.fours-preserved
-fours-preserved c = run_four is_plain c.args.body.now c.args.at c.fours.n c.fours.invariant (omega arith) c.if-not-is_plain.ensures c.if-not-is_plain-2.ensures c.if-not-is_plain-3.ensures c.if-not-is_plain-4.ensures
+pub returns-clause-plain : goal.returns-clause-plain
+unfolding agree_below
+returns-clause-plain c k from lt = sign_passes PLAIN_MAP is_plain _ (c.type_inv.body k).fits (c.run_end.ensures.passes k from lt) refl
+
+pub returns-clause-stops : goal.returns-clause-stops
+unfolding agree_below
+returns-clause-stops c lt = comma_stops PLAIN_MAP is_plain _ (c.type_inv.body c.run_end.result).fits (c.run_end.ensures.stops lt) refl

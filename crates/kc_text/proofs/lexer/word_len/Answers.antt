@@ -1,23 +1,21 @@
--- Why `word_len` keeps its contract.
-use Rattle.std.proofs.Common.{◌+◌, arith}
+-- Why `word_len` keeps its contract: the map is held against the definition at each of the 256 bytes, by computing.
+use Rattle.std.proofs.Common.{◌<◌, refl, arith, take}
+use Rattle.std.specs.Prelude.{IsTrue}
+use Rattle.std.proofs.lemmas.List.{get_or-take, length-take-le}
+use Rattle.std.proofs.lemmas.List.Elements.{All-from_get_or}
+use Rattle.kc_text.specs.declared.lexer.TheConstants.{WORD_MAP}
 use Rattle.kc_text.specs.Lexemes.{is_word_byte}
-use Rattle.kc_text.proofs.Runs.{run_more, run_two, run_three, run_four, run_all}
+use Rattle.kc_text.proofs.Tables.{agree_below, sign_passes, comma_stops}
 use Rattle.kc_text.proofs.lexer.word_len.Goals as goal
 
-pub returns-then-not-is_word_byte-2-clause-word : goal.returns-then-not-is_word_byte-2-clause-word
-returns-then-not-is_word_byte-2-clause-word c = run_all is_word_byte c.args.rest.now (c.fours.n + 1) (run_more is_word_byte c.args.rest.now 0 c.fours.n c.fours.invariant (omega arith) c.if-not-is_word_byte.ensures)
+pub returns-clause-word : goal.returns-clause-word
+unfolding agree_below
+returns-clause-word c =
+    All-from_get_or (λ b. IsTrue (is_word_byte b)) (take c.run_end.result c.args.rest.now) 0 (λ k lt.
+    let less : k < c.run_end.result = omega (arith, length-take-le c.run_end.result c.args.rest.now c.run_end.ensures.within) in
+    rw (get_or-take c.run_end.result c.args.rest.now k 0 less)
+    (sign_passes WORD_MAP is_word_byte _ (c.type_inv.rest k).fits (c.run_end.ensures.passes k (omega arith) less) refl))
 
-pub returns-then-not-is_word_byte-3-clause-word : goal.returns-then-not-is_word_byte-3-clause-word
-returns-then-not-is_word_byte-3-clause-word c = run_all is_word_byte c.args.rest.now (c.fours.n + 2) (run_two is_word_byte c.args.rest.now 0 c.fours.n c.fours.invariant (omega arith) c.if-not-is_word_byte.ensures c.if-not-is_word_byte-2.ensures)
-
-pub returns-then-not-is_word_byte-4-clause-word : goal.returns-then-not-is_word_byte-4-clause-word
-returns-then-not-is_word_byte-4-clause-word c = run_all is_word_byte c.args.rest.now (c.fours.n + 3) (run_three is_word_byte c.args.rest.now 0 c.fours.n c.fours.invariant (omega arith) c.if-not-is_word_byte.ensures c.if-not-is_word_byte-2.ensures c.if-not-is_word_byte-3.ensures)
-
-pub fours-preserved : goal.fours-preserved
-fours-preserved c = run_four is_word_byte c.args.rest.now 0 c.fours.n c.fours.invariant (omega arith) c.if-not-is_word_byte.ensures c.if-not-is_word_byte-2.ensures c.if-not-is_word_byte-3.ensures c.if-not-is_word_byte-4.ensures
-
-pub returns-else-is_word_byte-clause-word : goal.returns-else-is_word_byte-clause-word
-returns-else-is_word_byte-clause-word c = run_all is_word_byte c.args.rest.now c.ones.n c.ones.invariant
-
-pub returns-after-ones-clause-word : goal.returns-after-ones-clause-word
-returns-after-ones-clause-word c = run_all is_word_byte c.args.rest.now c.ones.n c.ones.invariant
+pub returns-clause-stops : goal.returns-clause-stops
+unfolding agree_below
+returns-clause-stops c lt = comma_stops WORD_MAP is_word_byte _ (c.type_inv.rest c.run_end.result).fits (c.run_end.ensures.stops lt) refl
