@@ -9,7 +9,9 @@ pub mod OpeningLemmas
 pub mod PartLemmas
 pub mod RestLemmas
 pub mod ShapeLemmas
+pub mod SilentFiles
 pub mod SourceLemmas
+pub mod SourceLines
 pub mod SourceWord
 pub mod StateLemmas
 pub mod StepLemmas

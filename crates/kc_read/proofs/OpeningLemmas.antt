@@ -1,74 +1,38 @@
 -- The files that an expansion asks for are named in those that it opened before.
-use Rattle.std.proofs.Common.{◌≡◌, ◌⊎◌, inl, inr, ℕ, suc, Bool, true, false, List, [], ◌∷◌, ◌++◌, drop, codes, Some, None, Result, Ok, Err, refl, sym, ap, ◌∙◌, subst, arith}
+use Rattle.std.proofs.Common.{◌≡◌, ◌⊎◌, inl, inr, ℕ, suc, Bool, true, List, [], ◌∷◌, ◌++◌, drop, codes, Some, None, Result, Ok, Err, refl, sym, ap, ◌∙◌, subst, arith}
 use Rattle.std.specs.List.{Contains}
+use Rattle.std.proofs.lemmas.Bool.{cases_Bool}
+use Rattle.kc_text.specs.Lexemes.{Lexeme}
 use Rattle.kc_text.specs.Lines.{Left, left}
 use Rattle.kc_text.specs.Tokens.{Piece}
 use Rattle.kc_read.specs.declared.statement.Context.{Context}
 use Rattle.kc_read.specs.Expansion.{Around, Log, Refused, Rest, NextLine, NextStatement, context_of, lexemes, at_end, unclosed, too_long, no_tokens, blank, bad_line, bad_effect, statement, bad_source, refused_inside, source}
 use Rattle.kc_read.specs.Files.{Files}
-use Rattle.kc_read.specs.Lines.{Cause, ReadsSource, begins_with}
+use Rattle.kc_read.specs.Lines.{After, Cause, ReadsSource, begins_with, finish, plain_text, text_of}
 use Rattle.kc_read.specs.Openings.{asked, IsNamedIn, IsNamedByOne, AskedAreNamed, OneListOfNames}
-use Rattle.kc_read.specs.Sources.{Names}
-use Rattle.kc_read.specs.Sources as names
 use Rattle.kc_read.specs.Statements.{Placed, Written, SourceLine}
-use Rattle.kc_read.proofs.OneExpansion.{Turn, Ends, Long, Line, IsTurn, one_turn, one_name}
-use Rattle.kc_read.proofs.OneLine.{one_source}
+use Rattle.kc_read.proofs.SourceLines.{after_other, after_source, one_list}
 use Rattle.kc_read.proofs.SourceWord.{source_begins, begins_source}
-
--- ---- The names of a file's `source` lines, by its next line
-
--- what a `source` line gives
-abbrev Tells : Left → Result Written Cause → List (List ℕ) → Type 0
-Tells m (Err c) ns = ns ≡ []
-Tells m (Ok s) ns = (name : List ℕ) × (rest : List (List ℕ)) × (s ≡ SourceLine name) × (ns ≡ name ∷ rest) × Names m rest
 
 abbrev begins : List Piece → Bool
 begins ts = begins_with (codes "source") (lexemes ts)
 
-abbrev Lists : Turn → List (List ℕ) → Type 0
-Lists Ends ns = ns ≡ []
-Lists Long ns = ns ≡ []
-Lists (Line m ts (Some why)) ns = ns ≡ []
-Lists (Line m ts None) ns = ((begins ts ≡ false) × Names m ns) ⊎ ((begins ts ≡ true) × ((s : Result Written Cause) × ReadsSource (drop 1 (lexemes ts)) s × Tells m s ns))
+-- ---- What a `source` line reads
 
-abbrev Listed : Left → List (List ℕ) → Type 0
-Listed l ns = (t : Turn) × IsTurn l t × Lists t ns
+read_on : {A : Type 0} (o : Result A Cause) (Next : A → Result Written Cause → Type 0) (s : Written) → After o Next (Ok s) → (a : A) × Next a (Ok s)
+read_on (Ok a) Next s h = (a, h)
+read_on (Err c) Next s h = absurd (let e : Ok s ≡ Err c = h in cc)
 
-listed : {l : Left} {ns : List (List ℕ)} → Names l ns → Listed l ns
-listed (names.at_end l none) = (Ends, none, refl)
-listed (names.too_long l long) = (Long, long, refl)
-listed (names.no_tokens l m ts why next) = (Line m ts (Some why), next, refl)
-listed (names.bad_source l m ts c next b reads) = (Line m ts None, next, inr (b, (Err c, reads, refl)))
-listed (names.source l m ts name ns next b reads d) = (Line m ts None, next, inr (b, (Ok (SourceLine name), reads, (name, ns, refl, refl, d))))
-listed (names.other l m ts ns next b d) = (Line m ts None, next, inl (b, d))
+ends_as : (s t : Written) (ts : List Lexeme) → Ok s ≡ finish t ts → s ≡ t
+ends_as s t [] e = cc
+ends_as s t (x ∷ xs) e = absurd cc
 
--- what the next line gives
-lists : (l : Left) (ns : List (List ℕ)) (t : Turn) → IsTurn l t → Names l ns → Lists t ns
-lists l ns t is d = let (u, is', h) = listed d in subst (λ v. Lists v ns) (one_turn l u t is' is) h
-
-both_ways : {B : Type 0} (b : Bool) → b ≡ true → b ≡ false → B
-both_ways b t f = let h : true ≡ false = sym t ∙ f in absurd cc
-
--- what a line that begins with `source` gives
-tells : (l m : Left) (ns : List (List ℕ)) (ts : List Piece) (s : Result Written Cause) → NextLine l m ts None → begins ts ≡ true → ReadsSource (drop 1 (lexemes ts)) s → Names l ns → Tells m s ns
-tells l m ns ts s next b reads d = by (lists l ns (Line m ts None) next d)
-  where
-    by : ((begins ts ≡ false) × Names m ns) ⊎ ((begins ts ≡ true) × ((t : Result Written Cause) × ReadsSource (drop 1 (lexemes ts)) t × Tells m t ns)) → Tells m s ns
-    by (inl x) = both_ways (begins ts) b x.0
-    by (inr x) = subst (λ t. Tells m t ns) (one_source (drop 1 (lexemes ts)) x.1.0 s x.1.1 reads) x.1.2
-
-pub one_list : {l : Left} {ns : List (List ℕ)} → Names l ns → (other : List (List ℕ)) → Names l other → ns ≡ other
-one_list (names.at_end l none) other e = sym (lists l other Ends none e)
-one_list (names.too_long l long) other e = sym (lists l other Long long e)
-one_list (names.no_tokens l m ts why next) other e = sym (lists l other (Line m ts (Some why)) next e)
-one_list (names.bad_source l m ts c next b reads) other e = sym (tells l m other ts (Err c) next b reads e)
-one_list (names.source l m ts name ns next b reads d) other e =
-    let (n, rest, same, is, f) = tells l m other ts (Ok (SourceLine name)) next b reads e in
-    ap (λ x. name ∷ x) (one_list d rest f) ∙ ap (λ x. x ∷ rest) (one_name name n same) ∙ sym is
-one_list (names.other l m ts ns next b d) other e = elim (lists l other (Line m ts None) next e) [
-  | inl x ↦ one_list d other x.1
-  | inr x ↦ both_ways (begins ts) x.0 b
-]
+-- nothing else than a `source` line
+reads_source : (ts : List Lexeme) (s : Written) → ReadsSource ts (Ok s) → (name : List ℕ) × (s ≡ SourceLine name)
+reads_source ts s h =
+    let (t, plain) = read_on (text_of ts) (λ t. After (plain_text t) (λ u r. r ≡ finish (SourceLine u) (drop 1 ts))) s h in
+    let (u, e) = read_on (plain_text t) (λ u r. r ≡ finish (SourceLine u) (drop 1 ts)) s plain in
+    (u, ends_as s (SourceLine u) (drop 1 ts) e)
 
 -- ---- Lists
 
@@ -99,14 +63,14 @@ split_append (y ∷ xs) ys (z ∷ before) after x e =
 
 -- what the next line's file names after it, it names
 named_later : (l m : Left) (ts : List Piece) (name : List ℕ) → NextLine l m ts None → (begins ts ≡ true → (s : Written) × ReadsSource (drop 1 (lexemes ts)) (Ok s)) → IsNamedIn m name → IsNamedIn l name
-named_later l m ts name next reads h ns d = by (lists l ns (Line m ts None) next d)
-  where
-    by : ((begins ts ≡ false) × Names m ns) ⊎ ((begins ts ≡ true) × ((t : Result Written Cause) × ReadsSource (drop 1 (lexemes ts)) t × Tells m t ns)) → Contains ns name
-    by (inl x) = h ns x.1
-    by (inr x) =
-        let (s, r) = reads x.0 in
-        let (n, rest, same, is, f) = tells l m ns ts (Ok s) next x.0 r d in
-        subst (λ k. Contains k name) (sym is) (later name n rest (h rest f))
+named_later l m ts name next reads h ns d = elim (cases_Bool (begins ts)) [
+  | inl b ↦
+      let (s, r) = reads b in
+      let (k, e) = reads_source (drop 1 (lexemes ts)) s r in
+      let (rest, is, f) = after_source l m k ns (ts, next, b, subst (λ x. ReadsSource (drop 1 (lexemes ts)) (Ok x)) e r) d in
+      subst (λ x. Contains x name) (sym is) (later name k rest (h rest f))
+  | inr b ↦ h ns (after_other l m ns (ts, next, b) d)
+]
 
 -- also after a statement
 named_after : (l m : Left) (c : Context) (s : Written) (name : List ℕ) → NextStatement l m c (Ok s) → IsNamedIn m name → IsNamedIn l name
@@ -116,8 +80,8 @@ named_after l m c s name n h = named_later l m n.tokens name n.next (λ b. (s, b
 named_here : (l m : Left) (c : Context) (name : List ℕ) → NextStatement l m c (Ok (SourceLine name)) → IsNamedIn l name
 named_here l m c name n ns d =
     let b = source_begins c (lexemes n.tokens) name n.reads in
-    let (k, rest, same, is, f) = tells l m ns n.tokens (Ok (SourceLine name)) n.next b (begins_source c (lexemes n.tokens) (Ok (SourceLine name)) b n.reads) d in
-    subst (λ x. Contains x name) (sym is) (subst (λ x. Contains (x ∷ rest) name) (one_name name k same) (here name rest))
+    let (rest, is, f) = after_source l m name ns (n.tokens, n.next, b, begins_source c (lexemes n.tokens) (Ok (SourceLine name)) b n.reads) d in
+    subst (λ x. Contains x name) (sym is) (here name rest)
 
 -- named along the rest of the file, or in a file that was opened
 abbrev IsNamed : Files → Left → List (List ℕ) → List ℕ → Type 0
@@ -142,7 +106,7 @@ named (unclosed a l own log line none unmatched) before after name e = no_split 
 named (too_long a l own log long) before after name e = no_split before after name e
 named (no_tokens a l m own log ts why next) before after name e = no_split before after name e
 named (blank a l m own log r next d) before after name e = elim (named d before after name e) [
-  | inl h ↦ inl (named_later l m [] name next (λ b. both_ways false b refl) h)
+  | inl h ↦ inl (named_later l m [] name next (λ b. absurd cc) h)
   | inr h ↦ inr h
 ]
 named (bad_line a l m own log c n) before after name e = no_split before after name e
@@ -177,4 +141,4 @@ pub asked_are_named : AskedAreNamed
 asked_are_named files root bytes r there d before after name e = within files bytes before name root there (named d before after name e)
 
 pub one_list_of_names : OneListOfNames
-one_list_of_names l ns other d e = one_list d other e
+one_list_of_names = one_list

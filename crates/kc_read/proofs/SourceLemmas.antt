@@ -8,8 +8,7 @@ use Rattle.kc_text.specs.Tokens.{Piece, IsCut, IsCutting, IsRefused, pieces}
 use Rattle.kc_expr.specs.Grammar.{lexemes_from}
 use Rattle.kc_read.specs.Expansion.{NextLine, is_help, lexemes, without_help}
 use Rattle.kc_read.specs.Lines.{Cause, ReadsSource, begins_with}
-use Rattle.kc_read.specs.Sources.{GoesOn, Names, IsFound, at_end, too_long, no_tokens, bad_source}
-use Rattle.kc_read.specs.Sources as spec
+use Rattle.kc_read.specs.Sources.{GoesOn, Names, IsFound}
 use Rattle.kc_read.specs.Statements.{SourceLine}
 use Rattle.kc_read.proofs.FrontLemmas.{after_one}
 use Rattle.kc_read.proofs.StepLemmas.{lexemes-pieces, left_help, left_other}
@@ -18,6 +17,7 @@ use Rattle.kc_text.specs.Lexemes.{Lexeme}
 use Rattle.std.specs.declared.alloc.AllocError.{AllocError}
 use Rattle.kc_read.proofs.ListLemmas.{map-push}
 use Rattle.kc_read.proofs.RestLemmas.{next_clear, next_less}
+use Rattle.kc_read.proofs.SourceLines.{bad_source, before_other, before_source, no_tokens, too_long}
 use Rattle.kc_read.specs.declared.sources.Found.{Found}
 use Rattle.kc_read.specs.declared.sources.Found.TheVariants as found
 use Rattle.std.specs.declared.vec.Vec.{Vec}
@@ -70,12 +70,12 @@ pub follows_done : (start now : Left) (names : List (List ℕ)) → Follows star
 follows_done start now names f h = subst (Names start) (append-nil names) (f [] h)
 
 pub follows_other : (start now next : Left) (names : List (List ℕ)) → Follows start now names → IsFound now next found.Other → Follows start next names
-follows_other start now next names f h = λ rest g. f rest (spec.other now next h.0 rest h.1 h.2 g)
+follows_other start now next names f h = λ rest g. f rest (before_other now next rest h g)
 
 pub follows_name : (start now next : Left) (name : Vec ℕ Global) (names : List (Vec ℕ Global)) → Follows start now (map (λ n. n.items) names) → IsFound now next (found.Name name) → Follows start next (map (λ n. n.items) (names ++ name ∷ []))
 follows_name start now next name names f h = λ rest g.
     subst (Names start) (sym (ap (λ ns. ns ++ rest) (map-push (λ n. n.items) names name) ∙ append_assoc (map (λ n. n.items) names) (name.items ∷ []) rest))
-    (f (name.items ∷ rest) (spec.source now next h.0 name.items rest h.1 h.2 h.3 g))
+    (f (name.items ∷ rest) (before_source now next name.items rest h g))
 
 -- a line after which another follows
 pub found_clear : (old new : Left) (f : Found) → IsFound old new f → GoesOn f → new.refusal ≡ None

@@ -1,16 +1,17 @@
 //! The files that a file names in its `source` lines.
 
-ghost use Rattle.std.specs.Prelude.{◌≡◌, ◌≢◌, ◌<◌, ◌≤◌, IfOk, length, map, None};
+ghost use Rattle.std.specs.Prelude.{◌≡◌, ◌≢◌, ◌<◌, ◌≤◌, IfOk, length, map, None, false};
 ghost use Rattle.kc_text.specs.Lines.{Left, TakesLine, left};
 ghost use Rattle.kc_text.specs.declared.faults.TextFault.TheVariants.{Memory};
 ghost use Rattle.kc_read.specs.declared.sources.Found.TheVariants.{Nothing};
 ghost use Rattle.kc_read.specs.Sources as spec;
-ghost use Rattle.kc_read.specs.Sources.{GoesOn, IsFound};
+ghost use Rattle.kc_read.specs.Sources.{GoesOn, IsFound, IsSilent};
 
 use crate::parts::begins_with;
 use crate::reader::source_name;
 use crate::refusal::Code;
 use crate::step::{begins_help, token_list};
+use bstr::ByteSlice;
 use kc_text::{LogicalLines, TextFault, Token, lex};
 use std::alloc::{AllocError, Global};
 
@@ -89,6 +90,13 @@ fn next_source<'a>(
     source_of_line(alloc, text, &mut own, lines)
 }
 
+// Whether a file may have a `source` line, seen without cutting it into tokens. A `\` may join the parts of the word.
+fn may_source(file: &[u8]) -> bool
+    ensures { result ≡ false → IsSilent file.now }
+{
+    file.find(b"source").is_some() || file.find_byte(b'\\').is_some()
+}
+
 /// The names of the file's `source` lines in order, up to the first line that is too long or cannot be cut into tokens,
 /// or to the first `source` line whose rest is refused, whichever comes first. Help lines are passed over.
 ///
@@ -97,6 +105,9 @@ pub fn sources_of(alloc: Global, file: &[u8]) -> Result<Vec<Vec<u8>>, AllocError
     ensures { IfOk result (λ names. spec.Names (left file.now 1) (map (λ n. n.items) names.items)) }
 {
     let mut names = Vec::new(alloc);
+    if !may_source(file) {
+        return Ok(names);
+    }
     let mut lines = LogicalLines::new(file);
     let mut text = Vec::new(alloc);
     let mut tokens = Vec::new(alloc);
