@@ -40,15 +40,15 @@ type_other : (w : List ℕ) → is_source_key (type_word w) ≡ false
 type_other w = other_word (same_name w (codes "bool")) (key.Type kind.Bool) _ refl (other_word (same_name w (codes "tristate")) (key.Type kind.Tristate) _ refl (other_word (same_name w (codes "string")) (key.Type kind.Str) _ refl (other_word (same_name w (codes "int")) (key.Type kind.Int) _ refl (other_word (same_name w (codes "hex")) (key.Type kind.Hex) _ refl (other_word (same_name w (codes "def_bool")) (key.Def kind.Bool) _ refl (other_word (same_name w (codes "def_tristate")) (key.Def kind.Tristate) _ refl (refl)))))))
 
 attribute_other : (w : List ℕ) → is_source_key (attribute_word w) ≡ false
-attribute_other w = other_word (same_name w (codes "prompt")) key.Prompt _ refl (other_word (same_name w (codes "default")) key.Default _ refl (other_word (same_name w (codes "depends")) key.Depends _ refl (other_word (same_name w (codes "visible")) key.Visible _ refl (other_word (same_name w (codes "select")) key.Select _ refl (other_word (same_name w (codes "imply")) key.Imply _ refl (other_word (same_name w (codes "range")) key.Range _ refl (other_word (same_name w (codes "help")) key.Help _ refl (other_word (same_name w (codes "---help---")) key.Help _ refl (other_word (same_name w (codes "modules")) key.Modules _ refl (other_word (same_name w (codes "option")) key.«Option» _ refl (refl)))))))))))
+attribute_other w = other_word (same_name w (codes "default")) key.Default _ refl (other_word (same_name w (codes "depends")) key.Depends _ refl (other_word (same_name w (codes "help")) key.Help _ refl (other_word (same_name w (codes "select")) key.Select _ refl (other_word (same_name w (codes "prompt")) key.Prompt _ refl (other_word (same_name w (codes "imply")) key.Imply _ refl (other_word (same_name w (codes "range")) key.Range _ refl (other_word (same_name w (codes "visible")) key.Visible _ refl (other_word (same_name w (codes "modules")) key.Modules _ refl (other_word (same_name w (codes "option")) key.«Option» _ refl (other_word (same_name w (codes "---help---")) key.Help _ refl (refl)))))))))))
 
 left_out_other : (w : List ℕ) → is_source_key (left_out_word w) ≡ false
 left_out_other w = other_word (same_name w (codes "rsource")) key.LeftOut _ refl (other_word (same_name w (codes "osource")) key.LeftOut _ refl (other_word (same_name w (codes "orsource")) key.LeftOut _ refl (other_word (same_name w (codes "boolean")) key.LeftOut _ refl (other_word (same_name w (codes "def_int")) key.LeftOut _ refl (other_word (same_name w (codes "def_hex")) key.LeftOut _ refl (other_word (same_name w (codes "def_string")) key.LeftOut _ refl (other_word (same_name w (codes "transitional")) key.LeftOut _ refl (other_word (same_name w (codes "optional")) key.LeftOut _ refl (refl)))))))))
 
 keyword_other : (w : List ℕ) → same_name w (codes "source") ≡ false → is_source_key (keyword_of w) ≡ false
 keyword_other w e =
-    either_word (block_word w) (first_some (type_word w) (first_some (attribute_word w) (left_out_word w))) (block_other w e)
-    (either_word (type_word w) (first_some (attribute_word w) (left_out_word w)) (type_other w) (either_word (attribute_word w) (left_out_word w) (attribute_other w) (left_out_other w)))
+    either_word (attribute_word w) (first_some (type_word w) (first_some (block_word w) (left_out_word w))) (attribute_other w)
+    (either_word (type_word w) (first_some (block_word w) (left_out_word w)) (type_other w) (either_word (block_word w) (left_out_word w) (block_other w e) (left_out_other w)))
 
 -- ---- What is read
 

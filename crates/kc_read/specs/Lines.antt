@@ -68,17 +68,17 @@ type_word w =
 
 abbrev pub attribute_word : List ℕ → Option Keyword
 attribute_word w =
-    if same_name w (codes "prompt") then Some key.Prompt
-    else if same_name w (codes "default") then Some key.Default
+    if same_name w (codes "default") then Some key.Default
     else if same_name w (codes "depends") then Some key.Depends
-    else if same_name w (codes "visible") then Some key.Visible
+    else if same_name w (codes "help") then Some key.Help
     else if same_name w (codes "select") then Some key.Select
+    else if same_name w (codes "prompt") then Some key.Prompt
     else if same_name w (codes "imply") then Some key.Imply
     else if same_name w (codes "range") then Some key.Range
-    else if same_name w (codes "help") then Some key.Help
-    else if same_name w (codes "---help---") then Some key.Help
+    else if same_name w (codes "visible") then Some key.Visible
     else if same_name w (codes "modules") then Some key.Modules
     else if same_name w (codes "option") then Some key.«Option»
+    else if same_name w (codes "---help---") then Some key.Help
     else None
 
 abbrev pub left_out_word : List ℕ → Option Keyword
@@ -99,7 +99,7 @@ first_some None o = o
 first_some (Some k) o = Some k
 
 abbrev pub keyword_of : List ℕ → Option Keyword
-keyword_of w = first_some (block_word w) (first_some (type_word w) (first_some (attribute_word w) (left_out_word w)))
+keyword_of w = first_some (attribute_word w) (first_some (type_word w) (first_some (block_word w) (left_out_word w)))
 
 -- Whether the line stands in a right place.
 abbrev pub closes : Block → Option Block → Option Cause

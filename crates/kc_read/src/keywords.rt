@@ -66,28 +66,28 @@ fn type_word(word: &[u8]) -> Option<Keyword>
 fn attribute_word(word: &[u8]) -> Option<Keyword>
     ensures { result ≡ spec.attribute_word word.now }
 {
-    if word == b"prompt".as_slice() {
-        Some(Keyword::Prompt)
-    } else if word == b"default".as_slice() {
+    if word == b"default".as_slice() {
         Some(Keyword::Default)
     } else if word == b"depends".as_slice() {
         Some(Keyword::Depends)
-    } else if word == b"visible".as_slice() {
-        Some(Keyword::Visible)
+    } else if word == b"help".as_slice() {
+        Some(Keyword::Help)
     } else if word == b"select".as_slice() {
         Some(Keyword::Select)
+    } else if word == b"prompt".as_slice() {
+        Some(Keyword::Prompt)
     } else if word == b"imply".as_slice() {
         Some(Keyword::Imply)
     } else if word == b"range".as_slice() {
         Some(Keyword::Range)
-    } else if word == b"help".as_slice() {
-        Some(Keyword::Help)
-    } else if word == b"---help---".as_slice() {
-        Some(Keyword::Help)
+    } else if word == b"visible".as_slice() {
+        Some(Keyword::Visible)
     } else if word == b"modules".as_slice() {
         Some(Keyword::Modules)
     } else if word == b"option".as_slice() {
         Some(Keyword::Option)
+    } else if word == b"---help---".as_slice() {
+        Some(Keyword::Help)
     } else {
         None
     }
@@ -120,17 +120,17 @@ fn left_out_word(word: &[u8]) -> Option<Keyword>
     }
 }
 
-// What a first word says.
+// What a first word says. Most lines are attributes, so their words are looked at first.
 pub fn keyword_of(word: &[u8]) -> Option<Keyword>
     ensures { result ≡ spec.keyword_of word.now }
 {
-    if let Some(keyword) = block_word(word) {
+    if let Some(keyword) = attribute_word(word) {
         return Some(keyword);
     }
     if let Some(keyword) = type_word(word) {
         return Some(keyword);
     }
-    if let Some(keyword) = attribute_word(word) {
+    if let Some(keyword) = block_word(word) {
         return Some(keyword);
     }
     left_out_word(word)
