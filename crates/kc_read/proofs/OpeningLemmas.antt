@@ -5,10 +5,9 @@ use Rattle.std.proofs.lemmas.Bool.{cases_Bool}
 use Rattle.kc_text.specs.Lexemes.{Lexeme}
 use Rattle.kc_text.specs.Lines.{Left, left}
 use Rattle.kc_text.specs.Tokens.{Piece}
-use Rattle.kc_read.specs.declared.statement.Context.{Context}
 use Rattle.kc_read.specs.Expansion.{Around, Log, Refused, Rest, NextLine, NextStatement, context_of, lexemes, at_end, unclosed, too_long, no_tokens, blank, bad_line, bad_effect, statement, bad_source, refused_inside, source}
 use Rattle.kc_read.specs.Files.{Files}
-use Rattle.kc_read.specs.Lines.{After, Cause, ReadsSource, begins_with, finish, plain_text, text_of}
+use Rattle.kc_read.specs.Lines.{Context, After, Cause, ReadsSource, begins_with, finish, plain_text, text_of}
 use Rattle.kc_read.specs.Openings.{asked, IsNamedIn, IsNamedByOne, AskedAreNamed, OneListOfNames}
 use Rattle.kc_read.specs.Statements.{Placed, Written, SourceLine}
 use Rattle.kc_read.proofs.SourceLines.{after_other, after_source, one_list}

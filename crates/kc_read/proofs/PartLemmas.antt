@@ -8,10 +8,9 @@ use Rattle.kc_expr.specs.Form.{Form, Text, Symbol}
 use Rattle.kc_expr.specs.Grammar.{Atom, Disjunction, WordAtom, QuotedAtom, is_letter, if_word}
 use Rattle.kc_expr.specs.Names.{IsNumber, same_name, mention}
 use Rattle.kc_read.specs.declared.statement.Fault.{Fault}
-use Rattle.kc_read.specs.Lines.{Cause, ReadsValue, front, syntax_cause, begins_with, operand_of, IsWhole, IsCondition, WholeFault, ConditionFault, text_of, word_of, target_of, is_pattern, is_good_name, ReadsTextLine, ReadsSource, ReadsConfig, ReadsAsked, ReadsDepends, ReadsTarget, ReadsVisible, ReadsType, ReadsRange, ReadsRest, ReadsLine, IsMore, keyword_of, place_cause, option_line}
+use Rattle.kc_read.specs.Lines.{Context, Cause, ReadsValue, front, syntax_cause, begins_with, operand_of, IsWhole, IsCondition, WholeFault, ConditionFault, text_of, word_of, target_of, is_pattern, is_good_name, ReadsTextLine, ReadsSource, ReadsConfig, ReadsAsked, ReadsDepends, ReadsTarget, ReadsVisible, ReadsType, ReadsRange, ReadsRest, ReadsLine, IsMore, keyword_of, place_cause, option_line}
 use Rattle.kc_expr.specs.declared.expression.Kind.{Kind}
 use Rattle.kc_read.specs.declared.statement.Keyword.{Keyword}
-use Rattle.kc_read.specs.declared.statement.Context.{Context}
 use Rattle.kc_read.specs.Statements.{Written, Asked, SourceLine, ConfigLine, DependsLine, VisibleLine, ModulesLine, IgnoredLine, TypeLine, RangeLine}
 use Rattle.kc_read.specs.declared.statement.Statement.{Statement}
 use Rattle.kc_read.specs.Reads.{cause_of, IsFront, IsRead, IsFault, IsOperand, IsWholeForm, IsConditionForm}

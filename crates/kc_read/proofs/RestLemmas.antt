@@ -12,7 +12,6 @@ use Rattle.kc_read.specs.declared.frame.Frame.{Frame}
 use Rattle.kc_read.specs.declared.progress.Progress.{Progress}
 use Rattle.kc_read.specs.declared.refusal.Code.TheVariants as code
 use Rattle.kc_read.specs.declared.refusal.Refusal.{Refusal}
-use Rattle.kc_read.specs.declared.statement.Context.{Context}
 use Rattle.kc_read.specs.declared.statement.Entry.TheVariants as entry
 use Rattle.kc_read.specs.declared.statement.Statement.{Statement}
 use Rattle.kc_read.specs.Blocks.{last_of, name_at}
@@ -20,7 +19,7 @@ use Rattle.kc_read.proofs.NameLemmas.{known_below}
 use Rattle.kc_read.proofs.ShapeLemmas.{made_name}
 use Rattle.kc_read.specs.Expansion.{Around, Log, Rest, refused, context_of, inside, is_help, is_source, lexemes, logged, opening, source_cause, sourcing_cause, with_line, without_help, NextLine, NextStatement, at_end, unclosed, too_long, no_tokens, blank, bad_line, bad_effect, statement, bad_source, refused_inside, source}
 use Rattle.kc_read.specs.Files.{Files}
-use Rattle.kc_read.specs.Lines.{Cause, cause}
+use Rattle.kc_read.specs.Lines.{Context, Cause, cause}
 use Rattle.kc_read.specs.Progress.{GoesOn, IsKnown, IsNamed, IsNextRead, IsReading, IsStatementRead, IsEnded, IsFileRead, IsOpenAtEnd, IsProgress, IsRestRefusal, IsState, IsTaken, effect_view, open_names}
 use Rattle.kc_read.specs.Reads.{IsMade, cause_of, statement_view}
 use Rattle.kc_read.specs.declared.statement.Fault.{Fault}

@@ -11,12 +11,11 @@ use Rattle.kc_expr.specs.Names.{all_mentioned, number_of, Extends}
 use Rattle.kc_expr.proofs.NamesLemmas.{extends_on, mentioned_on, mentioned_extends, all_mentioned-append}
 use Rattle.kc_read.specs.declared.frame.Frame.{Frame}
 use Rattle.kc_read.specs.declared.progress.Progress.{Progress}
-use Rattle.kc_read.specs.declared.statement.Context.{Context}
 use Rattle.kc_read.specs.declared.statement.Statement.{Statement}
 use Rattle.kc_read.specs.Blocks.{bracket, definitions, entry_of, is_attribute, is_modules, is_other, last_of, last_other, modules_after, modules_of, name_after, name_at, open_blocks}
 use Rattle.kc_read.specs.Expansion.{Around, Log, Rest, context_of, effect_cause, opener_cause, defined, inside, is_choice, lines_of, logged, opening, statements, with_line, Expands, Refused, bytes_cause, nothing_read, refused, root_around}
 use Rattle.kc_read.specs.Files.{Files}
-use Rattle.kc_read.specs.Lines.{Cause}
+use Rattle.kc_read.specs.Lines.{Context, Cause}
 use Rattle.kc_text.specs.Lines.{left}
 use Rattle.kc_read.specs.Numbering.{place_numbered}
 use Rattle.kc_read.specs.Progress.{effect_view, naming_cause, IsEntered, IsFrame, IsInside, IsNamed, IsProgress, IsState, IsTaken, IsBegun, defined_after, entry_after, ids_match, named, openers_after}

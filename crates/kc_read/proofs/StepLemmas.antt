@@ -8,7 +8,6 @@ use Rattle.kc_text.specs.Help.{Drops, after_help}
 use Rattle.kc_text.specs.Tokens.{Piece, IsCut, IsCutting, IsRefused}
 use Rattle.kc_read.specs.declared.refusal.Refusal.{Refusal}
 use Rattle.kc_read.specs.declared.refusal.Code.TheVariants as code
-use Rattle.kc_read.specs.declared.statement.Context.{Context}
 use Rattle.kc_read.specs.Statements.{Written}
 use Rattle.kc_read.specs.declared.statement.Fault.{Fault}
 use Rattle.kc_read.specs.Reads.{IsFault, cause_of}
@@ -17,7 +16,7 @@ use Rattle.kc_text.specs.Lexemes.{Lexeme, lexeme}
 use Rattle.kc_text.specs.Tokens.{pieces}
 use Rattle.kc_text.specs.declared.tokens.Token.{Token}
 use Rattle.kc_expr.specs.Grammar.{lexemes_from}
-use Rattle.kc_read.specs.Lines.{Cause, cause, begins_with, ReadsLine}
+use Rattle.kc_read.specs.Lines.{Context, Cause, cause, begins_with, ReadsLine}
 use Rattle.kc_read.specs.Expansion.{lexemes, is_help, without_help, NextStatement, refused, text_cause, long_line}
 
 pub lexemes-pieces : (ts : List Token) → lexemes (pieces ts) ≡ lexemes_from ts 0

@@ -12,10 +12,9 @@ use Rattle.kc_read.specs.declared.refusal.Code.{Code}
 use Rattle.kc_read.specs.declared.refusal.Code.TheVariants as code
 use Rattle.kc_read.specs.declared.statement.Block.{Block}
 use Rattle.kc_read.specs.declared.statement.Block.TheVariants as block
-use Rattle.kc_read.specs.declared.statement.Context.{Context}
 use Rattle.kc_read.specs.Files.{Files}
 use Rattle.kc_read.specs.Statements.{Statement, Written, Placed, SourceLine, ConfigLine}
-use Rattle.kc_read.specs.Lines.{Cause, cause, begins_with, ReadsLine}
+use Rattle.kc_read.specs.Lines.{Context, Cause, cause, begins_with, ReadsLine}
 use Rattle.kc_read.specs.Blocks.{Bracket, Opens, Closes, NoBracket, bracket, open_blocks, open_places, last_of, last_other, entry_of, modules_of, definitions}
 
 -- a refusal and its place

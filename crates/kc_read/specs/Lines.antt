@@ -19,7 +19,6 @@ use Rattle.kc_read.specs.declared.statement.Block.{Block}
 use Rattle.kc_read.specs.declared.statement.Block.TheVariants as block
 use Rattle.kc_read.specs.declared.statement.Entry.{Entry}
 use Rattle.kc_read.specs.declared.statement.Entry.TheVariants as entry
-use Rattle.kc_read.specs.declared.statement.Context.{Context}
 use Rattle.kc_read.specs.Statements.{Written, Asked, ConfigLine, IfLine, EndIfLine, CommentLine, SourceLine, MenuLine, EndMenuLine, ChoiceLine, EndChoiceLine, MainMenuLine, TypeLine, PromptLine, DefaultLine, DefLine, DependsLine, VisibleLine, SelectLine, ImplyLine, RangeLine, HelpLine, ModulesLine, IgnoredLine}
 
 -- why a line is refused
@@ -102,6 +101,14 @@ abbrev pub keyword_of : List ℕ → Option Keyword
 keyword_of w = first_some (attribute_word w) (first_some (type_word w) (first_some (block_word w) (left_out_word w)))
 
 -- Whether the line stands in a right place.
+
+-- what surrounds a line: its entry, its file's innermost open block, if a choice is open, and if it may say `modules`
+pub record Context : Type 0 where
+  pub entry : Entry
+  pub own : Option Block
+  pub in_choice : Bool
+  pub modules : Bool
+
 abbrev pub closes : Block → Option Block → Option Cause
 closes block.If (Some block.If) = None
 closes block.Menu (Some block.Menu) = None

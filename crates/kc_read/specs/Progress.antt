@@ -13,13 +13,12 @@ use Rattle.kc_read.specs.declared.frame.Frame.{Frame}
 use Rattle.kc_read.specs.declared.progress.Progress.{Progress}
 use Rattle.kc_read.specs.declared.refusal.Code.TheVariants as code
 use Rattle.kc_read.specs.declared.refusal.Refusal.{Refusal}
-use Rattle.kc_read.specs.declared.statement.Context.{Context}
 use Rattle.kc_read.specs.declared.statement.Entry.{Entry}
 use Rattle.kc_read.specs.declared.statement.Entry.TheVariants as entry
 use Rattle.kc_read.specs.declared.statement.Opener.{Opener}
 use Rattle.kc_read.specs.Blocks.{Bracket, Opens, Closes, NoBracket, bracket, opened, open_places, last_of, last_other, entry_of, is_attribute, definitions, modules_of, name_at, name_after, is_modules}
 use Rattle.kc_read.specs.Expansion.{Around, Log, Refused, Rest, statements, defined, is_choice, refused, symbol_cause, opener_cause}
-use Rattle.kc_read.specs.Lines.{Cause, cause}
+use Rattle.kc_read.specs.Lines.{Context, Cause, cause}
 use Rattle.kc_read.specs.Files.{Files}
 use Rattle.kc_read.specs.Numbering.{place_numbered}
 use Rattle.kc_read.specs.Reads.{ForLater, line_view}

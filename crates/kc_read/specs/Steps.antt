@@ -4,11 +4,10 @@ use Rattle.kc_expr.specs.declared.expression.SymId.{SymId}
 use Rattle.kc_text.specs.Lines.{Left}
 use Rattle.kc_read.specs.declared.refusal.Refusal.{Refusal}
 use Rattle.kc_read.specs.declared.refusal.Code.TheVariants as code
-use Rattle.kc_read.specs.declared.statement.Context.{Context}
 use Rattle.kc_read.specs.declared.step.Step.{Step}
 use Rattle.kc_read.specs.declared.step.Step.TheVariants as step
 use Rattle.kc_read.specs.Statements.{Written}
-use Rattle.kc_read.specs.Lines.{Cause, cause}
+use Rattle.kc_read.specs.Lines.{Context, Cause, cause}
 use Rattle.kc_read.specs.Expansion.{Refused, refused, NextLine, NextStatement, text_cause}
 use Rattle.kc_read.specs.Reads.{IsMade}
 use Rattle.kc_text.specs.Lines.{IsTooLong}

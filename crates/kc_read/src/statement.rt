@@ -105,16 +105,6 @@ pub enum Entry {
     Comment,
 }
 
-/// What surrounds a line: the entry that it may add to, the innermost open block of its own file, whether a choice
-/// is open, and whether the line may be one of the modules symbol's.
-#[derive(Clone, Copy, Debug)]
-pub struct Context {
-    pub entry: Entry,
-    pub own: Option<Block>,
-    pub in_choice: bool,
-    pub modules: bool,
-}
-
 /// Why a line is refused: a kind, and the word or name that it is about.
 #[derive(Clone, Copy, Debug)]
 pub struct Fault<'a> {

@@ -12,13 +12,12 @@ use Rattle.kc_expr.specs.Grammar.{Disjunction, if_word}
 use Rattle.kc_expr.specs.declared.expression.Kind.{Kind}
 use Rattle.kc_expr.proofs.NamesLemmas.{all_mentioned-append}
 use Rattle.kc_read.specs.declared.refusal.Code.TheVariants as code
-use Rattle.kc_read.specs.declared.statement.Context.{Context}
 use Rattle.kc_read.specs.declared.statement.Keyword.{Keyword}
 use Rattle.kc_read.specs.declared.statement.Keyword.TheVariants as key
 use Rattle.kc_read.specs.Blocks.{definitions, name_at}
 use Rattle.kc_read.specs.Expansion.{Around, Log, Refused, Rest, Expands, bytes_cause, context_of, effect_cause, opening, nothing_read, refused, root_around, symbol_cause, statements, with_line, defined, lexemes, at_end, unclosed, too_long, no_tokens, blank, bad_line, bad_effect, statement, bad_source, refused_inside, source}
 use Rattle.kc_read.specs.Files.{Files}
-use Rattle.kc_read.specs.Lines.{After, Cause, ReadsTarget, ReadsType, begins_with, cause, left_out, syntax_cause, ReadsLine, ReadsPlaced, ReadsRest, ReadsWhole, ReadsCondition, ReadsValue, ReadsAsked, choice_line, finish, good_name, in_place, is_good_name, keyword_of, known, operand_of, option_line, place_cause, plain_text, target_of, text_of, word_of, expected}
+use Rattle.kc_read.specs.Lines.{Context, After, Cause, ReadsTarget, ReadsType, begins_with, cause, left_out, syntax_cause, ReadsLine, ReadsPlaced, ReadsRest, ReadsWhole, ReadsCondition, ReadsValue, ReadsAsked, choice_line, finish, good_name, in_place, is_good_name, keyword_of, known, operand_of, option_line, place_cause, plain_text, target_of, text_of, word_of, expected}
 use Rattle.kc_read.specs.Progress.{defined_after, naming_cause}
 use Rattle.kc_read.specs.Statements.{Asked, Written, Placed, ConfigLine, IfLine, EndIfLine, CommentLine, SourceLine, MenuLine, EndMenuLine, ChoiceLine, EndChoiceLine, MainMenuLine, TypeLine, PromptLine, DefaultLine, DefLine, DependsLine, VisibleLine, SelectLine, ImplyLine, RangeLine, HelpLine, ModulesLine, IgnoredLine}
 

@@ -10,13 +10,12 @@ use Rattle.kc_expr.specs.declared.expression.Kind.{Kind}
 use Rattle.kc_expr.specs.Grammar.{Disjunction, if_word}
 use Rattle.kc_read.specs.declared.statement.Block.{Block}
 use Rattle.kc_read.specs.declared.statement.Block.TheVariants as block
-use Rattle.kc_read.specs.declared.statement.Context.{Context}
 use Rattle.kc_read.specs.declared.statement.Keyword.{Keyword}
 use Rattle.kc_read.specs.declared.statement.Keyword.TheVariants as key
 use Rattle.kc_read.specs.declared.statement.Opener.{Opener}
 use Rattle.kc_read.specs.Files.{Files}
 use Rattle.kc_read.specs.Statements.{Statement, Written, Placed, Asked, ConfigLine, IfLine, EndIfLine, CommentLine, SourceLine, MenuLine, EndMenuLine, ChoiceLine, EndChoiceLine, MainMenuLine, TypeLine, PromptLine, DefaultLine, DefLine, DependsLine, VisibleLine, SelectLine, ImplyLine, RangeLine, HelpLine, ModulesLine, IgnoredLine}
-use Rattle.kc_read.specs.Lines.{Cause, place_cause, closes, unless_placed, After, finish, ReadsLine, ReadsPlaced, ReadsRest, ReadsWhole, ReadsCondition, ReadsTextLine, ReadsSource, ReadsConfig, ReadsAsked, ReadsType, ReadsValue, ReadsDepends, ReadsVisible, ReadsTarget, ReadsRange, option_line, choice_line, good_name, is_good_name, begins_with, text_of, plain_text, word_of, target_of, operand_of, expected, keyword_of, known, in_place}
+use Rattle.kc_read.specs.Lines.{Context, Cause, place_cause, closes, unless_placed, After, finish, ReadsLine, ReadsPlaced, ReadsRest, ReadsWhole, ReadsCondition, ReadsTextLine, ReadsSource, ReadsConfig, ReadsAsked, ReadsType, ReadsValue, ReadsDepends, ReadsVisible, ReadsTarget, ReadsRange, option_line, choice_line, good_name, is_good_name, begins_with, text_of, plain_text, word_of, target_of, operand_of, expected, keyword_of, known, in_place}
 use Rattle.kc_read.specs.Blocks.{Bracket, Opens, Closes, NoBracket, bracket, open_blocks, last_of}
 use Rattle.kc_read.specs.Expansion.{Around, Log, Refused, Rest, Expands, lexemes, bytes_cause, root_around, nothing_read, opening, refused, statements, is_choice, context_of, with_line, logged, at_end, unclosed, too_long, no_tokens, blank, bad_line, bad_effect, statement, bad_source, refused_inside, source}
 use Rattle.kc_read.specs.Progress.{open_openers, openers_after}
