@@ -310,10 +310,6 @@ choice_line [] = Ok ChoiceLine
 choice_line (t ∷ ts) = Err (left_out (codes "named choice"))
 
 -- a text, and then a condition
--- a text stands at the front
-abbrev pub HasText : List Lexeme → Type 0
-HasText ts = (t : List ℕ) × (text_of ts ≡ Ok t)
-
 abbrev pub ReadsAsked : (Asked Disjunction → Written) → List Lexeme → Result Written Cause → Type 0
 ReadsAsked make ts = After (text_of ts) (λ t. ReadsCondition (λ w. make (record { text = t; when = w })) (drop 1 ts))
 

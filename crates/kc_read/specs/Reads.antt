@@ -1,5 +1,5 @@
 -- What the calls that read a line answer.
-use Rattle.std.specs.Prelude.{◌≡◌, ◌≢◌, ℕ, ◌+◌, ◌<◌, List, [], ◌∷◌, length, Option, Some, None, Result, Ok, Err, option_map}
+use Rattle.std.specs.Prelude.{◌≡◌, ◌≢◌, ℕ, ◌+◌, ◌<◌, List, [], ◌∷◌, length, Bool, true, false, Option, Some, None, Result, Ok, Err, option_map}
 use Rattle.std.specs.declared.rc.Rc.{Rc}
 use Rattle.std.specs.declared.alloc.Global.{Global}
 use Rattle.kc_expr.specs.declared.expression.SymId.{SymId}
@@ -7,6 +7,7 @@ use Rattle.kc_expr.specs.declared.expression.Expr.{Expr}
 use Rattle.kc_expr.specs.Form.{Form, form_of, Leaf, leaf_of}
 use Rattle.kc_expr.specs.Grammar.{Disjunction, Atom, leaf, lexemes_from, meaning_or, words, atom_words}
 use Rattle.kc_expr.specs.Names.{number_of, all_mentioned, Extends}
+use Rattle.kc_text.specs.Escapes.{unescape}
 use Rattle.kc_text.specs.Lexemes.{Lexeme, lexeme}
 use Rattle.kc_text.specs.declared.tokens.Token.{Token}
 use Rattle.kc_read.specs.declared.refusal.Code.TheVariants as code
@@ -70,6 +71,11 @@ ForLater names P = (later : List (List ℕ)) → Extends names later → P (numb
 abbrev pub IsToken : Option TokenKind → List Token → ℕ → Type 0
 IsToken None tokens at = lexemes_from tokens at ≡ []
 IsToken (Some k) tokens at = (at < length tokens) × (lexemes_from tokens at ≡ lexeme k ∷ lexemes_from tokens (at + 1))
+
+-- the text that these bytes say, in quotes or as a word
+abbrev pub text_said : Bool → List ℕ → List ℕ
+text_said true t = unescape t
+text_said false t = t
 
 -- a part that is one token was read, or refused
 abbrev pub IsPart : {A B : Type 0} → Result B Cause → (A → B) → Result A Fault → Type 0

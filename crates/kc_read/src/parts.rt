@@ -7,10 +7,10 @@ ghost use Rattle.kc_expr.specs.Names.{IsNumber, same_name, mention, Extends};
 ghost use Rattle.std.specs.List.{list_all};
 ghost use Rattle.kc_read.specs.declared.refusal.Code.TheVariants.{Memory};
 ghost use Rattle.kc_read.specs.Lines as spec;
-ghost use Rattle.kc_read.specs.Lines.{syntax_cause, HasText, IsMore, ExpressionFault, WholeFault, ConditionFault};
+ghost use Rattle.kc_read.specs.Lines.{syntax_cause, IsMore, ExpressionFault, WholeFault, ConditionFault};
 ghost use Rattle.std.specs.Prelude.{List, Option};
 ghost use Rattle.kc_expr.specs.declared.expression.SymId.{SymId};
-ghost use Rattle.kc_read.specs.Reads.{IsToken, IsFault, IsPart, IsFront, IsWholeForm, IsConditionForm, IsOperand, cause_of, when_view};
+ghost use Rattle.kc_read.specs.Reads.{IsToken, IsFault, IsPart, IsFront, IsWholeForm, IsConditionForm, IsOperand, cause_of, text_said, when_view};
 
 use crate::refusal::Code;
 use crate::statement::Fault;
@@ -89,38 +89,35 @@ pub fn word_at<'a>(tokens: &[Token<'a>], at: usize) -> Result<&'a [u8], Fault<'a
     }
 }
 
+// The text at a place as it is written, and whether it is quoted.
+pub fn written_text<'a>(tokens: &[Token<'a>], at: usize) -> Result<(&'a [u8], bool), Fault<'a>>
+    ensures part { IsPart (spec.text_of (lexemes_from tokens.now at)) (λ t. text_said t.1 t.0.now) result }
+    ensures within { OnOk result (at < length tokens.now) }
+{
+    match next(tokens, at) {
+        Some(TokenKind::Word(word)) => {
+            if is_if(word) {
+                return Err(syntax());
+            }
+            Ok((word, false))
+        }
+        Some(TokenKind::Quoted(text)) => Ok((text, true)),
+        _ => Err(syntax()),
+    }
+}
+
 // The text at a place.
 pub fn text_at<'a>(alloc: Global, tokens: &[Token<'a>], at: usize) -> Result<Vec<u8>, Fault<'a>>
     ensures part { IsPart (spec.text_of (lexemes_from tokens.now at)) (λ t. t.items) result }
     ensures within { OnOk result (at < length tokens.now) }
 {
-    match next(tokens, at) {
-        Some(TokenKind::Word(word)) => {
-            if word == b"if".as_slice() {
-                return Err(syntax());
-            }
-            Ok(Vec::from_slice(alloc, word)?)
-        }
-        Some(TokenKind::Quoted(text)) => {
-            let mut out = Vec::new(alloc);
-            unescape_into(text, &mut out)?;
-            Ok(out)
-        }
-        _ => Err(syntax()),
+    let (text, quoted) = written_text(tokens, at)?;
+    if !quoted {
+        return Ok(Vec::from_slice(alloc, text)?);
     }
-}
-
-// A text stands at a place.
-pub fn check_text<'a>(tokens: &[Token<'a>], at: usize) -> Result<(), Fault<'a>>
-    ensures text { OnOk result (HasText (lexemes_from tokens.now at)) }
-    ensures fault { IfErr result (λ f. IsFault f (λ c. spec.text_of (lexemes_from tokens.now at) ≡ Err c)) }
-    ensures within { OnOk result (at < length tokens.now) }
-{
-    match next(tokens, at) {
-        Some(TokenKind::Word(word)) => { if is_if(word) { Err(syntax()) } else { Ok(()) } }
-        Some(TokenKind::Quoted(_)) => Ok(()),
-        _ => Err(syntax()),
-    }
+    let mut out = Vec::new(alloc);
+    unescape_into(text, &mut out)?;
+    Ok(out)
 }
 
 // The name that a select or an imply names.

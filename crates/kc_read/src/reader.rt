@@ -13,8 +13,8 @@ ghost use Rattle.kc_read.specs.Progress.{context_in};
 
 use crate::keywords::keyword_of;
 use crate::parts::{
-    begins_with, check_text, condition, end, front, is_good_name, is_pattern, name_number, next,
-    operand_at, syntax, target_at, text_at, whole, word_at,
+    begins_with, condition, end, front, is_good_name, is_pattern, name_number, next, operand_at,
+    syntax, target_at, text_at, whole, word_at, written_text,
 };
 use crate::place::{left_out, place_fault};
 use crate::position::Position;
@@ -108,7 +108,8 @@ fn prompt_line<'a>(
     ensures read { IsRead modules names.old names.new (ReadsAsked PromptLine (lexemes_from tokens.now 1)) result }
     ensures names { Extends names.old names.new }
 {
-    check_text(tokens, 1)?;
+    // The text is not kept.
+    written_text(tokens, 1)?;
     let when = condition(alloc, tokens, 2, modules, names)?;
     Ok(Statement::Prompt(Prompt { when }))
 }
@@ -273,7 +274,8 @@ fn asked_type<'a>(
     ensures read { IsRead modules names.old names.new (ReadsAsked (λ p. TypeLine kind (Some p)) (lexemes_from tokens.now 1)) result }
     ensures names { Extends names.old names.new }
 {
-    check_text(tokens, 1)?;
+    // The text is not kept.
+    written_text(tokens, 1)?;
     let when = condition(alloc, tokens, 2, modules, names)?;
     Ok(Statement::Type(kind, Some(Prompt { when })))
 }

@@ -2,6 +2,7 @@ use Rattle.std.proofs.Common.{[], ap, Some}
 use Rattle.kc_expr.specs.Grammar.{lexemes_from}
 use Rattle.kc_read.specs.Statements.{TypeLine}
 use Rattle.kc_read.specs.Lines.{ReadsAsked}
+use Rattle.kc_read.specs.Reads.{text_said}
 use Rattle.kc_read.proofs.FrontLemmas.{after_one}
 use Rattle.kc_read.proofs.PartLemmas.{read_passed, asked_ok, asked_fault}
 use Rattle.kc_read.proofs.reader.asked_type.Goals as goal
@@ -10,10 +11,11 @@ pub returns-clause-read : goal.returns-clause-read
 returns-clause-read c =
     let ls = lexemes_from c.args.tokens.now 1 in
     let w = c.in_ok-when.ensures.condition in
-    let t = c.in_ok-check_text.ensures.text.0 in
-    (TypeLine c.args.kind (Some (record { text = t; when = w.tree })), asked_ok (λ p. TypeLine c.args.kind (Some p)) ls (lexemes_from c.args.tokens.now 2) t w.tree c.in_ok-check_text.ensures.text.1 (after_one c.args.tokens.now 1) w.condition_is, record { mentions = w.mentions; form = λ later x. ap (λ o. TypeLine c.args.kind (Some (record { text = []; when = o }))) (w.form later x) })
+    let t = text_said c.in_ok-written_text.field-0.1 c.in_ok-written_text.field-0.0.now in
+    (TypeLine c.args.kind (Some (record { text = t; when = w.tree })), asked_ok (λ p. TypeLine c.args.kind (Some p)) ls (lexemes_from c.args.tokens.now 2) t w.tree c.in_ok-written_text.ensures.part (after_one c.args.tokens.now 1) w.condition_is, record { mentions = w.mentions; form = λ later x. ap (λ o. TypeLine c.args.kind (Some (record { text = []; when = o }))) (w.form later x) })
 
 pub returns-in_err-when-clause-read : goal.returns-in_err-when-clause-read
 returns-in_err-when-clause-read c =
     let ls = lexemes_from c.args.tokens.now 1 in
-    read_passed c.args.modules c.args.names.now c.condition.new.names (ReadsAsked (λ p. TypeLine c.args.kind (Some p)) ls) c.from_residual-in_err-when.result c.in_err-when.field-0.0 c.from_residual-in_err-when.ensures.1 (asked_fault (λ p. TypeLine c.args.kind (Some p)) ls (lexemes_from c.args.tokens.now 2) c.in_ok-check_text.ensures.text.0 c.in_err-when.field-0.0 c.in_ok-check_text.ensures.text.1 (after_one c.args.tokens.now 1) c.in_err-when.ensures.fault)
+    let t = text_said c.in_ok-written_text.field-0.1 c.in_ok-written_text.field-0.0.now in
+    read_passed c.args.modules c.args.names.now c.condition.new.names (ReadsAsked (λ p. TypeLine c.args.kind (Some p)) ls) c.from_residual-in_err-when.result c.in_err-when.field-0.0 c.from_residual-in_err-when.ensures.1 (asked_fault (λ p. TypeLine c.args.kind (Some p)) ls (lexemes_from c.args.tokens.now 2) t c.in_err-when.field-0.0 c.in_ok-written_text.ensures.part (after_one c.args.tokens.now 1) c.in_err-when.ensures.fault)
