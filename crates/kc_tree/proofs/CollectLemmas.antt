@@ -10,7 +10,7 @@ use Rattle.kc_read.specs.Statements.{Numbered, RangeLine}
 use Rattle.kc_read.specs.Blocks.{numbers, attributes}
 use Rattle.kc_tree.specs.Facts.{Given, given_of, first_of, type_of, attributes_of, choice_of, definitions_of, symbol_facts, dep, default_under, defaults_at, range_under}
 use Rattle.kc_tree.specs.Conditions.{default_line, range_line}
-use Rattle.kc_tree.specs.Definitions.{bare_from, bare_symbol, raised_symbol}
+use Rattle.kc_tree.specs.Definitions.{bare_from, bare_symbol, defined_symbol}
 use Rattle.kc_tree.proofs.PlaceLemmas.{get-map_numbers, length-map_numbers}
 use Rattle.kc_tree.proofs.TableLemmas.{same_numbers}
 
@@ -54,7 +54,7 @@ module _ (ss : List Numbered) where
   same_flat f h [] e = refl
   same_flat f h (d ∷ ds) e = rw (e d, same_flat f h ds e) refl
 
-  one_symbol : (s : ℕ) → raised_symbol ss s ≡ symbol_facts ss (symbol s)
+  one_symbol : (s : ℕ) → defined_symbol ss s ≡ symbol_facts ss (symbol s)
   one_symbol s =
       let ds = definitions_of ss (symbol s) in
       let v = same_flat (λ j. filter_map (default_line (dep ss j)) (attributes ss j)) (defaults_at ss) ds (λ j. sym (one_by_one j (attributes ss j))) in
@@ -62,8 +62,8 @@ module _ (ss : List Numbered) where
       let f = symbol_facts ss (symbol s) in
       λ k. record { kind = f.kind; choice = f.choice; deps = f.deps; prompts = f.prompts; defaults = v k; ranges = r k; selectors = f.selectors; impliers = f.impliers }
 
-  pub all_symbols : (count : ℕ) → map (raised_symbol ss) (numbers count) ≡ map (λ s. symbol_facts ss (symbol s)) (numbers count)
-  all_symbols count = same_numbers (raised_symbol ss) (λ s. symbol_facts ss (symbol s)) count one_symbol
+  pub all_symbols : (count : ℕ) → map (defined_symbol ss) (numbers count) ≡ map (λ s. symbol_facts ss (symbol s)) (numbers count)
+  all_symbols count = same_numbers (defined_symbol ss) (λ s. symbol_facts ss (symbol s)) count one_symbol
 
 pub sized : {A B : Type 0} (v : A → B) (xs : List A) (f : ℕ → B) (count : ℕ) → map v xs ≡ map f (numbers count) → length xs ≡ count
 sized v xs f count e = sym (length-map xs v) ∙ ap length e ∙ length-map_numbers f count

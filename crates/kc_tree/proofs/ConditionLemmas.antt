@@ -1,5 +1,5 @@
 -- The conditions of an entry's lines.
-use Rattle.std.proofs.Common.{◌≡◌, Option, Some, None, refl, ◌∙◌}
+use Rattle.std.proofs.Common.{◌≡◌, Option, Some, None, refl, ap, sym, ◌∙◌}
 use Rattle.std.specs.Option.{option_map}
 use Rattle.kc_expr.specs.declared.expression.Expr.{Expr}
 use Rattle.kc_expr.specs.declared.expression.Operand.{Operand}
@@ -7,13 +7,17 @@ use Rattle.kc_expr.specs.Form.{Form, Leaf, form_of, leaf_of}
 use Rattle.kc_read.specs.Statements.{Numbered, RangeLine}
 use Rattle.kc_tree.specs.declared.parts.Cond.{Cond}
 use Rattle.kc_tree.specs.TreeFacts.{Condition, Guarded, Bounds}
-use Rattle.kc_tree.specs.Facts.{Given, given_of}
+use Rattle.kc_tree.specs.Facts.{given_of}
 use Rattle.kc_tree.specs.Conditions.{with_when, default_line, range_line}
-use Rattle.kc_tree.specs.Passes.{range_of}
+use Rattle.kc_tree.specs.Passes.{range_of, taken_view}
+use Rattle.kc_read.specs.Reads.{when_view}
+use Rattle.std.specs.declared.alloc.Global.{Global}
+use Rattle.std.specs.declared.rc.Rc.{Rc}
 use Rattle.kc_tree.specs.Views.{condition_of, default_view, range_view}
 
-pub default_made : (c : Condition) (s : Numbered) (g : Given) (value : Expr) (when : Cond) → Some g ≡ given_of s → form_of value ≡ g.value → condition_of when ≡ with_when c g.when → default_line c s ≡ Some (default_view (value, when))
-default_made c s g value when h v w = rw (← h) (rw (v, w) refl)
+-- a default that was taken out of its line
+pub default_taken : (c : Condition) (s : Numbered) (g : Rc Expr Global × Option (Rc Expr Global)) (d : Expr × Cond) → Some (taken_view g) ≡ given_of s → default_view d ≡ record { what = form_of g.0.value; when = with_when c (when_view g.1) } → default_line c s ≡ Some (default_view d)
+default_taken c s g d h e = rw (← h) (ap Some (sym e))
 
 pub default_missing : (c : Condition) (s : Numbered) → None ≡ given_of s → default_line c s ≡ None
 default_missing c s h = rw (← h) refl

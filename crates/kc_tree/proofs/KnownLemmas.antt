@@ -8,13 +8,13 @@ use Rattle.std.proofs.lemmas.Option.{slice_get-map, slice_get_past}
 use Rattle.kc_expr.specs.declared.expression.SymId.{SymId}
 use Rattle.kc_expr.specs.declared.expression.Kind.{Kind}
 use Rattle.kc_expr.specs.declared.expression.Kind.TheVariants as kind
-use Rattle.kc_expr.specs.Names.{symbol}
 use Rattle.kc_read.specs.Statements.{Numbered}
 use Rattle.kc_read.specs.Blocks.{numbers}
 use Rattle.kc_tree.specs.declared.parts.ChoiceId.{ChoiceId}
 use Rattle.kc_tree.specs.declared.parts.Symbol.{Symbol}
 use Rattle.kc_tree.specs.TreeFacts.{SymbolFacts}
-use Rattle.kc_tree.specs.Facts.{symbol_at, symbol_facts, kind_of, choice_of, definitions_of, is_symbol_of}
+use Rattle.kc_tree.specs.Definitions.{bare_symbol}
+use Rattle.kc_tree.specs.Facts.{symbol_at, kind_of, choice_of, definitions_of, is_symbol_of}
 use Rattle.kc_tree.specs.Firsts.{AreBelow}
 use Rattle.kc_tree.specs.Known.{IsKnown, kind_by, choice_by}
 use Rattle.kc_tree.specs.Views.{facts_of}
@@ -57,7 +57,7 @@ module _ (ss : List Numbered) (count : ℕ) (below : AreBelow count ss) where
   no_choice s h = rw (not_defined s h) refl
 
   abbrev said_of : ℕ → SymbolFacts
-  said_of k = symbol_facts ss (symbol k)
+  said_of k = bare_symbol ss k
 
   kind_at : (s : SymId) (fs : List SymbolFacts) → fs ≡ map said_of (numbers count) → ((s.0 < count) ⊎ (count ≤ s.0)) → fact_kind (slice_get fs s.0) ≡ kind_of ss s
   kind_at s fs e (inl h) =
@@ -76,7 +76,7 @@ module _ (ss : List Numbered) (count : ℕ) (below : AreBelow count ss) where
       ap fact_choice (slice_get_past fs s.0 (omega arith)) ∙ sym (no_choice s h)
 
   -- what the first passes say of the symbols is what warnings and refusals ask for
-  pub known_is : (ks : List Symbol) → map facts_of ks ≡ map said_of (numbers count) → IsKnown ss ks
+  pub known_is : (ks : List Symbol) → map facts_of ks ≡ map (bare_symbol ss) (numbers count) → IsKnown ss ks
   known_is ks e =
       let kinds : (s : SymId) → kind_by ks s ≡ kind_of ss s = λ s. seen_kind (slice_get ks s.0) ∙ ap fact_kind (sym (slice_get-map facts_of ks s.0)) ∙ kind_at s (map facts_of ks) e (below_or_past s.0 count) in
       let choices : (s : SymId) → choice_by ks s ≡ choice_of ss s = λ s. seen_choice (slice_get ks s.0) ∙ ap fact_choice (sym (slice_get-map facts_of ks s.0)) ∙ choice_at s (map facts_of ks) e (below_or_past s.0 count) in

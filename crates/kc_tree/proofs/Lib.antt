@@ -9,6 +9,7 @@ mod DefinedLemmas
 mod ElementLemmas
 mod EntryLemmas
 mod EntrySoundLemmas
+mod EntryWalkLemmas
 mod ExpansionLemmas
 mod FirstLemmas
 mod FormedLemmas

@@ -12,7 +12,7 @@ use Rattle.kc_tree.specs.declared.lines.Raise.{Raise}
 use Rattle.kc_tree.specs.declared.lines.Raise.TheVariants as raise
 use Rattle.kc_tree.specs.TreeFacts.{Condition, Guarded, SymbolFacts}
 use Rattle.kc_tree.specs.Facts.{symbol_at, kind_of, choice_of, can_be_target, select_of, imply_of, naming_at, dep, first_of}
-use Rattle.kc_tree.specs.Definitions.{defined_symbol, raised_from}
+use Rattle.kc_tree.specs.Definitions.{raised_from}
 use Rattle.kc_tree.specs.Conditions.{with_when}
 use Rattle.kc_tree.specs.Rounds.{Surroundings, round}
 use Rattle.kc_tree.specs.Passes.{target_of}
@@ -40,10 +40,10 @@ module _ (ss : List Numbered) where
   raised_with s sel imp = record {
     kind = kind_of ss (symbol s);
     choice = choice_of ss (symbol s);
-    deps = (defined_symbol ss s).deps;
-    prompts = (defined_symbol ss s).prompts;
-    defaults = (defined_symbol ss s).defaults;
-    ranges = (defined_symbol ss s).ranges;
+    deps = [];
+    prompts = [];
+    defaults = [];
+    ranges = [];
     selectors = if can_be_target ss (symbol s) then sel else [];
     impliers = if can_be_target ss (symbol s) then imp else [];
   }

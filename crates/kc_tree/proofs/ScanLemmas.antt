@@ -1,5 +1,5 @@
 -- Walks along a list.
-use Rattle.std.proofs.Common.{◌≡◌, ℕ, zero, suc, ◌+◌, ◌-◌, ◌<◌, ◌≤◌, true, false, List, [], ◌∷◌, ◌++◌, length, take, drop, map, Option, Some, None, refl, ap, sym, ◌∙◌, arith, add-one, get_or, append_assoc, length-drop}
+use Rattle.std.proofs.Common.{◌≡◌, ℕ, zero, suc, ◌+◌, ◌-◌, ◌<◌, ◌≤◌, true, false, List, [], ◌∷◌, ◌++◌, length, take, drop, map, Option, Some, None, refl, ap, sym, ◌∙◌, arith, add-one, get_or, slice_set, append_assoc, length-drop}
 use Rattle.std.specs.List.{slice_get, filter_map, cons_option, take_while, prefix_len}
 use Rattle.std.specs.Option.{option_map, option_or}
 use Rattle.std.proofs.lemmas.List.{map-append, append-nil, take-map, drop-map}
@@ -34,6 +34,15 @@ drop_past (x ∷ xs) (suc i) h = drop_past xs i (omega arith)
 pub said_end : (ls : List Line) (i : ℕ) → length ls ≤ i → drop i (said_by ls) ≡ []
 said_end ls i h = drop_past (said_by ls) i (omega (arith, length-said_by ls))
 
+-- to write a line changes none behind it
+behind : (ls : List Line) (i : ℕ) (y : Line) → drop (suc i) (said_by (slice_set ls i y)) ≡ drop (suc i) (said_by ls)
+behind [] i y = refl
+behind (x ∷ ls) zero y = refl
+behind (x ∷ ls) (suc i) y = behind ls i y
+
+pub behind_set : (ls : List Line) (i : ℕ) (y : Line) → drop (i + 1) (said_by (slice_set ls i y)) ≡ drop (i + 1) (said_by ls)
+behind_set ls i y = rw add-one (behind ls i y)
+
 -- How many attributes a list begins with.
 abbrev pub RunsTo : List Line → ℕ → Type 0
 RunsTo ls i = i + prefix_len is_attribute (drop i (said_by ls)) ≡ prefix_len is_attribute (said_by ls)
@@ -60,6 +69,9 @@ said_behind ls i =
     let n : length (drop (i + 1) ls) ≡ length ls - (i + 1) = length-drop (i + 1) ls in
     let rest : take (length ls - (i + 1)) (drop (i + 1) ls) ≡ drop (suc i) ls = (rw n at (take-length (drop (i + 1) ls))) ∙ (rw add-one refl) in
     ap said_by rest ∙ sym (drop-map (λ (l : Line). statement_view l.statement) (suc i) ls)
+
+pub count-is : (ls : List Line) (i n : ℕ) → n ≡ prefix_len is_attribute (said_by (take (length ls - (i + 1)) (drop (i + 1) ls))) → n ≡ prefix_len is_attribute (drop (i + 1) (said_by ls))
+count-is ls i n e = e ∙ ap (prefix_len is_attribute) (said_behind ls i) ∙ (rw add-one refl)
 
 pub run-is : (ls : List Line) (i n : ℕ) → n ≡ prefix_len is_attribute (said_by (take (length ls - (i + 1)) (drop (i + 1) ls))) → said_by (take n (take (length ls - (i + 1)) (drop (i + 1) ls))) ≡ attributes (said_by ls) i
 run-is ls i n e =
@@ -174,3 +186,18 @@ module _ {A : Type 0} (f : Numbered → Option A) (base : List A) where
 
   pub adds_end : (ls : List Line) (i : ℕ) (out : List A) → Adds ls i out → length ls ≤ i → out ≡ base ++ filter_map f (said_by ls)
   adds_end ls i out h b = sym (append-nil out) ∙ (rw (said_end ls i b) at h)
+
+  -- The same where a line may change as it is passed.
+  abbrev pub Takes : List Numbered → List Line → ℕ → List A → Type 0
+  Takes all ls i out = out ++ filter_map f (drop i (said_by ls)) ≡ base ++ filter_map f all
+
+  pub takes_none : (all : List Numbered) (ls : List Line) (i : ℕ) (x y : Line) (out : List A) → Takes all ls i out → i < length ls → x ≡ get_or ls i x → f (statement_view x.statement) ≡ None → Takes all (slice_set ls i y) (i + 1) out
+  takes_none all ls i x y out h b at e = rw (behind_set ls i y) (rw (said_from ls i x b at, e) at h)
+
+  pub takes_one : {B : Type 0} (v : B → A) (all : List Numbered) (ls : List Line) (i : ℕ) (x y : Line) (out new : List B) (b : B) → Takes all ls i (map v out) → i < length ls → x ≡ get_or ls i x → f (statement_view x.statement) ≡ Some (v b) → new ≡ out ++ b ∷ [] → Takes all (slice_set ls i y) (i + 1) (map v new)
+  takes_one v all ls i x y out new b h n at e p =
+      rw (behind_set ls i y)
+      ((rw (p, map-append v out (b ∷ [])) (append_assoc (map v out) (v b ∷ []) (filter_map f (drop (i + 1) (said_by ls))))) ∙ (rw (said_from ls i x n at, e) at h))
+
+  pub takes_end : (all : List Numbered) (ls : List Line) (i : ℕ) (out : List A) → Takes all ls i out → length ls ≤ i → out ≡ base ++ filter_map f all
+  takes_end all ls i out h b = sym (append-nil out) ∙ (rw (said_end ls i b) at h)

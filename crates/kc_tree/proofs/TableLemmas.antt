@@ -12,7 +12,7 @@ use Rattle.kc_expr.specs.declared.expression.Kind.{Kind}
 use Rattle.kc_expr.specs.Names.{symbol}
 use Rattle.kc_read.specs.Statements.{Numbered}
 use Rattle.kc_read.specs.Blocks.{numbers, attributes}
-use Rattle.kc_tree.specs.Facts.{symbol_of, symbol_at, is_symbol_of, first_of, type_of, choice_round, dep, prompt_at, listed, kind_of, choice_of}
+use Rattle.kc_tree.specs.Facts.{symbol_of, symbol_at, is_symbol_of, first_of, type_of, choice_round, dep, prompt_at, listed, kind_of, choice_of, selectors_of, impliers_of}
 use Rattle.kc_tree.specs.Definitions.{facts_from}
 use Rattle.kc_tree.specs.TreeFacts.{SymbolFacts}
 use Rattle.kc_tree.specs.Rounds.{Surroundings, round}
@@ -93,7 +93,7 @@ module _ (ss : List Numbered) where
   before_next : (i s : ℕ) (b : Bool) → is_symbol_of (symbol s) (symbol_at ss i) ≡ b → defined_before (i + 1) s ≡ defined_before i s ++ (if b then i ∷ [] else [])
   before_next i s b e = filter-next (λ j. is_symbol_of (symbol s) (symbol_at ss j)) i ∙ ap (λ c. defined_before i s ++ (if c then i ∷ [] else [])) e
 
-  not_defined : (i s : ℕ) → is_symbol_of (symbol s) (symbol_at ss i) ≡ false → defined_before (i + 1) s ≡ defined_before i s
+  pub not_defined : (i s : ℕ) → is_symbol_of (symbol s) (symbol_at ss i) ≡ false → defined_before (i + 1) s ≡ defined_before i s
   not_defined i s e = before_next i s false e ∙ append-nil (defined_before i s)
 
   equal_self : (n : ℕ) → (n == n) ≡ true
@@ -154,7 +154,7 @@ module _ (ss : List Numbered) where
       let p = ap (λ l. filter_map (prompt_at ss) ds ++ l) (as_list (prompt_at ss i)) ∙ sym (filter_map-append (prompt_at ss) ds (i ∷ [])) in
       let v = more (λ j. filter_map (default_line (dep ss j)) (attributes ss j)) ds i in
       let r = more (λ j. filter_map (range_line (dep ss j)) (attributes ss j)) ds i in
-      λ k. record { kind = kind_of ss (symbol s); choice = choice_of ss (symbol s); deps = d k; prompts = p k; defaults = v k; ranges = r k; selectors = []; impliers = [] }
+      λ k. record { kind = kind_of ss (symbol s); choice = choice_of ss (symbol s); deps = d k; prompts = p k; defaults = v k; ranges = r k; selectors = selectors_of ss (symbol s); impliers = impliers_of ss (symbol s) }
 
   abbrev pub facts_so_far : ℕ → ℕ → SymbolFacts
   facts_so_far i s = facts_from ss (symbol s) (defined_before i s)

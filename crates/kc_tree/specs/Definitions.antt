@@ -1,4 +1,4 @@
--- What the definitions of symbols add to their facts.
+-- What becomes of the facts of a symbol, pass by pass: its type and its choice, what raises it, and what its definitions say.
 use Rattle.std.specs.Prelude.{ℕ, List, [], map, if◌then◌else◌, Option}
 use Rattle.std.specs.List.{filter_map, flat_map}
 use Rattle.kc_expr.specs.declared.expression.SymId.{SymId}
@@ -9,44 +9,8 @@ use Rattle.kc_expr.specs.Names.{symbol}
 use Rattle.kc_read.specs.Statements.{Numbered}
 use Rattle.kc_read.specs.Blocks.{attributes}
 use Rattle.kc_tree.specs.TreeFacts.{SymbolFacts}
-use Rattle.kc_tree.specs.Facts.{dep, prompt_at, definitions_of, kind_of, choice_of, can_be_target, naming_at, select_of, imply_of, places}
+use Rattle.kc_tree.specs.Facts.{dep, prompt_at, definitions_of, attributes_of, first_of, type_of, kind_of, choice_of, can_be_target, naming_at, select_of, imply_of, selectors_of, impliers_of, places}
 use Rattle.kc_tree.specs.Conditions.{default_line, range_line}
-
--- what is known of a symbol whose definitions stand at these places
-abbrev pub facts_from : List Numbered → SymId → List ℕ → SymbolFacts
-facts_from ss s ds = record {
-  kind = kind_of ss s;
-  choice = choice_of ss s;
-  deps = map (dep ss) ds;
-  prompts = filter_map (prompt_at ss) ds;
-  defaults = flat_map (λ j. filter_map (default_line (dep ss j)) (attributes ss j)) ds;
-  ranges = flat_map (λ j. filter_map (range_line (dep ss j)) (attributes ss j)) ds;
-  selectors = [];
-  impliers = [];
-}
-
--- a symbol of which only type and choice are known, and one with what its definitions say
-abbrev pub bare_symbol : List Numbered → ℕ → SymbolFacts
-bare_symbol ss s = facts_from ss (symbol s) []
-
-abbrev pub defined_symbol : List Numbered → ℕ → SymbolFacts
-defined_symbol ss s = facts_from ss (symbol s) (definitions_of ss (symbol s))
-
--- with what selects and implies it, by the lines at these places
-abbrev pub raised_from : List Numbered → ℕ → List ℕ → SymbolFacts
-raised_from ss s places = record {
-  kind = kind_of ss (symbol s);
-  choice = choice_of ss (symbol s);
-  deps = (defined_symbol ss s).deps;
-  prompts = (defined_symbol ss s).prompts;
-  defaults = (defined_symbol ss s).defaults;
-  ranges = (defined_symbol ss s).ranges;
-  selectors = if can_be_target ss (symbol s) then flat_map (naming_at ss (select_of (symbol s))) places else [];
-  impliers = if can_be_target ss (symbol s) then flat_map (naming_at ss (imply_of (symbol s))) places else [];
-}
-
-abbrev pub raised_symbol : List Numbered → ℕ → SymbolFacts
-raised_symbol ss s = raised_from ss s (places ss)
 
 -- by its first type and its choice
 abbrev pub kind_by : Option Kind → Option ℕ → Kind
@@ -63,3 +27,39 @@ bare_from first choice = record {
   selectors = [];
   impliers = [];
 }
+
+-- a symbol of which only type and choice are known
+abbrev pub bare_symbol : List Numbered → ℕ → SymbolFacts
+bare_symbol ss s = bare_from (first_of (filter_map type_of (attributes_of ss (symbol s)))) (choice_of ss (symbol s))
+
+-- with what selects and implies it, by the lines at these places
+abbrev pub raised_from : List Numbered → ℕ → List ℕ → SymbolFacts
+raised_from ss s places = record {
+  kind = kind_of ss (symbol s);
+  choice = choice_of ss (symbol s);
+  deps = [];
+  prompts = [];
+  defaults = [];
+  ranges = [];
+  selectors = if can_be_target ss (symbol s) then flat_map (naming_at ss (select_of (symbol s))) places else [];
+  impliers = if can_be_target ss (symbol s) then flat_map (naming_at ss (imply_of (symbol s))) places else [];
+}
+
+abbrev pub raised_symbol : List Numbered → ℕ → SymbolFacts
+raised_symbol ss s = raised_from ss s (places ss)
+
+-- with what its definitions say, where they stand at these places
+abbrev pub facts_from : List Numbered → SymId → List ℕ → SymbolFacts
+facts_from ss s ds = record {
+  kind = kind_of ss s;
+  choice = choice_of ss s;
+  deps = map (dep ss) ds;
+  prompts = filter_map (prompt_at ss) ds;
+  defaults = flat_map (λ j. filter_map (default_line (dep ss j)) (attributes ss j)) ds;
+  ranges = flat_map (λ j. filter_map (range_line (dep ss j)) (attributes ss j)) ds;
+  selectors = selectors_of ss s;
+  impliers = impliers_of ss s;
+}
+
+abbrev pub defined_symbol : List Numbered → ℕ → SymbolFacts
+defined_symbol ss s = facts_from ss (symbol s) (definitions_of ss (symbol s))

@@ -13,7 +13,10 @@ use Rattle.kc_tree.specs.declared.attributes.Asks.{Asks}
 use Rattle.kc_tree.specs.declared.attributes.Asks.TheVariants as asks
 use Rattle.kc_tree.specs.Facts as spec
 use Rattle.kc_read.specs.declared.line.Line.{Line}
-use Rattle.kc_read.specs.Reads.{statement_view}
+use Rattle.kc_read.specs.Reads.{statement_view, when_view}
+use Rattle.kc_expr.specs.declared.expression.Expr.{Expr}
+use Rattle.std.specs.declared.alloc.Global.{Global}
+use Rattle.std.specs.declared.rc.Rc.{Rc}
 use Rattle.kc_read.specs.Statements.{Numbered, SelectLine, ImplyLine, RangeLine}
 use Rattle.std.specs.List.{filter_map}
 use Rattle.kc_expr.specs.declared.expression.Kind.{Kind}
@@ -44,6 +47,10 @@ IsBefore i o = (k : ℕ) → o ≡ Some k → k < i
 
 abbrev pub given_view : Given → spec.Given
 given_view g = record { value = form_of g.value.now; when = option_map (λ e. form_of e.now.value) g.when }
+
+-- a default that was taken out of its line
+abbrev pub taken_view : Rc Expr Global × Option (Rc Expr Global) → spec.Given
+taken_view g = record { value = form_of g.0.value; when = when_view g.1 }
 
 -- a line that selects or implies: which, whom, when
 abbrev pub target_view : Target → Raise × SymId × Option Form

@@ -9,7 +9,7 @@ ghost use Rattle.kc_tree.specs.Trees.{tree_with};
 
 use crate::blocks::openers;
 use crate::choices::choices;
-use crate::collect::symbols;
+use crate::collect::{bare_symbols, fill};
 use crate::diagnoses::{Diagnosis, diagnose};
 use crate::entries::{entries, main_menu};
 use crate::known::Marks;
@@ -48,32 +48,35 @@ fn defined(symbol: SymId, count: usize) -> Option<SymId>
 
 /// What the lines say, where the symbols that are defined are those below `count` and `modules` is the one that
 /// stands for modules: the first refusal that the whole list shows, and where there is none all parts of the tree.
-/// Its only error is want of memory.
+/// The values of defaults are taken out of the lines. Its only error is want of memory.
 pub fn assemble(
     alloc: Global,
     names: &Names,
-    lines: &[Line],
+    lines: &mut [Line],
     count: usize,
     modules: SymId,
 ) -> Result<Assembled, AllocError>
-    requires { AreBelow count (said_by lines.now) }
-    ensures { IfOk result (λ s. assembled_view names.now s ≡ tree_with names.now count modules (map line_view lines.now)) }
+    requires { AreBelow count (said_by lines.old) }
+    ensures { IfOk result (λ s. assembled_view names.now s ≡ tree_with names.now count modules (map line_view lines.old)) }
 {
     let openers = openers(alloc, lines)?;
     let insides = insides(alloc, lines, &openers)?;
-    let symbols = symbols(alloc, lines, &openers, &insides, count)?;
+    let mut symbols = bare_symbols(alloc, lines, &openers, &insides, count)?;
     let marks = Marks::of(alloc, lines, count)?;
     match diagnose(alloc, names, lines, &openers, &insides, &symbols, &marks)? {
         Diagnosis::Refused(refusal) => Ok(Assembled::Refused(refusal)),
         Diagnosis::Warned(warnings) => {
             let firsts = marks.into_firsts();
             let choices = choices(alloc, lines, &openers, &insides, &symbols)?;
+            let entries = entries(alloc, lines, &openers, &insides, &firsts)?;
+            let main_menu = main_menu(alloc, lines)?;
+            fill(alloc, lines, &openers, &insides, &mut symbols)?;
             Ok(Assembled::Whole(TreeParts {
                 symbols,
                 choices,
-                entries: entries(alloc, lines, &openers, &insides, &firsts)?,
+                entries,
                 warnings,
-                main_menu: main_menu(alloc, lines)?,
+                main_menu,
                 modules: defined(modules, count),
             }))
         }

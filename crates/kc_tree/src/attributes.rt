@@ -29,6 +29,15 @@ fn attribute_count(lines: &[Line]) -> usize
     lines.len()
 }
 
+/// The place behind the entry at a place and its attributes.
+pub fn entry_end(lines: &[Line], place: usize) -> usize
+    requires { place < length lines.now }
+    ensures count { result ≡ place + 1 + prefix_len blocks.is_attribute (drop (place + 1) (said_by lines.now)) }
+    ensures within { result ≤ length lines.now }
+{
+    place + 1 + attribute_count(&lines[place + 1..])
+}
+
 /// The attributes of the entry at a place.
 pub fn attributes(lines: &[Line], place: usize) -> &[Line]
     requires { place < length lines.now }

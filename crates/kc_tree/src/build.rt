@@ -35,9 +35,9 @@ impl Tree {
             names,
             count,
             modules,
-            lines,
+            mut lines,
         } = read_listing(alloc, map, root)?;
-        let assembled = match assemble(alloc, &names, &lines, count, modules) {
+        let assembled = match assemble(alloc, &names, &mut lines, count, modules) {
             Ok(assembled) => assembled,
             Err(_) => return Err(memory(alloc)),
         };

@@ -1,9 +1,9 @@
-//! All that the statements say of symbols.
+//! All that the statements say of symbols: first what the other passes ask for, and at last the rest.
 
-ghost use Rattle.std.specs.Prelude.{◌≡◌, ◌<◌, length, map, option_map, unwrap_or, slice_get, IfOk, None};
+ghost use Rattle.std.specs.Prelude.{◌≡◌, ◌<◌, length, map, option_map, unwrap_or, slice_get, IfOk, OnOk, None};
 ghost use Rattle.kc_expr.specs.Names.{symbol};
 ghost use Rattle.kc_read.specs.Blocks.{numbers};
-ghost use Rattle.kc_tree.specs.Definitions.{bare_from, kind_by};
+ghost use Rattle.kc_tree.specs.Definitions.{bare_from, bare_symbol, kind_by};
 ghost use Rattle.kc_tree.specs.Facts.{opener_of, symbol_facts};
 ghost use Rattle.kc_tree.specs.Passes.{said_by};
 ghost use Rattle.kc_tree.specs.RoundViews.{inside_view};
@@ -47,8 +47,8 @@ fn bare_symbol(alloc: Global, first: Option<Kind>, choice: Option<ChoiceId>) -> 
     }
 }
 
-// The same for all symbols.
-fn bare_symbols(
+// The same for all symbols, by the tables of their types and choices.
+fn bare_from_tables(
     alloc: Global,
     types: &[Option<Kind>],
     choices: &[Option<ChoiceId>],
@@ -63,8 +63,8 @@ fn bare_symbols(
     Ok(symbols)
 }
 
-/// What the statements say of the first `count` symbols.
-pub fn symbols(
+/// The types and the choices of the first `count` symbols: all that the other passes ask of them.
+pub fn bare_symbols(
     alloc: Global,
     lines: &[Line],
     openers: &[Option<usize>],
@@ -73,12 +73,27 @@ pub fn symbols(
 ) -> Result<Vec<Symbol>, AllocError>
     requires openers { openers.now ≡ map (opener_of (said_by lines.now)) (numbers (length lines.now)) }
     requires insides { map inside_view insides.now ≡ map (inside_table (said_by lines.now)) (numbers (length lines.now)) }
-    ensures { IfOk result (λ v. map facts_of v.items ≡ map (λ s. symbol_facts (said_by lines.now) (symbol s)) (numbers count)) }
+    ensures { IfOk result (λ v. map facts_of v.items ≡ map (bare_symbol (said_by lines.now)) (numbers count)) }
 {
     let types = types(alloc, lines, count)?;
     let choices = choices(alloc, lines, openers, insides, count)?;
-    let mut symbols = bare_symbols(alloc, &types, &choices)?;
-    define_all(alloc, lines, openers, insides, &mut symbols)?;
-    raise_all(alloc, lines, openers, insides, &mut symbols)?;
-    Ok(symbols)
+    bare_from_tables(alloc, &types, &choices)
+}
+
+/// Adds to the symbols, of which type and choice are known, all else that the statements say of them. The values of
+/// defaults are taken out of the lines.
+pub fn fill(
+    alloc: Global,
+    lines: &mut [Line],
+    openers: &[Option<usize>],
+    insides: &[Option<Box<Round>>],
+    symbols: &mut Vec<Symbol>,
+) -> Result<(), AllocError>
+    requires openers { openers.now ≡ map (opener_of (said_by lines.old)) (numbers (length lines.old)) }
+    requires insides { map inside_view insides.now ≡ map (inside_table (said_by lines.old)) (numbers (length lines.old)) }
+    requires bare { map facts_of symbols.old.items ≡ map (bare_symbol (said_by lines.old)) (numbers (length symbols.old.items)) }
+    ensures { OnOk result (map facts_of symbols.new.items ≡ map (λ s. symbol_facts (said_by lines.old) (symbol s)) (numbers (length symbols.old.items))) }
+{
+    raise_all(alloc, lines, openers, insides, symbols)?;
+    define_all(alloc, lines, openers, insides, symbols)
 }

@@ -4,7 +4,9 @@ ghost use Rattle.std.specs.Prelude.{◌≡◌, ◌++◌, map, option_map, IfOk, 
 ghost use Rattle.std.specs.List.{filter_map};
 ghost use Rattle.kc_expr.specs.Form.{form_of, leaf_of};
 ghost use Rattle.kc_tree.specs.Conditions.{with_when, with_visible, default_line, range_line, dep_of, prompt_of, shown_of};
-ghost use Rattle.kc_tree.specs.Passes.{said_by};
+ghost use Rattle.kc_read.specs.Reads.{statement_view, when_view};
+ghost use Rattle.kc_tree.specs.Facts as facts;
+ghost use Rattle.kc_tree.specs.Passes.{said_by, taken_view};
 ghost use Rattle.kc_tree.specs.RoundViews.{round_view};
 ghost use Rattle.kc_tree.specs.Views.{condition_of, default_view, range_view};
 
@@ -16,7 +18,9 @@ use crate::parts::Cond;
 use crate::round::{Round, add_part, added, shares, with_part};
 use kc_expr::expression::{Expr, Operand};
 use kc_read::line::Line;
+use kc_read::statement::Statement;
 use std::alloc::{AllocError, Global};
+use std::mem;
 use std::rc::Rc;
 
 // A share of an expression that may be there.
@@ -114,20 +118,62 @@ pub fn menu_condition(alloc: Global, own: &[Line], around: &Round) -> Result<Con
     seen(alloc, &dep, &around.visible, more)
 }
 
-/// Adds an entry's defaults.
+// The expression, which is copied only where it has other owners.
+fn owned(alloc: Global, e: Rc<Expr>) -> Result<Expr, AllocError>
+    ensures { IfOk result (λ own. form_of own ≡ form_of e.value) }
+{
+    match Rc::try_unwrap(e) {
+        Ok(own) => Ok(own),
+        Err(shared) => expression_copy(alloc, &shared),
+    }
+}
+
+// Takes a default out of its line, which is an attribute as before.
+fn take_given(statement: &mut Statement) -> Option<(Rc<Expr>, Option<Rc<Expr>>)>
+    ensures { option_map taken_view result ≡ facts.given_of (statement_view statement.old) }
+{
+    if given_of(statement).is_none() {
+        return None;
+    }
+    match mem::replace(statement, Statement::Ignored) {
+        Statement::Default(value, when) => Some((value, when)),
+        Statement::Def(_, value, when) => Some((value, when)),
+        _ => None,
+    }
+}
+
+// A default under what its entry depends on.
+fn default(
+    alloc: Global,
+    dep: &Cond,
+    value: Rc<Expr>,
+    when: Option<Rc<Expr>>,
+) -> Result<(Expr, Cond), AllocError>
+    ensures { IfOk result (λ d. default_view d ≡ record { what = form_of value.value; when = with_when (condition_of dep.now) (when_view when) }) }
+{
+    let parts = with_part(alloc, &dep.parts, when)?;
+    let value = owned(alloc, value)?;
+    Ok((
+        value,
+        Cond {
+            parts,
+            mode: dep.mode,
+        },
+    ))
+}
+
+/// Adds an entry's defaults, which are taken out of its lines.
 pub fn add_defaults(
     alloc: Global,
-    own: &[Line],
+    own: &mut [Line],
     dep: &Cond,
     defaults: &mut Vec<(Expr, Cond)>,
 ) -> Result<(), AllocError>
-    ensures { OnOk result (map default_view defaults.new.items ≡ map default_view defaults.old.items ++ filter_map (default_line (condition_of dep.now)) (said_by own.now)) }
+    ensures { OnOk result (map default_view defaults.new.items ≡ map default_view defaults.old.items ++ filter_map (default_line (condition_of dep.now)) (said_by own.old)) }
 {
-    for line in own {
-        if let Some(given) = given_of(&line.statement) {
-            let when = under(alloc, dep, given.when)?;
-            let value = expression_copy(alloc, given.value)?;
-            push_one(defaults, (value, when))?;
+    for i in 0..own.len() {
+        if let Some((value, when)) = take_given(&mut own[i].statement) {
+            push_one(defaults, default(alloc, dep, value, when)?)?;
         }
     }
     Ok(())

@@ -5,7 +5,7 @@ ghost use Rattle.std.specs.List.{filter_map};
 ghost use Rattle.kc_read.specs.Blocks as blocks;
 ghost use Rattle.kc_read.specs.Blocks.{numbers};
 ghost use Rattle.kc_read.specs.Reads.{statement_view};
-ghost use Rattle.kc_tree.specs.Definitions.{defined_symbol, raised_symbol};
+ghost use Rattle.kc_tree.specs.Definitions.{bare_symbol, raised_symbol};
 ghost use Rattle.kc_tree.specs.Facts.{first_of, opener_of, takes_kind};
 ghost use Rattle.kc_tree.specs.Passes.{said_by, change, target_of, target_view};
 ghost use Rattle.kc_tree.specs.Raises.{is_target, raised_by, with_raiser, raise_lines, raise_entry};
@@ -139,7 +139,7 @@ fn raise_entry(
     }
 }
 
-/// Adds to the symbols what selects and implies them.
+/// Adds to the symbols, of which type and choice are known, what selects and implies them.
 pub fn raise_all(
     alloc: Global,
     lines: &[Line],
@@ -149,7 +149,7 @@ pub fn raise_all(
 ) -> Result<(), AllocError>
     requires openers { openers.now ≡ map (opener_of (said_by lines.now)) (numbers (length lines.now)) }
     requires insides { map inside_view insides.now ≡ map (inside_table (said_by lines.now)) (numbers (length lines.now)) }
-    requires defined { map facts_of symbols.old.items ≡ map (defined_symbol (said_by lines.now)) (numbers (length symbols.old.items)) }
+    requires bare { map facts_of symbols.old.items ≡ map (bare_symbol (said_by lines.now)) (numbers (length symbols.old.items)) }
     ensures { OnOk result (map facts_of symbols.new.items ≡ map (raised_symbol (said_by lines.now)) (numbers (length symbols.old.items))) }
 {
     let outside = outside(alloc);

@@ -8,14 +8,14 @@ ghost use Rattle.kc_read.specs.Blocks as blocks;
 ghost use Rattle.kc_read.specs.Blocks.{numbers};
 ghost use Rattle.kc_read.specs.Reads.{statement_view};
 ghost use Rattle.kc_tree.specs.Conditions.{defined_by};
-ghost use Rattle.kc_tree.specs.Definitions.{bare_symbol, defined_symbol};
+ghost use Rattle.kc_tree.specs.Definitions.{defined_symbol, raised_symbol};
 ghost use Rattle.kc_tree.specs.Facts.{listed, first_of, type_of, attributes_of, choice_of, opener_of};
 ghost use Rattle.kc_tree.specs.Passes.{said_by, changed, type_at};
 ghost use Rattle.kc_tree.specs.RoundViews.{round_view, inside_view};
 ghost use Rattle.kc_tree.specs.Rounds.{inside_table};
 ghost use Rattle.kc_tree.specs.Views.{condition_of, facts_of};
 
-use crate::attributes::{attributes, first_type};
+use crate::attributes::{attributes, entry_end, first_type};
 use crate::conditions::{add_defaults, add_ranges, dependency, prompt_condition};
 use crate::lines::symbol_of;
 use crate::lists::push_one;
@@ -35,43 +35,36 @@ fn push_condition(conditions: &mut Vec<Cond>, more: Option<Cond>) -> Result<(), 
     }
 }
 
-// Adds a definition to a symbol.
+// Adds a definition to a symbol. The values of its defaults are taken out of the attributes.
 fn define(
     alloc: Global,
-    own: &[Line],
+    own: &mut [Line],
     around: &Round,
     symbol: &mut Symbol,
 ) -> Result<(), AllocError>
-    ensures { OnOk result (facts_of symbol.new ≡ defined_by (round_view around.now) (said_by own.now) (facts_of symbol.old)) }
+    ensures { OnOk result (facts_of symbol.new ≡ defined_by (round_view around.now) (said_by own.old) (facts_of symbol.old)) }
 {
     let dep = dependency(alloc, own, around)?;
     let prompt = prompt_condition(alloc, own, around, &dep)?;
     push_condition(&mut symbol.prompts, prompt)?;
-    add_defaults(alloc, own, &dep, &mut symbol.defaults)?;
     add_ranges(alloc, own, &dep, &mut symbol.ranges)?;
+    add_defaults(alloc, own, &dep, &mut symbol.defaults)?;
     push_one(&mut symbol.deps, dep)?;
     Ok(())
 }
 
-// Adds the definition at a place to its symbol, where that is one of the list.
+// Adds a definition with these attributes to its symbol, where that is one of the list.
 fn define_at(
     alloc: Global,
-    lines: &[Line],
-    place: usize,
+    own: &mut [Line],
     symbol: SymId,
     around: &Round,
     symbols: &mut Vec<Symbol>,
 ) -> Result<(), AllocError>
-    requires { place < length lines.now }
-    ensures { OnOk result (map facts_of symbols.new.items ≡ changed (defined_by (round_view around.now) (blocks.attributes (said_by lines.now) place)) (Some symbol) (map facts_of symbols.old.items)) }
+    ensures { OnOk result (map facts_of symbols.new.items ≡ changed (defined_by (round_view around.now) (said_by own.old)) (Some symbol) (map facts_of symbols.old.items)) }
 {
     if symbol.0 < symbols.len() {
-        define(
-            alloc,
-            attributes(lines, place),
-            around,
-            &mut symbols[symbol.0],
-        )?;
+        define(alloc, own, around, &mut symbols[symbol.0])?;
     }
     Ok(())
 }
@@ -163,25 +156,29 @@ pub fn choices(
     Ok(choices)
 }
 
-/// Adds to the symbols, of which type and choice are known, what their definitions say.
+/// Adds to the symbols, of which all else is known, what their definitions say. The values of the defaults are taken out
+/// of the lines, entry by entry.
 pub fn define_all(
     alloc: Global,
-    lines: &[Line],
+    lines: &mut [Line],
     openers: &[Option<usize>],
     insides: &[Option<Box<Round>>],
     symbols: &mut Vec<Symbol>,
 ) -> Result<(), AllocError>
-    requires openers { openers.now ≡ map (opener_of (said_by lines.now)) (numbers (length lines.now)) }
-    requires insides { map inside_view insides.now ≡ map (inside_table (said_by lines.now)) (numbers (length lines.now)) }
-    requires bare { map facts_of symbols.old.items ≡ map (bare_symbol (said_by lines.now)) (numbers (length symbols.old.items)) }
-    ensures { OnOk result (map facts_of symbols.new.items ≡ map (defined_symbol (said_by lines.now)) (numbers (length symbols.old.items))) }
+    requires openers { openers.now ≡ map (opener_of (said_by lines.old)) (numbers (length lines.old)) }
+    requires insides { map inside_view insides.now ≡ map (inside_table (said_by lines.old)) (numbers (length lines.old)) }
+    requires raised { map facts_of symbols.old.items ≡ map (raised_symbol (said_by lines.old)) (numbers (length symbols.old.items)) }
+    ensures { OnOk result (map facts_of symbols.new.items ≡ map (defined_symbol (said_by lines.old)) (numbers (length symbols.old.items))) }
 {
     let outside = outside(alloc);
-    for (i, line) in lines.iter().enumerate() {
-        if let Some(symbol) = symbol_of(&line.statement) {
-            let around = around(openers, insides, &outside, i);
-            define_at(alloc, lines, i, symbol, around, symbols)?;
+    let mut place = 0;
+    'entries: while place < lines.len() {
+        let end = entry_end(lines, place);
+        if let Some(symbol) = symbol_of(&lines[place].statement) {
+            let around = around(openers, insides, &outside, place);
+            define_at(alloc, &mut lines[place + 1..end], symbol, around, symbols)?;
         }
+        place = end;
     }
     Ok(())
 }

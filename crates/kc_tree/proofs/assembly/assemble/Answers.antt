@@ -1,8 +1,14 @@
-use Rattle.std.proofs.Common.{map, rules}
+use Rattle.std.proofs.Common.{map, rules, ap, ◌∙◌, ℕ}
+use Rattle.kc_expr.specs.Names.{symbol}
+use Rattle.kc_read.specs.Blocks.{numbers}
 use Rattle.kc_read.specs.Reads.{line_view}
 use Rattle.kc_tree.specs.Late.{IsDiagnosis}
 use Rattle.kc_tree.specs.declared.diagnoses.Diagnosis.TheVariants as diagnosis
+use Rattle.kc_tree.specs.Definitions.{bare_symbol}
+use Rattle.kc_tree.specs.Facts.{symbol_facts}
 use Rattle.kc_tree.specs.Passes.{said_by}
+use Rattle.kc_tree.specs.Views.{facts_of}
+use Rattle.kc_tree.proofs.CollectLemmas.{resized, sized}
 use Rattle.kc_tree.proofs.AssemblyLemmas.{no_bad_member, whole}
 use Rattle.kc_tree.proofs.KnownLemmas.{known_is}
 use Rattle.kc_tree.proofs.assembly.assemble.Goals as goal
@@ -22,14 +28,21 @@ choices-requires-clause-members c =
     let said : IsDiagnosis c.args.names.now (map line_view c.args.lines.now) (diagnosis.Warned c.in-Warned.warnings) = (rw c.in-Warned.is at c.in_ok-refusal.ensures) in
     no_bad_member c.args.names.now c.args.lines.now said.0
 
+pub fill-requires-clause-bare : goal.fill-requires-clause-bare
+fill-requires-clause-bare c =
+    resized facts_of c.in_ok-symbols.symbols.items (bare_symbol (said_by c.args.lines.now)) c.args.count c.in_ok-symbols.ensures
+
 pub returns : goal.returns
 returns c =
     let said : IsDiagnosis c.args.names.now (map line_view c.args.lines.now) (diagnosis.Warned c.in-Warned.warnings) = (rw c.in-Warned.is at c.in_ok-refusal.ensures) in
+    let ss = said_by c.args.lines.now in
+    let n = sized facts_of c.in_ok-symbols.symbols.items (bare_symbol ss) c.args.count c.in_ok-symbols.ensures in
+    let filled = c.in_ok-fill-in-Warned.ensures ∙ ap (λ (k : ℕ). map (λ s. symbol_facts ss (symbol s)) (numbers k)) n in
     whole c.args.names.now c.args.count c.args.modules c.args.lines.now (record {
-      symbols = c.in_ok-symbols.symbols;
+      symbols = c.fill.new.symbols;
       choices = c.in_ok-choices-in-Warned.choices;
-      entries = c.in_ok-entries-in-Warned.field-0;
+      entries = c.in_ok-entries-in-Warned.entries;
       warnings = c.in-Warned.warnings;
-      main_menu = c.in_ok-main_menu-in-Warned.field-0;
+      main_menu = c.in_ok-main_menu-in-Warned.main_menu;
       modules = c.defined.result;
-    }) said.0 c.in_ok-symbols.ensures c.in_ok-choices-in-Warned.ensures c.in_ok-entries-in-Warned.ensures said.1 c.in_ok-main_menu-in-Warned.ensures c.defined.ensures
+    }) said.0 filled c.in_ok-choices-in-Warned.ensures c.in_ok-entries-in-Warned.ensures said.1 c.in_ok-main_menu-in-Warned.ensures c.defined.ensures

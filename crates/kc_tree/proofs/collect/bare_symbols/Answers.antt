@@ -1,13 +1,34 @@
-use Rattle.std.proofs.Common.{ℕ, None}
-use Rattle.std.specs.List.{slice_get}
-use Rattle.std.proofs.lemmas.Option.{unwrap_or-slice_get}
+use Rattle.std.proofs.Common.{◌≡◌, ap, ◌∙◌, map, ℕ, None, length, List, Option, Result, Ok, Err, IfOk}
+use Rattle.std.specs.declared.alloc.AllocError.{AllocError}
+use Rattle.std.specs.declared.alloc.Global.{Global}
+use Rattle.std.specs.declared.vec.Vec.{Vec}
+use Rattle.kc_tree.specs.declared.parts.Symbol.{Symbol}
+use Rattle.std.specs.List.{filter_map, slice_get}
 use Rattle.std.specs.Option.{option_map, unwrap_or}
+use Rattle.kc_expr.specs.Names.{symbol}
+use Rattle.kc_expr.specs.declared.expression.Kind.{Kind}
+use Rattle.kc_read.specs.Blocks.{numbers}
 use Rattle.kc_tree.specs.declared.parts.ChoiceId.{ChoiceId}
-use Rattle.kc_tree.specs.Definitions.{bare_from}
+use Rattle.kc_tree.specs.Facts.{first_of, type_of, attributes_of, choice_of}
+use Rattle.kc_tree.specs.Definitions.{bare_symbol, bare_from}
+use Rattle.kc_tree.specs.TreeFacts.{SymbolFacts}
+use Rattle.kc_tree.specs.Passes.{said_by}
 use Rattle.kc_tree.specs.Views.{facts_of}
-use Rattle.kc_tree.proofs.PlaceLemmas.{view_next}
+use Rattle.kc_read.specs.Statements.{Numbered}
+use Rattle.kc_tree.proofs.CollectLemmas.{all_bare}
+use Rattle.kc_tree.proofs.PlaceLemmas.{length-map_numbers}
 use Rattle.kc_tree.proofs.collect.bare_symbols.Goals as goal
 
-pub loop-i-preserved : goal.loop-i-preserved
-loop-i-preserved c =
-    view_next facts_of (λ (s : ℕ). bare_from (unwrap_or (slice_get c.args.types.now s) None) (option_map (λ (k : ChoiceId). k.0) (unwrap_or (slice_get c.args.choices.now s) None))) c.loop-i.i c.loop-i.symbols.items c.push.new.self.items c.bare_symbol.result c.loop-i.invariant (rw (unwrap_or-slice_get c.args.types.now c.loop-i.i None, unwrap_or-slice_get c.args.choices.now c.loop-i.i None) c.bare_symbol.ensures) c.in_ok-push.ensures.items
+-- the tables are those of the statements
+tables : (ss : List Numbered) (count : ℕ) (types shown : List (Option Kind)) (choices seen : List (Option ChoiceId)) → types ≡ map (λ s. first_of (filter_map type_of (attributes_of ss (symbol s)))) (numbers count) → map (option_map (λ (k : ChoiceId). k.0)) choices ≡ map (λ s. choice_of ss (symbol s)) (numbers count) → shown ≡ types → seen ≡ choices → map (λ s. bare_from (unwrap_or (slice_get shown s) None) (option_map (λ (k : ChoiceId). k.0) (unwrap_or (slice_get seen s) None))) (numbers (length shown)) ≡ map (bare_symbol ss) (numbers count)
+tables ss count types shown choices seen t c e f =
+    let n : length shown ≡ count = ap length (e ∙ t) ∙ length-map_numbers (λ s. first_of (filter_map type_of (attributes_of ss (symbol s)))) count in
+    all_bare ss (λ (k : ChoiceId). k.0) count (length shown) shown seen n (e ∙ t) (ap (map (option_map (λ (k : ChoiceId). k.0))) f ∙ c)
+
+same_if_ok : (r : Result (Vec Symbol Global) AllocError) (fs gs : List SymbolFacts) → fs ≡ gs → IfOk r (λ v. map facts_of v.items ≡ fs) → IfOk r (λ v. map facts_of v.items ≡ gs)
+same_if_ok (Ok v) fs gs e h = h ∙ e
+same_if_ok (Err x) fs gs e h = h
+
+pub returns : goal.returns
+returns c =
+    same_if_ok c.bare_from_tables.result _ _ (tables (said_by c.args.lines.now) c.args.count c.in_ok-types.types.items c.deref.result.now c.in_ok-choices.choices.items c.deref-2.result.now c.in_ok-types.ensures c.in_ok-choices.ensures c.deref.ensures.value c.deref-2.ensures.value) c.bare_from_tables.ensures

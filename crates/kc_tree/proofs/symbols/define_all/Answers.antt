@@ -1,32 +1,76 @@
-use Rattle.std.proofs.Common.{map, length, ap, ◌∙◌, Some, None, refl, Option}
+use Rattle.std.proofs.Common.{◌≡◌, ◌<◌, ◌+◌, map, length, drop, get_or, ap, ◌∙◌, refl, arith, ℕ, List, Some, None, Option}
+use Rattle.std.specs.List.{prefix_len}
 use Rattle.kc_expr.specs.declared.expression.SymId.{SymId}
-use Rattle.kc_read.specs.Blocks.{attributes}
+use Rattle.kc_read.specs.Blocks.{numbers, attributes, is_attribute}
+use Rattle.kc_read.specs.Statements.{Numbered}
+use Rattle.kc_read.specs.declared.line.Line.{Line}
 use Rattle.kc_tree.specs.Conditions.{defined_by}
+use Rattle.kc_tree.specs.Definitions.{raised_symbol}
 use Rattle.kc_tree.specs.Passes.{said_by, changed}
 use Rattle.kc_tree.specs.Rounds.{round}
 use Rattle.kc_tree.specs.RoundViews.{round_view, inside_view}
 use Rattle.kc_tree.specs.Views.{facts_of}
+use Rattle.kc_tree.proofs.EntryWalkLemmas.{line_left, own_left, left_behind, left_as_is, rest_said, entry_passed}
 use Rattle.kc_tree.proofs.RoundLemmas.{seen-is, openers_reach}
-use Rattle.kc_tree.proofs.TableLemmas.{facts_next, symbol-at}
+use Rattle.kc_tree.proofs.TableLemmas.{facts_next, facts_so_far, same_numbers, symbol-at, all_passed}
 use Rattle.kc_tree.proofs.symbols.define_all.Goals as goal
-use Rattle.kc_tree.proofs.symbols.define_all.Goals.{in-Some+in_ok-define_at, in_default}
+
+pub entries-init : goal.entries-init
+entries-init c =
+    let ss = said_by c.args.lines.now in
+    (record { behind = refl; long = refl; within = omega arith }, c.requires.raised ∙ same_numbers (raised_symbol ss) (facts_so_far ss 0) (length c.args.symbols.now.items) (λ s. refl))
 
 pub around-around-requires : goal.around-around-requires
-around-around-requires c = openers_reach c.args.lines.now c.loop-i.i c.args.openers.now c.loop-i-test.true c.requires.openers
+around-around-requires c =
+    let long = c.entries.invariant.0.long in
+    let within : c.entries.place < length c.args.lines.now = omega (arith, c.entries-test.true, long) in
+    openers_reach c.args.lines.now c.entries.place c.args.openers.now within c.requires.openers
 
-pub loop-i-preserved : goal.loop-i-preserved
-loop-i-preserved c =
-    let ls = c.args.lines.now in
-    let ss = said_by ls in
-    let i = c.loop-i.i in
-    let table = map facts_of c.loop-i.symbols.items in
-    elim c.match-symbol_of.branch [
-      | in-Some+in_ok-define_at w ↦
-          let r = round_view w.around-around.result.now in
-          let seen = seen-is ls i c.args.openers.now (map inside_view c.args.insides.now) (round_view c.outside-outside.result) r c.loop-i-test.true c.requires.openers c.requires.insides c.outside-outside.ensures w.around-around.ensures in
-          let at = symbol-at ls i c.index-lines-i.result (Some w.in-Some.symbol) c.loop-i-test.true c.index-lines-i.is w.in-Some.ensures in
-          rw w.symbols-is (facts_next ss i (length c.args.symbols.now.items) table (map facts_of w.define_at.new.symbols.items) r c.loop-i.invariant seen (w.in_ok-define_at.ensures ∙ ap (λ (o : Option SymId). changed (defined_by r (attributes ss i)) o table) at))
-      | in_default w ↦
-          let at = symbol-at ls i c.index-lines-i.result None c.loop-i-test.true c.index-lines-i.is w.in_default.ensures in
-          rw w.symbols-is (facts_next ss i (length c.args.symbols.now.items) table table (round ss i) c.loop-i.invariant refl (ap (λ (o : Option SymId). changed (defined_by (round ss i) (attributes ss i)) o table) at))
-    ]
+pub entries-preserved-in_ok-define_at : goal.entries-preserved-in_ok-define_at
+entries-preserved-in_ok-define_at c =
+    let all = c.args.lines.now in
+    let ls = c.entries.lines in
+    let ss = said_by all in
+    let i = c.entries.place in
+    let end = c.entry_end-end.result in
+    let left = c.entries.invariant.0 in
+    let table = map facts_of c.entries.symbols.items in
+    let n = length c.args.symbols.now.items in
+    let long = left.long in
+    let within : i < length all = omega (arith, c.entries-test.true, long) in
+    let r = round_view c.around-around.result.now in
+    let seen = seen-is all i c.args.openers.now (map inside_view c.args.insides.now) (round_view c.outside-outside.result) r within c.requires.openers c.requires.insides c.outside-outside.ensures c.around-around.ensures in
+    let x = get_or ls i c.index-lines-place.result in
+    let here : x ≡ get_or ls i x = ap (λ (l : Line). get_or ls i l) c.index-lines-place.is in
+    let at = symbol-at all i x (Some c.in-Some.symbol) within (line_left all ls i x left here) c.in-Some.ensures in
+    let own = own_left all ls i end left c.entry_end-end.ensures.count in
+    let made = c.in_ok-define_at.ensures ∙ ap (λ (l : List Numbered). changed (defined_by r l) (Some c.in-Some.symbol) table) own ∙ ap (λ (o : Option SymId). changed (defined_by r (attributes ss i)) o table) at in
+    let counted : end ≡ i + 1 + prefix_len is_attribute (drop (i + 1) ss) = c.entry_end-end.ensures.count ∙ ap (λ (l : List Numbered). i + 1 + prefix_len is_attribute l) (rest_said all ls i left) in
+    (left_behind all ls c.define_at.new.own i end left c.entries-test.true c.entry_end-end.ensures.count c.entry_end-end.ensures.within c.define_at.auto.own,
+    entry_passed ss i end n (map facts_of c.define_at.new.symbols.items) counted (facts_next ss i n table (map facts_of c.define_at.new.symbols.items) r c.entries.invariant.1 seen made))
+
+pub entries-preserved : goal.entries-preserved
+entries-preserved c =
+    let all = c.args.lines.now in
+    let ls = c.entries.lines in
+    let ss = said_by all in
+    let i = c.entries.place in
+    let end = c.entry_end-end.result in
+    let left = c.entries.invariant.0 in
+    let table = map facts_of c.entries.symbols.items in
+    let n = length c.args.symbols.now.items in
+    let long = left.long in
+    let within : i < length all = omega (arith, c.entries-test.true, long) in
+    let x = get_or ls i c.index-lines-place.result in
+    let here : x ≡ get_or ls i x = ap (λ (l : Line). get_or ls i l) c.index-lines-place.is in
+    let at = symbol-at all i x None within (line_left all ls i x left here) c.in_default.ensures in
+    let counted : end ≡ i + 1 + prefix_len is_attribute (drop (i + 1) ss) = c.entry_end-end.ensures.count ∙ ap (λ (l : List Numbered). i + 1 + prefix_len is_attribute l) (rest_said all ls i left) in
+    (left_as_is all ls i end left (omega (arith, counted)) c.entry_end-end.ensures.within,
+    entry_passed ss i end n table counted (facts_next ss i n table table (round ss i) c.entries.invariant.1 refl (ap (λ (o : Option SymId). changed (defined_by (round ss i) (attributes ss i)) o table) at)))
+
+pub returns : goal.returns
+returns c =
+    let all = c.args.lines.now in
+    let left = c.entries.invariant.0 in
+    let long = left.long in
+    c.entries.invariant.1 ∙ all_passed (λ (i : ℕ). map (facts_so_far (said_by all) i) (numbers (length c.args.symbols.now.items))) all c.entries.place left.within (omega (arith, c.entries-test.false, long))

@@ -1,6 +1,4 @@
-use Rattle.std.proofs.Common.{arith, ◌∙◌, ap, List}
-use Rattle.kc_read.specs.Blocks.{attributes}
-use Rattle.kc_read.specs.Statements.{Numbered}
+use Rattle.std.proofs.Common.{arith}
 use Rattle.kc_tree.specs.Conditions.{defined_by}
 use Rattle.kc_tree.specs.Passes.{said_by}
 use Rattle.kc_tree.specs.RoundViews.{round_view}
@@ -10,9 +8,8 @@ use Rattle.kc_tree.proofs.symbols.define_at.Goals as goal
 
 pub returns-in_ok-define : goal.returns-in_ok-define
 returns-in_ok-define c =
-    let r = round_view c.args.around.now in
-    set_changed facts_of (defined_by r (attributes (said_by c.args.lines.now) c.args.place)) c.args.symbols.now.items c.args.symbol.0 c.index_mut.result.now c.define.new.symbol (omega (arith, c.args.symbols.now.ok)) c.index_mut.ensures.value (c.in_ok-define.ensures ∙ ap (λ (own : List Numbered). defined_by r own (facts_of c.index_mut.result.now)) c.attributes.ensures)
+    set_changed facts_of (defined_by (round_view c.args.around.now) (said_by c.args.own.now)) c.args.symbols.now.items c.args.symbol.0 c.index_mut.result.now c.define.new.symbol (omega (arith, c.args.symbols.now.ok)) c.index_mut.ensures.value c.in_ok-define.ensures
 
 pub returns-else-symbol-len : goal.returns-else-symbol-len
 returns-else-symbol-len c =
-    unchanged_past facts_of (defined_by (round_view c.args.around.now) (attributes (said_by c.args.lines.now) c.args.place)) c.args.symbols.now.items c.args.symbol.0 (omega (arith, c.args.symbols.now.ok))
+    unchanged_past facts_of (defined_by (round_view c.args.around.now) (said_by c.args.own.now)) c.args.symbols.now.items c.args.symbol.0 (omega (arith, c.args.symbols.now.ok))

@@ -5,7 +5,7 @@ use Rattle.kc_read.specs.Blocks.{numbers}
 use Rattle.kc_tree.specs.declared.parts.ChoiceId.{ChoiceId}
 use Rattle.kc_tree.specs.Definitions.{bare_from}
 use Rattle.kc_tree.specs.Views.{facts_of}
-use Rattle.kc_tree.proofs.collect.bare_symbols.Given as goal
+use Rattle.kc_tree.proofs.collect.bare_from_tables.Given as goal
 
 abbrev pub invariant-loop-i : goal.invariant-loop-i
 invariant-loop-i l =
