@@ -1,5 +1,5 @@
 //! The run over devices.
-ghost use Rattle.std.specs.Prelude.{◌≡◌, ◌≢◌, ◌+◌, List, ℕ, length, map, OnOk, IfErr, IfOk};
+ghost use Rattle.std.specs.Prelude.{◌≡◌, ◌≢◌, ◌+◌, ◌⊎◌, List, ℕ, length, map, OnOk, IfErr, IfOk};
 ghost use Rattle.kc_read.specs.Expansion.{Refused};
 ghost use Rattle.kc_read.specs.Files.{bytes_in};
 ghost use Rattle.kc_read.specs.Steps.{refusal_view};
@@ -187,6 +187,7 @@ fn run_through<I: Input, O: Outputs>(
     ensures refused_outputs { (r : Refused) → IsRefusedTree (bytes_in files.now) (root_of options.now) r → Only Which.Notes (O.seen outputs.old) (O.seen outputs.new) }
     ensures kept { OnOk result ((tree : TreeFacts) → IsAcceptedTree (bytes_in files.now) (root_of options.now) tree → Holds tree kept.new) }
     ensures refused_kept { (r : Refused) → IsRefusedTree (bytes_in files.now) (root_of options.now) r → kept.new ≡ kept.old }
+    ensures either_kept { (tree : TreeFacts) → IsAcceptedTree (bytes_in files.now) (root_of options.now) tree → (kept.new ≡ kept.old) ⊎ Holds tree kept.new }
 {
     one_outcome();
     one_answer();
@@ -267,6 +268,8 @@ pub fn run_keeping<I: Input, O: Outputs>(
     // Without a fault an accepted tree is kept; a refused one leaves what was there.
     ensures kept { result ≢ Status.Faulted → (tree : TreeFacts) → IsAcceptedTree (bytes_in files.now) (root_of options.now) tree → Holds tree kept.new }
     ensures refused_kept { (r : Refused) → IsRefusedTree (bytes_in files.now) (root_of options.now) r → kept.new ≡ kept.old }
+    // Whatever comes, it is what was there or the accepted tree.
+    ensures either_kept { (tree : TreeFacts) → IsAcceptedTree (bytes_in files.now) (root_of options.now) tree → (kept.new ≡ kept.old) ⊎ Holds tree kept.new }
 {
     match run_through(alloc, files, options, inputs, outputs, kept) {
         Ok(status) => status,

@@ -1,5 +1,5 @@
 -- What a run leaves, from the tree on.
-use Rattle.std.proofs.Common.{Some, Result, Ok, Err, OnOk, subst, refl, ap, ◌∙◌, map}
+use Rattle.std.proofs.Common.{inr, Some, Result, Ok, Err, OnOk, subst, refl, ap, ◌∙◌, map}
 use Rattle.std.proofs.lemmas.Result.{IfOk-weaker, IfErr-weaker}
 use Rattle.kc_read.specs.Files.{bytes_in}
 use Rattle.kc_read.specs.Steps.{refusal_view}
@@ -89,6 +89,12 @@ returns-in-Ok-clause-kept g c = holds c.run_tree-ended.result
     holds : (r : Result Status Cause) → OnOk r ((tree : TreeFacts) → IsAcceptedTree (bytes_in c.args.files.now) (root_of c.args.options.now) tree → Holds tree (Some record { tree = c.in-Ok.tree; order = c.in-Ok.order }))
     holds (Ok s) = kept
     holds (Err e) = tt
+
+pub returns-in-Ok-clause-either_kept : goal.returns-in-Ok-clause-either_kept
+returns-in-Ok-clause-either_kept g c = λ tree is.
+    let accepted = subst (λ root. IsAcceptedTree (bytes_in c.args.files.now) root c.in-Ok.tree) c.as_bytes.ensures.value c.in-Ok.ensures.ok in
+    let same = c.one_answer.ensures.one_accepted (bytes_in c.args.files.now) (root_of c.args.options.now) c.in-Ok.tree tree accepted is in
+    inr (same, c.in-Ok.ensures.order ∙ ap needs same)
 
 pub returns-in-Ok-clause-refused_kept : goal.returns-in-Ok-clause-refused_kept
 returns-in-Ok-clause-refused_kept g c = λ r refused.
