@@ -1,5 +1,5 @@
 -- A file that holds neither the bytes of `source` nor a `\` has no `source` line.
-use Rattle.std.proofs.Common.{◌≡◌, inl, inr, ℕ, suc, ◌+◌, ◌-◌, ◌<◌, Bool, true, false, cond, ◌&&◌, eqb, List, [], ◌∷◌, ◌++◌, length, take, drop, get_or, codes, None, refl, sym, ap, ◌∙◌, subst, append_assoc, append-nil, length-append, arith}
+use Rattle.std.proofs.Common.{◌≡◌, inl, inr, ℕ, suc, ◌+◌, ◌-◌, ◌<◌, Bool, true, false, cond, ◌&&◌, eqb, List, [], ◌∷◌, ◌++◌, length, take, drop, get_or, codes, None, refl, sym, ap, ◌∙◌, subst, append_assoc, append-nil, length-append, length-drop, get_or-drop, drop-cons, ◌≤◌, arith}
 use Rattle.std.specs.Prelude.{Option, Some, is_some}
 use Rattle.std.specs.List.{slice_split, join_with_byte}
 use Rattle.std.specs.Str.Lines.{strip_carriage_return}
@@ -39,6 +39,33 @@ pub nothing_found : (file : List ℕ) (word byte : Option ℕ) → FindsNeedle f
 nothing_found file None None w b e f = record { no_word = no_text file (codes "source") w; no_backslash = no_byte file 92 b }
 nothing_found file None (Some n) w b e f = absurd cc
 nothing_found file (Some n) byte w b e f = absurd cc
+
+-- ---- What a search that finds something says
+
+front_read : (text bytes : List ℕ) → length bytes ≤ length text → ((j : ℕ) → j < length bytes → get_or text j 0 ≡ get_or bytes j 0) → text ≡ bytes ++ drop (length bytes) text
+front_read text [] fits reads = refl
+front_read [] (b ∷ bytes) fits reads = absurd (omega arith)
+front_read (a ∷ text) (b ∷ bytes) fits reads = λ i. reads 0 (omega arith) i ∷ front_read text bytes (omega arith) (λ j lt. reads (suc j) (omega arith)) i
+
+stands_at : (text bytes : List ℕ) (k : ℕ) → OccursAt text bytes k → Holds text bytes
+stands_at text bytes k o =
+    let long = length-drop k text in
+    let fits = o.fits in
+    let front = front_read (drop k text) bytes (omega arith) (λ j lt. get_or-drop k text j 0 ∙ o.reads j lt) in
+    (take k text, drop (length bytes) (drop k text), sym (take-append-drop k text) ∙ ap (λ l. take k text ++ l) front ∙ sym (append_assoc (take k text) bytes _))
+
+byte_at : (text : List ℕ) (b k : ℕ) → k < length text → Passes (is_byte b) text k → Holds text (b ∷ [])
+byte_at text b k lt p =
+    let same : get_or text k 0 ≡ b = eqb-true (get_or text k 0) b p in
+    (take k text, drop (suc k) text, sym (take-append-drop k text) ∙ ap (λ l. take k text ++ l) (drop-cons text k 0 lt ∙ ap (λ x. x ∷ drop (suc k) text) same) ∙ sym (append_assoc (take k text) (b ∷ []) _))
+
+pub text_found : (file : List ℕ) (word : Option ℕ) → FindsNeedle file (codes "source") 0 word → is_some word ≡ true → Holds file (codes "source")
+text_found file None w e = absurd cc
+text_found file (Some n) w e = stands_at file (codes "source") n w.1
+
+pub byte_found : (file : List ℕ) (byte : Option ℕ) → IsFirstByte (is_byte 92) file byte → is_some byte ≡ true → Holds file (92 ∷ [])
+byte_found file None f e = absurd cc
+byte_found file (Some n) f e = byte_at file 92 n f.0.high f.1
 
 -- ---- Parts of a text
 

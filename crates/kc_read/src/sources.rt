@@ -1,11 +1,11 @@
 //! The files that a file names in its `source` lines.
 
-ghost use Rattle.std.specs.Prelude.{◌≡◌, ◌≢◌, ◌<◌, ◌≤◌, IfOk, length, map, None, false};
+ghost use Rattle.std.specs.Prelude.{◌≡◌, ◌≢◌, ◌<◌, ◌≤◌, ◌⊎◌, ◌∷◌, [], IfOk, codes, length, map, None, false, true};
 ghost use Rattle.kc_text.specs.Lines.{Left, TakesLine, left};
 ghost use Rattle.kc_text.specs.declared.faults.TextFault.TheVariants.{Memory};
 ghost use Rattle.kc_read.specs.declared.sources.Found.TheVariants.{Nothing};
 ghost use Rattle.kc_read.specs.Sources as spec;
-ghost use Rattle.kc_read.specs.Sources.{GoesOn, IsFound, IsSilent};
+ghost use Rattle.kc_read.specs.Sources.{GoesOn, Holds, IsFound, IsSilent};
 
 use crate::parts::begins_with;
 use crate::reader::source_name;
@@ -92,7 +92,8 @@ fn next_source<'a>(
 
 // Whether a file may have a `source` line, seen without cutting it into tokens. A `\` may join the parts of the word.
 fn may_source(file: &[u8]) -> bool
-    ensures { result ≡ false → IsSilent file.now }
+    ensures silent { result ≡ false → IsSilent file.now }
+    ensures heard { result ≡ true → Holds file.now (codes "source") ⊎ Holds file.now (92 ∷ []) }
 {
     file.find(b"source").is_some() || file.find_byte(b'\\').is_some()
 }

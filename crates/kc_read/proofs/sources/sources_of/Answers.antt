@@ -7,7 +7,7 @@ use Rattle.kc_read.proofs.sources.sources_of.Goals as goal
 -- no line names a file
 pub returns-then-not-may_source : goal.returns-then-not-may_source
 returns-then-not-may_source c =
-    let names = no_names c.args.file.now (c.may_source.ensures c.if-not-may_source.true) in
+    let names = no_names c.args.file.now (c.may_source.ensures.silent c.if-not-may_source.true) in
     rw c.new-names.ensures.items names
 
 pub along-preserved-in-Other : goal.along-preserved-in-Other
