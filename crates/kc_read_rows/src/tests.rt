@@ -316,7 +316,11 @@ source a~rsource b~osource c~source b~ => a;b;
 help~ source a~source b~ => b;
 help x~ source a~ source b~source c~ => c;
 sour\~ce a~# \~source b~source c => a;c;
-source a~~@source \~@b # c~ => a;b;"#;
+source a~~@source \~@b # c~ => a;b;
+sour\~ce a => a;
+config A~@bool~@help~@@a text~config B~ => 
+foo $~& => 
+# resource~config A~@prompt "source a"~resource b~ => "#;
 
 // Each exit of a function has code of its own for every value that the function owns there, and all of it is proved. So
 // a function here owns little where it can fail: what can fail works on a reference, and its answer goes out behind a
