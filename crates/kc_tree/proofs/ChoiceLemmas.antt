@@ -16,7 +16,7 @@ use Rattle.kc_read.specs.Statements.{Numbered}
 use Rattle.kc_read.specs.Blocks.{numbers, attributes, bracket, opened}
 use Rattle.kc_tree.specs.declared.parts.Choice.{Choice}
 use Rattle.kc_tree.specs.declared.parts.Cond.{Cond}
-use Rattle.kc_tree.specs.declared.parts.Symbol.{Symbol}
+use Rattle.kc_tree.specs.declared.known.Known.{Known}
 use Rattle.kc_tree.specs.TreeFacts.{Condition, Guarded, ChoiceFacts}
 use Rattle.kc_tree.specs.Facts.{Given, given_of, single_symbol, same_symbol, is_block, of_block, is_member, member_default, members_of, choice_number, choice_facts, dep}
 use Rattle.kc_tree.specs.Conditions.{with_when}
@@ -31,9 +31,9 @@ use Rattle.kc_tree.proofs.OpenerLemmas.{statement_at}
 use Rattle.kc_tree.proofs.PlaceLemmas.{filter-next, get-map_numbers, length-map_numbers}
 use Rattle.kc_tree.proofs.WarningLemmas.{members-is}
 
--- where no member is refused, a symbol stands among a choice's members exactly where the symbols' facts give it that
--- choice
-pub listed_is : (ss : List Numbered) (ks : List Symbol) (members : List SymId) (k : ℕ) → IsKnown ss ks → bad_members ss ≡ [] → members ≡ members_of ss k → (s : SymId) → member_by ks k s ≡ list_any (same_symbol s) members
+-- where no member is refused, a symbol stands among a choice's members exactly where what is known of it gives it
+-- that choice
+pub listed_is : (ss : List Numbered) (ks : List Known) (members : List SymId) (k : ℕ) → IsKnown ss ks → bad_members ss ≡ [] → members ≡ members_of ss k → (s : SymId) → member_by ks k s ≡ list_any (same_symbol s) members
 listed_is ss ks members k a none e s =
     ap (λ (f : ℕ → SymId → Bool). f k s) (members-is ss ks a none) ∙ ap (list_any (same_symbol s)) (sym e)
 

@@ -1,4 +1,5 @@
 -- The passes over symbols together.
+use mathlib.Core.List.{map-map}
 use Rattle.std.proofs.Common.{◌≡◌, ℕ, zero, suc, ◌<◌, List, [], ◌∷◌, length, map, Option, Some, None, refl, ap, sym, ◌∙◌, arith}
 use Rattle.std.specs.List.{slice_get, filter_map, flat_map, cons_option}
 use Rattle.std.specs.Option.{option_map, unwrap_or}
@@ -8,9 +9,13 @@ use Rattle.kc_expr.specs.declared.expression.Kind.{Kind}
 use Rattle.kc_expr.specs.Names.{symbol}
 use Rattle.kc_read.specs.Statements.{Numbered, RangeLine}
 use Rattle.kc_read.specs.Blocks.{numbers, attributes}
+use Rattle.kc_tree.specs.declared.known.Known.{Known}
+use Rattle.kc_tree.specs.declared.parts.Symbol.{Symbol}
 use Rattle.kc_tree.specs.Facts.{Given, given_of, first_of, type_of, attributes_of, choice_of, definitions_of, symbol_facts, dep, default_under, defaults_at, range_under}
 use Rattle.kc_tree.specs.Conditions.{default_line, range_line}
-use Rattle.kc_tree.specs.Definitions.{bare_from, bare_symbol, defined_symbol}
+use Rattle.kc_tree.specs.Definitions.{known_by, known_symbol, bare_from, bare_symbol, defined_symbol}
+use Rattle.kc_tree.specs.Known.{known_view}
+use Rattle.kc_tree.specs.Views.{facts_of}
 use Rattle.kc_tree.proofs.PlaceLemmas.{get-map_numbers, length-map_numbers}
 use Rattle.kc_tree.proofs.TableLemmas.{same_numbers}
 
@@ -21,17 +26,22 @@ same_below f h (suc n) e =
     map-append f (numbers n) (n ∷ []) ∙ (rw (same_below f h n (λ j b. e j (omega arith)), e n (omega arith)) refl) ∙ sym (map-append h (numbers n) (n ∷ []))
 
 module _ (ss : List Numbered) where
-  bare-is : (count : ℕ) (types : List (Option Kind)) (choices : List (Option ℕ)) → types ≡ map (λ s. first_of (filter_map type_of (attributes_of ss (symbol s)))) (numbers count) → choices ≡ map (λ s. choice_of ss (symbol s)) (numbers count) → map (λ s. bare_from (unwrap_or (slice_get types s) None) (unwrap_or (slice_get choices s) None)) (numbers count) ≡ map (bare_symbol ss) (numbers count)
-  bare-is count types choices t c =
-      same_below (λ s. bare_from (unwrap_or (slice_get types s) None) (unwrap_or (slice_get choices s) None)) (bare_symbol ss) count (λ s b. rw (t, c, get-map_numbers (λ j. first_of (filter_map type_of (attributes_of ss (symbol j)))) count s b, get-map_numbers (λ j. choice_of ss (symbol j)) count s b) refl)
+  known-is : (count : ℕ) (types : List (Option Kind)) (choices : List (Option ℕ)) → types ≡ map (λ s. first_of (filter_map type_of (attributes_of ss (symbol s)))) (numbers count) → choices ≡ map (λ s. choice_of ss (symbol s)) (numbers count) → map (λ s. known_by (unwrap_or (slice_get types s) None) (unwrap_or (slice_get choices s) None)) (numbers count) ≡ map (known_symbol ss) (numbers count)
+  known-is count types choices t c =
+      same_below (λ s. known_by (unwrap_or (slice_get types s) None) (unwrap_or (slice_get choices s) None)) (known_symbol ss) count (λ s b. rw (t, c, get-map_numbers (λ j. first_of (filter_map type_of (attributes_of ss (symbol j)))) count s b, get-map_numbers (λ j. choice_of ss (symbol j)) count s b) refl)
 
   taken : {A B : Type 0} (f : A → B) (o : Option (Option A)) → unwrap_or (option_map (option_map f) o) None ≡ option_map f (unwrap_or o None)
   taken f None = refl
   taken f (Some o) = refl
 
-  pub all_bare : {C : Type 0} (v : C → ℕ) (count n : ℕ) (types : List (Option Kind)) (choices : List (Option C)) → n ≡ count → types ≡ map (λ s. first_of (filter_map type_of (attributes_of ss (symbol s)))) (numbers count) → map (option_map v) choices ≡ map (λ s. choice_of ss (symbol s)) (numbers count) → map (λ s. bare_from (unwrap_or (slice_get types s) None) (option_map v (unwrap_or (slice_get choices s) None))) (numbers n) ≡ map (bare_symbol ss) (numbers count)
-  all_bare v count n types choices e t c =
-      rw e (same_numbers (λ s. bare_from (unwrap_or (slice_get types s) None) (option_map v (unwrap_or (slice_get choices s) None))) (λ s. bare_from (unwrap_or (slice_get types s) None) (unwrap_or (slice_get (map (option_map v) choices) s) None)) count (λ s. ap (bare_from (unwrap_or (slice_get types s) None)) (sym (ap (λ o. unwrap_or o None) (slice_get-map (option_map v) choices s) ∙ taken v (slice_get choices s)))) ∙ bare-is count types (map (option_map v) choices) t c)
+  pub all_known : {C : Type 0} (v : C → ℕ) (count n : ℕ) (types : List (Option Kind)) (choices : List (Option C)) → n ≡ count → types ≡ map (λ s. first_of (filter_map type_of (attributes_of ss (symbol s)))) (numbers count) → map (option_map v) choices ≡ map (λ s. choice_of ss (symbol s)) (numbers count) → map (λ s. known_by (unwrap_or (slice_get types s) None) (option_map v (unwrap_or (slice_get choices s) None))) (numbers n) ≡ map (known_symbol ss) (numbers count)
+  all_known v count n types choices e t c =
+      rw e (same_numbers (λ s. known_by (unwrap_or (slice_get types s) None) (option_map v (unwrap_or (slice_get choices s) None))) (λ s. known_by (unwrap_or (slice_get types s) None) (unwrap_or (slice_get (map (option_map v) choices) s) None)) count (λ s. ap (known_by (unwrap_or (slice_get types s) None)) (sym (ap (λ o. unwrap_or o None) (slice_get-map (option_map v) choices s) ∙ taken v (slice_get choices s)))) ∙ known-is count types (map (option_map v) choices) t c)
+
+  -- symbols of which no more is known than the statements say
+  pub all_bare : (ks : List Known) (symbols : List Symbol) → map known_view ks ≡ map (known_symbol ss) (numbers (length ks)) → map facts_of symbols ≡ map (λ k. bare_from (known_view k)) ks → map facts_of symbols ≡ map (bare_symbol ss) (numbers (length ks))
+  all_bare ks symbols k b =
+      b ∙ sym (map-map bare_from known_view ks) ∙ ap (map bare_from) k ∙ map-map bare_from (known_symbol ss) (numbers (length ks))
 
   -- the lines of an entry, one by one
   one_by_one : (i : ℕ) (own : List Numbered) → map (default_under ss i) (filter_map given_of own) ≡ filter_map (default_line (dep ss i)) own

@@ -15,7 +15,7 @@ use Rattle.kc_read.specs.Expansion.{Refused}
 use Rattle.kc_tree.specs.declared.known.Mark.{Mark}
 use Rattle.kc_tree.specs.declared.known.Marks.{Marks}
 use Rattle.kc_tree.specs.declared.owners.Owner.{Owner}
-use Rattle.kc_tree.specs.declared.parts.Symbol.{Symbol}
+use Rattle.kc_tree.specs.declared.known.Known.{Known}
 use Rattle.kc_tree.specs.Firsts.{is_first_at}
 use Rattle.kc_tree.specs.TreeFacts.{TreeFacts}
 use Rattle.kc_tree.specs.Trees.{unless_refused}
@@ -71,7 +71,7 @@ module _ (ls : List Line) where
   mode_is i openers table o r h p t e q =
       ap (λ (s : Surroundings). s.mode) (q ∙ ap (λ (w : Surroundings). looked_up w openers table i) e ∙ looked_up-is (said_by ls) (length ls) (length ls) i openers table (omega (arith, length-said_by ls)) h (omega arith) p t)
 
-  pub bad_config-is : (i : ℕ) (x : Line) (k : List Symbol) (m : Marks) (r : Mark) (mode : Option ℕ) (b : Bool) → IsKnown (said_by ls) k → AreMarks (said_by ls) m → i < length ls → x ≡ get_or ls i x → IsMark m i r → mode ≡ choice_round (said_by ls) i → b ≡ is_bad_member (kind_by k) (choice_by k) r.first mode (statement_view x.statement) → is_bad_config i ≡ b
+  pub bad_config-is : (i : ℕ) (x : Line) (k : List Known) (m : Marks) (r : Mark) (mode : Option ℕ) (b : Bool) → IsKnown (said_by ls) k → AreMarks (said_by ls) m → i < length ls → x ≡ get_or ls i x → IsMark m i r → mode ≡ choice_round (said_by ls) i → b ≡ is_bad_member (kind_by k) (choice_by k) r.first mode (statement_view x.statement) → is_bad_config i ≡ b
   bad_config-is i x k m r mode b a d h at p g e =
       let s = statement_view x.statement in
       let first = first_read (said_by ls) m i r d (omega (arith, length-said_by ls)) p in
@@ -90,7 +90,7 @@ module _ (ls : List Line) where
   no_config i x o b h at e t f =
       ap (λ (q : Option Numbered). list_any (is_bad_member (kind_of (said_by ls)) (choice_of (said_by ls)) (is_first_at (said_by ls) i) (choice_round (said_by ls) i)) (listed q)) (statement_at ls i x h at) ∙ or_false _ ∙ ap (λ (q : Option SymId). list_any (is_bad_symbol i) (listed q)) (sym e) ∙ none_bad i o (sym f ∙ t)
 
-  pub bad_given-is : (i : ℕ) (x : Line) (k : List Symbol) (m : Marks) (r : Mark) (b : Bool) → IsKnown (said_by ls) k → AreMarks (said_by ls) m → i < length ls → x ≡ get_or ls i x → IsMark m i r → b ≡ is_bad_default (kind_by k) r.owner (statement_view x.statement) → is_bad_given i ≡ b
+  pub bad_given-is : (i : ℕ) (x : Line) (k : List Known) (m : Marks) (r : Mark) (b : Bool) → IsKnown (said_by ls) k → AreMarks (said_by ls) m → i < length ls → x ≡ get_or ls i x → IsMark m i r → b ≡ is_bad_default (kind_by k) r.owner (statement_view x.statement) → is_bad_given i ≡ b
   bad_given-is i x k m r b a d h at p e =
       let s = statement_view x.statement in
       let own = owner_read (said_by ls) m i r d (omega (arith, length-said_by ls)) p in

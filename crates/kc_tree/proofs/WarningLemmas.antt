@@ -13,7 +13,7 @@ use Rattle.kc_read.specs.Blocks.{numbers}
 use Rattle.kc_tree.specs.declared.known.Mark.{Mark}
 use Rattle.kc_tree.specs.declared.known.Marks.{Marks}
 use Rattle.kc_tree.specs.declared.owners.Owner.{Owner}
-use Rattle.kc_tree.specs.declared.parts.Symbol.{Symbol}
+use Rattle.kc_tree.specs.declared.known.Known.{Known}
 use Rattle.kc_tree.specs.Firsts.{is_first_at}
 use Rattle.kc_tree.specs.Facts.{listed, is_member, choice_of, kind_of}
 use Rattle.kc_tree.specs.Known.{IsKnown, AreMarks, IsPlace, IsMark, choice_by, member_by, said_by_mark}
@@ -53,12 +53,12 @@ pub first_read : (ss : List Numbered) (m : Marks) (i : ℕ) (r : Mark) → AreMa
 first_read ss m i r a h k = read_at (is_first_at ss) (length ss) i m.firsts.items r.first a.firsts h k.first
 
 -- what tables say of members
-pub members-is : (ss : List Numbered) (k : List Symbol) → IsKnown ss k → bad_members ss ≡ [] → member_by k ≡ is_member ss
+pub members-is : (ss : List Numbered) (k : List Known) → IsKnown ss k → bad_members ss ≡ [] → member_by k ≡ is_member ss
 members-is ss k a none =
     let at : (c : ℕ) (t : SymId) → member_by k c t ≡ is_member ss c t = λ c t. ap (λ (f : SymId → Option ℕ). list_any (λ d. d == c) (listed (f t))) a.choices ∙ sym (member_is ss t none c) in
     λ i c t. at c t i
 
-pub said-is : (ss : List Numbered) (k : List Symbol) (m : Marks) (i : ℕ) (r : Mark) (s : Numbered) → IsKnown ss k → AreMarks ss m → bad_members ss ≡ [] → i < length ss → IsMark m i r → said_by_mark k r s ≡ said ss i s
+pub said-is : (ss : List Numbered) (k : List Known) (m : Marks) (i : ℕ) (r : Mark) (s : Numbered) → IsKnown ss k → AreMarks ss m → bad_members ss ≡ [] → i < length ss → IsMark m i r → said_by_mark k r s ≡ said ss i s
 said-is ss k m i r s a b none h p =
     ap (λ (f : SymId → Kind). said_with f (choice_by k) (member_by k) r.owner r.prompted r.first s) a.kinds
     ∙ ap (λ (f : SymId → Option ℕ). said_with (kind_of ss) f (member_by k) r.owner r.prompted r.first s) a.choices
@@ -72,7 +72,7 @@ module _ (names : List (List ℕ)) (ls : List Line) where
   abbrev pub warned_before : ℕ → List (List ℕ)
   warned_before i = flat_map (λ j. warned_at names (map line_view ls) j (slice_get (map line_view ls) j)) (numbers i)
 
-  pub warned-is : (i : ℕ) (x : Line) (k : List Symbol) (m : Marks) (r : Mark) (old new : List (List ℕ)) → IsKnown (said_by ls) k → AreMarks (said_by ls) m → bad_members (said_by ls) ≡ [] → i < length ls → x ≡ get_or ls i x → IsMark m i r → old ≡ warned_before i → new ≡ old ++ map (line_of names (line_view x).file (line_view x).line) (said_by_mark k r (statement_view x.statement)) → new ≡ warned_before (i + 1)
+  pub warned-is : (i : ℕ) (x : Line) (k : List Known) (m : Marks) (r : Mark) (old new : List (List ℕ)) → IsKnown (said_by ls) k → AreMarks (said_by ls) m → bad_members (said_by ls) ≡ [] → i < length ls → x ≡ get_or ls i x → IsMark m i r → old ≡ warned_before i → new ≡ old ++ map (line_of names (line_view x).file (line_view x).line) (said_by_mark k r (statement_view x.statement)) → new ≡ warned_before (i + 1)
   warned-is i x k m r old new a b none h at p o n =
       let f = line_of names (line_view x).file (line_view x).line in
       let says = said-is (said_by ls) k m i r (statement_view x.statement) a b none (omega (arith, length-said_by ls)) p in

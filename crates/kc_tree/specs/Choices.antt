@@ -13,9 +13,9 @@ use Rattle.kc_tree.specs.Conditions.{with_when, dep_of, prompt_of}
 use Rattle.kc_tree.specs.Known.{member_by}
 use Rattle.kc_tree.specs.Rounds.{Surroundings}
 
--- a symbol stands in the list exactly where the symbols' facts give it that choice
+-- a symbol stands in the list exactly where what is known of it gives it that choice
 abbrev pub AreTheMembers : ChoiceMembers → Type 0
-AreTheMembers m = (s : SymId) → member_by m.symbols.now m.choice.0 s ≡ list_any (same_symbol s) m.list.now
+AreTheMembers m = (s : SymId) → member_by m.known.now m.choice.0 s ≡ list_any (same_symbol s) m.list.now
 
 abbrev pub named_view : Named → SymId × Option Form
 named_view n = (n.member, option_map (λ e. form_of e.now.value) n.when)

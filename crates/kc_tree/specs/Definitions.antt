@@ -9,17 +9,26 @@ use Rattle.kc_expr.specs.Names.{symbol}
 use Rattle.kc_read.specs.Statements.{Numbered}
 use Rattle.kc_read.specs.Blocks.{attributes}
 use Rattle.kc_tree.specs.TreeFacts.{SymbolFacts}
-use Rattle.kc_tree.specs.Facts.{dep, prompt_at, definitions_of, attributes_of, first_of, type_of, kind_of, choice_of, can_be_target, naming_at, select_of, imply_of, selectors_of, impliers_of, places}
+use Rattle.kc_tree.specs.Facts.{dep, prompt_at, definitions_of, kind_of, choice_of, can_be_target, naming_at, select_of, imply_of, selectors_of, impliers_of, places}
 use Rattle.kc_tree.specs.Conditions.{default_line, range_line}
 
 -- by its first type and its choice
 abbrev pub kind_by : Option Kind → Option ℕ → Kind
 kind_by first choice = unwrap_or first (if is_some choice then kind.Bool else kind.Undefined)
 
-abbrev pub bare_from : Option Kind → Option ℕ → SymbolFacts
-bare_from first choice = record {
-  kind = kind_by first choice;
-  choice = choice;
+-- what is known of a symbol, by the same
+abbrev pub known_by : Option Kind → Option ℕ → Kind × Option ℕ
+known_by first choice = (kind_by first choice, choice)
+
+-- what is known of the symbol with a number
+abbrev pub known_symbol : List Numbered → ℕ → Kind × Option ℕ
+known_symbol ss s = (kind_of ss (symbol s), choice_of ss (symbol s))
+
+-- a symbol of which no more is known
+abbrev pub bare_from : Kind × Option ℕ → SymbolFacts
+bare_from k = record {
+  kind = k.0;
+  choice = k.1;
   deps = [];
   prompts = [];
   defaults = [];
@@ -28,9 +37,9 @@ bare_from first choice = record {
   impliers = [];
 }
 
--- a symbol of which only type and choice are known
+-- the same, of the symbol with a number
 abbrev pub bare_symbol : List Numbered → ℕ → SymbolFacts
-bare_symbol ss s = bare_from (first_of (filter_map type_of (attributes_of ss (symbol s)))) (choice_of ss (symbol s))
+bare_symbol ss s = bare_from (known_symbol ss s)
 
 -- with what selects and implies it, by the lines at these places
 abbrev pub raised_from : List Numbered → ℕ → List ℕ → SymbolFacts

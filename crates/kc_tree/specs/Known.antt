@@ -7,12 +7,12 @@ use Rattle.kc_expr.specs.declared.expression.Kind.{Kind}
 use Rattle.kc_expr.specs.declared.expression.Kind.TheVariants as kind
 use Rattle.kc_read.specs.Statements.{Numbered}
 use Rattle.kc_read.specs.Blocks.{is_attribute, numbers}
+use Rattle.kc_tree.specs.declared.known.Known.{Known}
 use Rattle.kc_tree.specs.declared.known.Mark.{Mark}
 use Rattle.kc_tree.specs.declared.known.Marks.{Marks}
 use Rattle.kc_tree.specs.declared.warning.Warning.{Warning}
 use Rattle.kc_tree.specs.declared.owners.Owner.{Owner}
 use Rattle.kc_tree.specs.declared.parts.ChoiceId.{ChoiceId}
-use Rattle.kc_tree.specs.declared.parts.Symbol.{Symbol}
 use Rattle.kc_tree.specs.Facts.{asked_of, kind_of, choice_of, listed, given_of, single_symbol}
 use Rattle.kc_tree.specs.Firsts.{is_first_at}
 use Rattle.kc_tree.specs.Warnings.{begun, owner_at, prompt_before, said_with}
@@ -25,19 +25,23 @@ next_owner s now n = if is_attribute s then now else begun n s
 abbrev pub next_prompted : Numbered → Bool → Bool
 next_prompted s now = is_some (asked_of s) || (now && is_attribute s)
 
--- the choice and the type of a symbol, by what is said of the symbols
-abbrev pub choice_by : List Symbol → SymId → Option ℕ
+-- what is known of a symbol
+abbrev pub known_view : Known → Kind × Option ℕ
+known_view k = (k.kind, option_map (λ (c : ChoiceId). c.0) k.choice)
+
+-- the choice and the type of a symbol, by what is known of the symbols
+abbrev pub choice_by : List Known → SymId → Option ℕ
 choice_by ks s = option_and_then (λ f. option_map (λ (c : ChoiceId). c.0) f.choice) (slice_get ks s.0)
 
-abbrev pub kind_by : List Symbol → SymId → Kind
+abbrev pub kind_by : List Known → SymId → Kind
 kind_by ks s = unwrap_or (option_map (λ f. f.kind) (slice_get ks s.0)) kind.Undefined
 
 -- the symbol is a member of the choice, by the same
-abbrev pub member_by : List Symbol → ℕ → SymId → Bool
+abbrev pub member_by : List Known → ℕ → SymId → Bool
 member_by k c s = list_any (λ d. d == c) (listed (choice_by k s))
 
 -- they say what the statements say
-pub record IsKnown (ss : List Numbered) (k : List Symbol) : Type 0 where
+pub record IsKnown (ss : List Numbered) (k : List Known) : Type 0 where
   pub kinds : kind_by k ≡ kind_of ss
   pub choices : choice_by k ≡ choice_of ss
 
@@ -56,8 +60,8 @@ pub record IsMark (m : Marks) (i : ℕ) (r : Mark) : Type 0 where
   pub prompted : slice_get m.prompts.items i ≡ Some r.prompted
   pub first : slice_get m.firsts.items i ≡ Some r.first
 
--- what there is to say of a line, by what is said of the symbols
-abbrev pub said_by_mark : List Symbol → Mark → Numbered → List Warning
+-- what there is to say of a line, by what is known of the symbols
+abbrev pub said_by_mark : List Known → Mark → Numbered → List Warning
 said_by_mark k m = said_with (kind_by k) (choice_by k) (member_by k) m.owner m.prompted m.first
 
 -- the symbol that a default names alone

@@ -9,7 +9,7 @@ ghost use Rattle.kc_tree.specs.Trees.{tree_with};
 
 use crate::blocks::openers;
 use crate::choices::choices;
-use crate::collect::{bare_symbols, fill};
+use crate::collect::{fill, known_symbols};
 use crate::diagnoses::{Diagnosis, diagnose};
 use crate::entries::{entries, main_menu};
 use crate::known::Marks;
@@ -61,16 +61,16 @@ pub fn assemble(
 {
     let openers = openers(alloc, lines)?;
     let insides = insides(alloc, lines, &openers)?;
-    let mut symbols = bare_symbols(alloc, lines, &openers, &insides, count)?;
+    let known = known_symbols(alloc, lines, &openers, &insides, count)?;
     let marks = Marks::of(alloc, lines, count)?;
-    match diagnose(alloc, names, lines, &openers, &insides, &symbols, &marks)? {
+    match diagnose(alloc, names, lines, &openers, &insides, &known, &marks)? {
         Diagnosis::Refused(refusal) => Ok(Assembled::Refused(refusal)),
         Diagnosis::Warned(warnings) => {
             let firsts = marks.into_firsts();
-            let choices = choices(alloc, lines, &openers, &insides, &symbols)?;
+            let choices = choices(alloc, lines, &openers, &insides, &known)?;
             let entries = entries(alloc, lines, &openers, &insides, &firsts)?;
             let main_menu = main_menu(alloc, lines)?;
-            fill(alloc, lines, &openers, &insides, &mut symbols)?;
+            let symbols = fill(alloc, lines, &openers, &insides, &known)?;
             Ok(Assembled::Whole(TreeParts {
                 symbols,
                 choices,

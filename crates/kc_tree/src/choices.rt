@@ -18,10 +18,10 @@ ghost use Rattle.kc_tree.specs.Warnings.{bad_members};
 
 use crate::attributes::attributes;
 use crate::conditions::{dependency, prompt_condition, under};
-use crate::known::is_member;
+use crate::known::{Known, is_member};
 use crate::lines::{given_of, single_symbol};
 use crate::members::members;
-use crate::parts::{Choice, ChoiceId, Cond, Symbol};
+use crate::parts::{Choice, ChoiceId, Cond};
 use crate::round::{Round, around, next_count, outside};
 use kc_expr::expression::{Expr, SymId};
 use kc_read::line::Line;
@@ -35,7 +35,7 @@ use std::rc::Rc;
 pub struct ChoiceMembers<'a> {
     pub list: &'a [SymId],
     pub choice: ChoiceId,
-    pub symbols: &'a [Symbol],
+    pub known: &'a [Known],
 }
 
 /// A member that a default names, and the default's condition.
@@ -60,7 +60,7 @@ fn is_listed(members: ChoiceMembers, symbol: SymId) -> bool
     requires { AreTheMembers members }
     ensures { result ≡ list_any (same_symbol symbol) members.entry.list.now }
 {
-    is_member(members.symbols, members.choice, symbol)
+    is_member(members.known, members.choice, symbol)
 }
 
 // What a default names, where that is a member.
@@ -132,18 +132,18 @@ fn choice_count(lines: &[Line]) -> usize
     count
 }
 
-/// The choices, in order. `symbols` say what the lines say, and no member is refused, so that a symbol is a member of
-/// the choice that they give it and of no other.
+/// The choices, in order. `known` says what the lines say, and no member is refused, so that a symbol is a member of
+/// the choice that `known` gives it and of no other.
 pub fn choices(
     alloc: Global,
     lines: &[Line],
     openers: &[Option<usize>],
     insides: &[Option<Box<Round>>],
-    symbols: &[Symbol],
+    known: &[Known],
 ) -> Result<Vec<Choice>, AllocError>
     requires openers { openers.now ≡ map (opener_of (said_by lines.now)) (numbers (length lines.now)) }
     requires insides { map inside_view insides.now ≡ map (inside_table (said_by lines.now)) (numbers (length lines.now)) }
-    requires symbols { IsKnown (said_by lines.now) symbols.now }
+    requires known { IsKnown (said_by lines.now) known.now }
     requires members { bad_members (said_by lines.now) ≡ [] }
     ensures { IfOk result (λ v. map choice_facts_of v.items ≡ choices (said_by lines.now)) }
 {
@@ -158,7 +158,7 @@ pub fn choices(
             let members = ChoiceMembers {
                 list: &lists[number],
                 choice: ChoiceId(number),
-                symbols,
+                known,
             };
             choices.push(choice(alloc, own, around, members)?)?;
         }

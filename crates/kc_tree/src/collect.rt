@@ -1,15 +1,17 @@
-//! All that the statements say of symbols: first what the other passes ask for, and at last the rest.
+//! All that the statements say of symbols: first what the other passes ask for, and at last the symbols.
 
-ghost use Rattle.std.specs.Prelude.{◌≡◌, ◌<◌, length, map, option_map, unwrap_or, slice_get, IfOk, OnOk, None};
+ghost use Rattle.std.specs.Prelude.{◌≡◌, ◌<◌, length, map, option_map, unwrap_or, slice_get, IfOk, None};
 ghost use Rattle.kc_expr.specs.Names.{symbol};
 ghost use Rattle.kc_read.specs.Blocks.{numbers};
-ghost use Rattle.kc_tree.specs.Definitions.{bare_from, bare_symbol, kind_by};
+ghost use Rattle.kc_tree.specs.Definitions.{bare_from, kind_by, known_by, known_symbol};
 ghost use Rattle.kc_tree.specs.Facts.{opener_of, symbol_facts};
+ghost use Rattle.kc_tree.specs.Known.{known_view};
 ghost use Rattle.kc_tree.specs.Passes.{said_by};
 ghost use Rattle.kc_tree.specs.RoundViews.{inside_view};
 ghost use Rattle.kc_tree.specs.Rounds.{inside_table};
 ghost use Rattle.kc_tree.specs.Views.{facts_of};
 
+use crate::known::Known;
 use crate::parts::{ChoiceId, Symbol};
 use crate::raises::raise_all;
 use crate::round::Round;
@@ -31,13 +33,49 @@ fn kind(first: Option<Kind>, choice: Option<ChoiceId>) -> Kind
     }
 }
 
-// A symbol of which only type and choice are known.
-fn bare_symbol(alloc: Global, first: Option<Kind>, choice: Option<ChoiceId>) -> Symbol
-    ensures { facts_of result ≡ bare_from first (option_map (λ k. k.0) choice) }
+// What is known of each symbol, by the tables of their types and choices.
+fn known_from_tables(
+    alloc: Global,
+    types: &[Option<Kind>],
+    choices: &[Option<ChoiceId>],
+) -> Result<Vec<Known>, AllocError>
+    requires { length types.now ≡ length choices.now }
+    ensures { IfOk result (λ v. map known_view v.items ≡ map (λ s. known_by (unwrap_or (slice_get types.now s) None) (option_map (λ k. k.0) (unwrap_or (slice_get choices.now s) None))) (numbers (length types.now))) }
+{
+    let mut known = Vec::with_capacity(alloc, types.len())?;
+    for i in 0..types.len() {
+        known.push(Known {
+            kind: kind(types[i], choices[i]),
+            choice: choices[i],
+        })?;
+    }
+    Ok(known)
+}
+
+/// The types and the choices of the first `count` symbols: all that the passes over the whole list ask of them.
+pub fn known_symbols(
+    alloc: Global,
+    lines: &[Line],
+    openers: &[Option<usize>],
+    insides: &[Option<Box<Round>>],
+    count: usize,
+) -> Result<Vec<Known>, AllocError>
+    requires openers { openers.now ≡ map (opener_of (said_by lines.now)) (numbers (length lines.now)) }
+    requires insides { map inside_view insides.now ≡ map (inside_table (said_by lines.now)) (numbers (length lines.now)) }
+    ensures { IfOk result (λ v. map known_view v.items ≡ map (known_symbol (said_by lines.now)) (numbers count)) }
+{
+    let types = types(alloc, lines, count)?;
+    let choices = choices(alloc, lines, openers, insides, count)?;
+    known_from_tables(alloc, &types, &choices)
+}
+
+// A symbol of which no more is known.
+fn bare_symbol(alloc: Global, known: Known) -> Symbol
+    ensures { facts_of result ≡ bare_from (known_view known) }
 {
     Symbol {
-        kind: kind(first, choice),
-        choice,
+        kind: known.kind,
+        choice: known.choice,
         deps: Vec::new(alloc),
         prompts: Vec::new(alloc),
         defaults: Vec::new(alloc),
@@ -47,53 +85,33 @@ fn bare_symbol(alloc: Global, first: Option<Kind>, choice: Option<ChoiceId>) -> 
     }
 }
 
-// The same for all symbols, by the tables of their types and choices.
-fn bare_from_tables(
-    alloc: Global,
-    types: &[Option<Kind>],
-    choices: &[Option<ChoiceId>],
-) -> Result<Vec<Symbol>, AllocError>
-    requires { length types.now ≡ length choices.now }
-    ensures { IfOk result (λ v. map facts_of v.items ≡ map (λ s. bare_from (unwrap_or (slice_get types.now s) None) (option_map (λ k. k.0) (unwrap_or (slice_get choices.now s) None))) (numbers (length types.now))) }
+// The same for all symbols.
+fn bare_symbols(alloc: Global, known: &[Known]) -> Result<Vec<Symbol>, AllocError>
+    ensures { IfOk result (λ v. map facts_of v.items ≡ map (λ k. bare_from (known_view k)) known.now) }
 {
-    let mut symbols = Vec::with_capacity(alloc, types.len())?;
-    for i in 0..types.len() {
-        symbols.push(bare_symbol(alloc, types[i], choices[i]))?;
+    let mut symbols = Vec::with_capacity(alloc, known.len())?;
+    for own in known {
+        symbols.push(bare_symbol(alloc, *own))?;
     }
     Ok(symbols)
 }
 
-/// The types and the choices of the first `count` symbols: all that the other passes ask of them.
-pub fn bare_symbols(
-    alloc: Global,
-    lines: &[Line],
-    openers: &[Option<usize>],
-    insides: &[Option<Box<Round>>],
-    count: usize,
-) -> Result<Vec<Symbol>, AllocError>
-    requires openers { openers.now ≡ map (opener_of (said_by lines.now)) (numbers (length lines.now)) }
-    requires insides { map inside_view insides.now ≡ map (inside_table (said_by lines.now)) (numbers (length lines.now)) }
-    ensures { IfOk result (λ v. map facts_of v.items ≡ map (bare_symbol (said_by lines.now)) (numbers count)) }
-{
-    let types = types(alloc, lines, count)?;
-    let choices = choices(alloc, lines, openers, insides, count)?;
-    bare_from_tables(alloc, &types, &choices)
-}
-
-/// Adds to the symbols, of which type and choice are known, all else that the statements say of them. The values of
-/// defaults are taken out of the lines.
+/// The symbols of which this is known, with all else that the statements say of them. The values of defaults are taken
+/// out of the lines.
 pub fn fill(
     alloc: Global,
     lines: &mut [Line],
     openers: &[Option<usize>],
     insides: &[Option<Box<Round>>],
-    symbols: &mut Vec<Symbol>,
-) -> Result<(), AllocError>
+    known: &[Known],
+) -> Result<Vec<Symbol>, AllocError>
     requires openers { openers.now ≡ map (opener_of (said_by lines.old)) (numbers (length lines.old)) }
     requires insides { map inside_view insides.now ≡ map (inside_table (said_by lines.old)) (numbers (length lines.old)) }
-    requires bare { map facts_of symbols.old.items ≡ map (bare_symbol (said_by lines.old)) (numbers (length symbols.old.items)) }
-    ensures { OnOk result (map facts_of symbols.new.items ≡ map (λ s. symbol_facts (said_by lines.old) (symbol s)) (numbers (length symbols.old.items))) }
+    requires known { map known_view known.now ≡ map (known_symbol (said_by lines.old)) (numbers (length known.now)) }
+    ensures { IfOk result (λ v. map facts_of v.items ≡ map (λ s. symbol_facts (said_by lines.old) (symbol s)) (numbers (length known.now))) }
 {
-    raise_all(alloc, lines, openers, insides, symbols)?;
-    define_all(alloc, lines, openers, insides, symbols)
+    let mut symbols = bare_symbols(alloc, known)?;
+    raise_all(alloc, lines, openers, insides, &mut symbols)?;
+    define_all(alloc, lines, openers, insides, &mut symbols)?;
+    Ok(symbols)
 }

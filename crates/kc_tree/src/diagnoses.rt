@@ -10,9 +10,8 @@ ghost use Rattle.kc_tree.specs.Passes.{said_by};
 ghost use Rattle.kc_tree.specs.RoundViews.{inside_view};
 ghost use Rattle.kc_tree.specs.Rounds.{inside_table};
 
-use crate::known::Marks;
+use crate::known::{Known, Marks};
 use crate::late::late_refusal;
-use crate::parts::Symbol;
 use crate::round::Round;
 use crate::warnings::warnings;
 use kc_expr::names::Names;
@@ -28,24 +27,24 @@ pub enum Diagnosis {
 }
 
 /// The first refusal that the whole list of lines shows, and where there is none the warnings about them. The tables,
-/// the symbols and the marks say what the lines say.
+/// what is known of the symbols and the marks say what the lines say.
 pub fn diagnose(
     alloc: Global,
     names: &Names,
     lines: &[Line],
     openers: &[Option<usize>],
     insides: &[Option<Box<Round>>],
-    symbols: &[Symbol],
+    known: &[Known],
     marks: &Marks,
 ) -> Result<Diagnosis, AllocError>
     requires openers { openers.now ≡ map (opener_of (said_by lines.now)) (numbers (length lines.now)) }
     requires insides { map inside_view insides.now ≡ map (inside_table (said_by lines.now)) (numbers (length lines.now)) }
-    requires symbols { IsKnown (said_by lines.now) symbols.now }
+    requires known { IsKnown (said_by lines.now) known.now }
     requires marks { AreMarks (said_by lines.now) marks.now }
     ensures { IfOk result (λ d. IsDiagnosis names.now (map line_view lines.now) d) }
 {
-    match late_refusal(alloc, names, lines, openers, insides, symbols, marks)? {
+    match late_refusal(alloc, names, lines, openers, insides, known, marks)? {
         Some(refusal) => Ok(Diagnosis::Refused(refusal)),
-        None => Ok(Diagnosis::Warned(warnings(alloc, names, lines, symbols, marks)?)),
+        None => Ok(Diagnosis::Warned(warnings(alloc, names, lines, known, marks)?)),
     }
 }

@@ -9,10 +9,17 @@ ghost use Rattle.kc_tree.specs.Passes.{said_by};
 use crate::firsts::firsts;
 use crate::marks::prompts;
 use crate::owners::{Owner, owners};
-use crate::parts::{ChoiceId, Symbol};
+use crate::parts::ChoiceId;
 use kc_expr::expression::{Kind, SymId};
 use kc_read::line::Line;
 use std::alloc::{AllocError, Global};
+
+/// What the passes over the whole list ask of a symbol: its type, and the choice that it is a member of.
+#[derive(Clone, Copy, Debug)]
+pub struct Known {
+    pub kind: Kind,
+    pub choice: Option<ChoiceId>,
+}
 
 /// By line: whose entry it belongs to, whether a prompt stands before it in that entry, and whether it is the first
 /// definition of a symbol.
@@ -32,30 +39,30 @@ pub struct Mark {
 }
 
 /// The choice of which a symbol is a member; one past the end of the list is none.
-pub fn choice_of(symbols: &[Symbol], symbol: SymId) -> Option<ChoiceId>
-    ensures { option_map (λ k. k.0) result ≡ choice_by symbols.now symbol }
+pub fn choice_of(known: &[Known], symbol: SymId) -> Option<ChoiceId>
+    ensures { option_map (λ k. k.0) result ≡ choice_by known.now symbol }
 {
-    match symbols.get(symbol.0) {
+    match known.get(symbol.0) {
         Some(facts) => facts.choice,
         None => None,
     }
 }
 
 /// The type of a symbol; one past the end of the list has none.
-pub fn kind_of(symbols: &[Symbol], symbol: SymId) -> Kind
-    ensures { result ≡ kind_by symbols.now symbol }
+pub fn kind_of(known: &[Known], symbol: SymId) -> Kind
+    ensures { result ≡ kind_by known.now symbol }
 {
-    match symbols.get(symbol.0) {
+    match known.get(symbol.0) {
         Some(facts) => facts.kind,
         None => Kind::Undefined,
     }
 }
 
 /// The symbol is a member of the choice.
-pub fn is_member(symbols: &[Symbol], choice: ChoiceId, symbol: SymId) -> bool
-    ensures { result ≡ member_by symbols.now choice.0 symbol }
+pub fn is_member(known: &[Known], choice: ChoiceId, symbol: SymId) -> bool
+    ensures { result ≡ member_by known.now choice.0 symbol }
 {
-    match choice_of(symbols, symbol) {
+    match choice_of(known, symbol) {
         Some(own) => own.0 == choice.0,
         None => false,
     }

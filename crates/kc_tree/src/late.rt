@@ -15,10 +15,10 @@ ghost use Rattle.kc_tree.specs.Rounds.{inside_table};
 ghost use Rattle.kc_tree.specs.Warnings as warnings;
 ghost use Rattle.kc_tree.specs.Warnings.{bad_members, bad_defaults, late_refusals};
 
-use crate::known::{Marks, choice_of, is_wordy, kind_of, same_kind};
+use crate::known::{Known, Marks, choice_of, is_wordy, kind_of, same_kind};
 use crate::lines::{given_of, is_single, single_symbol, symbol_of};
 use crate::owners::{Owner, owner_choice, owner_symbol};
-use crate::parts::{ChoiceId, Symbol};
+use crate::parts::ChoiceId;
 use crate::round::{Round, around, outside};
 use crate::warning::entry_name;
 use kc_expr::expression::Kind;
@@ -33,36 +33,36 @@ fn is_bad_member(
     statement: &Statement,
     first: bool,
     round: Option<ChoiceId>,
-    symbols: &[Symbol],
+    known: &[Known],
 ) -> bool
-    ensures { result ≡ warnings.is_bad_member (kind_by symbols.now) (choice_by symbols.now) first (option_map (λ k. k.0) round) (statement_view statement.now) }
+    ensures { result ≡ warnings.is_bad_member (kind_by known.now) (choice_by known.now) first (option_map (λ k. k.0) round) (statement_view statement.now) }
 {
     match symbol_of(statement) {
         Some(symbol) => {
-            (choice_of(symbols, symbol).is_some() && !first)
-                || (round.is_some() && !same_kind(kind_of(symbols, symbol), Kind::Bool))
+            (choice_of(known, symbol).is_some() && !first)
+                || (round.is_some() && !same_kind(kind_of(known, symbol), Kind::Bool))
         }
         None => false,
     }
 }
 
 // The entry is that of a symbol whose value is a text.
-fn is_wordy_entry(owner: Owner, symbols: &[Symbol]) -> bool
-    ensures { result ≡ list_any (λ t. facts.is_wordy (kind_by symbols.now t)) (listed (warnings.owner_symbol owner)) }
+fn is_wordy_entry(owner: Owner, known: &[Known]) -> bool
+    ensures { result ≡ list_any (λ t. facts.is_wordy (kind_by known.now t)) (listed (warnings.owner_symbol owner)) }
 {
     match owner_symbol(owner) {
-        Some(symbol) => is_wordy(kind_of(symbols, symbol)),
+        Some(symbol) => is_wordy(kind_of(known, symbol)),
         None => false,
     }
 }
 
 // A default of such a symbol that is no single operand; one of a choice that is no single name.
-fn is_bad_default(statement: &Statement, owner: Owner, symbols: &[Symbol]) -> bool
-    ensures { result ≡ warnings.is_bad_default (kind_by symbols.now) owner (statement_view statement.now) }
+fn is_bad_default(statement: &Statement, owner: Owner, known: &[Known]) -> bool
+    ensures { result ≡ warnings.is_bad_default (kind_by known.now) owner (statement_view statement.now) }
 {
     match given_of(statement) {
         Some(given) => {
-            (is_wordy_entry(owner, symbols) && !is_single(given.value))
+            (is_wordy_entry(owner, known) && !is_single(given.value))
                 || (owner_choice(owner).is_some() && single_symbol(given.value).is_none())
         }
         None => false,
@@ -75,12 +75,12 @@ fn first_bad_member(
     lines: &[Line],
     openers: &[Option<usize>],
     insides: &[Option<Box<Round>>],
-    symbols: &[Symbol],
+    known: &[Known],
     marks: &Marks,
 ) -> Option<usize>
     requires openers { openers.now ≡ map (opener_of (said_by lines.now)) (numbers (length lines.now)) }
     requires insides { map inside_view insides.now ≡ map (inside_table (said_by lines.now)) (numbers (length lines.now)) }
-    requires symbols { IsKnown (said_by lines.now) symbols.now }
+    requires known { IsKnown (said_by lines.now) known.now }
     requires marks { AreMarks (said_by lines.now) marks.now }
     ensures first { result ≡ first_of (bad_members (said_by lines.now)) }
     ensures within { IfSome result (λ i. i < length lines.now) }
@@ -89,7 +89,7 @@ fn first_bad_member(
     for (i, line) in lines.iter().enumerate() {
         if symbol_of(&line.statement).is_some() {
             let round = around(openers, insides, &outside, i).mode;
-            if is_bad_member(&line.statement, marks.at(i).first, round, symbols) {
+            if is_bad_member(&line.statement, marks.at(i).first, round, known) {
                 return Some(i);
             }
         }
@@ -98,14 +98,14 @@ fn first_bad_member(
 }
 
 // The first default line that is refused.
-fn first_bad_default(lines: &[Line], symbols: &[Symbol], marks: &Marks) -> Option<usize>
-    requires symbols { IsKnown (said_by lines.now) symbols.now }
+fn first_bad_default(lines: &[Line], known: &[Known], marks: &Marks) -> Option<usize>
+    requires known { IsKnown (said_by lines.now) known.now }
     requires marks { AreMarks (said_by lines.now) marks.now }
     ensures first { result ≡ first_of (bad_defaults (said_by lines.now)) }
     ensures within { IfSome result (λ i. i < length lines.now) }
 {
     for (i, line) in lines.iter().enumerate() {
-        if is_bad_default(&line.statement, marks.at(i).owner, symbols) {
+        if is_bad_default(&line.statement, marks.at(i).owner, known) {
             return Some(i);
         }
     }
@@ -140,17 +140,17 @@ pub fn late_refusal(
     lines: &[Line],
     openers: &[Option<usize>],
     insides: &[Option<Box<Round>>],
-    symbols: &[Symbol],
+    known: &[Known],
     marks: &Marks,
 ) -> Result<Option<Refusal>, AllocError>
     requires openers { openers.now ≡ map (opener_of (said_by lines.now)) (numbers (length lines.now)) }
     requires insides { map inside_view insides.now ≡ map (inside_table (said_by lines.now)) (numbers (length lines.now)) }
-    requires symbols { IsKnown (said_by lines.now) symbols.now }
+    requires known { IsKnown (said_by lines.now) known.now }
     requires marks { AreMarks (said_by lines.now) marks.now }
     ensures refusal { IfOk result (λ o. option_map refusal_view o ≡ first_of (late_refusals names.now (map line_view lines.now))) }
     ensures members { IfOk result (λ o. IfNone o (bad_members (said_by lines.now) ≡ [])) }
 {
-    match first_bad_member(alloc, lines, openers, insides, symbols, marks) {
+    match first_bad_member(alloc, lines, openers, insides, known, marks) {
         Some(place) => Ok(Some(refusal(
             alloc,
             names,
@@ -158,7 +158,7 @@ pub fn late_refusal(
             marks.at(place).owner,
             Code::ChoiceMember,
         )?)),
-        None => match first_bad_default(lines, symbols, marks) {
+        None => match first_bad_default(lines, known, marks) {
             Some(place) => Ok(Some(refusal(
                 alloc,
                 names,

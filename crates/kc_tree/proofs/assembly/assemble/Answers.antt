@@ -1,25 +1,25 @@
-use Rattle.std.proofs.Common.{map, rules, ap, ◌∙◌, ℕ}
+use Rattle.std.proofs.Common.{map, rules, ap, ◌∙◌, ℕ, length}
 use Rattle.kc_expr.specs.Names.{symbol}
 use Rattle.kc_read.specs.Blocks.{numbers}
 use Rattle.kc_read.specs.Reads.{line_view}
 use Rattle.kc_tree.specs.Late.{IsDiagnosis}
 use Rattle.kc_tree.specs.declared.diagnoses.Diagnosis.TheVariants as diagnosis
-use Rattle.kc_tree.specs.Definitions.{bare_symbol}
+use Rattle.kc_tree.specs.Definitions.{known_symbol}
 use Rattle.kc_tree.specs.Facts.{symbol_facts}
 use Rattle.kc_tree.specs.Passes.{said_by}
-use Rattle.kc_tree.specs.Views.{facts_of}
+use Rattle.kc_tree.specs.Known.{known_view}
 use Rattle.kc_tree.proofs.CollectLemmas.{resized, sized}
 use Rattle.kc_tree.proofs.AssemblyLemmas.{no_bad_member, whole}
 use Rattle.kc_tree.proofs.KnownLemmas.{known_is}
 use Rattle.kc_tree.proofs.assembly.assemble.Goals as goal
 
-pub diagnose-requires-clause-symbols : goal.diagnose-requires-clause-symbols
-diagnose-requires-clause-symbols c =
+pub diagnose-requires-clause-known : goal.diagnose-requires-clause-known
+diagnose-requires-clause-known c =
     let known = known_is (said_by c.args.lines.now) c.args.count c.requires in
     search (rules, known)
 
-pub choices-requires-clause-symbols : goal.choices-requires-clause-symbols
-choices-requires-clause-symbols c =
+pub choices-requires-clause-known : goal.choices-requires-clause-known
+choices-requires-clause-known c =
     let known = known_is (said_by c.args.lines.now) c.args.count c.requires in
     search (rules, known)
 
@@ -28,18 +28,19 @@ choices-requires-clause-members c =
     let said : IsDiagnosis c.args.names.now (map line_view c.args.lines.now) (diagnosis.Warned c.in-Warned.warnings) = (rw c.in-Warned.is at c.in_ok-refusal.ensures) in
     no_bad_member c.args.names.now c.args.lines.now said.0
 
-pub fill-requires-clause-bare : goal.fill-requires-clause-bare
-fill-requires-clause-bare c =
-    resized facts_of c.in_ok-symbols.symbols.items (bare_symbol (said_by c.args.lines.now)) c.args.count c.in_ok-symbols.ensures
+pub fill-requires-clause-known : goal.fill-requires-clause-known
+fill-requires-clause-known c =
+    let known = resized known_view c.in_ok-known.known.items (known_symbol (said_by c.args.lines.now)) c.args.count c.in_ok-known.ensures in
+    search (rules, known)
 
 pub returns : goal.returns
 returns c =
     let said : IsDiagnosis c.args.names.now (map line_view c.args.lines.now) (diagnosis.Warned c.in-Warned.warnings) = (rw c.in-Warned.is at c.in_ok-refusal.ensures) in
     let ss = said_by c.args.lines.now in
-    let n = sized facts_of c.in_ok-symbols.symbols.items (bare_symbol ss) c.args.count c.in_ok-symbols.ensures in
-    let filled = c.in_ok-fill-in-Warned.ensures ∙ ap (λ (k : ℕ). map (λ s. symbol_facts ss (symbol s)) (numbers k)) n in
+    let n = sized known_view c.in_ok-known.known.items (known_symbol ss) c.args.count c.in_ok-known.ensures in
+    let filled = c.in_ok-symbols-in-Warned.ensures ∙ ap (λ (k : ℕ). map (λ s. symbol_facts ss (symbol s)) (numbers k)) (ap length c.deref-in-Warned-9.ensures.value ∙ n) in
     whole c.args.names.now c.args.count c.args.modules c.args.lines.now (record {
-      symbols = c.fill.new.symbols;
+      symbols = c.in_ok-symbols-in-Warned.symbols;
       choices = c.in_ok-choices-in-Warned.choices;
       entries = c.in_ok-entries-in-Warned.entries;
       warnings = c.in-Warned.warnings;

@@ -31,7 +31,7 @@ choice-requires c =
     let k : c.len-number.result ≡ length c.loop-i.choices.items = omega (arith, c.len-number.ensures, c.loop-i.choices.ok) in
     let opens = opens_choice ls i c.index-lines-i.result true c.loop-i-test.true c.index-lines-i.is c.if-is_choice.ensures in
     let own = members_are ls (λ (v : Vec SymId Global). v.items) c.in_ok-lists.lists.items i c.len-number.result c.choice_count.result c.index.result.now c.in_ok-lists.ensures c.choice_count.ensures c.loop-i-test.true opens (k ∙ many) c.index.ensures in
-    listed_is (said_by ls) c.args.symbols.now c.deref.result.now c.len-number.result c.requires.symbols c.requires.members (c.deref.ensures.value ∙ own ∙ ap (members_of (said_by ls)) (sym (k ∙ many)))
+    listed_is (said_by ls) c.args.known.now c.deref.result.now c.len-number.result c.requires.known c.requires.members (c.deref.ensures.value ∙ own ∙ ap (members_of (said_by ls)) (sym (k ∙ many)))
 
 pub loop-i-preserved : goal.loop-i-preserved
 loop-i-preserved c =

@@ -15,13 +15,13 @@ at-requires c =
 pub returns-then-is_bad_default-clause-first : goal.returns-then-is_bad_default-clause-first
 returns-then-is_bad_default-clause-first c =
     let ls = c.args.lines.now in
-    let test = bad_given-is ls c.loop-i.i c.index-lines-i.result c.args.symbols.now c.args.marks.now c.at.result c.is_bad_default.result c.requires.symbols c.requires.marks c.loop-i-test.true c.index-lines-i.is c.at.ensures c.is_bad_default.ensures in
+    let test = bad_given-is ls c.loop-i.i c.index-lines-i.result c.args.known.now c.args.marks.now c.at.result c.is_bad_default.result c.requires.known c.requires.marks c.loop-i-test.true c.index-lines-i.is c.at.ensures c.is_bad_default.ensures in
     from_here (is_bad_given ls) (length (said_by ls)) c.loop-i.i c.loop-i.invariant (omega (arith, length-said_by ls)) (test ∙ c.if-is_bad_default.true)
 
 pub loop-i-preserved : goal.loop-i-preserved
 loop-i-preserved c =
     let ls = c.args.lines.now in
-    let test = bad_given-is ls c.loop-i.i c.index-lines-i.result c.args.symbols.now c.args.marks.now c.at.result c.is_bad_default.result c.requires.symbols c.requires.marks c.loop-i-test.true c.index-lines-i.is c.at.ensures c.is_bad_default.ensures in
+    let test = bad_given-is ls c.loop-i.i c.index-lines-i.result c.args.known.now c.args.marks.now c.at.result c.is_bad_default.result c.requires.known c.requires.marks c.loop-i-test.true c.index-lines-i.is c.at.ensures c.is_bad_default.ensures in
     from_next (is_bad_given ls) (length (said_by ls)) c.loop-i.i c.loop-i.invariant (omega (arith, length-said_by ls)) (test ∙ c.if-is_bad_default.false)
 
 pub returns-clause-first : goal.returns-clause-first

@@ -27,7 +27,7 @@ pub returns-then-is_bad_member-clause-first : goal.returns-then-is_bad_member-cl
 returns-then-is_bad_member-clause-first c =
     let ls = c.args.lines.now in
     let mode = mode_is ls c.loop-i.i c.args.openers.now (map inside_view c.args.insides.now) (round_view c.outside-outside.result) (round_view c.around.result.now) c.loop-i-test.true c.requires.openers c.requires.insides c.outside-outside.ensures c.around.ensures in
-    let test = bad_config-is ls c.loop-i.i c.index-lines-i.result c.args.symbols.now c.args.marks.now c.at.result (option_map (λ (k : ChoiceId). k.0) c.around.result.now.mode) c.is_bad_member.result c.requires.symbols c.requires.marks c.loop-i-test.true c.index-lines-i.is c.at.ensures mode c.is_bad_member.ensures in
+    let test = bad_config-is ls c.loop-i.i c.index-lines-i.result c.args.known.now c.args.marks.now c.at.result (option_map (λ (k : ChoiceId). k.0) c.around.result.now.mode) c.is_bad_member.result c.requires.known c.requires.marks c.loop-i-test.true c.index-lines-i.is c.at.ensures mode c.is_bad_member.ensures in
     from_here (is_bad_config ls) (length (said_by ls)) c.loop-i.i c.loop-i.invariant (omega (arith, length-said_by ls)) (test ∙ c.if-is_bad_member.true)
 
 pub loop-i-preserved : goal.loop-i-preserved
@@ -36,7 +36,7 @@ loop-i-preserved c =
     elim c.if-is_some.branch [
       | then-is_some+else-is_bad_member w ↦
           let mode = mode_is ls c.loop-i.i c.args.openers.now (map inside_view c.args.insides.now) (round_view c.outside-outside.result) (round_view w.around.result.now) c.loop-i-test.true c.requires.openers c.requires.insides c.outside-outside.ensures w.around.ensures in
-          let test = bad_config-is ls c.loop-i.i c.index-lines-i.result c.args.symbols.now c.args.marks.now w.at.result (option_map (λ (k : ChoiceId). k.0) w.around.result.now.mode) w.is_bad_member.result c.requires.symbols c.requires.marks c.loop-i-test.true c.index-lines-i.is w.at.ensures mode w.is_bad_member.ensures in
+          let test = bad_config-is ls c.loop-i.i c.index-lines-i.result c.args.known.now c.args.marks.now w.at.result (option_map (λ (k : ChoiceId). k.0) w.around.result.now.mode) w.is_bad_member.result c.requires.known c.requires.marks c.loop-i-test.true c.index-lines-i.is w.at.ensures mode w.is_bad_member.ensures in
           from_next (is_bad_config ls) (length (said_by ls)) c.loop-i.i c.loop-i.invariant (omega (arith, length-said_by ls)) (test ∙ w.if-is_bad_member.false)
       | else-is_some w ↦
           from_next (is_bad_config ls) (length (said_by ls)) c.loop-i.i c.loop-i.invariant (omega (arith, length-said_by ls)) (no_config ls c.loop-i.i c.index-lines-i.result c.symbol_of.result c.is_some.result c.loop-i-test.true c.index-lines-i.is c.symbol_of.ensures c.is_some.ensures w.if-is_some.false)

@@ -10,7 +10,7 @@ at-requires c =
 
 pub loop-i-preserved : goal.loop-i-preserved
 loop-i-preserved c =
-    warned-is c.args.names.now c.args.lines.now c.loop-i.i c.index-lines-i.result c.args.symbols.now c.args.marks.now c.at.result _ _ c.requires.symbols c.requires.marks c.requires.members c.loop-i-test.true c.index-lines-i.is c.at.ensures c.loop-i.invariant c.in_ok-warn_line.ensures
+    warned-is c.args.names.now c.args.lines.now c.loop-i.i c.index-lines-i.result c.args.known.now c.args.marks.now c.at.result _ _ c.requires.known c.requires.marks c.requires.members c.loop-i-test.true c.index-lines-i.is c.at.ensures c.loop-i.invariant c.in_ok-warn_line.ensures
 
 pub returns : goal.returns
 returns c =
