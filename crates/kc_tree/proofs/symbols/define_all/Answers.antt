@@ -45,9 +45,10 @@ entries-preserved-in_ok-define_at c =
     let at = symbol-at all i x (Some c.in-Some.symbol) within (line_left all ls i x left here) c.in-Some.ensures in
     let own = own_left all ls i end left c.entry_end-end.ensures.count in
     let made = c.in_ok-define_at.ensures ∙ ap (λ (l : List Numbered). changed (defined_by r l) (Some c.in-Some.symbol) table) own ∙ ap (λ (o : Option SymId). changed (defined_by r (attributes ss i)) o table) at in
-    let counted : end ≡ i + 1 + prefix_len is_attribute (drop (i + 1) ss) = c.entry_end-end.ensures.count ∙ ap (λ (l : List Numbered). i + 1 + prefix_len is_attribute l) (rest_said all ls i left) in
-    (left_behind all ls c.define_at.new.own i end left c.entries-test.true c.entry_end-end.ensures.count c.entry_end-end.ensures.within c.define_at.auto.own,
-    entry_passed ss i end n (map facts_of c.define_at.new.symbols.items) counted (facts_next ss i n table (map facts_of c.define_at.new.symbols.items) r c.entries.invariant.1 seen made))
+    let counted : end ≡ i + 1 + prefix_len is_attribute (drop (i + 1) ss) = c.entry_end-end.ensures.count ∙ ap (λ (l : List Numbered). i + 1 + prefix_len is_attribute l) (rest_said all ls i left) in (
+      left_behind all ls c.define_at.new.own i end left c.entries-test.true c.entry_end-end.ensures.count c.entry_end-end.ensures.within c.define_at.auto.own,
+      entry_passed ss i end n (map facts_of c.define_at.new.symbols.items) counted (facts_next ss i n table (map facts_of c.define_at.new.symbols.items) r c.entries.invariant.1 seen made),
+    )
 
 pub entries-preserved : goal.entries-preserved
 entries-preserved c =
@@ -64,9 +65,10 @@ entries-preserved c =
     let x = get_or ls i c.index-lines-place.result in
     let here : x ≡ get_or ls i x = ap (λ (l : Line). get_or ls i l) c.index-lines-place.is in
     let at = symbol-at all i x None within (line_left all ls i x left here) c.in_default.ensures in
-    let counted : end ≡ i + 1 + prefix_len is_attribute (drop (i + 1) ss) = c.entry_end-end.ensures.count ∙ ap (λ (l : List Numbered). i + 1 + prefix_len is_attribute l) (rest_said all ls i left) in
-    (left_as_is all ls i end left (omega (arith, counted)) c.entry_end-end.ensures.within,
-    entry_passed ss i end n table counted (facts_next ss i n table table (round ss i) c.entries.invariant.1 refl (ap (λ (o : Option SymId). changed (defined_by (round ss i) (attributes ss i)) o table) at)))
+    let counted : end ≡ i + 1 + prefix_len is_attribute (drop (i + 1) ss) = c.entry_end-end.ensures.count ∙ ap (λ (l : List Numbered). i + 1 + prefix_len is_attribute l) (rest_said all ls i left) in (
+      left_as_is all ls i end left (omega (arith, counted)) c.entry_end-end.ensures.within,
+      entry_passed ss i end n table counted (facts_next ss i n table table (round ss i) c.entries.invariant.1 refl (ap (λ (o : Option SymId). changed (defined_by (round ss i) (attributes ss i)) o table) at)),
+    )
 
 pub returns : goal.returns
 returns c =
