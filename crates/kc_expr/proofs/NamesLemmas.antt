@@ -1,5 +1,6 @@
 -- Names, as the bytes of the keys of a set.
 use Rattle.std.proofs.Common.{◌≡◌, ℕ, ◌+◌, Bool, true, false, not, cond, ◌||◌, List, [], ◌∷◌, ◌++◌, map, Some, None, position, length, nat_lt, zero, suc, ◌<◌, ◌==◌, get_or, slice_get, arith, refl, sym, ap, ◌∙◌, append_assoc, append-nil}
+use Rattle.std.specs.Prelude.{OnErr, Result, Ok, Err}
 use Rattle.std.specs.List.{list_any, prefix_len, position_or_len, IsDistinct, AllByRecursion}
 use Rattle.std.proofs.lemmas.List.Elements.{All-from_recursion}
 use Rattle.std.proofs.lemmas.Bool.Decides.{nat_tests}
@@ -14,6 +15,10 @@ use Rattle.indexmap.specs.IndexSet.{IndexSet}
 use Rattle.kc_expr.specs.Grammar.{Terminal, Close, terminal_words, words_of}
 use Rattle.kc_expr.specs.Names.{symbol, same_name, number_of, mention, all_mentioned, Extends, IsNumber, AreDistinct}
 use Rattle.kc_expr.specs.declared.expression.SymId.{SymId}
+
+pub on_err : {T E : Type 0} (r : Result T E) (P : Type 0) → P → OnErr r P
+on_err (Ok x) P p = tt
+on_err (Err e) P p = p
 
 module _ {K : Type 0} (f : K → List ℕ) where
   prefix_len-map : (p : List ℕ → Bool) (ks : List K) → prefix_len p (map f ks) ≡ prefix_len (λ k. p (f k)) ks
@@ -39,6 +44,9 @@ module _ {K : Type 0} (f : K → List ℕ) where
 
   pub mention-known : (name : List ℕ) (ks : List K) → true ≡ list_any (λ k. same_name name (f k)) ks → map f ks ≡ mention (map f ks) name
   mention-known name ks h = rw (list_any-map (same_name name) ks, ← h)
+
+  pub not_known : (name : List ℕ) (ks : List K) → false ≡ list_any (λ k. same_name name (f k)) ks → list_any (same_name name) (map f ks) ≡ false
+  not_known name ks h = list_any-map (same_name name) ks ∙ sym h
 
   pub mention-insert : (ks : List K) (k : K) → map f (cond (list_any (λ x. same_name (f k) (f x)) ks) ks (ks ++ k ∷ [])) ≡ mention (map f ks) (f k)
   mention-insert ks k = rw (list_any-map (same_name (f k)) ks) (by (list_any (λ x. same_name (f k) (f x)) ks))

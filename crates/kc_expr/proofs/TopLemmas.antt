@@ -4,11 +4,11 @@ use Rattle.kc_expr.specs.declared.expression.SymId.{SymId}
 use Rattle.kc_expr.specs.declared.parse.ExprFault.{ExprFault}
 use Rattle.kc_expr.specs.declared.parse.ExprFault.TheVariants.{Syntax, TooDeep, Memory}
 use Rattle.kc_expr.specs.Form.{Form}
-use Rattle.kc_expr.specs.Grammar.{Terminal, Disjunction, spell, spell_or, levels, levels_or, NoLonger}
+use Rattle.kc_expr.specs.Grammar.{Terminal, Disjunction, spell, spell_or, levels, levels_or, LongestFront, NoLonger}
 use Rattle.kc_expr.specs.declared.parse.Connective.TheVariants.{Or}
 use Rattle.kc_expr.specs.Scan.{State, want, run, lone_in, after}
 use Rattle.kc_expr.specs.Parsing.{IsParsed, IsNoExpression, IsTooDeep, IsRefused}
-use Rattle.kc_expr.specs.Reading.{IsUnfinished, Refuses, Fresh_start, Broken, Deep, ParsedChain, FailsChain}
+use Rattle.kc_expr.specs.Reading.{IsUnfinished, Refuses, Fresh_start, Stops, Broken, Deep, ParsedChain, FailsChain}
 use Rattle.kc_expr.proofs.ScanLemmas.{run-append, reads}
 use Rattle.kc_expr.proofs.ReadingLemmas.{refuses_after}
 
@@ -37,16 +37,19 @@ unfinished_after : (b : Bool) → IsUnfinished (after b 0 []) → ⊥
 unfinished_after true h = h
 unfinished_after false h = h
 
+-- a whole expression that nothing can follow is the longest front
+pub longest_of : (d : Disjunction) (rest : List Terminal) → levels d ≤ 64 → Stops Or d rest → LongestFront (spell d ++ rest) (spell d) rest
+longest_of d rest w stops = record {
+  whole = refl;
+  begins = (d, [], sym (append-nil (spell d)));
+  longest = no_longer (spell d) rest (λ limit h.
+      (after (lone_in d) 0 [], runs d limit (omega arith), refuses_after limit (lone_in d) 0 [] rest stops.0 stops.1 stops.2 (inr refl)));
+}
+
 pub is_parsed : (condition : Option SymId) (ts rest : List Terminal) (old names : List (List ℕ)) (f : Form) → ParsedChain Or condition 64 ts rest old names f → IsParsed condition ts rest old names f
 is_parsed condition ts rest old names f p = record {
   front = spell p.tree;
-  longest = record {
-    whole = p.whole;
-    begins = (p.tree, [], sym (append-nil (spell p.tree)));
-    longest = no_longer (spell p.tree) rest (λ limit h.
-        let v = p.within in
-        (after (lone_in p.tree) 0 [], runs p.tree limit (omega arith), refuses_after limit (lone_in p.tree) 0 [] rest p.stops.0 p.stops.1 p.stops.2 (inr refl)));
-  };
+  longest = subst (λ l. LongestFront l (spell p.tree) rest) (sym p.whole) (longest_of p.tree rest p.within p.stops);
   tree = p.tree;
   derives = refl;
   within = p.within;
@@ -85,7 +88,7 @@ is_too_deep ts b = record {
 pub is_refused : (f : ExprFault) (ts : List Terminal) → FailsChain Or f 64 ts → IsRefused f ts
 is_refused Syntax ts b = is_no_expression ts b
 is_refused TooDeep ts b = is_too_deep ts b
-is_refused Memory ts b = tt
+is_refused Memory ts b = b
 
 pub IfErr-weaker : {X E : Type 0} (r : Result X E) (P Q : E → Type 0) → ((e : E) → P e → Q e) → IfErr r P → IfErr r Q
 IfErr-weaker (Ok x) P Q f h = tt

@@ -1,4 +1,4 @@
--- The grammar of expressions.
+-- Trusted: The grammar of expressions.
 --
 --     or   = and { "||" and }
 --     and  = not { "&&" not }

@@ -1,4 +1,4 @@
--- How the logic stores what is known of a symbol, by which a model may have it in its value.
+-- Trusted: How the logic stores what is known of a symbol, by which a model may have it in its value.
 use Rattle.std.specs.Prelude.{◌≡◌}
 use Rattle.std.proofs.Common.{ap}
 use Rattle.std.specs.Coded.{Coded}

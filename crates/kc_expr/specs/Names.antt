@@ -1,4 +1,4 @@
--- Names and their numbers.
+-- Trusted: Names and their numbers.
 use Rattle.std.specs.Prelude.{ℕ, ◌≡◌, ◌==◌, Bool, List, [], ◌∷◌, ◌++◌, if◌then◌else◌}
 use Rattle.std.specs.List.{list_any, position_or_len, IsDistinct}
 use Rattle.std.specs.Cmp.Lexicographic.{pointwise}

@@ -1,11 +1,11 @@
--- What parsing answers.
-use Rattle.std.specs.Prelude.{◌≡◌, ◌≢◌, ℕ, ◌≤◌, List, ◌++◌, Option}
+-- Trusted: What parsing answers.
+use Rattle.std.specs.Prelude.{◌≡◌, ◌≢◌, ℕ, ◌≤◌, List, ◌∷◌, ◌++◌, Option}
 use Rattle.kc_expr.specs.declared.parse.ExprFault.{ExprFault}
 use Rattle.kc_expr.specs.declared.parse.ExprFault.TheVariants.{Syntax, TooDeep, Memory}
 use Rattle.kc_expr.specs.declared.expression.SymId.{SymId}
 use Rattle.kc_expr.specs.Form.{Form}
 use Rattle.kc_expr.specs.Names.{number_of, all_mentioned, Extends}
-use Rattle.kc_expr.specs.Grammar.{Terminal, Disjunction, spell_or, levels_or, meaning_or, words, Begins, BeginsWithin, LongestFront}
+use Rattle.kc_expr.specs.Grammar.{Atom, Terminal, Plain, Disjunction, spell_or, levels_or, meaning_or, words, Begins, BeginsWithin, LongestFront}
 
 -- what parsing answers: the one expression of the longest front that begins some expression
 pub record IsParsed (condition : Option SymId) (ts rest : List Terminal) (old names : List (List ℕ)) (f : Form) : Type 0 where
@@ -33,13 +33,36 @@ pub record IsTooDeep (ts : List Terminal) : Type 0 where
   pub begins : Begins front
   pub deep : BeginsWithin 64 front → ⊥
 
+-- an operand stands among the tokens
+pub record HasOperand (ts : List Terminal) : Type 0 where
+  pub before : List Terminal
+  pub atom : Atom
+  pub after : List Terminal
+  pub split : ts ≡ before ++ Plain atom ∷ after
+
+-- what each refusal says; out of memory comes only where there is an operand
 abbrev pub IsRefused : ExprFault → List Terminal → Type 0
 IsRefused Syntax ts = IsNoExpression ts
 IsRefused TooDeep ts = IsTooDeep ts
-IsRefused Memory ts = Unit {0}
+IsRefused Memory ts = HasOperand ts
 
 -- Parsing has one answer: one expression, one place and one list of names, or one of the refusals.
 pub record IsDetermined (ts : List Terminal) : Type 0 where
   pub one_answer : (condition : Option SymId) (rest rest' : List Terminal) (old names names' : List (List ℕ)) (f f' : Form) → IsParsed condition ts rest old names f → IsParsed condition ts rest' old names' f' → (rest ≡ rest') × (names ≡ names') × (f ≡ f')
   pub not_refused : (condition : Option SymId) (rest : List Terminal) (old names : List (List ℕ)) (f : Form) → IsParsed condition ts rest old names f → (IsNoExpression ts → ⊥) × (IsTooDeep ts → ⊥)
   pub one_refusal : IsNoExpression ts → IsTooDeep ts → ⊥
+
+-- what the grammar answers to tokens: an expression and what follows it, or one of the refusals
+pub data Answer : Type 0 where
+  Derived : Disjunction → List Terminal → Answer
+  NoExpression : Answer
+  TooManyLevels : Answer
+
+abbrev pub Answers : List Terminal → Answer → Type 0
+Answers ts (Derived d rest) = LongestFront ts (spell_or d) rest × (levels_or d ≤ 64)
+Answers ts NoExpression = IsNoExpression ts
+Answers ts TooManyLevels = IsTooDeep ts
+
+-- the grammar has one answer to tokens, and no other
+abbrev pub OneAnswer : Type 0
+OneAnswer = (ts : List Terminal) → (answer : Answer) × Answers ts answer × ((other : Answer) → Answers ts other → answer ≡ other)

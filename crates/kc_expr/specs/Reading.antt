@@ -1,4 +1,4 @@
--- What the parser's functions give: each one's part of an expression, or where it breaks off.
+-- For proofs: What the parser's functions give: each one's part of an expression, or where it breaks off.
 use Rattle.std.specs.Prelude.{◌≡◌, ℕ, ◌+◌, ◌≤◌, ◌<◌, length, Bool, true, false, List, [], ◌∷◌, ◌++◌, Option, Some, None, MatchBool}
 use Rattle.kc_expr.specs.declared.parse.ExprFault.{ExprFault}
 use Rattle.kc_expr.specs.declared.parse.ExprFault.TheVariants.{Syntax, TooDeep, Memory}
@@ -14,6 +14,7 @@ use Rattle.kc_expr.specs.Names.{number_of, all_mentioned, Extends}
 use Rattle.kc_expr.specs.declared.parse.Connective.{Connective}
 use Rattle.kc_expr.specs.declared.parse.Connective.TheVariants.{And, Or}
 use Rattle.kc_expr.specs.Grammar.{Terminal, Plain, Compares, Bang, Joins, Open, Close, Keyword, Chain, Part, Negation, spell, spell_part, spell_not, levels, levels_part, levels_not, meaning, meaning_part, meaning_not, terminals_from, terminal_of, Atom, leaf, op_terminal, atom_words, words_of}
+use Rattle.kc_expr.specs.Parsing.{HasOperand}
 use Rattle.kc_expr.specs.Scan.{State, want, single, right, done, step, run, lone_in, lone_part, lone_not}
 
 -- what the next token is, if there is one
@@ -129,17 +130,17 @@ PartStart Or = Fresh_start
 abbrev pub FailsNot : ExprFault → ℕ → List Terminal → Type 0
 FailsNot Syntax k ts = Broken spell_not levels_not Any_start k ts
 FailsNot TooDeep k ts = Deep spell_not levels_not Any_start k ts
-FailsNot Memory k ts = Unit {0}
+FailsNot Memory k ts = HasOperand ts
 
 abbrev pub FailsPart : Connective → ExprFault → ℕ → List Terminal → Type 0
 FailsPart c Syntax k ts = Broken {T = Part c} spell_part levels_part (PartStart c) k ts
 FailsPart c TooDeep k ts = Deep {T = Part c} spell_part levels_part (PartStart c) k ts
-FailsPart c Memory k ts = Unit {0}
+FailsPart c Memory k ts = HasOperand ts
 
 abbrev pub FailsChain : Connective → ExprFault → ℕ → List Terminal → Type 0
 FailsChain c Syntax k ts = Broken {T = Chain c} spell levels Fresh_start k ts
 FailsChain c TooDeep k ts = Deep {T = Chain c} spell levels Fresh_start k ts
-FailsChain c Memory k ts = Unit {0}
+FailsChain c Memory k ts = HasOperand ts
 
 -- the next token
 abbrev pub IsNext : Option TokenKind → List Token → ℕ → Type 0
@@ -171,6 +172,12 @@ abbrev pub IsMemory : ExprFault → Type 0
 IsMemory Syntax = ⊥
 IsMemory TooDeep = ⊥
 IsMemory Memory = Unit {0}
+
+-- memory was wanting for an operand that stands there
+abbrev pub IsMemoryAt : List Terminal → ExprFault → Type 0
+IsMemoryAt ts Syntax = ⊥
+IsMemoryAt ts TooDeep = ⊥
+IsMemoryAt ts Memory = starts_plain ts ≡ true
 
 abbrev pub starts_bang : List Terminal → Bool
 starts_bang [] = false

@@ -1,23 +1,25 @@
 //! The bytes of one name.
 
-ghost use Rattle.std.specs.Prelude.{◌≡◌, IfOk};
-ghost use Rattle.std.proofs.Common.{rules};
-ghost use Rattle.std.specs.Cmp.Rules.{comparing, hashing};
+ghost use Rattle.std.specs.Prelude.{◌≡◌, ◌∷◌, [], IfOk};
+ghost use Rattle.std.proofs.Common.{ap, rules};
+ghost use Rattle.std.specs.Cmp.Lexicographic.{bytes_decides};
+ghost use Rattle.std.specs.Cmp.Rules.{comparing};
 ghost use Rattle.kc_expr.specs.Names.{same_name};
 
 use indexmap::Equivalent;
 use smallvec::SmallVec;
 use std::alloc::{AllocError, Global};
+use std::hash::{Hash, Hasher};
 
 /// The bytes of a name. Up to 24, which nearly every name is short of, stand in the value itself: to compare them follows
 /// no pointer, and they take no memory of their own.
-#[derive(PartialEq, Eq, Hash, Drop)]
+#[derive(PartialEq, Eq, Drop)]
 pub(crate) struct Name {
     pub(crate) bytes: SmallVec<u8, 24>,
 }
 
 impl Name {
-    /// A name of these bytes. Its only error is want of memory.
+    /// A name of these bytes. Its only error is to be out of memory.
     pub(crate) fn of(alloc: Global, bytes: &[u8]) -> Result<Name, AllocError>
         ensures { IfOk result (λ n. n.bytes.items ≡ bytes.now) }
     {
@@ -34,15 +36,42 @@ impl Name {
     }
 }
 
-// Bytes stand for the name that they are.
-impl Equivalent<Name> for &[u8] {
-    ghost equivalent = { λ q k. same_name q.now k.bytes.items };
+// A name is hashed as one piece: a hasher that is given one byte at a time does for each what it needs for eight.
+impl Hash for Name {
+    ghost hash_input = { λ n. n.bytes.items ∷ [] };
 
-    ghost respects_hash = { λ q k. Prim.search (hashing, rules) };
+    ghost respects_eq = { λ x y h. ap (λ b. b ∷ []) ((bytes_decides x.bytes.items y.bytes.items).0 h) };
+
+    fn hash<H: Hasher>(&self, state: &mut H) {
+        state.write(self.bytes.as_slice());
+    }
+}
+
+/// Bytes that are looked up as the name that they spell.
+#[derive(Clone, Copy, PartialEq, Eq)]
+pub(crate) struct Spelled<'a> {
+    pub(crate) bytes: &'a [u8],
+}
+
+impl<'a> Hash for Spelled<'a> {
+    ghost hash_input = { λ q. q.bytes.now ∷ [] };
+
+    ghost respects_eq = { λ x y h. ap (λ b. b ∷ []) ((bytes_decides x.bytes.now y.bytes.now).0 h) };
+
+    fn hash<H: Hasher>(&self, state: &mut H) {
+        state.write(self.bytes);
+    }
+}
+
+// Bytes stand for the name that they are.
+impl<'a> Equivalent<Name> for Spelled<'a> {
+    ghost equivalent = { λ q k. same_name q.bytes.now k.bytes.items };
+
+    ghost respects_hash = { λ q k h. ap (λ b. b ∷ []) ((bytes_decides q.bytes.now k.bytes.items).0 h) };
 
     ghost respects_eq = { λ q x y. Prim.search (comparing, rules) };
 
     fn equivalent(&self, key: &Name) -> bool {
-        *self == key.as_slice()
+        self.bytes == key.as_slice()
     }
 }

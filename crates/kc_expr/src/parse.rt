@@ -5,8 +5,8 @@ ghost use Rattle.kc_expr.specs.declared.parse.ExprFault.TheVariants.{Memory};
 ghost use Rattle.kc_expr.specs.Form.{form_of, forms, leaf_of, Text};
 ghost use Rattle.kc_expr.specs.Grammar as spec;
 ghost use Rattle.kc_expr.specs.Grammar.{terminals_from, is_m_leaf, plain_under, IsUnambiguous, Terminal, HasOneLongestFront};
-ghost use Rattle.kc_expr.specs.Parsing.{IsParsed, IsDetermined, IsRefused};
-ghost use Rattle.kc_expr.specs.Reading.{ParsedNot, ParsedPart, ParsedChain, FailsNot, FailsPart, FailsChain, IsNext, ReadsOperand, ReadsRelation, IsMemory, IsOp, IsJoined, StartsNoOperand};
+ghost use Rattle.kc_expr.specs.Parsing.{IsParsed, IsDetermined, IsRefused, OneAnswer};
+ghost use Rattle.kc_expr.specs.Reading.{ParsedNot, ParsedPart, ParsedChain, FailsNot, FailsPart, FailsChain, IsNext, ReadsOperand, ReadsRelation, IsMemory, IsMemoryAt, IsOp, IsJoined, StartsNoOperand};
 ghost use Rattle.kc_expr.specs.Names.{Extends, mention};
 
 use crate::expression::{Expr, Operand, Sides, SymId};
@@ -64,8 +64,9 @@ const MAX_LEVELS: usize = 64;
 /// and that symbol.
 ///
 /// [`ExprFault::TooDeep`] where a 65th `(` or `!` is opened at once; else [`ExprFault::Syntax`] where that front is no
-/// expression itself; [`ExprFault::Memory`] for want of memory. On `Ok` the names are the old ones and then each new one
-/// of the front at its first mention. After an `Err` further names may have been added.
+/// expression itself; [`ExprFault::Memory`] when out of memory, which no tokens without an operand answer. On `Ok` the
+/// names are the old ones and then each new one of the front at its first mention. After an `Err` they are the old ones,
+/// after which further ones may have been added.
 pub fn parse(
     alloc: Global,
     tokens: &[Token],
@@ -104,6 +105,12 @@ pub fn longest_front_is_unique()
 /// the two refusals.
 pub fn parsing_is_determined()
     ensures { (ts : List Terminal) → IsDetermined ts }
+{}
+
+/// A law: the grammar has one answer to tokens, and no other. The longest front that begins some expression is one of at
+/// most 64 levels, or it is none, or a 65th level is opened.
+pub fn one_answer()
+    ensures { OneAnswer }
 {}
 
 /// What joins the parts of a chain.
@@ -287,7 +294,7 @@ fn operand(
     names: &mut Names,
 ) -> Result<Option<Operand>, ExprFault>
     ensures reads { IfOk result (λ o. ReadsOperand o tokens.now at names.old names.new) }
-    ensures memory { IfErr result IsMemory }
+    ensures memory { IfErr result (IsMemoryAt (terminals_from tokens.now at)) }
     ensures names { Extends names.old names.new }
 {
     match next(tokens, at) {

@@ -3,8 +3,10 @@ use Rattle.std.proofs.Common.{ℕ, ◌∙◌, ap, ◌++◌, ◌∷◌, []}
 use Rattle.std.proofs.lemmas.Result.{IfOk-weaker}
 use Rattle.kc_expr.specs.declared.expression.Expr.{Expr}
 use Rattle.kc_expr.specs.Form.{form_of}
-use Rattle.kc_expr.specs.Grammar.{terminals_from}
+use Rattle.kc_expr.specs.Grammar.{terminals_from, spell, spell_not, spell_part, Bang}
 use Rattle.kc_expr.proofs.ParseLemmas.{fault_passed, deep_bang_at, deep_group_at, fails_bang_at, fails_group_at, parsed_bang, unclosed_at, parsed_group, parsed_negation, parsed_conjunction, parsed_only, parts_one, parts_next, parsed_last, fails_after}
+use Rattle.kc_expr.specs.declared.parse.ExprFault.TheVariants.{Memory}
+use Rattle.kc_expr.proofs.OperandLemmas.{chain_operand, not_operand, operand_in, operand_on, part_operand}
 use Rattle.kc_expr.proofs.NamesLemmas.{extends_on}
 use Rattle.kc_expr.proofs.ReadingLemmas.{fails_negation, fails_conjunction, fails_first}
 use Rattle.kc_expr.proofs.TopLemmas.{IfErr-weaker}
@@ -80,3 +82,18 @@ part-returns-in-Or-clause-parsed t c =
 pub part-returns-in-Or-clause-fails : goal.part-returns-in-Or-clause-fails
 part-returns-in-Or-clause-fails t c =
     rw c.in-Or.is (IfErr-weaker _ _ _ (λ f h. fails_conjunction f c.args.levels (terminals_from c.args.tokens.now c.args.at) h) c.chain.ensures.fails)
+
+pub chain-returns-in_err-parts-clause-fails : goal.chain-returns-in_err-parts-clause-fails
+chain-returns-in_err-parts-clause-fails t c =
+    let p = c.in_ok-first.ensures.parsed in
+    fault_passed c.from_residual-in_err-parts.result _ Memory c.from_residual-in_err-parts.ensures.1 (operand_in _ (spell_part p.tree) _ p.whole (part_operand p.tree))
+
+pub chain-returns-in_err-push-2-clause-fails : goal.chain-returns-in_err-push-2-clause-fails
+chain-returns-in_err-push-2-clause-fails t c =
+    let p = c.loop-parts.invariant.parts in
+    fault_passed c.from_residual-in_err-push-2.result _ Memory c.from_residual-in_err-push-2.ensures.1 (operand_in _ (spell p.tree) _ p.whole (chain_operand p.tree))
+
+pub negation-returns-in_err-new-clause-fails : goal.negation-returns-in_err-new-clause-fails
+negation-returns-in_err-new-clause-fails t c =
+    let p = c.in_ok-operand.ensures.parsed in
+    fault_passed c.from_residual-in_err-new.result _ Memory c.from_residual-in_err-new.ensures.1 (operand_on _ (Bang ∷ []) _ c.if-is_op.ensures.1 (operand_in _ (spell_not p.tree) _ p.whole (not_operand p.tree)))

@@ -1,8 +1,11 @@
 -- What the check left open in `relation`.
-use Rattle.std.proofs.Common.{◌≡◌, ◌+◌, ◌∙◌, ap, ◌∷◌, arith}
+use Rattle.std.proofs.Common.{ℕ, ◌≡◌, ◌+◌, ◌∙◌, ap, ◌∷◌, arith}
 use Rattle.kc_expr.specs.Grammar.{terminals_from, Plain, Compares}
 use Rattle.kc_expr.specs.Reading.{starts_plain}
-use Rattle.kc_expr.proofs.ParseLemmas.{no_left, no_right_side, parsed_lone, parsed_compare}
+use Rattle.kc_expr.specs.declared.parse.ExprFault.TheVariants.{Memory}
+use Rattle.kc_expr.specs.Reading.{FailsNot}
+use Rattle.kc_expr.proofs.OperandLemmas.{is_memory, memory_at, memory_not, operand_here}
+use Rattle.kc_expr.proofs.ParseLemmas.{fault_passed, no_left, no_right_side, parsed_lone, parsed_compare}
 use Rattle.kc_expr.proofs.parse.relation.Goals as goal
 
 pub returns-in_default-clause-fails : goal.returns-in_default-clause-fails
@@ -31,3 +34,26 @@ returns-clause-parsed c =
     let third = ap (terminals_from c.args.tokens.now) e ∙ right.next ∙ ap (λ n. Plain right.atom ∷ terminals_from c.args.tokens.now n) f in
     let text = left.next ∙ ap (λ l. Plain left.atom ∷ l) (op.1 ∙ ap (λ l. Compares c.in-Some-relation_op.op ∷ l) third) in
     rw c.in_ok-sides.ensures.ok (parsed_compare _ _ _ _ _ _ left.atom right.atom c.in-Some-relation_op.op _ _ text left.mentions right.mentions left.leaf_is right.leaf_is)
+
+pub returns-in_err-left-clause-fails : goal.returns-in_err-left-clause-fails
+returns-in_err-left-clause-fails c =
+    let ts = terminals_from c.args.tokens.now c.args.at in
+    fault_passed c.from_residual.result (λ f. (k : ℕ) → FailsNot f k ts) _ c.from_residual.ensures.1 (λ k. memory_at _ k ts c.in_err-left.ensures.memory)
+
+pub returns-in_err-plain-clause-fails : goal.returns-in_err-plain-clause-fails
+returns-in_err-plain-clause-fails c =
+    let ts = terminals_from c.args.tokens.now c.args.at in
+    let left = rw c.in-Some.is at c.in_ok-left.ensures.reads in
+    fault_passed c.from_residual-in_err-plain.result (λ f. (k : ℕ) → FailsNot f k ts) _ c.from_residual-in_err-plain.ensures.1 (λ k. memory_not _ k ts c.in_err-plain.ensures.memory (operand_here ts _ left.atom left.next))
+
+pub returns-in_err-right-clause-fails : goal.returns-in_err-right-clause-fails
+returns-in_err-right-clause-fails c =
+    let ts = terminals_from c.args.tokens.now c.args.at in
+    let left = rw c.in-Some.is at c.in_ok-left.ensures.reads in
+    fault_passed c.from_residual-in_err-right.result (λ f. (k : ℕ) → FailsNot f k ts) _ c.from_residual-in_err-right.ensures.1 (λ k. memory_not _ k ts (is_memory _ _ c.in_err-right.ensures.memory) (operand_here ts _ left.atom left.next))
+
+pub returns-in_err-sides-clause-fails : goal.returns-in_err-sides-clause-fails
+returns-in_err-sides-clause-fails c =
+    let ts = terminals_from c.args.tokens.now c.args.at in
+    let left = rw c.in-Some.is at c.in_ok-left.ensures.reads in
+    fault_passed c.from_residual-in_err-sides.result (λ f. (k : ℕ) → FailsNot f k ts) Memory c.from_residual-in_err-sides.ensures.1 (λ k. operand_here ts _ left.atom left.next)

@@ -1,0 +1,84 @@
+-- Where an operand stands among tokens.
+use Rattle.std.proofs.Common.{◌≡◌, ℕ, Bool, true, false, List, [], ◌∷◌, ◌++◌, Option, refl, sym, ap, ◌∙◌, subst, append_assoc}
+use Rattle.std.proofs.lemmas.Bool.{false≢true}
+use Rattle.kc_expr.specs.declared.expression.SymId.{SymId}
+use Rattle.kc_expr.specs.declared.parse.Connective.{Connective}
+use Rattle.kc_expr.specs.declared.parse.ExprFault.{ExprFault}
+use Rattle.kc_expr.specs.declared.parse.ExprFault.TheVariants.{Syntax, TooDeep, Memory}
+use Rattle.kc_expr.specs.Form.{Form}
+use Rattle.kc_expr.specs.Grammar.{Atom, Terminal, Plain, Compares, Bang, Joins, Open, Close, Keyword, Chain, Part, Negation, only, joined, negation, conjunction, bang, group, lone, compare, spell, spell_part, spell_not}
+use Rattle.kc_expr.specs.Parsing.{HasOperand}
+use Rattle.kc_expr.specs.Reading.{starts_plain, IsMemory, IsMemoryAt, ParsedNot, ParsedPart, ParsedChain, FailsNot, FailsPart, FailsChain}
+
+pub operand_after : (front ts : List Terminal) → HasOperand ts → HasOperand (front ++ ts)
+operand_after front ts h = record {
+  before = front ++ h.before;
+  atom = h.atom;
+  after = h.after;
+  split = ap (λ l. front ++ l) h.split ∙ sym (append_assoc front h.before (Plain h.atom ∷ h.after));
+}
+
+pub operand_before : (ts rest : List Terminal) → HasOperand ts → HasOperand (ts ++ rest)
+operand_before ts rest h = record {
+  before = h.before;
+  atom = h.atom;
+  after = h.after ++ rest;
+  split = ap (λ l. l ++ rest) h.split ∙ append_assoc h.before (Plain h.atom ∷ h.after) rest;
+}
+
+pub operand_first : (a : Atom) (rest : List Terminal) → HasOperand (Plain a ∷ rest)
+operand_first a rest = record { before = []; atom = a; after = rest; split = refl }
+
+pub operand_here : (ts rest : List Terminal) (a : Atom) → ts ≡ Plain a ∷ rest → HasOperand ts
+operand_here ts rest a e = record { before = []; atom = a; after = rest; split = e }
+
+pub operand_on : (ts front rest : List Terminal) → ts ≡ front ++ rest → HasOperand rest → HasOperand ts
+operand_on ts front rest e h = subst HasOperand (sym e) (operand_after front rest h)
+
+pub operand_in : (ts front rest : List Terminal) → ts ≡ front ++ rest → HasOperand front → HasOperand ts
+operand_in ts front rest e h = subst HasOperand (sym e) (operand_before front rest h)
+
+-- each part of an expression has an operand
+mutual
+  pub chain_operand : {c : Connective} (ps : Chain c) → HasOperand (spell ps)
+  chain_operand (only p) = part_operand p
+  chain_operand {c} (joined p ps) = operand_before (spell_part p) (Joins c ∷ spell ps) (part_operand p)
+
+  pub part_operand : {c : Connective} (p : Part c) → HasOperand (spell_part p)
+  part_operand (negation n) = not_operand n
+  part_operand (conjunction ps) = chain_operand ps
+
+  pub not_operand : (n : Negation) → HasOperand (spell_not n)
+  not_operand (bang n) = operand_after (Bang ∷ []) (spell_not n) (not_operand n)
+  not_operand (group d) = operand_after (Open ∷ []) (spell d ++ Close ∷ []) (operand_before (spell d) (Close ∷ []) (chain_operand d))
+  not_operand (lone a) = operand_first a []
+  not_operand (compare o a b) = operand_first a (Compares o ∷ (Plain b ∷ []))
+
+pub plain_operand : (ts : List Terminal) → starts_plain ts ≡ true → HasOperand ts
+plain_operand [] h = absurd (false≢true h)
+plain_operand (Plain a ∷ ts) h = operand_first a ts
+plain_operand (Compares o ∷ ts) h = absurd (false≢true h)
+plain_operand (Bang ∷ ts) h = absurd (false≢true h)
+plain_operand (Joins c ∷ ts) h = absurd (false≢true h)
+plain_operand (Open ∷ ts) h = absurd (false≢true h)
+plain_operand (Close ∷ ts) h = absurd (false≢true h)
+plain_operand (Keyword ∷ ts) h = absurd (false≢true h)
+
+-- memory was wanting where an operand stands
+pub memory_not : (f : ExprFault) (k : ℕ) (ts : List Terminal) → IsMemory f → HasOperand ts → FailsNot f k ts
+memory_not Syntax k ts m h = absurd m
+memory_not TooDeep k ts m h = absurd m
+memory_not Memory k ts m h = h
+
+pub memory_chain : (c : Connective) (f : ExprFault) (k : ℕ) (ts : List Terminal) → f ≡ Memory → HasOperand ts → FailsChain c f k ts
+memory_chain c f k ts m h = rw m h
+
+pub memory_at : (f : ExprFault) (k : ℕ) (ts : List Terminal) → IsMemoryAt ts f → FailsNot f k ts
+memory_at Syntax k ts m = absurd m
+memory_at TooDeep k ts m = absurd m
+memory_at Memory k ts m = plain_operand ts m
+
+pub is_memory : (f : ExprFault) (ts : List Terminal) → IsMemoryAt ts f → IsMemory f
+is_memory Syntax ts m = absurd m
+is_memory TooDeep ts m = absurd m
+is_memory Memory ts m = tt
