@@ -11,7 +11,7 @@ use Rattle.kc_expr.specs.Grammar.{LongestFront, terminal_of, terminals, lexemes_
 use Rattle.kc_expr.specs.Parsing.{IsParsed, IsRefused}
 use Rattle.kc_read.specs.declared.statement.Fault.{Fault}
 use Rattle.kc_read.specs.Lines.{ExpressionFault, code_of}
-use Rattle.kc_read.specs.Reads.{IsFront, IsFault}
+use Rattle.kc_read.specs.LineReads.{IsFront, IsFault}
 
 terminals-map : (ts : List Token) → map terminal_of (map (λ t. lexeme t.kind) ts) ≡ map (λ t. terminal_of (lexeme t.kind)) ts
 terminals-map [] = refl

@@ -1,12 +1,16 @@
 pub mod BlockLemmas
+pub mod ExpansionThere
 pub mod FileLemmas
 pub mod FrontLemmas
+pub mod LineThere
 pub mod ListLemmas
+pub mod ModulesLemmas
 pub mod NameLemmas
 pub mod OneExpansion
 pub mod OneLine
 pub mod OpeningLemmas
 pub mod PartLemmas
+pub mod ReplacedLemmas
 pub mod RestLemmas
 pub mod ShapeLemmas
 pub mod SilentFiles

@@ -12,7 +12,8 @@ use Rattle.kc_read.specs.declared.refusal.Code.TheVariants as code
 use Rattle.kc_read.specs.Lines.{cause}
 use Rattle.kc_expr.proofs.NamesLemmas.{extends_on, same_name-refl}
 use Rattle.kc_read.specs.Expansion.{names_match, symbol_cause}
-use Rattle.kc_read.specs.Progress.{IsNamed, ids_match}
+use Rattle.kc_read.specs.Progress.{ids_match}
+use Rattle.kc_read.specs.Expanded.{IsNamed}
 use Rattle.kc_read.proofs.FileLemmas.{same_name_eq}
 
 pub extends_none : (names : List (List ℕ)) → Extends names names

@@ -4,7 +4,7 @@ use Rattle.kc_text.specs.declared.faults.TextFault.{TextFault}
 use Rattle.kc_text.specs.Lines.{Left, IsTooLong, left}
 use Rattle.kc_text.specs.Tokens.{Piece, IsCut}
 use Rattle.kc_text.proofs.Joins.{takes_one, takes_less, taken_is_short, too_long_some}
-use Rattle.kc_text.proofs.Once.{one_cutting_law}
+use Rattle.kc_text.proofs.Once.{same_cutting}
 use Rattle.kc_read.specs.declared.refusal.Code.TheVariants as code
 use Rattle.kc_read.specs.Blocks.{last_of, open_blocks}
 use Rattle.kc_read.specs.Expansion.{Around, Log, Refused, Rest, IsUnclosed, NextLine, NextStatement, OneExpansion, refused, bytes_cause, context_of, effect_cause, innermost, inside, is_help, is_source, lexemes, logged, nothing_read, opening, root_around, source_cause, statements, text_cause, with_line, without_help, at_end, unclosed, too_long, no_tokens, blank, bad_line, bad_effect, statement, bad_source, refused_inside, source}
@@ -31,7 +31,7 @@ IsTurn l (Line m ts out) = NextLine l m ts out
 pub one_next : (l m n : Left) (ts us : List Piece) (out other : Option TextFault) → NextLine l m ts out → NextLine l n us other → (m ≡ n) × (ts ≡ us) × (out ≡ other)
 one_next l m n ts us out other a b =
     let (middle, text) = takes_one l a.middle b.middle a.text b.text a.taken b.taken in
-    let (tokens, fault) = one_cutting_law b.text ts us out other (subst (λ t. IsCut t ts out) text a.cut) b.cut in
+    let (tokens, fault) = same_cutting b.text ts us out other (subst (λ t. IsCut t ts out) text a.cut) b.cut in
     (a.left_after ∙ ap (λ t. cond (is_help (lexemes t)) (without_help a.middle) a.middle) tokens ∙ ap (λ k. cond (is_help (lexemes us)) (without_help k) k) middle ∙ sym b.left_after, tokens, fault)
 
 ended_or_next : (l m : Left) (ts : List Piece) (out : Option TextFault) → l.lines ≡ [] → NextLine l m ts out → ⊥

@@ -13,7 +13,7 @@ use Rattle.kc_expr.specs.declared.expression.Kind.{Kind}
 use Rattle.kc_read.specs.declared.statement.Keyword.{Keyword}
 use Rattle.kc_read.specs.Statements.{Written, Asked, SourceLine, ConfigLine, DependsLine, VisibleLine, ModulesLine, IgnoredLine, TypeLine, RangeLine}
 use Rattle.kc_read.specs.declared.statement.Statement.{Statement}
-use Rattle.kc_read.specs.Reads.{cause_of, IsFront, IsRead, IsFault, IsOperand, IsWholeForm, IsConditionForm}
+use Rattle.kc_read.specs.LineReads.{cause_of, IsFront, IsRead, IsFault, IsOperand, IsWholeForm, IsConditionForm}
 
 pub fault_passed : {A : Type 0} (r : Result A Fault) (P : Fault → Type 0) (e : Fault) → IsErrAnd r (λ y. y ≡ e) → P e → IfErr r P
 fault_passed r P e a h = let p = err_from_is_err_and r a in rw (p.1, p.2) h

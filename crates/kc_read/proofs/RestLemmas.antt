@@ -20,12 +20,15 @@ use Rattle.kc_read.proofs.ShapeLemmas.{made_name}
 use Rattle.kc_read.specs.Expansion.{Around, Log, Rest, refused, context_of, inside, is_help, is_source, lexemes, logged, opening, source_cause, sourcing_cause, with_line, without_help, NextLine, NextStatement, at_end, unclosed, too_long, no_tokens, blank, bad_line, bad_effect, statement, bad_source, refused_inside, source}
 use Rattle.kc_read.specs.Files.{Files}
 use Rattle.kc_read.specs.Lines.{Context, Cause, cause}
-use Rattle.kc_read.specs.Progress.{GoesOn, IsKnown, IsNamed, IsNextRead, IsReading, IsStatementRead, IsEnded, IsFileRead, IsOpenAtEnd, IsProgress, IsRestRefusal, IsState, IsTaken, effect_view, open_names}
-use Rattle.kc_read.specs.Reads.{IsMade, cause_of, statement_view}
+use Rattle.kc_read.specs.Progress.{GoesOn, IsKnown, IsNextRead, IsReading, IsStatementRead, IsEnded, IsFileRead, IsOpenAtEnd, IsProgress, IsRestRefusal, IsState, IsTaken, effect_view, open_names}
+use Rattle.kc_read.specs.Expanded.{IsNamed}
+use Rattle.kc_read.specs.Reads.{statement_view}
+use Rattle.kc_read.specs.LineReads.{IsMade, cause_of}
 use Rattle.kc_read.specs.declared.statement.Fault.{Fault}
 use Rattle.kc_read.specs.Statements.{Placed, Written, SourceLine}
-use Rattle.kc_read.specs.Steps.{IsStepRefusal, StepFault, refusal_view}
-use Rattle.kc_read.specs.Steps as step
+use Rattle.kc_read.specs.Steps.{refusal_view}
+use Rattle.kc_read.specs.NextStep.{IsStepRefusal, StepFault}
+use Rattle.kc_read.specs.NextStep as step
 use Rattle.kc_read.proofs.BlockLemmas as blocks
 use Rattle.kc_read.proofs.ListLemmas.{but_last, but_last-append, but_last-take}
 use Rattle.kc_read.proofs.StateLemmas.{effect_same, frame_push, state_taken}
@@ -172,7 +175,7 @@ known_made modules known names s x m = by (name_at (statement_view s)) (name_at 
     by (Some id) None h = absurd h
     by (Some id) (Some n) h = known_below names n id h
 
--- a cause that is no want of memory
+-- a cause that is not being out of memory
 pub no_memory : (r : Refusal) (f : Fault) (file : List ℕ) (line : ℕ) → r.code ≢ code.Memory → (r.code ≢ code.Memory → refusal_view r ≡ refused (cause_of f) file line) → f.code ≢ code.Memory
 no_memory r f file line ne view e = ne (ap (λ v. v.code) (view ne) ∙ e)
 

@@ -10,8 +10,10 @@ use Rattle.kc_read.specs.declared.statement.Statement.{Statement}
 use Rattle.kc_read.specs.declared.statement.Statement.TheVariants as made
 use Rattle.kc_read.specs.Blocks.{Bracket, bracket, is_attribute, is_modules, entry_of, name_at, open_blocks}
 use Rattle.kc_read.specs.Expansion.{Around, Log, statements, defined, effect_cause, opener_cause, symbol_cause, is_source}
-use Rattle.kc_read.specs.Progress.{naming_cause, IsNamed}
-use Rattle.kc_read.specs.Reads.{IsMade, statement_view}
+use Rattle.kc_read.specs.Progress.{naming_cause}
+use Rattle.kc_read.specs.Expanded.{IsNamed}
+use Rattle.kc_read.specs.Reads.{statement_view}
+use Rattle.kc_read.specs.LineReads.{IsMade}
 use Rattle.kc_read.specs.Statements as s
 use Rattle.kc_read.specs.Statements.{Written, Numbered, Placed, numbered, ConfigLine, IfLine, EndIfLine, CommentLine, SourceLine, MenuLine, EndMenuLine, ChoiceLine, EndChoiceLine, MainMenuLine, TypeLine, PromptLine, DefaultLine, DefLine, DependsLine, VisibleLine, SelectLine, ImplyLine, RangeLine, HelpLine, ModulesLine, IgnoredLine}
 use Rattle.kc_read.proofs.NameLemmas.{extends_none, is_named}

@@ -12,14 +12,18 @@ use Rattle.kc_expr.proofs.NamesLemmas.{extends_on, mentioned_on, mentioned_exten
 use Rattle.kc_read.specs.declared.frame.Frame.{Frame}
 use Rattle.kc_read.specs.declared.progress.Progress.{Progress}
 use Rattle.kc_read.specs.declared.statement.Statement.{Statement}
-use Rattle.kc_read.specs.Blocks.{bracket, definitions, entry_of, is_attribute, is_modules, is_other, last_of, last_other, modules_after, modules_of, name_after, name_at, open_blocks}
+use Rattle.kc_read.specs.Blocks.{bracket, definitions, entry_of, is_attribute, is_modules, is_other, last_of, last_other, modules_of, name_at, open_blocks}
+use Rattle.kc_read.specs.Progress.{name_after}
+use Rattle.kc_read.proofs.ModulesLemmas.{modules_after, modules_same}
 use Rattle.kc_read.specs.Expansion.{Around, Log, Rest, context_of, effect_cause, opener_cause, defined, inside, is_choice, lines_of, logged, opening, statements, with_line, Expands, Refused, bytes_cause, nothing_read, refused, root_around}
 use Rattle.kc_read.specs.Files.{Files}
 use Rattle.kc_read.specs.Lines.{Context, Cause}
 use Rattle.kc_text.specs.Lines.{left}
 use Rattle.kc_read.specs.Numbering.{place_numbered}
-use Rattle.kc_read.specs.Progress.{effect_view, naming_cause, IsEntered, IsFrame, IsInside, IsNamed, IsProgress, IsState, IsTaken, IsBegun, defined_after, entry_after, ids_match, named, openers_after}
-use Rattle.kc_read.specs.Reads.{IsMade, line_view, statement_view}
+use Rattle.kc_read.specs.Progress.{effect_view, naming_cause, IsEntered, IsFrame, IsInside, IsProgress, IsState, IsTaken, IsBegun, defined_after, entry_after, ids_match, named, openers_after}
+use Rattle.kc_read.specs.Expanded.{IsNamed}
+use Rattle.kc_read.specs.Reads.{line_view, statement_view}
+use Rattle.kc_read.specs.LineReads.{IsMade}
 use Rattle.kc_read.specs.Statements.{Numbered, Placed, Written, statement_words}
 use Rattle.kc_read.proofs.BlockLemmas.{blocks_of_openers, openers_push}
 use Rattle.kc_read.proofs.ListLemmas.{last_of-map, last_of-push, list_any-map, map-push}
@@ -100,7 +104,11 @@ modules_push (s ∷ ss) now x =
     ∙ ap (λ o. option_or (option_or first (modules_after (name_after now s) ss)) (cond (is_modules x) o None)) (last_first (name_at s) now (definitions ss))
 
 modules_of_push : (ss : List Written) (x : Written) → modules_of (ss ++ x ∷ []) ≡ option_or (modules_of ss) (cond (is_modules x) (last_of (definitions ss)) None)
-modules_of_push ss x = modules_push ss None x ∙ ap (λ o. option_or (modules_of ss) (cond (is_modules x) o None)) (or_none (last_of (definitions ss)))
+modules_of_push ss x =
+    sym (modules_same (ss ++ x ∷ []))
+    ∙ modules_push ss None x
+    ∙ ap (λ o. option_or (modules_after None ss) (cond (is_modules x) o None)) (or_none (last_of (definitions ss)))
+    ∙ ap (λ o. option_or o (cond (is_modules x) (last_of (definitions ss)) None)) (modules_same ss)
 
 words_push : (ss : List Written) (x : Written) → flat_map statement_words ss ++ statement_words x ≡ flat_map statement_words (ss ++ x ∷ [])
 words_push ss x = ap (λ ws. flat_map statement_words ss ++ ws) (sym (append-nil (statement_words x))) ∙ sym (flat_map-append statement_words ss (x ∷ []))

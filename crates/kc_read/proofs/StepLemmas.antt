@@ -10,8 +10,9 @@ use Rattle.kc_read.specs.declared.refusal.Refusal.{Refusal}
 use Rattle.kc_read.specs.declared.refusal.Code.TheVariants as code
 use Rattle.kc_read.specs.Statements.{Written}
 use Rattle.kc_read.specs.declared.statement.Fault.{Fault}
-use Rattle.kc_read.specs.Reads.{IsFault, cause_of}
-use Rattle.kc_read.specs.Steps.{IsStepRefusal, StepFault, too_long, no_tokens, refused_line, refusal_view}
+use Rattle.kc_read.specs.LineReads.{IsFault, cause_of}
+use Rattle.kc_read.specs.Steps.{refusal_view}
+use Rattle.kc_read.specs.NextStep.{IsStepRefusal, StepFault, too_long, no_tokens, refused_line}
 use Rattle.kc_text.specs.Lexemes.{Lexeme, lexeme}
 use Rattle.kc_text.specs.Tokens.{pieces}
 use Rattle.kc_text.specs.declared.tokens.Token.{Token}

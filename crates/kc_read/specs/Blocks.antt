@@ -1,4 +1,4 @@
--- Blocks and entries, by counting brackets on a list of statements.
+-- Trusted: Blocks and entries, by counting brackets on a list of statements.
 use Rattle.std.specs.Prelude.{ℕ, zero, suc, ◌-◌, List, [], ◌∷◌, ◌++◌, length, take, drop, filter, Bool, true, false, ◌&&◌, Option, Some, None, slice_get, is_some, if◌then◌else◌}
 use Rattle.std.specs.List.{take_while, filter_map}
 use Rattle.std.specs.Option.{option_or}
@@ -99,7 +99,8 @@ module _ {E L S : Type 0} where
   abbrev pub open_blocks : List (Statement E L S) → List Block
   open_blocks ss = filter_map (λ j. opened (bracket_at ss j)) (open_places ss)
 
-  -- the places of the openers of the blocks round statement i
+  -- the places of the openers of the blocks that are open before statement i: those round it, and for a statement that
+  -- closes a block that block too, so that a closer counts as inside its own block
   abbrev pub enclosing : List (Statement E L S) → ℕ → List ℕ
   enclosing ss i = open_places (take i ss)
 
@@ -126,18 +127,17 @@ module _ {E L S : Type 0} where
   abbrev pub definitions : List (Statement E L S) → List S
   definitions = filter_map name_at
 
-  -- the last defined name after one more statement
-  abbrev pub name_after : Option S → Statement E L S → Option S
-  name_after now s = option_or (name_at s) now
-
   abbrev pub is_modules : Statement E L S → Bool
   is_modules ModulesLine = true
   is_modules _ = false
 
-  -- the name in whose entry the first `modules` line stands, where `now` is the last defined name before these statements
-  abbrev pub modules_after : Option S → List (Statement E L S) → Option S
-  modules_after now [] = None
-  modules_after now (s ∷ ss) = option_or (if is_modules s then now else None) (modules_after (name_after now s) ss)
+  -- a `modules` line stands before the next `config` line
+  abbrev pub is_marked : List (Statement E L S) → Bool
+  is_marked [] = false
+  is_marked (s ∷ ss) = if is_modules s then true else (if is_some (name_at s) then false else is_marked ss)
 
+  -- The modules symbol's name, that of the last `config` line before the first `modules` line: of the first `config` line
+  -- that a `modules` line follows before the next `config` line.
   abbrev pub modules_of : List (Statement E L S) → Option S
-  modules_of = modules_after None
+  modules_of [] = None
+  modules_of (s ∷ ss) = option_or (if is_marked ss then name_at s else None) (modules_of ss)

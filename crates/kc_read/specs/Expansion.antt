@@ -1,4 +1,4 @@
--- The expanded list: the statements of a file, with those of a sourced file in place of its `source` line.
+-- Trusted: The expanded list: the statements of a file, with those of a sourced file in place of its `source` line.
 use Rattle.std.specs.Prelude.{◌≡◌, ◌≢◌, ℕ, ◌+◌, ◌-◌, List, [], ◌∷◌, ◌++◌, length, map, Bool, true, false, ◌||◌, nat_le, nat_lt, codes, Option, Some, None, Result, Ok, Err, if◌then◌else◌, MatchOption}
 use Rattle.std.specs.List.{list_any}
 use Rattle.kc_text.specs.declared.faults.TextFault.{TextFault}

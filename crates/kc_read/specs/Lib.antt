@@ -1,3 +1,4 @@
+-- The definitions that the contracts speak in.
 pub mod Blocks
 pub mod Expansion
 pub mod Files
@@ -5,7 +6,12 @@ pub mod Lines
 pub mod Openings
 pub mod Statements
 pub mod Reads
+pub mod LineReads
 pub mod Steps
+pub mod NextStep
 pub mod Numbering
+pub mod Existing
+pub mod Expanded
+pub mod Replaced
 pub mod Progress
 pub mod Sources

@@ -1,4 +1,4 @@
--- How a line of tokens is read.
+-- Trusted: How a line of tokens is read.
 use Rattle.std.specs.Prelude.{◌≡◌, ℕ, ◌≤◌, ◌⊎◌, List, [], ◌∷◌, length, Bool, true, false, not, ◌||◌, ◌&&◌, ◌==◌, nat_le, codes, Option, Some, None, Result, Ok, Err, if◌then◌else◌, MatchResult, drop}
 use Rattle.std.specs.List.{list_any, list_all}
 use Rattle.std.specs.Char.{is_ascii_alphanumeric}
@@ -387,3 +387,7 @@ ReadsPlaced c w ts k r = After (in_place k (place_cause c w ts k)) (λ j. ReadsR
 -- the whole line: its first word, its place and its rest, in this order
 abbrev pub ReadsLine : Context → List Lexeme → Result Written Cause → Type 0
 ReadsLine c ts r = After (word_of ts) (λ w. After (known (keyword_of w)) (ReadsPlaced c w (drop 1 ts))) r
+
+-- in each context a line has one outcome, a statement or a cause, and no other
+abbrev pub OneStatement : Type 0
+OneStatement = (c : Context) (ts : List Lexeme) → (r : Result Written Cause) × ReadsLine c ts r × ((other : Result Written Cause) → ReadsLine c ts other → r ≡ other)

@@ -1,4 +1,4 @@
--- How the expanded list is numbered: the defined symbols first, then the modules symbol, then the other names.
+-- Trusted: How the expanded list is numbered: the defined symbols first, then the modules symbol, then the other names.
 use Rattle.std.specs.Prelude.{ℕ, List, [], ◌∷◌, map, codes, Option, Some, unwrap_or}
 use Rattle.std.specs.List.{flat_map}
 use Rattle.kc_expr.specs.declared.expression.SymId.{SymId}

@@ -1,4 +1,4 @@
--- The files that an expansion opens.
+-- Trusted: The files that an expansion opens.
 use Rattle.std.specs.Prelude.{◌≡◌, ℕ, List, [], ◌∷◌, ◌++◌, Some, Result}
 use Rattle.std.specs.List.{Contains}
 use Rattle.kc_text.specs.Lines.{Left, left}

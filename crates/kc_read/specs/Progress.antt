@@ -1,4 +1,4 @@
--- What the reader of files remembers of what it has read.
+-- For proofs: What the reader of files remembers of what it has read.
 use Rattle.std.specs.Prelude.{◌≡◌, ◌≢◌, ℕ, ◌+◌, ◌<◌, ◌≤◌, List, [], ◌∷◌, ◌++◌, map, length, Bool, true, false, Option, Some, None, Result, Ok, Err, option_map, slice_get, take, ◌-◌, ◌==◌, ◌||◌, if◌then◌else◌, MatchOption, ⊤}
 use Rattle.std.specs.List.{filter_map, flat_map, list_any}
 use Rattle.std.specs.Option.{option_or, option_and_then}
@@ -7,8 +7,7 @@ use Rattle.std.specs.declared.vec.Vec.{Vec}
 use Rattle.std.specs.declared.rc.Rc.{Rc}
 use Rattle.kc_text.specs.Lines.{Left}
 use Rattle.kc_expr.specs.declared.expression.SymId.{SymId}
-use Rattle.kc_expr.specs.Names.{all_mentioned, mention, IsNumber}
-use Rattle.kc_read.specs.declared.expansion.Expansion.{Expansion}
+use Rattle.kc_expr.specs.Names.{all_mentioned, mention}
 use Rattle.kc_read.specs.declared.frame.Frame.{Frame}
 use Rattle.kc_read.specs.declared.progress.Progress.{Progress}
 use Rattle.kc_read.specs.declared.refusal.Code.TheVariants as code
@@ -16,7 +15,7 @@ use Rattle.kc_read.specs.declared.refusal.Refusal.{Refusal}
 use Rattle.kc_read.specs.declared.statement.Entry.{Entry}
 use Rattle.kc_read.specs.declared.statement.Entry.TheVariants as entry
 use Rattle.kc_read.specs.declared.statement.Opener.{Opener}
-use Rattle.kc_read.specs.Blocks.{Bracket, Opens, Closes, NoBracket, bracket, opened, open_places, last_of, last_other, entry_of, is_attribute, definitions, modules_of, name_at, name_after, is_modules}
+use Rattle.kc_read.specs.Blocks.{Bracket, Opens, Closes, NoBracket, bracket, opened, open_places, last_of, last_other, entry_of, is_attribute, definitions, modules_of, name_at, is_modules}
 use Rattle.kc_read.specs.Expansion.{Around, Log, Refused, Rest, statements, defined, is_choice, refused, symbol_cause, opener_cause}
 use Rattle.kc_read.specs.Lines.{Context, Cause, cause}
 use Rattle.kc_read.specs.Files.{Files}
@@ -24,6 +23,11 @@ use Rattle.kc_read.specs.Numbering.{place_numbered}
 use Rattle.kc_read.specs.Reads.{ForLater, line_view}
 use Rattle.kc_read.specs.Statements.{Statement, Written, Numbered, Placed, statement_words}
 use Rattle.kc_read.specs.Steps.{refusal_view}
+use Rattle.kc_read.specs.Expanded.{IsNamed}
+
+-- the last defined name after one more statement
+abbrev pub name_after : {E L S : Type 0} → Option S → Statement E L S → Option S
+name_after now s = option_or (name_at s) now
 
 -- the opener of a block, if the line is one
 abbrev pub opener_of : Option (Placed Written) → Option Opener
@@ -55,13 +59,6 @@ pub record IsFrame (a : Around) (own : List (Placed Written)) (f : Frame) : Type
   pub in_choice : f.in_choice ≡ list_any is_choice a.blocks
   pub blocks : f.blocks.items ≡ open_openers own
   pub entry : f.entry ≡ entry_of (last_other (statements own))
-
--- the number of a name, where there is a name
-abbrev pub IsNamed : List (List ℕ) → Option SymId → Option (List ℕ) → Type 0
-IsNamed names None None = Unit {0}
-IsNamed names None (Some n) = ⊥
-IsNamed names (Some id) None = ⊥
-IsNamed names (Some id) (Some n) = IsNumber names n id
 
 -- whether the numbers say the same symbol
 abbrev pub ids_match : Option SymId → Option SymId → Bool
@@ -205,14 +202,6 @@ module _ (files : Files) (first : List (List ℕ)) (modules : Option SymId) (nam
   IsNextRead l m own log p f (Ok true) = GoesOn l m own log p f
   IsNextRead l m own log p f (Ok false) = IsEnded l own log p
   IsNextRead l m own log p f (Err r) = IsRestRefusal files a l own log r
-
--- the expanded list that was read: the names stood at first, and are names now
-pub record IsExpansion (first : List (List ℕ)) (modules : Option SymId) (names : List (List ℕ)) (log : Log) (e : Expansion) : Type 0 where
-  pub lines : ForLater names (λ number. map line_view e.lines.items ≡ map (place_numbered modules number) log.lines)
-  pub mentions : names ≡ all_mentioned first (flat_map statement_words (statements log.lines))
-  pub defined_is : e.defined ≡ defined (statements log.lines)
-  pub symbols : e.symbols ≡ length (defined (statements log.lines))
-  pub modules_is : IsNamed names e.modules (modules_of (statements log.lines))
 
 -- what is known as the root file is opened
 pub record IsBegun (root : List ℕ) (counted : ℕ) (f : Frame) (p : Progress) : Type 0 where

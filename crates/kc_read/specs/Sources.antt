@@ -1,4 +1,4 @@
--- The names of a file's `source` lines.
+-- Trusted: The names of a file's `source` lines.
 use Rattle.std.specs.Prelude.{◌≡◌, List, [], ◌∷◌, ◌++◌, ℕ, true, false, codes, drop, None, Ok}
 use Rattle.kc_text.specs.Lines.{Left}
 use Rattle.kc_text.specs.Tokens.{Piece}

@@ -1,4 +1,4 @@
--- The statements of a Kconfig file.
+-- Trusted: The statements of a Kconfig file.
 use Rattle.std.specs.Prelude.{ℕ, List, [], ◌∷◌, ◌++◌, Option, Some, None, option_map}
 use Rattle.kc_expr.specs.declared.expression.SymId.{SymId}
 use Rattle.kc_expr.specs.declared.expression.Kind.{Kind}

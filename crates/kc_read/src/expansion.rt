@@ -1,9 +1,11 @@
 //! The expanded list of a root file.
 
 ghost use Rattle.std.specs.Prelude.{◌≡◌, ◌≢◌, ◌≤◌, Err, IfErr, IfOk, Ok, OnOk};
+ghost use Rattle.kc_expr.specs.Names.{Extends};
 ghost use Rattle.kc_read.specs.Expansion.{Expands, Log};
 ghost use Rattle.kc_read.specs.Files.{bytes_in};
-ghost use Rattle.kc_read.specs.Progress.{IsBegun, IsBounded, IsExpansion, IsShallow};
+ghost use Rattle.kc_read.specs.Progress.{IsBegun, IsBounded, IsShallow};
+ghost use Rattle.kc_read.specs.Expanded.{IsExpansion};
 ghost use Rattle.kc_read.specs.Steps.{IsMemory, refusal_view};
 ghost use Rattle.kc_read.specs.declared.refusal.Code.TheVariants.{Memory};
 
@@ -72,7 +74,7 @@ fn begin(alloc: Global, root: &[u8], counted: usize) -> Result<(Frame, Progress)
 /// is not in the map, E2 where it is open now, E3 where the physical lines of the files opened so far are more than
 /// 1,000,000, each file counted as often as it is sourced, E12 for the 65th block, file or level open at once, E16 for
 /// the 65,536th defined symbol; a refusal of the root file itself stands at its line 0. E20, which has no place and no
-/// detail, is want of memory. After a refusal further names may have been added.
+/// detail, is out of memory. After a refusal the names are the old ones, after which further ones may have been added.
 ///
 /// The statements are those of the kernel's kconfig-language document; the limits and the order of checks are our own.
 pub fn expand(
@@ -85,6 +87,7 @@ pub fn expand(
     ensures expanded { IfOk result (λ e. (log : Log) × Expands (bytes_in map.now) root.now (Ok log) × IsExpansion names.old modules names.new log e) }
     ensures refused { IfErr result (λ r. r.code ≢ Memory → Expands (bytes_in map.now) root.now (Err (refusal_view r))) }
     ensures memory { IfErr result IsMemory }
+    ensures names { Extends names.old names.new }
 {
     let (bytes, counted) = match open(map, root, 0) {
         Ok(opened) => opened,

@@ -31,10 +31,12 @@ impl FileMap {
         }
     }
 
-    /// Gives the name these bytes, in place of those that it had.
+    /// Gives the name these bytes, in place of those that it had. Its only error is to be out of memory, which no name that
+    /// has bytes answers, and after which the map is as it was.
     pub fn insert(&mut self, name: Vec<u8>, bytes: Vec<u8>) -> Result<(), AllocError>
         ensures ok { OnOk result (Puts (bytes_in self.old) (bytes_in self.new) name.items bytes.items) }
         ensures err { OnErr result (self.new ≡ self.old) }
+        ensures unknown { OnErr result (bytes_in self.old name.items ≡ None) }
     {
         self.files.insert(name, bytes)?;
         Ok(())

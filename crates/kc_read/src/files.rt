@@ -3,13 +3,14 @@
 ghost use Rattle.std.specs.Prelude.{◌≡◌, ◌≢◌, ◌≤◌, ◌<◌, ◌+◌, ℕ, List, Option, [], ◌∷◌, ◌++◌, None, Some, Ok, Err, false, true, length, map, IfErr, IfOk, OnOk, IsTrue};
 ghost use Rattle.kc_text.specs.Lines.{Left, left};
 ghost use Rattle.std.specs.List.{list_any};
-ghost use Rattle.kc_expr.specs.Names.{same_name};
+ghost use Rattle.kc_expr.specs.Names.{Extends, same_name};
 ghost use Rattle.kc_read.specs.declared.refusal.Code.TheVariants.{Memory};
 ghost use Rattle.kc_read.specs.Expansion as spec;
 ghost use Rattle.kc_read.specs.Expansion.{Around, Log, NextStatement, sourcing_cause};
 ghost use Rattle.kc_read.specs.Files.{bytes_in};
 ghost use Rattle.kc_read.specs.Progress.{IsBounded, IsEntered, IsInside, IsKnown, IsNextRead, IsOpenAtEnd, IsReading, IsShallow, IsState, IsStatementRead, IsTaken, effect_view, open_names};
-ghost use Rattle.kc_read.specs.Reads.{IsFault, IsMade, cause_of, statement_view};
+ghost use Rattle.kc_read.specs.Reads.{statement_view};
+ghost use Rattle.kc_read.specs.LineReads.{IsFault, IsMade, cause_of};
 ghost use Rattle.kc_read.specs.Statements.{Placed, Written, SourceLine};
 ghost use Rattle.kc_read.specs.Steps.{IsMemory, refusal_view};
 
@@ -215,6 +216,7 @@ pub fn read_file(
     ensures open { OnOk result (progress.new.open_files.items ≡ progress.old.open_files.items) }
     ensures bounded { OnOk result (IsBounded progress.new) }
     ensures memory { IfErr result IsMemory }
+    ensures names { Extends names.old names.new }
 {
     let mut frame = frame;
     let mut lines = LogicalLines::new(bytes);
@@ -253,6 +255,7 @@ fn read_next<'a>(
     ensures shallow { OnOk result (IsShallow frame.new) }
     ensures bounded { OnOk result (IsBounded progress.new) }
     ensures memory { IfErr result IsMemory }
+    ensures names { Extends names.old names.new }
 {
     let position = Position {
         alloc: reader.alloc,
@@ -291,6 +294,7 @@ fn read_statement(
     ensures shallow { OnOk result (IsShallow frame.new) }
     ensures bounded { OnOk result (IsBounded progress.new) }
     ensures memory { IfErr result IsMemory }
+    ensures names { Extends names.old names.new }
 {
     match statement {
         Statement::Source(name) => source(reader, name, line, frame, progress, names),
@@ -318,6 +322,7 @@ fn source(
     ensures shallow { OnOk result (IsShallow frame.new) }
     ensures bounded { OnOk result (IsBounded progress.new) }
     ensures memory { IfErr result IsMemory }
+    ensures names { Extends names.old names.new }
 {
     let (bytes, counted) = match open_source(reader.map, &name, progress) {
         Ok(opened) => opened,

@@ -5,7 +5,8 @@ ghost use Rattle.std.specs.List.{list_any};
 ghost use Rattle.kc_read.specs.Blocks as blocks;
 ghost use Rattle.kc_read.specs.Expansion as expansion;
 ghost use Rattle.kc_read.specs.Progress.{IsShallow, openers_after, entry_after};
-ghost use Rattle.kc_read.specs.Reads.{IsFault, statement_view, cause_of};
+ghost use Rattle.kc_read.specs.Reads.{statement_view};
+ghost use Rattle.kc_read.specs.LineReads.{IsFault, cause_of};
 ghost use Rattle.kc_read.specs.Lines.{cause};
 ghost use Rattle.kc_read.specs.declared.refusal.Code.TheVariants.{TooDeep};
 

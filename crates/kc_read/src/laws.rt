@@ -1,11 +1,31 @@
 //! What holds of every expansion.
 
+ghost use Rattle.kc_read.specs.Existing.{HasOneExpansion};
 ghost use Rattle.kc_read.specs.Expansion.{OneExpansion};
+ghost use Rattle.kc_read.specs.Lines.{OneStatement};
 ghost use Rattle.kc_read.specs.Openings.{AskedAreNamed, OneListOfNames};
+ghost use Rattle.kc_read.specs.Replaced.{ExpandedIsListOf};
+
+/// The law of statements: in each context the tokens of a line are one statement or are refused for one cause, and
+/// nothing else. It does nothing.
+pub fn one_statement()
+    ensures { OneStatement }
+{}
 
 /// The law of expansions: a root file over a file map gives one list or one refusal. It does nothing.
 pub fn one_expansion()
     ensures { OneExpansion }
+{}
+
+/// The law of outcomes: over any files a root file gives a list or a refusal, and nothing else. It does nothing.
+pub fn has_one_expansion()
+    ensures { HasOneExpansion }
+{}
+
+/// The law of the expanded list: it is the list of the root file, which has that file's own statements, in order and each
+/// with its file and line, and in place of each `source` statement the list of the file that it names. It does nothing.
+pub fn expanded_is_list_of_root()
+    ensures { ExpandedIsListOf }
 {}
 
 /// The law of sources: each file that an expansion opens after the root, and one that it asks for in vain, is among

@@ -7,7 +7,7 @@ ghost use Rattle.kc_read.specs.Lines.{place_cause};
 ghost use Rattle.kc_read.specs.Progress.{context_in};
 ghost use Rattle.std.specs.Prelude.{Option};
 ghost use Rattle.kc_expr.specs.declared.expression.SymId.{SymId};
-ghost use Rattle.kc_read.specs.Reads.{cause_of};
+ghost use Rattle.kc_read.specs.LineReads.{cause_of};
 
 use crate::frame::Frame;
 use crate::parts::begins_with;

@@ -5,7 +5,8 @@ ghost use Rattle.std.specs.Option.{option_or};
 ghost use Rattle.kc_expr.specs.Names.{mention};
 ghost use Rattle.kc_read.specs.Lines.{cause};
 ghost use Rattle.kc_read.specs.Progress.{ids_match, IsCounted, IsKnown, IsSeen, named, naming_cause};
-ghost use Rattle.kc_read.specs.Reads.{IsFault, cause_of, statement_view};
+ghost use Rattle.kc_read.specs.Reads.{statement_view};
+ghost use Rattle.kc_read.specs.LineReads.{IsFault, cause_of};
 ghost use Rattle.kc_read.specs.declared.refusal.Code.TheVariants.{TooManySymbols};
 ghost use Rattle.kc_read.specs.Expansion.{symbol_cause};
 

@@ -8,7 +8,7 @@ ghost use Rattle.kc_read.specs.Lines.{finish, ReadsLine, ReadsRest, ReadsWhole, 
 ghost use Rattle.std.specs.Prelude.{List, Option};
 ghost use Rattle.kc_expr.specs.declared.expression.SymId.{SymId};
 ghost use Rattle.kc_read.specs.Statements.{Written, SourceLine, IfLine, CommentLine, DefaultLine, PromptLine, SelectLine, ImplyLine, MenuLine, MainMenuLine, DefLine, TypeLine};
-ghost use Rattle.kc_read.specs.Reads.{IsFault, IsRead, IsMade};
+ghost use Rattle.kc_read.specs.LineReads.{IsFault, IsRead, IsMade};
 ghost use Rattle.kc_read.specs.Progress.{context_in};
 
 use crate::keywords::keyword_of;

@@ -3,7 +3,7 @@
 ghost use Rattle.std.specs.Prelude.{◌≡◌, ◌≢◌, IfOk};
 ghost use Rattle.kc_read.specs.declared.refusal.Code.TheVariants.{Memory};
 ghost use Rattle.kc_read.specs.Expansion.{refused};
-ghost use Rattle.kc_read.specs.Reads.{cause_of};
+ghost use Rattle.kc_read.specs.LineReads.{cause_of};
 ghost use Rattle.kc_read.specs.Steps.{IsMemory, out_of_memory, refusal_view};
 
 use crate::refusal::{Code, Refusal};
@@ -34,7 +34,7 @@ fn copied(alloc: Global, fault: Fault, file: &[u8], line: u32) -> Result<Refusal
     })
 }
 
-// The refusal for a fault at a line, or want of memory.
+// The refusal for a fault at a line, or out of memory.
 pub fn refuse(alloc: Global, fault: Fault, file: &[u8], line: u32) -> Refusal
     ensures refused { result.code ≢ Memory → refusal_view result ≡ refused (cause_of fault.entry) file.now line }
     ensures memory { IsMemory result }

@@ -1,6 +1,6 @@
 //! The files that a file names in its `source` lines.
 
-ghost use Rattle.std.specs.Prelude.{◌≡◌, ◌≢◌, ◌<◌, ◌≤◌, ◌⊎◌, ◌∷◌, [], IfOk, codes, length, map, None, false, true};
+ghost use Rattle.std.specs.Prelude.{◌≡◌, ◌≢◌, ◌<◌, ◌≤◌, ◌⊎◌, ◌∷◌, [], IfOk, OnErr, codes, length, map, None, false, true};
 ghost use Rattle.kc_text.specs.Lines.{Left, TakesLine, left};
 ghost use Rattle.kc_text.specs.declared.faults.TextFault.TheVariants.{Memory};
 ghost use Rattle.kc_read.specs.declared.sources.Found.TheVariants.{Nothing};
@@ -101,9 +101,10 @@ fn may_source(file: &[u8]) -> bool
 /// The names of the file's `source` lines in order, up to the first line that is too long or cannot be cut into tokens,
 /// or to the first `source` line whose rest is refused, whichever comes first. Help lines are passed over.
 ///
-/// Its only error is want of memory.
+/// Its only error is to be out of memory, which no file without the text `source` and without a `\` answers.
 pub fn sources_of(alloc: Global, file: &[u8]) -> Result<Vec<Vec<u8>>, AllocError>
-    ensures { IfOk result (λ names. spec.Names (left file.now 1) (map (λ n. n.items) names.items)) }
+    ensures names { IfOk result (λ names. spec.Names (left file.now 1) (map (λ n. n.items) names.items)) }
+    ensures heard { OnErr result (IsSilent file.now → ⊥) }
 {
     let mut names = Vec::new(alloc);
     if !may_source(file) {

@@ -7,9 +7,10 @@ ghost use Rattle.kc_text.specs.Lines.{Left, TakesLine};
 ghost use Rattle.kc_text.specs.Tokens.{pieces};
 ghost use Rattle.kc_read.specs.declared.refusal.Code.TheVariants.{Memory};
 ghost use Rattle.kc_read.specs.Expansion.{is_help, long_line, lexemes, refused, text_cause};
-ghost use Rattle.kc_read.specs.Reads.{cause_of};
+ghost use Rattle.kc_read.specs.LineReads.{cause_of};
 ghost use Rattle.kc_read.specs.Progress.{context_in};
-ghost use Rattle.kc_read.specs.Steps.{IsMemory, IsStep, IsStepRefusal, out_of_memory, refusal_view};
+ghost use Rattle.kc_read.specs.Steps.{IsMemory, out_of_memory, refusal_view};
+ghost use Rattle.kc_read.specs.NextStep.{IsStep, IsStepRefusal};
 
 use crate::parts::begins_with;
 use crate::position::Position;

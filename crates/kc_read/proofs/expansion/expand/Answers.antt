@@ -1,7 +1,7 @@
 use Rattle.std.proofs.Common.{◌≢◌, Ok, Err, ap, ◌∙◌, length}
 use Rattle.kc_read.specs.Expansion.{Expands, nothing_read, opening, root_around}
 use Rattle.kc_read.specs.Files.{bytes_in}
-use Rattle.kc_read.specs.Reads.{cause_of}
+use Rattle.kc_read.specs.LineReads.{cause_of}
 use Rattle.kc_read.specs.Steps.{refusal_view}
 use Rattle.kc_read.specs.declared.refusal.Code.TheVariants.{Memory}
 use Rattle.kc_read.proofs.RestLemmas.{refusal_passed}

@@ -2,12 +2,13 @@ use Rattle.std.proofs.Common.{◌≡◌, [], None, Ok, sym, ap, ◌∙◌, subst
 use Rattle.kc_expr.specs.Names.{all_mentioned}
 use Rattle.kc_text.specs.Lines.{left}
 use Rattle.kc_read.specs.Expansion.{NextStatement, context_of, inside, opening}
-use Rattle.kc_read.specs.Reads.{cause_of}
+use Rattle.kc_read.specs.LineReads.{cause_of}
 use Rattle.kc_read.specs.declared.statement.Entry.TheVariants as entry
 use Rattle.kc_read.specs.Files.{bytes_in}
 use Rattle.kc_read.specs.Progress.{context_in, GoesOn, IsEnded, IsState}
 use Rattle.kc_read.specs.Statements.{SourceLine, statement_words}
 use Rattle.kc_expr.specs.Names.{number_of}
+use Rattle.kc_expr.proofs.NamesLemmas.{extends_on}
 use Rattle.kc_read.proofs.NameLemmas.{extends_none}
 use Rattle.kc_read.proofs.RestLemmas.{blank_goes, effect_refused, end_refused, ended, file_read, file_refused, goes_on, inside_refused, known_made, next_less, next_clear, next_passed, no_memory, popped, reading_passed, source_goes, source_refused, statement_goes, statement_passed, step_refused}
 use Rattle.kc_read.proofs.ShapeLemmas.{made_no_source, source_is}
@@ -35,6 +36,7 @@ read_file-loop-tokens-preserved t c = record {
   shallow = c.in_ok-read_next.ensures.shallow;
   bounded = c.in_ok-read_next.ensures.bounded;
   same_open = c.in_ok-read_next.ensures.open ∙ c.loop-tokens.invariant.same_open;
+  names = extends_on _ _ _ c.loop-tokens.invariant.names c.read_next.ensures.names;
 }
 
 pub read_file-returns-clause-read : goal.read_file-returns-clause-read

@@ -1,6 +1,7 @@
 use Rattle.std.proofs.Common.{◌≡◌, ◌+◌, ◌-◌, ◌*◌, List, [], None, length}
 use Rattle.std.proofs.Common.{ℕ}
 use Rattle.kc_text.specs.Lines.{left}
+use Rattle.kc_expr.specs.Names.{Extends}
 use Rattle.kc_read.specs.Expansion.{Around, Log}
 use Rattle.kc_read.specs.Files.{bytes_in}
 use Rattle.kc_read.specs.Progress.{GoesOn, IsBounded, IsShallow, IsState}
@@ -25,6 +26,7 @@ invariant-read_file-loop-tokens l = record {
   shallow : IsShallow l.frame;
   bounded : IsBounded l.progress;
   same_open : l.progress.open_files.items ≡ l.fn.progress.open_files.items;
+  names : Extends l.fn.names l.names;
 }
 
 abbrev pub decreases-read_file-loop-tokens : goal.decreases-read_file-loop-tokens

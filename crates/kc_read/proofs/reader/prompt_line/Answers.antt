@@ -2,7 +2,7 @@ use Rattle.std.proofs.Common.{[], ap}
 use Rattle.kc_expr.specs.Grammar.{lexemes_from}
 use Rattle.kc_read.specs.Statements.{PromptLine}
 use Rattle.kc_read.specs.Lines.{ReadsAsked}
-use Rattle.kc_read.specs.Reads.{text_said}
+use Rattle.kc_read.specs.LineReads.{text_said}
 use Rattle.kc_read.proofs.FrontLemmas.{after_one}
 use Rattle.kc_read.proofs.PartLemmas.{read_passed, asked_ok, asked_fault}
 use Rattle.kc_read.proofs.reader.prompt_line.Goals as goal

@@ -5,8 +5,8 @@ use Rattle.kc_read.proofs.SourceLemmas.{Follows, follows_name, follows_other}
 use Rattle.kc_read.proofs.sources.sources_of.Goals as goal
 
 -- no line names a file
-pub returns-then-not-may_source : goal.returns-then-not-may_source
-returns-then-not-may_source c =
+pub returns-then-not-may_source-clause-names : goal.returns-then-not-may_source-clause-names
+returns-then-not-may_source-clause-names c =
     let names = no_names c.args.file.now (c.may_source.ensures.silent c.if-not-may_source.true) in
     rw c.new-names.ensures.items names
 

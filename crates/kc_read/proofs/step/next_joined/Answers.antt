@@ -1,5 +1,5 @@
 use Rattle.std.proofs.Common.{ap, ◌∙◌}
-use Rattle.kc_read.specs.Reads.{cause_of}
+use Rattle.kc_read.specs.LineReads.{cause_of}
 use Rattle.kc_read.proofs.StepLemmas.{line_fault}
 use Rattle.kc_read.specs.Progress.{context_in}
 use Rattle.kc_read.proofs.step.next_joined.Goals as goal

@@ -1,6 +1,6 @@
 use Rattle.std.proofs.Common.{ap, ◌∙◌, ◌≡◌, cond, rules, sym}
 use Rattle.kc_read.proofs.StepLemmas.{lex_fault, next_statement, read_refused, left_help, left_other}
-use Rattle.kc_read.specs.Reads.{cause_of}
+use Rattle.kc_read.specs.LineReads.{cause_of}
 use Rattle.kc_read.specs.Progress.{context_in}
 use Rattle.kc_read.proofs.step.step_of_line.Goals as goal
 use Rattle.kc_read.proofs.step.step_of_line.Goals.{then-begins_help, else-begins_help}

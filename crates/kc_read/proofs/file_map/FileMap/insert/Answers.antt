@@ -1,7 +1,9 @@
-use Rattle.std.proofs.Common.{◌∙◌, ap, cond, Some}
+use Rattle.std.proofs.Common.{◌∙◌, ap, cond, Some, sym}
+use Rattle.std.specs.Option.{option_map}
+use Rattle.kc_expr.proofs.NamesLemmas.{on_err}
 use Rattle.kc_expr.specs.Names.{same_name}
 use Rattle.kc_read.specs.Files.{bytes_in}
-use Rattle.kc_read.proofs.FileLemmas.{bytes_put, files_of}
+use Rattle.kc_read.proofs.FileLemmas.{bytes_found, bytes_put, files_of}
 use Rattle.kc_read.proofs.file_map.FileMap.insert.Goals as goal
 
 pub returns-clause-ok : goal.returns-clause-ok
@@ -9,3 +11,7 @@ returns-clause-ok c = λ other.
     ap (λ es. bytes_in (files_of es) other) c.in_ok-insert.ensures.entries
     ∙ bytes_put c.self.inside.files.entries c.args.name c.args.bytes other
     ∙ ap (λ fs. cond (same_name other c.args.name.items) (Some c.args.bytes.items) (bytes_in fs other)) c.self.view_is
+
+pub returns-in_err-insert-clause-unknown : goal.returns-in_err-insert-clause-unknown
+returns-in_err-insert-clause-unknown c = on_err c.from_residual.result _
+    (ap (λ fs. bytes_in fs c.args.name.items) (sym c.self.view_is) ∙ sym (bytes_found c.self.inside.files.entries c.args.name.items) ∙ ap (option_map (λ v. v.items)) c.in_err-insert.ensures.absent)

@@ -1,0 +1,8 @@
+-- Trusted: That a root file has an expansion, and one.
+use Rattle.std.specs.Prelude.{◌≡◌, ℕ, List, Result}
+use Rattle.kc_read.specs.Expansion.{Log, Refused, Expands}
+use Rattle.kc_read.specs.Files.{Files}
+
+-- over any files a root file gives a list or a refusal, and nothing else
+abbrev pub HasOneExpansion : Type 0
+HasOneExpansion = (files : Files) (root : List ℕ) → (r : Result Log Refused) × Expands files root r × ((other : Result Log Refused) → Expands files root other → r ≡ other)

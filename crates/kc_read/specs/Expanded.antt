@@ -1,0 +1,26 @@
+-- Trusted: The expanded list that was read.
+use Rattle.std.specs.Prelude.{◌≡◌, ℕ, List, map, length, Option, Some, None}
+use Rattle.std.specs.List.{flat_map}
+use Rattle.kc_expr.specs.declared.expression.SymId.{SymId}
+use Rattle.kc_expr.specs.Names.{all_mentioned, IsNumber}
+use Rattle.kc_read.specs.declared.expansion.Expansion.{Expansion}
+use Rattle.kc_read.specs.Blocks.{modules_of}
+use Rattle.kc_read.specs.Expansion.{Log, statements, defined}
+use Rattle.kc_read.specs.Numbering.{place_numbered}
+use Rattle.kc_read.specs.Reads.{ForLater, line_view}
+use Rattle.kc_read.specs.Statements.{statement_words}
+
+-- the number of a name, where there is a name
+abbrev pub IsNamed : List (List ℕ) → Option SymId → Option (List ℕ) → Type 0
+IsNamed names None None = Unit {0}
+IsNamed names None (Some n) = ⊥
+IsNamed names (Some id) None = ⊥
+IsNamed names (Some id) (Some n) = IsNumber names n id
+
+-- the expanded list that was read: the names stood at first, and are names now
+pub record IsExpansion (first : List (List ℕ)) (modules : Option SymId) (names : List (List ℕ)) (log : Log) (e : Expansion) : Type 0 where
+  pub lines : ForLater names (λ number. map line_view e.lines.items ≡ map (place_numbered modules number) log.lines)
+  pub mentions : names ≡ all_mentioned first (flat_map statement_words (statements log.lines))
+  pub defined_is : e.defined ≡ defined (statements log.lines)
+  pub symbols : e.symbols ≡ length (defined (statements log.lines))
+  pub modules_is : IsNamed names e.modules (modules_of (statements log.lines))
