@@ -20,6 +20,7 @@ mod MemberLemmas
 mod MemberSoundLemmas
 mod MembersLemmas
 mod MenuEndLemmas
+mod NameLemmas
 mod NestLemmas
 mod NumberingLemmas
 mod OpenerLemmas

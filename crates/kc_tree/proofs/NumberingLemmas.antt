@@ -15,7 +15,7 @@ use Rattle.kc_read.specs.declared.line.Line.{Line}
 use Rattle.kc_read.specs.Blocks.{definitions, modules_of, name_at}
 use Rattle.kc_read.specs.Expansion.{Log, defined, statements}
 use Rattle.kc_read.specs.Numbering.{known_names, modules_name, names_of, modules_id, place_numbered, numbered_lines}
-use Rattle.kc_read.specs.Progress.{IsExpansion, IsNamed}
+use Rattle.kc_read.specs.Expanded.{IsExpansion, IsNamed}
 use Rattle.kc_read.specs.Reads.{line_view}
 use Rattle.kc_read.specs.Statements.{Written, Placed, numbered, statement_words, ConfigLine}
 use Rattle.kc_read.proofs.FileLemmas.{same_name_eq}

@@ -1,4 +1,4 @@
--- Who selects and implies whom, one place more.
+-- The selectors and impliers of each symbol, with those of one more line.
 use Rattle.std.proofs.Common.{◌≡◌, ℕ, ◌+◌, Bool, true, false, if◌then◌else◌, List, [], ◌∷◌, ◌++◌, map, Option, Some, None, refl, ap, sym, ◌∙◌, append_assoc}
 use Rattle.std.specs.List.{filter_map, flat_map, cons_option}
 use Rattle.std.proofs.lemmas.Bool.{eq-eqb, ne_eqb}
@@ -15,7 +15,7 @@ use Rattle.kc_tree.specs.Facts.{symbol_at, kind_of, choice_of, can_be_target, se
 use Rattle.kc_tree.specs.Definitions.{raised_from}
 use Rattle.kc_tree.specs.Conditions.{with_when}
 use Rattle.kc_tree.specs.Rounds.{Surroundings, round}
-use Rattle.kc_tree.specs.Passes.{target_of}
+use Rattle.kc_tree.specs.Targets.{target_of}
 use Rattle.kc_tree.specs.Raises.{raised_by, raise_to, raise_lines, raise_entry}
 use Rattle.kc_tree.proofs.PlaceLemmas.{flat_map-next}
 use Rattle.kc_tree.proofs.TableLemmas.{same_numbers, change_numbers}

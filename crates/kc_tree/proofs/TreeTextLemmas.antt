@@ -7,7 +7,7 @@ use Rattle.std.proofs.lemmas.List.Elements.{All-nil, All-cons, All-head, All-tai
 use Rattle.kc_expr.specs.declared.expression.SymId.{SymId}
 use Rattle.kc_expr.specs.Form.{Form}
 use Rattle.kc_expr.specs.Names.{all_mentioned, mention, number_of, same_name, symbol}
-use Rattle.kc_read.specs.Blocks.{attributes, definitions, is_attribute, is_modules, last_of, modules_after, modules_of, name_after, name_at, numbers}
+use Rattle.kc_read.specs.Blocks.{attributes, definitions, is_attribute, is_marked, last_of, modules_of, name_at, numbers}
 use Rattle.kc_read.specs.Expansion.{defined, statements}
 use Rattle.kc_read.specs.Numbering.{known_names, modules_id, modules_name, names_of, numbered_lines, place_numbered}
 use Rattle.kc_read.specs.Statements.{Written, Numbered, Placed, ConfigLine, CommentLine, MenuLine, EndMenuLine, MainMenuLine, DefaultLine, DefLine, numbered, statement_words}
@@ -62,13 +62,12 @@ name_now : (s : Written) (o : Option (List ℕ)) → name_at s ≡ o → IsInLin
 name_now s None e h = tt
 name_now s (Some n) e h = name_line s n h e
 
-modules_line : (now : Option (List ℕ)) (ss : List Written) → IfSome now IsLineText → All IsInLines ss → IfSome (modules_after now ss) IsLineText
-modules_line now [] n h = tt
-modules_line now (s ∷ ss) n h =
-    either (if is_modules s then now else None) (modules_after (name_after now s) ss) (by (is_modules s)) (modules_line (name_after now s) ss (either (name_at s) now (name_now s (name_at s) refl (All-head IsInLines s ss h)) n) (All-tail IsInLines s ss h))
+modules_line : (ss : List Written) → All IsInLines ss → IfSome (modules_of ss) IsLineText
+modules_line [] h = tt
+modules_line (s ∷ ss) h = either (if is_marked ss then name_at s else None) (modules_of ss) (by (is_marked ss)) (modules_line ss (All-tail IsInLines s ss h))
   where
-    by : (b : Bool) → IfSome (if b then now else None) IsLineText
-    by true = n
+    by : (b : Bool) → IfSome (if b then name_at s else None) IsLineText
+    by true = name_now s (name_at s) refl (All-head IsInLines s ss h)
     by false = tt
 
 unless_named : (o : Option (List ℕ)) (d : List ℕ) → IfSome o IsLineText → IsLineText d → IsLineText (unwrap_or o d)
@@ -78,7 +77,7 @@ unless_named (Some n) d h k = h
 name_lines : (ss : List Written) → All IsInLines ss → All IsLineText (names_of ss)
 name_lines ss h =
     let first : All IsLineText (defined ss) = mentioned_all [] (definitions ss) (All-nil IsLineText) (definition_names ss h) in
-    let modules : IsLineText (modules_name ss) = unless_named (modules_of ss) (codes "MODULES") (modules_line None ss tt h) modules_word in
+    let modules : IsLineText (modules_name ss) = unless_named (modules_of ss) (codes "MODULES") (modules_line ss h) modules_word in
     mentioned_all (known_names ss) (flat_map statement_words ss) (mentioned_all (defined ss) (modules_name ss ∷ []) first (All-cons IsLineText (modules_name ss) [] modules (All-nil IsLineText))) (statement_names ss h)
 
 -- The numbered statements.

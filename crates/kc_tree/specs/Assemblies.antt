@@ -1,4 +1,4 @@
--- How what lines say is seen in contracts.
+-- For proofs: How what lines say is seen in contracts.
 use Rattle.std.specs.Prelude.{ℕ, List, map, Result, Ok, Err}
 use Rattle.kc_read.specs.Expansion.{Refused}
 use Rattle.kc_read.specs.Steps.{refusal_view}

@@ -1,4 +1,4 @@
--- The choices, by what surrounds them, their attributes and their members.
+-- For proofs: The choices, by what surrounds them, their attributes and their members.
 use Rattle.std.specs.Prelude.{◌≡◌, List, Option, Some, None, if◌then◌else◌, option_map}
 use Rattle.std.specs.Option.{option_and_then}
 use Rattle.std.specs.List.{filter_map, list_any}

@@ -1,4 +1,4 @@
--- The conditions of an entry, by what surrounds it and by its attributes.
+-- For proofs: The conditions of an entry, by what surrounds it and by its attributes.
 use Rattle.std.specs.Prelude.{List, [], ◌∷◌, ◌++◌, Option, Some, None}
 use Rattle.std.specs.Option.{option_map}
 use Rattle.std.specs.List.{filter_map}

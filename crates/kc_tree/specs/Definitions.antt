@@ -1,4 +1,4 @@
--- What becomes of the facts of a symbol, pass by pass: its type and its choice, what raises it, and what its definitions say.
+-- For proofs: What becomes of the facts of a symbol, pass by pass: its type and its choice, what raises it, and what its definitions say.
 use Rattle.std.specs.Prelude.{ℕ, List, [], map, if◌then◌else◌, Option}
 use Rattle.std.specs.List.{filter_map, flat_map}
 use Rattle.kc_expr.specs.declared.expression.SymId.{SymId}

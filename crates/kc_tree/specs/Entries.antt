@@ -1,4 +1,4 @@
--- The entries, line by line.
+-- For proofs: The entries, line by line.
 use Rattle.std.specs.Prelude.{ℕ, ◌+◌, List, Bool, true, false, Option, Some, None, if◌then◌else◌}
 use Rattle.std.specs.Prelude.{slice_get, unwrap_or}
 use Rattle.std.specs.Option.{option_map, option_and_then}

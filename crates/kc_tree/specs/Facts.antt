@@ -1,4 +1,4 @@
--- What a list of statements says of symbols, choices and entries.
+-- Trusted: What a list of statements says of symbols, choices and entries.
 use Rattle.std.specs.Prelude.{ℕ, List, [], ◌∷◌, ◌++◌, length, take, filter, map, position, count_by, Bool, true, false, ◌&&◌, ◌==◌, Option, Some, None, slice_get, is_some, is_none, if◌then◌else◌, option_map, unwrap_or}
 use Rattle.std.specs.Option.{option_and_then}
 use Rattle.std.specs.List.{filter_map, flat_map, list_any}

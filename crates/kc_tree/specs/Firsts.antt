@@ -1,4 +1,4 @@
--- The first definition of each symbol.
+-- Trusted: The first definition of each symbol.
 use Rattle.std.specs.Prelude.{◌≡◌, ℕ, ◌<◌, List, Bool, false, not, Option, Some, None, slice_get, unwrap_or}
 use Rattle.kc_expr.specs.declared.expression.SymId.{SymId}
 use Rattle.kc_read.specs.Statements.{Numbered}

@@ -1,4 +1,4 @@
--- What the passes know of symbols and lines when they look for warnings and refusals.
+-- For proofs: What the passes know of symbols and lines when they look for warnings and refusals.
 use Rattle.std.specs.Prelude.{◌≡◌, ℕ, ◌<◌, List, map, length, Option, Some, slice_get, is_some, if◌then◌else◌, option_map, unwrap_or, ◌||◌, ◌&&◌, ◌==◌, Bool}
 use Rattle.std.specs.List.{list_any}
 use Rattle.std.specs.Option.{option_and_then}

@@ -1,4 +1,4 @@
--- Refusals after the last line, as the code makes them.
+-- For proofs: Refusals after the last line, as the code makes them.
 use Rattle.std.specs.Prelude.{◌≡◌, ℕ, List, [], map, Some}
 use Rattle.kc_read.specs.declared.refusal.Code.{Code}
 use Rattle.kc_read.specs.Expansion.{Refused, refused}

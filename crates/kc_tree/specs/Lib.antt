@@ -14,6 +14,7 @@ pub mod Raises
 pub mod Renamings
 pub mod RoundViews
 pub mod Rounds
+pub mod Targets
 pub mod TreeCode
 pub mod TreeFacts
 pub mod TreeView

@@ -1,4 +1,4 @@
--- The members of each choice, line by line.
+-- For proofs: The members of each choice, line by line.
 use Rattle.std.specs.Prelude.{ℕ, List, [], ◌∷◌, ◌++◌, Option, Some, None}
 use Rattle.kc_expr.specs.declared.expression.SymId.{SymId}
 use Rattle.kc_tree.specs.Passes.{change}

@@ -1,4 +1,4 @@
--- The numbered lines of a root file.
+-- For proofs: The numbered lines of a root file.
 use Rattle.std.specs.Prelude.{◌≡◌, length, map}
 use Rattle.kc_read.specs.Expansion.{Log, defined, statements}
 use Rattle.kc_read.specs.Numbering.{modules_id, names_of, numbered_lines}

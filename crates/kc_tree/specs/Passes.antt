@@ -1,4 +1,4 @@
--- Words for the passes over the list of lines.
+-- For proofs: Words for the passes over the list of lines.
 use Rattle.std.specs.Prelude.{◌≡◌, ℕ, zero, suc, ◌<◌, List, [], ◌∷◌, map, Bool, true, false, Option, Some, None, slice_get, unwrap_or}
 use Rattle.std.specs.Option.{option_and_then}
 use Rattle.std.specs.Prelude.{option_map}
@@ -8,7 +8,6 @@ use Rattle.kc_tree.specs.declared.lines.Given.{Given}
 use Rattle.kc_tree.specs.declared.lines.Target.{Target}
 use Rattle.kc_tree.specs.declared.lines.Range.{Range}
 use Rattle.kc_tree.specs.declared.lines.Raise.{Raise}
-use Rattle.kc_tree.specs.declared.lines.Raise.TheVariants as raise
 use Rattle.kc_tree.specs.declared.attributes.Asks.{Asks}
 use Rattle.kc_tree.specs.declared.attributes.Asks.TheVariants as asks
 use Rattle.kc_tree.specs.Facts as spec
@@ -17,7 +16,7 @@ use Rattle.kc_read.specs.Reads.{statement_view, when_view}
 use Rattle.kc_expr.specs.declared.expression.Expr.{Expr}
 use Rattle.std.specs.declared.alloc.Global.{Global}
 use Rattle.std.specs.declared.rc.Rc.{Rc}
-use Rattle.kc_read.specs.Statements.{Numbered, SelectLine, ImplyLine, RangeLine}
+use Rattle.kc_read.specs.Statements.{Numbered, RangeLine}
 use Rattle.std.specs.List.{filter_map}
 use Rattle.kc_expr.specs.declared.expression.Kind.{Kind}
 use Rattle.kc_read.specs.Blocks.{Bracket, Opens, Closes, NoBracket, attributes}
@@ -55,11 +54,6 @@ taken_view g = record { value = form_of g.0.value; when = when_view g.1 }
 -- a line that selects or implies: which, whom, when
 abbrev pub target_view : Target → Raise × SymId × Option Form
 target_view t = (t.raise, t.symbol, option_map (λ e. form_of e.now.value) t.when)
-
-abbrev pub target_of : Numbered → Option (Raise × SymId × Option Form)
-target_of (SelectLine n w) = Some (raise.Select, n, w)
-target_of (ImplyLine n w) = Some (raise.Imply, n, w)
-target_of _ = None
 
 abbrev pub range_view : Range → Leaf × Leaf × Option Form
 range_view r = (leaf_of r.low.now, leaf_of r.high.now, option_map (λ e. form_of e.now.value) r.when)

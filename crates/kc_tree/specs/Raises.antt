@@ -1,4 +1,4 @@
--- What `select` and `imply` lines add to the facts of the symbols that they name.
+-- For proofs: What `select` and `imply` lines add to the facts of the symbols that they name.
 use Rattle.std.specs.Prelude.{List, [], ◌∷◌, ◌++◌, Bool, ◌&&◌, Option, Some, None, is_none, if◌then◌else◌}
 use Rattle.kc_expr.specs.declared.expression.SymId.{SymId}
 use Rattle.kc_expr.specs.Form.{Form}
@@ -9,7 +9,8 @@ use Rattle.kc_tree.specs.TreeFacts.{Condition, Guarded, SymbolFacts}
 use Rattle.kc_tree.specs.Facts.{takes_kind}
 use Rattle.kc_tree.specs.Conditions.{with_when, dep_of}
 use Rattle.kc_tree.specs.Rounds.{Surroundings}
-use Rattle.kc_tree.specs.Passes.{change, target_of}
+use Rattle.kc_tree.specs.Passes.{change}
+use Rattle.kc_tree.specs.Targets.{target_of}
 
 abbrev pub is_target : SymbolFacts → Bool
 is_target f = is_none f.choice && takes_kind f.kind

@@ -1,4 +1,4 @@
--- Other numbers for the symbols of what is numbered.
+-- For proofs: Other numbers for the symbols of what is numbered.
 use Rattle.std.specs.Prelude.{List, slice_get, unwrap_or, option_map}
 use Rattle.kc_expr.specs.declared.expression.SymId.{SymId}
 use Rattle.kc_expr.specs.Form.{Form, Forms, Leaf, Text, Symbol, Single, Related, Negated, Every, Some_of, NoForms, MoreForms}

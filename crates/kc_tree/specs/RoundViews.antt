@@ -1,4 +1,4 @@
--- How what surrounds a line is seen in contracts.
+-- For proofs: How what surrounds a line is seen in contracts.
 use Rattle.std.specs.Prelude.{map, Option}
 use Rattle.std.specs.Option.{option_map}
 use Rattle.std.specs.declared.boxed.Box.{Box}

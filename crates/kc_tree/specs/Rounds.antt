@@ -1,4 +1,4 @@
--- What the blocks round a line ask for.
+-- For proofs: What the blocks round a line ask for.
 use Rattle.std.specs.Prelude.{ℕ, ◌+◌, List, [], ◌++◌, Option, Some, None, slice_get, is_some, unwrap_or, if◌then◌else◌}
 use Rattle.std.specs.Option.{option_and_then}
 use Rattle.std.specs.List.{flat_map}

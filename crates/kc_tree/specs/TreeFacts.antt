@@ -1,4 +1,4 @@
--- What a tree says, without where it lies in memory.
+-- Trusted: What a tree says, without where it lies in memory.
 use Rattle.std.specs.Prelude.{◌≡◌, ℕ, true, false, ◌==◌, ◌<◌, ◌≤◌, List, length, Option, Some, None, slice_get, Contains, All}
 use Rattle.kc_expr.specs.declared.expression.SymId.{SymId}
 use Rattle.kc_expr.specs.declared.expression.Kind.{Kind}

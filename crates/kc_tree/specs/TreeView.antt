@@ -1,4 +1,4 @@
--- What the fields of a tree say.
+-- Trusted: What the fields of a tree say.
 use Rattle.std.specs.Prelude.{map}
 use Rattle.kc_tree.specs.declared.tree.Tree.TheInside.{Inside}
 use Rattle.kc_tree.specs.TreeFacts.{TreeFacts}

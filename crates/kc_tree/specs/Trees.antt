@@ -1,4 +1,4 @@
--- The tree of a file map and a root file.
+-- Trusted: The tree of a file map and a root file.
 use Rattle.std.specs.Prelude.{◌≡◌, ℕ, List, [], ◌∷◌, map, length, codes, nat_lt, Some, None, Result, Ok, Err, if◌then◌else◌, unwrap_or}
 use Rattle.std.specs.List.{filter_map}
 use Rattle.kc_expr.specs.declared.expression.SymId.{SymId}
@@ -8,7 +8,7 @@ use Rattle.kc_read.specs.Statements.{Written, Numbered, Placed}
 use Rattle.kc_read.specs.Blocks.{last_of, numbers}
 use Rattle.kc_read.specs.Expansion.{Log, Refused, Expands, statements, defined}
 use Rattle.kc_read.specs.Numbering.{names_of, modules_id, numbered_lines}
-use Rattle.kc_tree.specs.TreeFacts.{TreeFacts}
+use Rattle.kc_tree.specs.TreeFacts.{TreeFacts, IsWellFormed}
 use Rattle.kc_tree.specs.Facts.{symbol_facts, choices, entries, title_of}
 use Rattle.kc_tree.specs.Warnings.{warnings, late_refusals}
 
@@ -55,3 +55,7 @@ IsTreeOf files root r = (e : Result Log Refused) × Expands files root e × (r �
 -- a root file gives one tree, or one refusal
 abbrev pub OneTree : Type 0
 OneTree = (files : Files) (root : List ℕ) (r other : Result TreeFacts Refused) → IsTreeOf files root r → IsTreeOf files root other → r ≡ other
+
+-- the tree of a root file is well formed
+abbrev pub TreesAreWellFormed : Type 0
+TreesAreWellFormed = (files : Files) (root : List ℕ) (tree : TreeFacts) → IsTreeOf files root (Ok tree) → IsWellFormed tree

@@ -1,4 +1,4 @@
--- How the parts of a tree are seen in contracts.
+-- Trusted: How the parts of a tree are seen in contracts.
 use Rattle.std.specs.Prelude.{map}
 use Rattle.std.specs.Option.{option_map}
 use Rattle.kc_expr.specs.declared.expression.SymId.{SymId}

@@ -1,4 +1,4 @@
--- The warnings about a tree, and the refusals that are found after its last line.
+-- Trusted: The warnings about a tree, and the refusals that are found after its last line.
 use Rattle.std.specs.Prelude.{ℕ, suc, List, [], ◌∷◌, ◌++◌, take, filter, map, reverse, Bool, false, not, ◌&&◌, ◌||◌, codes, decimal, Option, Some, None, slice_get, is_some, is_none, if◌then◌else◌, option_map, unwrap_or}
 use Rattle.std.specs.List.{flat_map, list_any, take_while}
 use Rattle.kc_expr.specs.declared.expression.SymId.{SymId}
@@ -16,7 +16,7 @@ use Rattle.kc_tree.specs.declared.owners.Owner.TheVariants as owner
 use Rattle.kc_tree.specs.declared.warning.Warning.{Warning}
 use Rattle.kc_tree.specs.declared.warning.Warning.TheVariants as warning
 use Rattle.kc_tree.specs.Firsts.{is_first_at}
-use Rattle.kc_tree.specs.Passes.{target_of}
+use Rattle.kc_tree.specs.Targets.{target_of}
 use Rattle.kc_tree.specs.Facts.{symbol_of, kind_of, choice_of, is_wordy, same_kind, type_of, asked_of, given_of, single_symbol, is_single, is_member, choice_number, listed, places, choice_round}
 
 -- something, where it holds

@@ -48,7 +48,7 @@ fn defined(symbol: SymId, count: usize) -> Option<SymId>
 
 /// What the lines say, where the symbols that are defined are those below `count` and `modules` is the one that
 /// stands for modules: the first refusal that the whole list shows, and where there is none all parts of the tree.
-/// The values of defaults are taken out of the lines. Its only error is want of memory.
+/// The values of defaults are taken out of the lines. Its only error is to be out of memory.
 pub fn assemble(
     alloc: Global,
     names: &Names,

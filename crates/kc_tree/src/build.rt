@@ -19,10 +19,11 @@ impl Tree {
     ///
     /// The refusals of reading come first, E1 to E12 and E16, each at the first line with a fault, as `expand` of
     /// kc_read answers them. Where every line is read, E13 comes at the first `config` line, in order, that defines a
-    /// choice's member once more or whose symbol is a member and not a bool. Without such a line E14 comes at the
-    /// first default line of a string, int or hex symbol that is no single operand, or of a choice that is no single
-    /// name, parentheses aside. Both name the symbol, or `choice`. E20, which has no place and no detail, is want of
-    /// memory.
+    /// choice's member and is not the first to define it, or that stands in a choice while its symbol is no bool. So of
+    /// a symbol that is first defined outside its choice the line is the one in the choice. Without such a line E14
+    /// comes at the first default line of a string, int or hex symbol that is no single operand, or of a choice that is
+    /// no single name, parentheses aside. Both name the symbol, or `choice`. E20, which has no place and no detail, is
+    /// being out of memory.
     ///
     /// The meaning of the statements is that of the kernel's kconfig-language document and of kconfiglib's
     /// documentation; the limits, the order of checks and the warnings are our own.

@@ -85,7 +85,7 @@ fn bare_symbol(alloc: Global, known: Known) -> Symbol
     }
 }
 
-// The same for all symbols.
+// Each symbol with its type and choice, and no more.
 fn bare_symbols(alloc: Global, known: &[Known]) -> Result<Vec<Symbol>, AllocError>
     ensures { IfOk result (λ v. map facts_of v.items ≡ map (λ k. bare_from (known_view k)) known.now) }
 {

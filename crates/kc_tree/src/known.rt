@@ -30,7 +30,7 @@ pub struct Marks {
     pub firsts: Vec<bool>,
 }
 
-/// The same of one line.
+/// What `Marks` says of one line.
 #[derive(Clone, Copy, Debug)]
 pub struct Mark {
     pub owner: Owner,

@@ -1,6 +1,6 @@
 //! What holds of every tree.
 
-ghost use Rattle.kc_tree.specs.Trees.{OneTree};
+ghost use Rattle.kc_tree.specs.Trees.{OneTree, TreesAreWellFormed};
 
 use kc_read::laws::one_expansion;
 
@@ -11,3 +11,8 @@ pub fn one_tree()
 {
     one_expansion();
 }
+
+/// The law of facts: whatever a root file says, its tree is well formed. It does nothing. The law is our own.
+pub fn trees_are_well_formed()
+    ensures { TreesAreWellFormed }
+{}

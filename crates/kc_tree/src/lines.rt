@@ -9,6 +9,7 @@ ghost use Rattle.kc_read.specs.Reads.{statement_view, asked_view, when_view};
 ghost use Rattle.kc_tree.specs.Facts as facts;
 ghost use Rattle.kc_tree.specs.Passes.{given_view, target_view, range_view};
 ghost use Rattle.kc_tree.specs.Passes as spec;
+ghost use Rattle.kc_tree.specs.Targets as targets;
 
 use kc_expr::expression::{Expr, Kind, Operand, SymId};
 use kc_read::statement::{Block, Prompt, Statement};
@@ -21,7 +22,7 @@ pub struct Given<'a> {
     pub when: Option<&'a Rc<Expr>>,
 }
 
-/// Which of the two raises a symbol.
+/// Whether a line selects a symbol or implies it.
 #[derive(Clone, Copy, Debug, PartialEq, Eq)]
 pub enum Raise {
     Select,
@@ -158,7 +159,7 @@ pub fn visible_of(statement: &Statement) -> Option<&Rc<Expr>>
 
 /// The symbol that a `select` or `imply` line names.
 pub fn target_of(statement: &Statement) -> Option<Target<'_>>
-    ensures { option_map target_view result ≡ spec.target_of (statement_view statement.now) }
+    ensures { option_map target_view result ≡ targets.target_of (statement_view statement.now) }
 {
     match statement {
         Statement::Select(symbol, when) => Some(Target {

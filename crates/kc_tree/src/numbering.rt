@@ -5,7 +5,7 @@ ghost use Rattle.std.specs.Option.{option_and_then};
 ghost use Rattle.kc_expr.specs.Names.{all_mentioned, number_of, symbol};
 ghost use Rattle.kc_read.specs.Expansion.{Log, Expands, statements};
 ghost use Rattle.kc_read.specs.Files.{bytes_in};
-ghost use Rattle.kc_read.specs.Progress.{IsExpansion};
+ghost use Rattle.kc_read.specs.Expanded.{IsExpansion};
 ghost use Rattle.kc_read.specs.Steps.{IsMemory, out_of_memory, refusal_view};
 ghost use Rattle.kc_read.specs.declared.refusal.Code.TheVariants.{Memory};
 ghost use Rattle.kc_tree.specs.Numberings.{IsListing};

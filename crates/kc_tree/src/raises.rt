@@ -1,4 +1,4 @@
-//! Who selects and implies whom.
+//! For each symbol, the symbols that select or imply it, each with its condition.
 
 ghost use Rattle.std.specs.Prelude.{◌≡◌, ◌<◌, length, map, option_map, OnOk, Some};
 ghost use Rattle.std.specs.List.{filter_map};
@@ -7,7 +7,8 @@ ghost use Rattle.kc_read.specs.Blocks.{numbers};
 ghost use Rattle.kc_read.specs.Reads.{statement_view};
 ghost use Rattle.kc_tree.specs.Definitions.{bare_symbol, raised_symbol};
 ghost use Rattle.kc_tree.specs.Facts.{first_of, opener_of, takes_kind};
-ghost use Rattle.kc_tree.specs.Passes.{said_by, change, target_of, target_view};
+ghost use Rattle.kc_tree.specs.Passes.{said_by, change, target_view};
+ghost use Rattle.kc_tree.specs.Targets.{target_of};
 ghost use Rattle.kc_tree.specs.Raises.{is_target, raised_by, with_raiser, raise_lines, raise_entry};
 ghost use Rattle.kc_tree.specs.RoundViews.{round_view, inside_view};
 ghost use Rattle.kc_tree.specs.Rounds.{inside_table};
@@ -37,7 +38,7 @@ fn takes_kind(kind: Kind) -> bool
     }
 }
 
-// It has an effect to select or imply the symbol.
+// Whether selecting or implying the symbol has an effect: it has a type bool or tristate and is no choice member.
 fn is_target(symbol: &Symbol) -> bool
     ensures { result ≡ is_target (facts_of symbol.now) }
 {
@@ -59,7 +60,7 @@ fn add_raiser(
     }
 }
 
-// The same for a symbol that may be no target.
+// Adds a selector or implier, where the symbol is one that can be selected.
 fn raise_one(symbol: &mut Symbol, raise: Raise, source: SymId, when: Cond) -> Result<(), AllocError>
     ensures { OnOk result (facts_of symbol.new ≡ raised_by raise (named_view (source, when)) (facts_of symbol.old)) }
 {
@@ -70,7 +71,7 @@ fn raise_one(symbol: &mut Symbol, raise: Raise, source: SymId, when: Cond) -> Re
     }
 }
 
-// The same for a name that may not be defined.
+// Adds a selector or implier of a name, where the name is a defined symbol that can be selected.
 fn raise(
     symbols: &mut Vec<Symbol>,
     raise: Raise,

@@ -79,7 +79,7 @@ fn rename_shared(
     }
 }
 
-// The same of a condition, if there is one.
+// A condition's symbols get their final numbers, where there is a condition.
 fn rename_condition(
     alloc: Global,
     when: &mut Option<Rc<Expr>>,
@@ -94,7 +94,7 @@ fn rename_condition(
     }
 }
 
-// The same of an expression and its condition.
+// The symbols of an expression and of its condition get their final numbers.
 fn rename_given(
     alloc: Global,
     value: &mut Rc<Expr>,
@@ -109,7 +109,7 @@ fn rename_given(
     rename_condition(alloc, when, numbers, modules)
 }
 
-// The same of a symbol and its condition.
+// A symbol and those of its condition get their final numbers.
 fn rename_target(
     alloc: Global,
     symbol: &mut SymId,
@@ -124,7 +124,7 @@ fn rename_target(
     rename_condition(alloc, when, numbers, modules)
 }
 
-// The same of a range's bounds and its condition.
+// The symbols of a range's bounds and of its condition get their final numbers.
 fn rename_range(
     alloc: Global,
     bounds: &mut Bounds,
@@ -141,7 +141,7 @@ fn rename_range(
     rename_condition(alloc, when, numbers, modules)
 }
 
-// The same of a statement.
+// The symbols of a statement get their final numbers.
 fn rename_statement(
     alloc: Global,
     statement: &mut Statement,
@@ -171,7 +171,7 @@ fn rename_statement(
     }
 }
 
-// The same of a line.
+// The symbols of a line get their final numbers.
 fn rename_line(
     alloc: Global,
     line: &mut Line,
@@ -184,7 +184,7 @@ fn rename_line(
 }
 
 /// The symbols of all lines get their final numbers: each the number that stands at its place, and one past the end
-/// that of the modules symbol. Its only error is want of memory, after which some lines have them.
+/// that of the modules symbol. Its only error is to be out of memory, after which some lines have them.
 pub fn rename_lines(
     alloc: Global,
     lines: &mut Vec<Line>,

@@ -84,7 +84,7 @@ fn block_part(alloc: Global, lines: &[Line], place: usize) -> Result<Option<Rc<E
     }
 }
 
-// What it asks for besides, of prompts and menus.
+// What the block that opens at a place asks of the prompts and menus in it besides (`visible if`).
 fn block_visible(
     alloc: Global,
     lines: &[Line],

@@ -91,7 +91,7 @@ fn note_type(types: &mut Vec<Option<Kind>>, symbol: Option<SymId>, found: Option
     }
 }
 
-// The same for choices.
+// Keeps the choice that was found first of a symbol.
 fn note_choice(choices: &mut Vec<Option<ChoiceId>>, symbol: SymId, found: Option<ChoiceId>)
     ensures { map (option_map (λ k. k.0)) choices.new.items ≡ changed (λ o. option_or o (option_map (λ k. k.0) found)) (Some symbol) (map (option_map (λ k. k.0)) choices.old.items) }
 {

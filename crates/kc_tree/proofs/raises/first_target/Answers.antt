@@ -1,6 +1,7 @@
 use Rattle.std.proofs.Common.{ap}
 use Rattle.std.specs.Option.{option_map}
-use Rattle.kc_tree.specs.Passes.{target_of, target_view}
+use Rattle.kc_tree.specs.Passes.{target_view}
+use Rattle.kc_tree.specs.Targets.{target_of}
 use Rattle.kc_tree.proofs.ScanLemmas.{first_here, first_later, first_none}
 use Rattle.kc_tree.proofs.raises.first_target.Goals as goal
 

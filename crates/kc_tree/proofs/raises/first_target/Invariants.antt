@@ -1,4 +1,4 @@
-use Rattle.kc_tree.specs.Passes.{target_of}
+use Rattle.kc_tree.specs.Targets.{target_of}
 use Rattle.kc_tree.proofs.ScanLemmas.{FirstIs}
 use Rattle.kc_tree.proofs.raises.first_target.Given as goal
 

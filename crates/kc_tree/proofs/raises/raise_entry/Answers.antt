@@ -3,7 +3,8 @@ use Rattle.std.specs.List.{filter_map}
 use Rattle.kc_read.specs.Blocks.{attributes}
 use Rattle.kc_tree.specs.Facts.{first_of}
 use Rattle.kc_tree.specs.Conditions.{dep_of}
-use Rattle.kc_tree.specs.Passes.{said_by, target_of, target_view}
+use Rattle.kc_tree.specs.Passes.{said_by, target_view}
+use Rattle.kc_tree.specs.Targets.{target_of}
 use Rattle.kc_tree.specs.RoundViews.{round_view}
 use Rattle.kc_tree.specs.Views.{facts_of}
 use Rattle.kc_tree.proofs.RaiseLemmas.{none_raised}

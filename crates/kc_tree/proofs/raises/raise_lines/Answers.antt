@@ -5,7 +5,8 @@ use Rattle.kc_read.specs.Statements.{Numbered}
 use Rattle.kc_tree.specs.declared.lines.Raise.{Raise}
 use Rattle.kc_tree.specs.TreeFacts.{Condition, SymbolFacts}
 use Rattle.kc_tree.specs.Conditions.{with_when}
-use Rattle.kc_tree.specs.Passes.{said_by, target_of, target_view, change}
+use Rattle.kc_tree.specs.Passes.{said_by, target_view, change}
+use Rattle.kc_tree.specs.Targets.{target_of}
 use Rattle.kc_tree.specs.Raises.{raise_lines, raise_to, raised_by}
 use Rattle.kc_tree.specs.Views.{condition_of, facts_of}
 use Rattle.kc_tree.proofs.ScanLemmas.{said_from}
