@@ -1,4 +1,4 @@
--- What a user may give, and the places that hold it.
+-- Trusted: What a user may give, and the places that hold it.
 use Rattle.std.specs.Prelude.{ℕ, List}
 use Rattle.kc_expr.specs.declared.expression.SymId.{SymId}
 use Rattle.kc_expr.specs.declared.expression.Tri.{Tri}

@@ -1,4 +1,4 @@
--- What holds of the places of every tree.
+-- Trusted: What holds of the places of every tree.
 use Rattle.std.specs.Prelude.{◌≡◌, ◌≤◌, ℕ, true, List, length, None, Some, slice_get, slice_index_or, slice_set}
 use Rattle.std.specs.List.{Contains}
 use Rattle.kc_expr.specs.declared.expression.SymId.{SymId}

@@ -1,4 +1,4 @@
--- What stands in the user's places, and what may stand there.
+-- Trusted: What stands in the user's places, and what may stand there.
 use Rattle.std.specs.Prelude.{◌≡◌, ℕ, ◌+◌, List, [], length, Bool, true, false, not, ◌&&◌, ◌||◌, ◌==◌, nat_le, Option, Some, None, is_some, slice_get, slice_index_or, replicate}
 use Rattle.std.specs.List.{Contains, list_any}
 use Rattle.kc_text.specs.Escapes.{escape}

@@ -1,4 +1,4 @@
--- What the fields of a user's places say.
+-- Trusted: What the fields of a user's places say.
 use Rattle.std.specs.Prelude.{map}
 use Rattle.std.specs.Option.{option_map}
 use Rattle.kc_user.specs.Places.{Places}

@@ -1,4 +1,4 @@
--- What a value stands for.
+-- Trusted: What a value stands for.
 use Rattle.kc_user.specs.Given.{Given, Chosen, Typed}
 use Rattle.kc_user.specs.declared.value.UserValue.{UserValue}
 use Rattle.kc_user.specs.declared.value.UserValue.TheVariants.{Tri, Text}

@@ -31,7 +31,7 @@ impl Model for User {
 }
 
 impl User {
-    /// The places of a tree, every one empty. Only want of memory is an error, which leaves nothing; no other call takes memory.
+    /// The places of a tree, every one empty. Its only error is to be out of memory, which leaves nothing; no other call takes memory.
     pub fn new(alloc: Global, tree: &Tree) -> Result<User, AllocError>
         ensures { IfOk result (λ user. user ≡ spec.no_places tree.now) }
     {
