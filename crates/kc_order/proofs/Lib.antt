@@ -1,5 +1,4 @@
 pub mod Held
-pub mod Marks
 pub mod Unique
 pub mod OneSolution
 pub mod OneRound
@@ -10,3 +9,4 @@ pub mod ByOrder
 pub mod MinimalLaws
 pub mod Rings
 pub mod OneLoop
+pub mod LoopThere

@@ -1,26 +1,28 @@
 -- Each step of the search keeps what the search keeps.
-use Rattle.std.proofs.Common.{◌≡◌, ℕ, ◌<◌, ◌≤◌, ◌+◌, ◌≢◌, true, List, [], ◌∷◌, ◌++◌, length, get_or, zero, suc, sym, ◌∙◌, ap, refl, inl, inr, arith, take, drop, eqb, subst, ◌⊎◌}
+use Rattle.std.proofs.Common.{◌≡◌, ℕ, ◌<◌, ◌≤◌, ◌+◌, ◌≢◌, true, false, Bool, List, [], ◌∷◌, ◌++◌, length, get_or, zero, suc, sym, ◌∙◌, ap, refl, inl, inr, arith, take, drop, eqb, subst, ◌⊎◌}
 use Rattle.std.proofs.Common.{get_or-set_other, get_or-set_same}
 use Rattle.std.proofs.Math.ListN.{set}
 use Rattle.std.specs.Cmp.{nat_eq_equiv}
 use Rattle.std.specs.List.{Contains, IsDistinct, slice_index}
-use Rattle.std.proofs.lemmas.Bool.{cases_eq, cases_lt, ne_eqb, eqb-false}
+use Rattle.std.proofs.lemmas.Bool.{cases_eq, cases_lt, cases_Bool, ne_eqb, eqb-false}
 use Rattle.std.proofs.lemmas.List.{get_or_append_left, get_or_push, length_push, drop_more, length-drop, take-append-le, take_at, get_or_default}
 use Rattle.std.proofs.lemmas.List.Elements.{Contains-push, Contains-push_cases, Contains-append_left, Contains-append_cases, Contains-get_or}
-use Rattle.std.proofs.lemmas.List.Folds.{list_any_none, list_any_at}
+use Rattle.std.proofs.lemmas.List.Folds.{list_any_none, list_any_at, Any-from_list_any}
 use Rattle.std.proofs.lemmas.Map.Keys.{IsDistinct-push, apart_from_distinct, IsDistinct-from_apart}
 use Rattle.kc_order.specs.declared.search.Mark.{Mark}
-use Rattle.kc_order.specs.declared.search.Mark.TheVariants.{New, Open, Done}
-use Rattle.std.proofs.Common.{Vec, vec_len, map, sum, sum_by}
-use Rattle.std.proofs.lemmas.List.{length-set}
+use Rattle.kc_order.specs.declared.search.Mark.TheVariants.{New, Open, Done, Stuck}
+use Rattle.std.proofs.Common.{Vec, All, vec_len, map, sum, sum_by}
+use Rattle.std.proofs.lemmas.List.{length-set, length-map, get_or-map}
 use Rattle.std.proofs.lemmas.List.Sums.{sum_by-set}
 use Rattle.std.specs.Global.{Global}
-use Rattle.kc_order.specs.Needs.{NeedsBelow, stuck_after, SomeStuck}
-use Rattle.kc_order.specs.Rows.{in_row, needs_of, RowsBelow}
+use Rattle.kc_order.specs.Needs.{NeedsBelow, stuck_after}
+use Rattle.kc_order.specs.Loop.{IsFirstStuck}
+use Rattle.kc_order.specs.Rows.{in_row, needs_of, RowsBelow, AreMarks}
 use Rattle.kc_order.specs.Order.{IsOrderOf}
 use Rattle.kc_order.specs.declared.search.Search.{Search}
-use Rattle.kc_order.specs.Search.{IsSearch, IsSound, Opens, Closes, KeepsMet, weight, work}
+use Rattle.kc_order.specs.Search.{IsSearch, IsSound, IsOver, Opens, Closes, GivesUp, KeepsMet, weight, work, mark_of, is_stuck}
 use Rattle.kc_order.proofs.Held.{needs_are, needs_below}
+use Rattle.kc_order.proofs.Stays.{stays_stuck}
 use Rattle.kc_order.specs.Solution.{IsUpdate}
 
 -- a list with no symbol twice, and one that is not on it
@@ -51,6 +53,18 @@ done≢new m a b = cc
 
 open≢done : (m : Mark) → m ≡ Open → m ≡ Done → ⊥
 open≢done m a b = cc
+
+stuck≢new : (m : Mark) → m ≡ Stuck → m ≡ New → ⊥
+stuck≢new m a b = cc
+
+stuck≢open : (m : Mark) → m ≡ Stuck → m ≡ Open → ⊥
+stuck≢open m a b = cc
+
+stuck≢done : (m : Mark) → m ≡ Stuck → m ≡ Done → ⊥
+stuck≢done m a b = cc
+
+true≢false : (b : Bool) → b ≡ true → b ≡ false → ⊥
+true≢false b t f = cc
 
 -- a need of the symbol at k stands at k + 1
 goes_at : (needs : ℕ → List ℕ) (xs : List ℕ) (k a b : ℕ) → slice_index xs k ≡ a → slice_index xs (k + 1) ≡ b → Contains (needs a) b → Contains (needs (slice_index xs k)) (slice_index xs (k + 1))
@@ -96,9 +110,33 @@ module _ (n : ℕ) (needs : ℕ → List ℕ) where
             ];
         order_apart = h.order_apart;
         needs_first = h.needs_first;
+        settled = λ t b e.
+            elim (cases_eq t s) [
+              | inl same ↦ absurd (open≢done (mark' t) (ap mark' same ∙ u.here) e)
+              | inr other ↦ h.settled t b (sym (u.others t other) ∙ e)
+            ];
+        stuck_is = λ t k b e.
+            elim (cases_eq t s) [
+              | inl same ↦ absurd (stuck≢open (mark' t) e (ap mark' same ∙ u.here))
+              | inr other ↦ h.stuck_is t k b (sym (u.others t other) ∙ e)
+            ];
         left_le = h.left_le;
         passed = λ t v b c. let d = h.passed t v b c in others v (done≢new (mark v) d) ∙ d;
       }
+
+  -- a symbol whose needs are all done is not stuck
+  now_settled : NeedsBelow n needs → (mark : ℕ → Mark) (left : ℕ → ℕ) (path order : List ℕ) (s : ℕ) → IsSearch n needs mark left path order → s < n → left s ≡ 0 → stuck_after needs n s ≡ false
+  now_settled below mark left path order s h l none =
+      elim (cases_Bool (stuck_after needs n s)) [
+        | inl stuck ↦
+            let a = Any-from_list_any (stuck_after needs n) (needs s) (stays_stuck n needs below s l stuck) in
+            let t = a.1 in
+            let need : Contains (needs s) t = (a.0, a.2, a.3) in
+            let done = h.passed s t l (subst (λ j. Contains (drop j (needs s)) t) (sym none) need) in
+            let need_stuck : stuck_after needs n t ≡ true = a.4 in
+            absurd (true≢false (stuck_after needs n t) need_stuck (h.settled t (below s t l need) done))
+        | inr free ↦ free
+      ]
 
   pub closed : NeedsBelow n needs → (mark mark' : ℕ → Mark) (left : ℕ → ℕ) (path order : List ℕ) (s : ℕ) → IsSearch n needs mark left (path ++ s ∷ []) order → left s ≡ 0 → IsUpdate mark mark' s Done → IsSearch n needs mark' left path (order ++ s ∷ [])
   closed below mark mark' left path order s h none u =
@@ -142,6 +180,58 @@ module _ (n : ℕ) (needs : ℕ → List ℕ) where
                   rw (take_at order (s ∷ []) k k_is)
                   (h.done_is t (below s t there.0 need) (h.passed s t there.0 (subst (λ j. Contains (drop j (needs s)) t) (sym none) need)))
             ];
+        settled = λ t b e.
+            elim (cases_eq t s) [
+              | inl same ↦ ap (stuck_after needs n) same ∙ now_settled below mark left (path ++ s ∷ []) order s h there.0 none
+              | inr other ↦ h.settled t b (sym (u.others t other) ∙ e)
+            ];
+        stuck_is = λ t k b e.
+            elim (cases_eq t s) [
+              | inl same ↦ absurd (stuck≢done (mark' t) e (ap mark' same ∙ u.here))
+              | inr other ↦ h.stuck_is t k b (sym (u.others t other) ∙ e)
+            ];
+        left_le = h.left_le;
+        passed = λ t v b c. done_stays v (h.passed t v b c);
+      }
+
+  pub given_up : (mark mark' : ℕ → Mark) (left : ℕ → ℕ) (path order : List ℕ) (s : ℕ) → IsSearch n needs mark left (path ++ s ∷ []) order → ((k : ℕ) → stuck_after needs k s ≡ true) → IsUpdate mark mark' s Stuck → IsSearch n needs mark' left path order
+  given_up mark mark' left path order s h stuck u =
+      let there = h.path_is s (Contains-push path s) in
+      let done_stays : (t : ℕ) → mark t ≡ Done → mark' t ≡ Done = λ t d. u.others t (λ e. open≢done (mark s) there.1 (sym (ap mark e) ∙ d)) ∙ d in
+      record {
+        path_is = λ t c.
+            let old = h.path_is t (Contains-append_left path (s ∷ []) t c) in
+            (old.0, u.others t (λ e. last_apart path s h.path_apart (subst (Contains path) e c)) ∙ old.1);
+        open_is = λ t b e.
+            elim (cases_eq t s) [
+              | inl same ↦ absurd (stuck≢open (mark' t) (ap mark' same ∙ u.here) e)
+              | inr other ↦ elim (Contains-push_cases path s t (h.open_is t b (sym (u.others t other) ∙ e))) [
+                | inl p ↦ p
+                | inr same ↦ absurd (other (sym same))
+              ]
+            ];
+        path_apart = apart_front path s h.path_apart;
+        path_goes = λ k b.
+            rw (← get_or_append_left path (s ∷ []) 0 k (omega arith), ← get_or_append_left path (s ∷ []) 0 (k + 1) b)
+            (h.path_goes k (omega (arith, length_push path s)));
+        order_is = λ t c. let d = h.order_is t c in (d.0, done_stays t d.1);
+        done_is = λ t b e.
+            elim (cases_eq t s) [
+              | inl same ↦ absurd (stuck≢done (mark' t) (ap mark' same ∙ u.here) e)
+              | inr other ↦ h.done_is t b (sym (u.others t other) ∙ e)
+            ];
+        order_apart = h.order_apart;
+        needs_first = h.needs_first;
+        settled = λ t b e.
+            elim (cases_eq t s) [
+              | inl same ↦ absurd (stuck≢done (mark' t) (ap mark' same ∙ u.here) e)
+              | inr other ↦ h.settled t b (sym (u.others t other) ∙ e)
+            ];
+        stuck_is = λ t k b e.
+            elim (cases_eq t s) [
+              | inl same ↦ ap (stuck_after needs k) same ∙ stuck k
+              | inr other ↦ h.stuck_is t k b (sym (u.others t other) ∙ e)
+            ];
         left_le = h.left_le;
         passed = λ t v b c. done_stays v (h.passed t v b c);
       }
@@ -156,6 +246,8 @@ module _ (n : ℕ) (needs : ℕ → List ℕ) where
     done_is = h.done_is;
     order_apart = h.order_apart;
     needs_first = h.needs_first;
+    settled = h.settled;
+    stuck_is = h.stuck_is;
     left_le = λ t b.
         elim (u t b) [
           | inl same ↦ omega (arith, h.left_le s l, same.1, ap length same.0)
@@ -181,8 +273,8 @@ module _ (n : ℕ) (needs : ℕ → List ℕ) where
       let g = goes s c in
       list_any_at (stuck_after needs k) (needs s) g.1.0 g.0 g.1.1 (rw g.1.2 (ring_stuck ring goes k g.0 g.2))
 
-  -- the last open symbol needs an open one
-  pub found : (mark : ℕ → Mark) (left : ℕ → ℕ) (path order : List ℕ) (s t : ℕ) → IsSearch n needs mark left (path ++ s ∷ []) order → Contains (needs s) t → t < n → mark t ≡ Open → SomeStuck n needs
+  -- the last open symbol is stuck where it needs an open one
+  pub found : (mark : ℕ → Mark) (left : ℕ → ℕ) (path order : List ℕ) (s t : ℕ) → IsSearch n needs mark left (path ++ s ∷ []) order → Contains (needs s) t → t < n → mark t ≡ Open → (k : ℕ) → stuck_after needs k s ≡ true
   found mark left path order s t h c b e =
       let ring = path ++ s ∷ [] in
       let goes : (r : ℕ) → Contains (path ++ s ∷ []) r → (v : ℕ) × Contains (needs r) v × Contains (path ++ s ∷ []) v = λ r d.
@@ -190,7 +282,12 @@ module _ (n : ℕ) (needs : ℕ → List ℕ) where
         | inl before ↦ (get_or ring (d.0 + 1) 0, subst (λ x. Contains (needs x) (get_or ring (d.0 + 1) 0)) (get_or_default ring d.0 0 r d.1 ∙ d.2) (h.path_goes d.0 before), Contains-get_or ring (d.0 + 1) 0 before)
         | inr last ↦ (t, subst (λ x. Contains (needs x) t) (sym (get_or_push path s r d.0 (omega (arith, length_push path s))) ∙ d.2) c, h.open_is t b e)
       ] in
-      (s, (h.path_is s (Contains-push path s)).0, ring_stuck (path ++ s ∷ []) goes n s (Contains-push path s))
+      λ k. ring_stuck (path ++ s ∷ []) goes k s (Contains-push path s)
+
+  -- and where it needs one that is given up
+  pub needs_stuck : (mark : ℕ → Mark) (left : ℕ → ℕ) (path order : List ℕ) (s t : ℕ) → IsSearch n needs mark left path order → Contains (needs s) t → t < n → mark t ≡ Stuck → (k : ℕ) → stuck_after needs k s ≡ true
+  needs_stuck mark left path order s t h c b e zero = refl
+  needs_stuck mark left path order s t h c b e (suc k) = list_any_at (stuck_after needs k) (needs s) c.0 t c.1 (ap (stuck_after needs k) c.2 ∙ h.stuck_is t k b e)
 
 -- a write into a list of marks or counts
 pub list_set : {A : Type 0} (d : A) (xs : List A) (i : ℕ) (x : A) → i < length xs → IsUpdate (λ s. get_or xs s d) (λ s. get_or (set xs i x) s d) i x
@@ -215,23 +312,61 @@ starts n needs mark left new all = record {
   done_is = λ s b e. absurd (done≢new (mark s) e (new s b));
   order_apart = tt;
   needs_first = λ k t b c. absurd (omega arith);
+  settled = λ s b e. absurd (done≢new (mark s) e (new s b));
+  stuck_is = λ s k b e. absurd (stuck≢new (mark s) e (new s b));
   left_le = λ s b. omega (arith, all s b);
   passed = λ s t b c. absurd (omega (arith, c.1, length-drop (left s) (needs s), all s b));
 }
 
-met_not_open : (m : Mark) → m ≢ New → m ≢ Open → m ≡ Done
-met_not_open New a b = absurd (a refl)
-met_not_open Open a b = absurd (b refl)
-met_not_open Done a b = refl
+-- a symbol that was met and is not open is done where it is not stuck
+is_settled : (m : Mark) → m ≢ New → m ≢ Open → is_stuck m ≡ false → m ≡ Done
+is_settled New a b e = absurd (a refl)
+is_settled Open a b e = absurd (b refl)
+is_settled Done a b e = refl
+is_settled Stuck a b e = cc
+
+is_given_up : (m : Mark) → is_stuck m ≡ true → m ≡ Stuck
+is_given_up New e = cc
+is_given_up Open e = cc
+is_given_up Done e = cc
+is_given_up Stuck e = refl
 
 -- after the last step
-pub finishes : (n : ℕ) (needs : ℕ → List ℕ) (mark : ℕ → Mark) (left : ℕ → ℕ) (path order : List ℕ) → IsSearch n needs mark left path order → length path ≡ 0 → ((s : ℕ) → s < n → mark s ≢ New) → IsOrderOf n needs order
-finishes n needs mark left path order h none met = record {
-  all_there = λ s b. h.done_is s b (met_not_open (mark s) (met s b) (λ e. omega (arith, none, (h.open_is s b e).1)));
-  all_below = λ s c. (h.order_is s c).0;
-  apart = h.order_apart;
-  needs_first = h.needs_first;
-}
+module _ (rows : List (Vec ℕ Global)) (row_of : List ℕ) (search : Search) (over : IsOver rows row_of search) where
+  -- a symbol is marked as stuck exactly where it is
+  pub stuck_iff : (s : ℕ) → s < length row_of → is_stuck (get_or search.marks.items s New) ≡ stuck_after (needs_of rows row_of) (length row_of) s
+  stuck_iff s b =
+      let keeps = over.sound.keeps in
+      let closed_now : mark_of search s ≢ Open = λ e. omega (arith, over.idle, (keeps.open_is s b e).1) in
+      elim (cases_Bool (is_stuck (get_or search.marks.items s New))) [
+        | inl given ↦ given ∙ sym (keeps.stuck_is s (length row_of) b (is_given_up (get_or search.marks.items s New) given))
+        | inr free ↦ free ∙ sym (keeps.settled s b (is_settled (get_or search.marks.items s New) (over.met s b) closed_now free))
+      ]
+
+  pub marks_are : AreMarks (length row_of) (stuck_after (needs_of rows row_of) (length row_of)) (map is_stuck search.marks.items)
+  marks_are = record {
+    length_is = length-map search.marks.items is_stuck ∙ over.sound.marks_len;
+    each = λ s b. get_or-map is_stuck search.marks.items s New false (omega (arith, b, over.sound.marks_len)) ∙ stuck_iff s b;
+  }
+
+  pub first_is : (i : ℕ) → i < length search.marks.items → is_stuck (get_or search.marks.items i New) ≡ true → ((k : ℕ) → k < i → is_stuck (get_or search.marks.items k New) ≡ false) → IsFirstStuck (length row_of) (needs_of rows row_of) i
+  first_is i l given before = record {
+    below = omega (arith, l, over.sound.marks_len);
+    stuck = sym (stuck_iff i (omega (arith, l, over.sound.marks_len))) ∙ given;
+    none_before = λ u b. sym (stuck_iff u (omega (arith, b, l, over.sound.marks_len))) ∙ before u b;
+  }
+
+  -- where none is stuck, all are in order
+  pub finishes : All (λ m. is_stuck m ≡ false) search.marks.items → IsOrderOf (length row_of) (needs_of rows row_of) search.order.items
+  finishes free =
+      let keeps = over.sound.keeps in
+      record {
+        all_there = λ s b.
+            keeps.done_is s b (is_settled (mark_of search s) (over.met s b) (λ e. omega (arith, over.idle, (keeps.open_is s b e).1)) (free s New (omega (arith, b, over.sound.marks_len))));
+        all_below = λ s c. (keeps.order_is s c).0;
+        apart = keeps.order_apart;
+        needs_first = keeps.needs_first;
+      }
 
 -- the lengths of the rows are the numbers of needs
 pub counts_are : (rows : List (Vec ℕ Global)) (r : ℕ) → get_or (map (λ row. vec_len row) rows) r 0 ≡ length (in_row rows r)
@@ -300,5 +435,31 @@ module _ (rows : List (Vec ℕ Global)) (row_of : List ℕ) (before after : Sear
       let is = sym (ap (λ xs. get_or xs t New) o.marks) ∙ new in
       elim (cases_eq t s) [
         | inl same ↦ done≢new (get_or (set before.marks.items s Done) s New) u.here (sym (ap (λ k. get_or (set before.marks.items s Done) k New) same) ∙ is)
+        | inr other ↦ met (sym (u.others t other) ∙ is)
+      ]
+
+  -- the last open symbol, which is stuck, is given up
+  pub gives_up_sound : s < length row_of → ((k : ℕ) → stuck_after (needs_of rows row_of) k s ≡ true) → GivesUp before after s → IsSound rows row_of after
+  gives_up_sound below stuck o =
+      let split = subst (λ p. IsSearch (length row_of) (needs_of rows row_of) (λ t. get_or before.marks.items t New) (λ t. get_or before.left.items (get_or row_of t 0) 0) p before.order.items) o.path sound.keeps in
+      record {
+        marks_len = ap length o.marks ∙ length-set before.marks.items s Stuck ∙ sound.marks_len;
+        left_len = ap length o.left ∙ sound.left_len;
+        keeps = rw (o.marks, o.left, o.order) (given_up _ (needs_of rows row_of) _ _ _ after.path.items before.order.items s split stuck
+            (list_set New before.marks.items s Stuck (omega (arith, sound.marks_len))));
+      }
+
+  pub gives_up_less : s < length row_of → GivesUp before after s → work after < work before
+  gives_up_less below o =
+      let was = ap weight (sound.keeps.path_is s (subst (λ p. Contains p s) (sym o.path) (Contains-push after.path.items s))).1 in
+      let less = sum_by-set weight before.marks.items s Stuck New (omega (arith, sound.marks_len)) in
+      omega (arith, less, was, ap (sum_by weight) o.marks, ap sum o.left)
+
+  pub gives_up_met : s < length row_of → GivesUp before after s → KeepsMet before after
+  gives_up_met below o t met new =
+      let u = list_set New before.marks.items s Stuck (omega (arith, sound.marks_len)) in
+      let is = sym (ap (λ xs. get_or xs t New) o.marks) ∙ new in
+      elim (cases_eq t s) [
+        | inl same ↦ stuck≢new (get_or (set before.marks.items s Stuck) s New) u.here (sym (ap (λ k. get_or (set before.marks.items s Stuck) k New) same) ∙ is)
         | inr other ↦ met (sym (u.others t other) ∙ is)
       ]

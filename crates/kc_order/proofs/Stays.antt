@@ -1,14 +1,20 @@
 -- What is stuck after as many rounds as there are symbols stays stuck.
-use Rattle.std.proofs.Common.{◌≡◌, ℕ, ◌<◌, ◌≤◌, ◌+◌, Bool, true, cond, List, [], ◌∷◌, get_or, zero, suc, sym, ◌∙◌, ap, refl, inl, inr, arith, All, ◌⊎◌, subst, zero-add, ◌-◌}
+use Rattle.std.proofs.Common.{◌≡◌, ℕ, ◌<◌, ◌≤◌, ◌+◌, Bool, true, cond, List, [], ◌∷◌, get_or, zero, suc, sym, ◌∙◌, ap, refl, inl, inr, arith, All, ◌⊎◌, subst, zero-add}
 use Rattle.std.specs.List.{list_any, count_by, range_with_len}
 use Rattle.std.proofs.lemmas.Bool.{cases_Bool}
-use Rattle.std.proofs.lemmas.List.Elements.{All-cons, Contains-get_or}
+use Rattle.std.proofs.lemmas.List.Elements.{All-cons, All-tail, Contains-get_or}
 use Rattle.std.proofs.lemmas.List.Folds.{list_any_at, Any-from_list_any}
 use Rattle.std.proofs.lemmas.List.FromFn.{length-range_with_len, get_or-range_with_len}
 use Rattle.std.proofs.lemmas.List.Sums.{sum_by-cons, count_by-le-length, get_or-le-sum_by, sum_by-le-sum_by}
 use Rattle.kc_order.specs.Needs.{NeedsBelow, stuck_after}
-use Rattle.kc_order.specs.Rows.{AreMarks}
-use Rattle.kc_order.proofs.Marks.{list_any_agree}
+
+-- tests that agree on each element find the same
+list_any_agree : {X : Type 0} (p q : X → Bool) (xs : List X) → All (λ x. p x ≡ q x) xs → list_any p xs ≡ list_any q xs
+list_any_agree p q [] h = refl
+list_any_agree p q (x ∷ xs) h =
+    let here : p x ≡ q x = h 0 x (omega arith) in
+    let rest : list_any p xs ≡ list_any q xs = list_any_agree p q xs (All-tail (λ x. p x ≡ q x) x xs h) in
+    cc
 
 -- a narrower test finds no more
 pub list_any_narrow : {X : Type 0} (p q : X → Bool) → ((x : X) → q x ≡ true → p x ≡ true) → (xs : List X) → list_any q xs ≡ true → list_any p xs ≡ true
@@ -86,26 +92,3 @@ stays_stuck n needs below s l e =
           let one = ap (λ (x : ℕ). one_if (stuck_after needs n x)) is ∙ ap one_if e in
           absurd (omega arith)
     ]
-
--- once nothing is taken away, nothing is later
-settled_later : (n : ℕ) (needs : ℕ → List ℕ) (k : ℕ) → NeedsBelow n needs → Settled n needs k → (j : ℕ) → Settled n needs (j + k)
-settled_later n needs k below h zero = subst (Settled n needs) (sym (zero-add k)) h
-settled_later n needs k below h (suc j) =
-    let e : suc (j + k) ≡ suc j + k = omega arith in
-    subst (Settled n needs) e (settled_next n needs (j + k) below (settled_later n needs k below h j))
-
-stays_settled : (n : ℕ) (needs : ℕ → List ℕ) (k : ℕ) → NeedsBelow n needs → Settled n needs k → (j s : ℕ) → s < n → stuck_after needs k s ≡ stuck_after needs (j + k) s
-stays_settled n needs k below h zero s l = ap (λ m. stuck_after needs m s) (sym (zero-add k))
-stays_settled n needs k below h (suc j) s l =
-    let e : suc (j + k) ≡ suc j + k = omega arith in
-    stays_settled n needs k below h j s l ∙ settled_later n needs k below h j s l ∙ ap (λ m. stuck_after needs m s) e
-
--- marks that a round leaves as they are mark the stuck symbols
-pub marks_settled : (n k : ℕ) (needs : ℕ → List ℕ) (marks : List Bool) → NeedsBelow n needs → k ≤ n → AreMarks n (stuck_after needs k) marks → AreMarks n (stuck_after needs (suc k)) marks → AreMarks n (stuck_after needs n) marks
-marks_settled n k needs marks below le m next =
-    let settled : Settled n needs k = λ s l. sym (m.each s l) ∙ next.each s l in
-    let e : n - k + k ≡ n = omega arith in
-    record {
-      length_is = m.length_is;
-      each = λ s l. m.each s l ∙ stays_settled n needs k below settled (n - k) s l ∙ ap (λ j. stuck_after needs j s) e;
-    }

@@ -1,5 +1,5 @@
--- What follows of needs, and of equations over them, whatever a value is.
-use Rattle.std.specs.Prelude.{All, ◌≡◌, ℕ, ◌<◌, ◌+◌, ◌-◌, ◌++◌, take, List, length, slice_index, Option, Bool}
+-- Trusted: What follows of needs, and of equations over them, whatever a value is.
+use Rattle.std.specs.Prelude.{All, ◌≡◌, ◌⊎◌, ℕ, ◌<◌, ◌+◌, ◌-◌, ◌++◌, take, List, length, slice_index, Option, Bool}
 use Rattle.kc_order.specs.Needs.{needs_in, AreWithin, IsAccepted, SomeStuck}
 use Rattle.kc_order.specs.Loop.{IsNamedLoop, IsWay}
 use Rattle.kc_order.specs.Order.{Orders}
@@ -31,6 +31,16 @@ abbrev pub OneNamedLoop : Type 0
 OneNamedLoop =
     (needs : List (List ℕ)) (loop other : List ℕ) →
     IsNamedLoop (length needs) (needs_in needs) loop → IsNamedLoop (length needs) (needs_in needs) other → loop ≡ other
+
+-- needs are accepted, or some symbol is stuck
+abbrev pub AcceptedOrStuck : Type 0
+AcceptedOrStuck = (needs : List (List ℕ)) → IsAccepted needs ⊎ SomeStuck (length needs) (needs_in needs)
+
+-- where some symbol is stuck, a loop is named
+abbrev pub StuckHaveALoop : Type 0
+StuckHaveALoop =
+    (needs : List (List ℕ)) → AreWithin needs → SomeStuck (length needs) (needs_in needs) →
+    (loop : List ℕ) × IsNamedLoop (length needs) (needs_in needs) loop
 
 -- equations that read only what is needed have one solution, where no symbol is stuck
 abbrev pub AcceptedHaveOneSolution : Type 0 → Type 0

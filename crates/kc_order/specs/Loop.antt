@@ -1,4 +1,4 @@
--- The loop that is named where some symbol is stuck.
+-- Trusted: The loop that is named where some symbol is stuck.
 use Rattle.std.specs.Prelude.{◌≡◌, ℕ, ◌<◌, ◌≤◌, ◌+◌, true, false, List, ◌++◌, length, slice_index, nat_eq, take, filter, All}
 use Rattle.std.specs.List.{Contains, IsDistinct}
 use Rattle.kc_order.specs.Needs.{stuck_after}

@@ -1,4 +1,4 @@
--- Which of the values that a user gave have to be kept. The equation of a symbol reads one place of the user's, and several symbols may have one place.
+-- Trusted: Which of the values that a user gave have to be kept. The equation of a symbol reads one place of the user's, and several symbols may have one place.
 use Rattle.std.specs.Prelude.{◌≡◌, ℕ, ◌<◌, Bool, true, false, Option, None, if◌then◌else◌}
 use Rattle.kc_order.specs.Solution.{Solves, IsOnlySolution}
 

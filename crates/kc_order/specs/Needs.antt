@@ -1,4 +1,4 @@
--- Which symbols a symbol needs, and which are stuck on their own needs. Symbols are numbers from 0 on.
+-- Trusted: Which symbols a symbol needs, and which are stuck on their own needs. Symbols are numbers from 0 on.
 use Rattle.std.specs.Prelude.{◌≡◌, ℕ, ◌<◌, Bool, true, false, List, [], length, zero, suc, slice_index_or}
 use Rattle.std.specs.List.{Contains, list_any}
 

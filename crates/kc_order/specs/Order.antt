@@ -1,4 +1,4 @@
--- Symbols in an order in which each one's needs stand before it.
+-- Trusted: Symbols in an order in which each one's needs stand before it.
 use Rattle.std.specs.Prelude.{ℕ, ◌<◌, List, length, slice_index, nat_eq, take}
 use Rattle.std.specs.List.{Contains, IsDistinct}
 use Rattle.kc_order.specs.Needs.{needs_in}

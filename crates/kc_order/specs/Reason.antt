@@ -1,4 +1,4 @@
--- Why there is no order.
+-- Trusted: Why there is no order.
 use Rattle.std.specs.Prelude.{ℕ, List, length}
 use Rattle.kc_order.specs.declared.order.NoOrder.{NoOrder}
 use Rattle.kc_order.specs.declared.order.NoOrder.TheVariants.{Loop, Memory}

@@ -1,4 +1,4 @@
--- Needs as they are held: rows of symbols, and the row of each symbol. Symbols may share a row.
+-- Trusted: Needs as they are held: rows of symbols, and the row of each symbol. Symbols may share a row.
 use Rattle.std.specs.Prelude.{◌≡◌, ℕ, ◌<◌, Bool, false, List, [], length, Vec, All, slice_index_or, map}
 use Rattle.std.specs.Global.{Global}
 use Rattle.std.specs.List.{Contains}

@@ -1,6 +1,6 @@
 //! What follows of needs, and of equations over them, whatever a value is.
 
-ghost use Rattle.kc_order.specs.Laws.{OrderedAreAccepted, AWayRoundIsStuck, NamedLoopGoesRound, NamedLoopIsWithin, OneNamedLoop, AcceptedHaveOneSolution, SolutionsAgree, FillingSolves, RoundsSolve, MinimalRestores, MinimalHasNothingToSpare};
+ghost use Rattle.kc_order.specs.Laws.{OrderedAreAccepted, AWayRoundIsStuck, NamedLoopGoesRound, NamedLoopIsWithin, OneNamedLoop, StuckHaveALoop, AcceptedOrStuck, AcceptedHaveOneSolution, SolutionsAgree, FillingSolves, RoundsSolve, MinimalRestores, MinimalHasNothingToSpare};
 
 /// Needs that have an order are accepted.
 pub fn ordered_are_accepted()
@@ -25,6 +25,12 @@ pub fn named_loop_is_within()
 /// No two loops are named of the same needs.
 pub fn one_named_loop()
     ensures { OneNamedLoop }
+{}
+
+/// Needs are accepted, or some symbol is stuck, and where one is a loop is named.
+pub fn stuck_have_a_loop()
+    ensures either { AcceptedOrStuck }
+    ensures named { StuckHaveALoop }
 {}
 
 /// Equations that read only what is needed have one solution where no symbol is stuck.

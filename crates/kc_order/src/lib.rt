@@ -5,14 +5,13 @@ mod laws;
 mod named_loop;
 mod needs;
 mod order;
-mod rounds;
 mod rows;
 mod search;
 
 pub use laws::{
     a_way_round_is_stuck, accepted_have_one_solution, filling_solves, minimal_has_nothing_to_spare,
     minimal_restores, named_loop_goes_round, named_loop_is_within, one_named_loop,
-    ordered_are_accepted, rounds_solve, solutions_agree,
+    ordered_are_accepted, rounds_solve, solutions_agree, stuck_have_a_loop,
 };
 pub use needs::Needs;
 pub use order::{NoOrder, Order, order_of};

@@ -65,7 +65,7 @@ impl Needs {
         are_below(&self.rows, self.row_of.len())
     }
 
-    /// The next symbol needs these, which may be symbols that are added later. A failure for want of memory changes nothing.
+    /// The next symbol needs these, which may be symbols that are added later. Where it is out of memory, nothing changes.
     pub fn add(&mut self, row: Vec<u32>) -> Result<(), AllocError>
         ensures added { OnOk result (self.new ≡ self.old ++ row.items ∷ []) }
         ensures unchanged { OnErr result (self.new ≡ self.old) }
@@ -79,7 +79,7 @@ impl Needs {
         Ok(())
     }
 
-    /// The next symbol needs what an earlier one needs, whose row it shares. A failure for want of memory changes nothing.
+    /// The next symbol needs what an earlier one needs, whose row it shares. Where it is out of memory, nothing changes.
     pub fn add_same(&mut self, symbol: u32) -> Result<(), AllocError>
         requires { symbol < length self.old }
         ensures added { OnOk result (self.new ≡ self.old ++ needs_in self.old symbol ∷ []) }

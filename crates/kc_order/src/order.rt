@@ -8,8 +8,7 @@ ghost use Rattle.kc_order.specs.Rows.{held, RowsBelow, RowsAreThere};
 
 use crate::named_loop::named_loop;
 use crate::needs::Needs;
-use crate::rounds::{first_place, stuck_symbols};
-use crate::search::find_order;
+use crate::search::{Search, first_stuck, search_all, stuck_symbols};
 use std::alloc::{AllocError, Global};
 use std::marker::Model;
 
@@ -68,22 +67,20 @@ fn order_or_loop(alloc: Global, rows: &[Vec<u32>], row_of: &[usize]) -> Result<V
     ensures order { IfOk result (λ v. Orders (held rows.now row_of.now) v.items) }
     ensures refused { IfErr result (IsReason (held rows.now row_of.now)) }
 {
-    if let Some(symbols) = find_order(alloc, rows, row_of)? {
-        return Ok(symbols);
-    }
-    let stuck = stuck_symbols(alloc, rows, row_of)?;
-    match first_place(&stuck) {
-        None => unreachable!(),
+    let Search { marks, order, .. } = search_all(alloc, rows, row_of)?;
+    match first_stuck(&marks) {
+        None => Ok(order),
         Some(first) => {
+            let stuck = stuck_symbols(alloc, &marks)?;
             let found = named_loop(alloc, rows, row_of, &stuck, first as u32)?;
             Err(NoOrder::Loop(found))
         }
     }
 }
 
-/// An order for these needs, where no symbol is stuck. The time is linear in the rows as they are held.
+/// An order for these needs, where no symbol is stuck. The time is linear in the rows as they are held, also where there is none.
 ///
-/// Answers `Loop` exactly where some symbol is stuck, and `Memory` for want of memory alone; then nothing is left of the needs.
+/// Answers `Loop` exactly where some symbol is stuck, and `Memory` only when it is out of memory; then nothing is left of the needs.
 /// Which symbols are stuck, and which loop is named, is our own rule: a walk from the first stuck symbol always on to the first
 /// stuck symbol that the last one needs, and of it the part from the symbol that it meets twice.
 pub fn order_of(alloc: Global, needs: Needs) -> Result<Order, NoOrder>

@@ -1,34 +1,36 @@
-//! A depth-first search for an order, with a stack of its own.
+//! A depth-first search for an order, with a stack of its own. It goes on past what is stuck, so that it finds all of it.
 
-ghost use Rattle.std.specs.Prelude.{◌≡◌, ℕ, ◌<◌, ◌+◌, length, IfOk, MatchBool, MatchOption, OnOk, List, slice_index_or, slice_index, take, vec_len, replicate, map, ◌≢◌, ◌^◌, ◌++◌, ◌∷◌, [], ◌-◌};
-ghost use Rattle.std.specs.List.{Contains};
-ghost use Rattle.kc_order.specs.Needs.{SomeStuck};
-ghost use Rattle.kc_order.specs.Rows.{needs_of, RowsBelow, RowsAreThere};
-ghost use Rattle.kc_order.specs.Order.{IsOrderOf};
-ghost use Rattle.kc_order.specs.Search.{IsSound, KeepsMet, Opens, Closes, work, mark_of};
+ghost use Rattle.std.specs.Prelude.{◌≡◌, ℕ, ◌<◌, length, IfOk, MatchOption, OnOk, All, slice_index_or, take, vec_len, replicate, map, ◌≢◌, ◌^◌, ◌++◌, ◌∷◌, [], ◌-◌, true, false};
+ghost use Rattle.kc_order.specs.Rows.{RowsBelow, RowsAreThere};
+ghost use Rattle.kc_order.specs.Search.{IsSound, IsOver, KeepsMet, Opens, Closes, GivesUp, work, mark_of, is_stuck};
 
 use crate::rows::row_of_symbol;
 use std::alloc::{AllocError, Global};
 
-// How far a symbol is.
-#[derive(Clone, Copy, Debug, PartialEq, Eq, Drop)]
-enum Mark {
+/// How far a symbol is.
+#[derive(Clone, Copy, Debug, Drop)]
+pub enum Mark {
+    /// Not met yet.
     New,
+    /// Some of its needs are still to be looked at.
     Open,
+    /// All of its needs are done.
     Done,
+    /// It is stuck.
+    Stuck,
 }
 
-// The search so far.
+/// The search so far.
 #[derive(Drop)]
-struct Search {
-    // How far each symbol is.
-    marks: Vec<Mark>,
+pub struct Search {
+    /// How far each symbol is.
+    pub marks: Vec<Mark>,
     // How many needs of each row are still to be looked at.
     left: Vec<usize>,
     // The open symbols, each needing the next.
     path: Vec<u32>,
-    // The done symbols, in order.
-    order: Vec<u32>,
+    /// The done symbols, in order.
+    pub order: Vec<u32>,
 }
 
 // Opens a symbol.
@@ -53,69 +55,76 @@ fn close(search: &mut Search, symbol: u32) -> Result<(), AllocError>
     Ok(())
 }
 
-// Looks at one more need of the last open symbol, or closes that symbol. Answers whether that need is open itself.
+// Gives up the last open symbol, which is stuck.
+fn give_up(search: &mut Search, symbol: u32)
+    requires there { symbol < length search.old.marks.items }
+    requires last { search.old.path.items ≡ take (vec_len search.old.path - 1) search.old.path.items ++ symbol ∷ [] }
+    ensures { GivesUp search.old search.new symbol }
+{
+    search.path.pop();
+    search.marks[symbol as usize] = Mark::Stuck;
+}
+
+// Looks at one more need of the last open symbol, or closes that symbol. It is stuck where that need is open itself, so that the
+// path comes back to it, or stuck.
 fn advance(
     rows: &[Vec<u32>],
     row_of: &[usize],
     search: &mut Search,
     top: u32,
-) -> Result<bool, AllocError>
+) -> Result<(), AllocError>
     requires rows_below { RowsBelow (length row_of.now) rows.now }
     requires there { RowsAreThere rows.now row_of.now }
     requires sound { IsSound rows.now row_of.now search.old }
     requires below { top < length row_of.now }
     requires last { search.old.path.items ≡ take (vec_len search.old.path - 1) search.old.path.items ++ top ∷ [] }
-    ensures sound { IfOk result (λ ring. MatchBool ring (SomeStuck (length row_of.now) (needs_of rows.now row_of.now)) (IsSound rows.now row_of.now search.new × (work search.new < work search.old))) }
+    ensures sound { OnOk result (IsSound rows.now row_of.now search.new) }
+    ensures less { OnOk result (work search.new < work search.old) }
     ensures met { OnOk result (KeepsMet search.old search.new) }
 {
     let row = row_of[top as usize];
     let left = search.left[row];
     if left == 0 {
         close(search, top)?;
-        return Ok(false);
+        return Ok(());
     }
     let need = row_of_symbol(rows, row_of, top)[left - 1];
     match search.marks[need as usize] {
-        Mark::Done => {
-            search.left[row] = left - 1;
-            Ok(false)
-        }
-        Mark::New => {
-            open(search, need)?;
-            Ok(false)
-        }
-        Mark::Open => Ok(true),
+        Mark::Done => search.left[row] = left - 1,
+        Mark::New => open(search, need)?,
+        Mark::Open => give_up(search, top),
+        Mark::Stuck => give_up(search, top),
     }
+    Ok(())
 }
 
-// Goes through all that a symbol needs, unless it was met. Answers whether some need is open itself.
+// Goes through all that a symbol needs, unless it was met.
 fn visit(
     rows: &[Vec<u32>],
     row_of: &[usize],
     search: &mut Search,
     root: u32,
-) -> Result<bool, AllocError>
+) -> Result<(), AllocError>
     requires rows_below { RowsBelow (length row_of.now) rows.now }
     requires there { RowsAreThere rows.now row_of.now }
     requires sound { IsSound rows.now row_of.now search.old }
     requires below { root < length row_of.now }
     requires idle { length search.old.path.items ≡ 0 }
-    ensures sound { IfOk result (λ ring. MatchBool ring (SomeStuck (length row_of.now) (needs_of rows.now row_of.now)) (IsSound rows.now row_of.now search.new × (length search.new.path.items ≡ 0))) }
+    ensures sound { OnOk result (IsSound rows.now row_of.now search.new) }
+    ensures idle { OnOk result (length search.new.path.items ≡ 0) }
     ensures met { OnOk result (KeepsMet search.old search.new) }
     ensures root_met { OnOk result (mark_of search.new root ≢ Mark.New) }
 {
     match search.marks[root as usize] {
         Mark::New => {}
-        _ => return Ok(false),
+        _ => return Ok(()),
     }
     open(search, root)?;
     while let Some(top) = search.path.last() {
         let top = *top;
-        if advance(rows, row_of, search, top)? {
-            return Ok(true);
-        }
+        advance(rows, row_of, search, top)?;
     }
-    Ok(false)
+    Ok(())
 }
 
 // A mark for each symbol, none of them met.
@@ -133,16 +142,12 @@ fn need_counts(alloc: Global, rows: &[Vec<u32>]) -> Result<Vec<usize>, AllocErro
     rows.iter().map(|row| row.len()).collect(alloc)
 }
 
-/// An order in which the needs of each symbol stand before it; none where some symbol is stuck.
-pub fn find_order(
-    alloc: Global,
-    rows: &[Vec<u32>],
-    row_of: &[usize],
-) -> Result<Option<Vec<u32>>, AllocError>
+/// A search over all symbols: which are stuck, and an order of the others.
+pub fn search_all(alloc: Global, rows: &[Vec<u32>], row_of: &[usize]) -> Result<Search, AllocError>
     requires rows_below { RowsBelow (length row_of.now) rows.now }
     requires there { RowsAreThere rows.now row_of.now }
     requires few { length row_of.now < 2 ^ 32 }
-    ensures { IfOk result (λ found. MatchOption found (SomeStuck (length row_of.now) (needs_of rows.now row_of.now)) (λ v. IsOrderOf (length row_of.now) (needs_of rows.now row_of.now) v.items)) }
+    ensures { IfOk result (IsOver rows.now row_of.now) }
 {
     let mut search = Search {
         marks: new_marks(alloc, row_of.len())?,
@@ -151,15 +156,31 @@ pub fn find_order(
         order: Vec::new(alloc),
     };
     for root in 0..row_of.len() {
-        if visit(rows, row_of, &mut search, root as u32)? {
-            return Ok(None);
-        }
+        visit(rows, row_of, &mut search, root as u32)?;
     }
-    let Search {
-        marks: _,
-        left: _,
-        path: _,
-        order,
-    } = search;
-    Ok(Some(order))
+    Ok(search)
+}
+
+// Whether a symbol is stuck.
+fn is_mark_of_stuck(mark: Mark) -> bool
+    ensures { result ≡ is_stuck mark }
+{
+    matches!(mark, Mark::Stuck)
+}
+
+/// The first symbol that is stuck.
+pub fn first_stuck(marks: &[Mark]) -> Option<usize>
+    ensures { MatchOption result (All (λ m. is_stuck m ≡ false) marks.now) (λ i. (i < length marks.now) × (is_stuck (slice_index_or marks.now i Mark.New) ≡ true) × ((k : ℕ) → k < i → is_stuck (slice_index_or marks.now k Mark.New) ≡ false)) }
+{
+    marks.iter().position(|mark| is_mark_of_stuck(*mark))
+}
+
+/// For each symbol whether it is stuck.
+pub fn stuck_symbols(alloc: Global, marks: &[Mark]) -> Result<Vec<bool>, AllocError>
+    ensures { IfOk result (λ v. v.items ≡ map is_stuck marks.now) }
+{
+    marks
+        .iter()
+        .map(|mark| is_mark_of_stuck(*mark))
+        .collect(alloc)
 }

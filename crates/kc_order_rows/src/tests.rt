@@ -97,6 +97,29 @@ fn a_long_chain_in_reverse(rt: HostRuntime) -> Result<(), Fail> {
 }
 
 #[test]
+fn a_loop_beside_a_long_chain(rt: HostRuntime) -> Result<(), Fail> {
+    // each symbol of the chain needs the next, the last none; behind them stands one that needs itself
+    let mut needs = Needs::new(rt.alloc());
+    for symbol in 1..20_000u32 {
+        let row = vec![in rt.alloc(); symbol]?;
+        needs.add(row)?;
+    }
+    needs.add(Vec::new(rt.alloc()))?;
+    let row = vec![in rt.alloc(); 20_000u32]?;
+    needs.add(row)?;
+    assert_eq!(rt; loop_of(rt.alloc(), needs)?.as_slice(), [20_000].as_slice());
+    Ok(())
+}
+
+#[test]
+fn a_loop_that_two_ways_lead_into(rt: HostRuntime) -> Result<(), Fail> {
+    // 0 and 4 need what goes round 2 and 3; 1 is free
+    let needs = needs_from(rt.alloc(), &[&[1, 3], &[], &[3], &[2], &[1, 0]])?;
+    assert_eq!(rt; loop_of(rt.alloc(), needs)?.as_slice(), [3, 2].as_slice());
+    Ok(())
+}
+
+#[test]
 fn many_members_share_a_long_row(rt: HostRuntime) -> Result<(), Fail> {
     // 20,000 members that need 20,000 further symbols
     let mut row = Vec::new(rt.alloc());

@@ -1,4 +1,4 @@
-use Rattle.std.proofs.Common.{arith, length, sym, ◌∙◌, ap, take, ◌-◌, ◌+◌, ◌<◌, ◌≡◌, ℕ, vec_len, get_or, subst}
+use Rattle.std.proofs.Common.{arith, length, sym, ◌∙◌, ap, take, ◌-◌, ◌+◌, ◌++◌, ◌∷◌, [], ◌<◌, ◌≡◌, ℕ, vec_len, get_or, subst}
 use Rattle.std.specs.List.{Contains}
 use Rattle.std.proofs.lemmas.List.{length-set, get_or_read}
 use Rattle.std.proofs.lemmas.List.Sums.{sum_by-set}
@@ -7,7 +7,7 @@ use Rattle.kc_order.specs.declared.search.Mark.TheVariants.{New}
 use Rattle.kc_order.specs.Rows.{needs_of}
 use Rattle.kc_order.specs.Search.{IsSearch}
 use Rattle.kc_order.proofs.Held.{needs_below}
-use Rattle.kc_order.proofs.SearchSteps.{opens_sound, opens_less, closes_sound, closes_less, passed_one, row_passes_one, found, last_is}
+use Rattle.kc_order.proofs.SearchSteps.{opens_sound, opens_less, closes_sound, closes_less, gives_up_sound, gives_up_less, passed_one, row_passes_one, found, needs_stuck, last_is}
 use Rattle.kc_order.proofs.search.advance.Goals as goal
 use Rattle.kc_order.proofs.search.advance.Goals.{After-row_of_symbol, After-index}
 
@@ -51,20 +51,25 @@ returns-then-left-eq0-clause-sound c =
     let row = get_or c.args.row_of.now c.args.top 0 in
     let row_there : row < length s.left.items = omega (arith, c.requires.there c.args.top 0 c.requires.below, c.requires.sound.left_len) in
     let none : get_or s.left.items row 0 ≡ 0 = sym (get_or_read s.left.items row c.index-left.result.now row_there c.index-left.ensures 0) ∙ c.if-left-eq0.true in
-    let closes = c.in_ok-close.ensures in (
-      closes_sound c.args.rows.now c.args.row_of.now s c.close.new.search c.args.top c.requires.sound c.requires.rows_below c.requires.below none closes,
-      closes_less c.args.rows.now c.args.row_of.now s c.close.new.search c.args.top c.requires.sound c.requires.below closes,
-    )
+    closes_sound c.args.rows.now c.args.row_of.now s c.close.new.search c.args.top c.requires.sound c.requires.rows_below c.requires.below none c.in_ok-close.ensures
+
+pub returns-then-left-eq0-clause-less : goal.returns-then-left-eq0-clause-less
+returns-then-left-eq0-clause-less c =
+    closes_less c.args.rows.now c.args.row_of.now c.args.search.now c.close.new.search c.args.top c.requires.sound c.requires.below c.in_ok-close.ensures
 
 pub returns-in_ok-open-in-New-clause-sound : goal.returns-in_ok-open-in-New-clause-sound
 returns-in_ok-open-in-New-clause-sound c =
     let s = c.args.search.now in
     let a = (goal.at.returns-in_ok-open-in-New-clause-sound c).After-row_of_symbol in
     let new = mark_is (goal.at.returns-in_ok-open-in-New-clause-sound c).After-index (need_below a) ∙ c.in-New.is in
-    let opens = c.in_ok-open-in-New.ensures in (
-      opens_sound c.args.rows.now c.args.row_of.now s c.open.new.search (need a) c.requires.sound (need_below a) new (needed a) opens,
-      opens_less c.args.rows.now c.args.row_of.now s c.open.new.search (need a) c.requires.sound (need_below a) new opens,
-    )
+    opens_sound c.args.rows.now c.args.row_of.now s c.open.new.search (need a) c.requires.sound (need_below a) new (needed a) c.in_ok-open-in-New.ensures
+
+pub returns-in_ok-open-in-New-clause-less : goal.returns-in_ok-open-in-New-clause-less
+returns-in_ok-open-in-New-clause-less c =
+    let s = c.args.search.now in
+    let a = (goal.at.returns-in_ok-open-in-New-clause-less c).After-row_of_symbol in
+    let new = mark_is (goal.at.returns-in_ok-open-in-New-clause-less c).After-index (need_below a) ∙ c.in-New.is in
+    opens_less c.args.rows.now c.args.row_of.now s c.open.new.search (need a) c.requires.sound (need_below a) new c.in_ok-open-in-New.ensures
 
 pub returns-in-Done-clause-sound : goal.returns-in-Done-clause-sound
 returns-in-Done-clause-sound c =
@@ -73,22 +78,53 @@ returns-in-Done-clause-sound c =
     let a = (goal.at.returns-in-Done-clause-sound c).After-row_of_symbol in
     let i = (goal.at.returns-in-Done-clause-sound c).After-index in
     let row = get_or c.args.row_of.now c.args.top 0 in
-    let j = c.index-left.result.now - 1 in (
-      record {
-        marks_len = h.marks_len;
-        left_len = length-set s.left.items row j ∙ h.left_len;
-        keeps = passed_one _ (needs_of c.args.rows.now c.args.row_of.now) (λ t. get_or s.marks.items t New) (λ t. get_or s.left.items (get_or c.args.row_of.now t 0) 0) _ s.path.items s.order.items c.args.top j h.keeps c.requires.below (omega (arith, left_is a))
-            (ap (λ xs. get_or s.marks.items (get_or xs j 0) New) (sym c.row_of_symbol.ensures) ∙ mark_is i (need_below a) ∙ c.in-Done.is)
-            (row_passes_one c.args.rows.now c.args.row_of.now s.left.items c.args.top j c.requires.below (row_in a));
-      },
-      omega (arith, left_is a, sum_by-set (λ x. x) s.left.items row j 0 (row_in a)),
-    )
+    let j = c.index-left.result.now - 1 in
+    record {
+      marks_len = h.marks_len;
+      left_len = length-set s.left.items row j ∙ h.left_len;
+      keeps = passed_one _ (needs_of c.args.rows.now c.args.row_of.now) (λ t. get_or s.marks.items t New) (λ t. get_or s.left.items (get_or c.args.row_of.now t 0) 0) _ s.path.items s.order.items c.args.top j h.keeps c.requires.below (omega (arith, left_is a))
+          (ap (λ xs. get_or s.marks.items (get_or xs j 0) New) (sym c.row_of_symbol.ensures) ∙ mark_is i (need_below a) ∙ c.in-Done.is)
+          (row_passes_one c.args.rows.now c.args.row_of.now s.left.items c.args.top j c.requires.below (row_in a));
+    }
+
+pub returns-in-Done-clause-less : goal.returns-in-Done-clause-less
+returns-in-Done-clause-less c =
+    let s = c.args.search.now in
+    let a = (goal.at.returns-in-Done-clause-less c).After-row_of_symbol in
+    omega (arith, left_is a, sum_by-set (λ x. x) s.left.items (get_or c.args.row_of.now c.args.top 0) (c.index-left.result.now - 1) 0 (row_in a))
+
+-- the search, its path split at its last
+abbrev split : After-row_of_symbol → Type 0
+split c =
+    IsSearch (length c.args.row_of.now) (needs_of c.args.rows.now c.args.row_of.now) (λ t. get_or c.args.search.now.marks.items t New) (λ t. get_or c.args.search.now.left.items (get_or c.args.row_of.now t 0) 0)
+    (take (vec_len c.args.search.now.path - 1) c.args.search.now.path.items ++ c.args.top ∷ []) c.args.search.now.order.items
+
+is_split : (c : After-row_of_symbol) → split c
+is_split c =
+    subst (λ p. IsSearch (length c.args.row_of.now) (needs_of c.args.rows.now c.args.row_of.now) (λ t. get_or c.args.search.now.marks.items t New) (λ t. get_or c.args.search.now.left.items (get_or c.args.row_of.now t 0) 0) p c.args.search.now.order.items) c.requires.last c.requires.sound.keeps
 
 pub returns-in-Open-clause-sound : goal.returns-in-Open-clause-sound
 returns-in-Open-clause-sound c =
     let s = c.args.search.now in
     let a = (goal.at.returns-in-Open-clause-sound c).After-row_of_symbol in
     let i = (goal.at.returns-in-Open-clause-sound c).After-index in
-    found _ (needs_of c.args.rows.now c.args.row_of.now) (λ t. get_or s.marks.items t New) (λ t. get_or s.left.items (get_or c.args.row_of.now t 0) 0) (take (vec_len s.path - 1) s.path.items) s.order.items c.args.top (need a)
-    (subst (λ p. IsSearch (length c.args.row_of.now) (needs_of c.args.rows.now c.args.row_of.now) (λ t. get_or s.marks.items t New) (λ t. get_or s.left.items (get_or c.args.row_of.now t 0) 0) p s.order.items) c.requires.last c.requires.sound.keeps)
-    (need_in a) (need_below a) (mark_is i (need_below a) ∙ c.in-Open.is)
+    let stuck = found _ (needs_of c.args.rows.now c.args.row_of.now) (λ t. get_or s.marks.items t New) (λ t. get_or s.left.items (get_or c.args.row_of.now t 0) 0) (take (vec_len s.path - 1) s.path.items) s.order.items c.args.top (need a)
+    (is_split a) (need_in a) (need_below a) (mark_is i (need_below a) ∙ c.in-Open.is) in
+    gives_up_sound c.args.rows.now c.args.row_of.now s c.give_up.new.search c.args.top c.requires.sound c.requires.below stuck c.give_up.ensures
+
+pub returns-in-Open-clause-less : goal.returns-in-Open-clause-less
+returns-in-Open-clause-less c =
+    gives_up_less c.args.rows.now c.args.row_of.now c.args.search.now c.give_up.new.search c.args.top c.requires.sound c.requires.below c.give_up.ensures
+
+pub returns-in-Stuck-clause-sound : goal.returns-in-Stuck-clause-sound
+returns-in-Stuck-clause-sound c =
+    let s = c.args.search.now in
+    let a = (goal.at.returns-in-Stuck-clause-sound c).After-row_of_symbol in
+    let i = (goal.at.returns-in-Stuck-clause-sound c).After-index in
+    let stuck = needs_stuck _ (needs_of c.args.rows.now c.args.row_of.now) (λ t. get_or s.marks.items t New) (λ t. get_or s.left.items (get_or c.args.row_of.now t 0) 0) s.path.items s.order.items c.args.top (need a)
+    c.requires.sound.keeps (need_in a) (need_below a) (mark_is i (need_below a) ∙ c.in-Stuck.is) in
+    gives_up_sound c.args.rows.now c.args.row_of.now s c.give_up-in-Stuck.new.search c.args.top c.requires.sound c.requires.below stuck c.give_up-in-Stuck.ensures
+
+pub returns-in-Stuck-clause-less : goal.returns-in-Stuck-clause-less
+returns-in-Stuck-clause-less c =
+    gives_up_less c.args.rows.now c.args.row_of.now c.args.search.now c.give_up-in-Stuck.new.search c.args.top c.requires.sound c.requires.below c.give_up-in-Stuck.ensures

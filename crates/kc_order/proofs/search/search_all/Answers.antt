@@ -3,8 +3,8 @@ use Rattle.std.proofs.lemmas.List.{length-replicate, get_or-replicate, length-ma
 use Rattle.kc_order.specs.declared.search.Mark.TheVariants.{New}
 use Rattle.kc_order.specs.Rows.{needs_of}
 use Rattle.kc_order.proofs.Held.{needs_are}
-use Rattle.kc_order.proofs.SearchSteps.{starts, finishes, counts_are}
-use Rattle.kc_order.proofs.search.find_order.Goals as goal
+use Rattle.kc_order.proofs.SearchSteps.{starts, counts_are}
+use Rattle.kc_order.proofs.search.search_all.Goals as goal
 
 pub loop-root-init : goal.loop-root-init
 loop-root-init c =
@@ -25,4 +25,8 @@ loop-root-init c =
 pub returns : goal.returns
 returns c =
     let h = c.loop-root.invariant in
-    finishes _ (needs_of c.args.rows.now c.args.row_of.now) _ _ _ _ h.sound.keeps h.idle (λ s b. h.met s (omega arith))
+    record {
+      sound = h.sound;
+      idle = h.idle;
+      met = λ s b. h.met s (omega arith);
+    }
