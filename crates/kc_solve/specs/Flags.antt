@@ -1,4 +1,4 @@
--- Whether a symbol differs, by the selections of the choices, and whether it is written.
+-- For proofs: Whether a symbol differs, by the selections of the choices, and whether it is written.
 use Rattle.std.specs.Prelude.{ℕ, Bool, not, ◌&&◌, List, Option, Some, None, slice_index_or}
 use Rattle.kc_expr.specs.Names.{symbol}
 use Rattle.kc_expr.specs.Value.{Known}

@@ -1,4 +1,4 @@
--- How a dependency loop is told: its names and its first again, joined by ` -> ` (our own).
+-- Trusted: How a dependency loop is told: its names and its first again, joined by ` -> ` (our own).
 use Rattle.std.specs.Prelude.{ℕ, List, [], ◌∷◌, ◌++◌, codes}
 use Rattle.kc_expr.specs.Names.{symbol}
 use Rattle.kc_tree.specs.TreeFacts.{TreeFacts}

@@ -1,4 +1,4 @@
--- A user's places as lists, and the valuation that a table holds.
+-- Trusted: A user's places as lists, and the valuation that a table holds.
 use Rattle.std.specs.Prelude.{ℕ, List, Option, Some, None, slice_index_or}
 use Rattle.kc_expr.specs.Names.{symbol}
 use Rattle.kc_expr.specs.Value.{Known, known_of}

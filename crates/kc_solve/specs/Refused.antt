@@ -1,4 +1,4 @@
--- Why a tree has no order.
+-- Trusted: Why a tree has no order.
 use Rattle.std.specs.Prelude.{◌≡◌, ◌≢◌, ℕ, List, length, None}
 use Rattle.kc_order.specs.Needs.{needs_in}
 use Rattle.kc_order.specs.Loop.{IsNamedLoop}
@@ -26,6 +26,6 @@ IsNamed tree Memory = Unit {0}
 abbrev pub loop_refused : List ℕ → Refused
 loop_refused text = record { code = code.Loop; place = None; detail = text }
 
--- where it is not want of memory, the refusal names the loop
+-- where it is not out of memory, the refusal names the loop
 abbrev pub NamesLoop : TreeFacts → Refusal → Type 0
 NamesLoop tree r = r.code ≢ code.Memory → (text : List ℕ) × IsLoopText tree text × (refusal_view r ≡ loop_refused text)

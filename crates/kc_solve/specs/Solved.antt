@@ -1,6 +1,7 @@
--- A solution: the values of a tree's symbols under a user's places, and what follows from them.
+-- Trusted: A solution: the values of a tree's symbols under a user's places, and what follows from them.
 use Rattle.std.specs.Prelude.{◌≡◌, ℕ, ◌<◌, ◌↔◌, Bool, false, List, [], map, length, Option, Some, None, slice_index_or}
 use Rattle.std.specs.List.{range_with_len}
+use Rattle.kc_expr.specs.Names.{symbol}
 use Rattle.kc_expr.specs.Value.{Known, Written, known_by, truth_of_known, text_of_known}
 use Rattle.kc_expr.specs.declared.expression.SymId.{SymId}
 use Rattle.kc_expr.specs.declared.expression.Tri.{Tri}
@@ -22,7 +23,6 @@ use Rattle.kc_values.specs.Values as value
 use Rattle.kc_values.specs.Warnings as warning
 use Rattle.kc_values.specs.Written as writing
 use Rattle.kc_values.specs.declared.table.Value.{Value}
-use Rattle.kc_solve.specs.Flags.{is_written}
 use Rattle.kc_solve.specs.Places.{valuation}
 
 -- the tree, the places that the user filled, and what is known of each defined symbol, by number
@@ -126,5 +126,5 @@ pub record IsSolved (tree : TreeFacts) (places : Places) (table : List (Option V
   pub chosen_are : chosen ≡ map (values.selection tree (place_at places) (valuation tree table)) (range_with_len 0 (length tree.choices))
   pub defaults_are : defaults ≡ map (values.default_selection tree (place_at places) (valuation tree table)) (range_with_len 0 (length tree.choices))
   pub differing_are : differing ≡ map (values.differs tree (place_at places) (valuation tree table)) (range_with_len 0 (symbol_count tree))
-  pub written_are : written ≡ map (is_written tree (valuation tree table)) (range_with_len 0 (symbol_count tree))
+  pub written_are : written ≡ map (λ i. writing.written tree (seen tree (valuation tree table)) (symbol i)) (range_with_len 0 (symbol_count tree))
   pub lines_are : lines ≡ warning.value_warnings tree (place_at places) (valuation tree table)

@@ -135,7 +135,7 @@ fn loop_text(alloc: Global, tree: &Tree, symbols: &[u32]) -> Result<Vec<u8>, All
 }
 
 // An order of the symbols of a tree in which what each needs stands before it. Fails where some symbol is stuck, with
-// the text of the loop that is named, and for want of memory.
+// the text of the loop that is named, and for being out of memory.
 fn tree_order(alloc: Global, tree: &Tree) -> Result<kc_order::Order, LoopFault>
     ensures same { IfOk result (λ o. o ≡ needs tree.now) }
     ensures accepted { OnOk result (IsAccepted tree.now) }

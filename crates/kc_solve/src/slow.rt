@@ -94,7 +94,7 @@ fn value_anew(
 /// For tests: the values that [`crate::solve::solve`] finds, by the plainest way there is. In a table of n and empty texts
 /// every equation is computed anew, one symbol after another in the order of their first definitions, in as many rounds
 /// as there are symbols; the order is only asked that there is one (our own). The caller owes the order and the places
-/// of that tree. Fails for want of memory alone.
+/// of that tree. Fails only when it is out of memory.
 pub fn slow_table<'t>(
     alloc: Global,
     tree: &'t Tree,

@@ -46,7 +46,7 @@ fn full_table<'t>(
 
 /// Solves a tree under a user's places: the one solution of the equations of its symbols, one for each (the kernel's
 /// kconfig-language document; where that is vague, kconfiglib's documented rules). Each value is computed once, along
-/// the order. The caller owes the order and the places of that tree. Fails for want of memory alone.
+/// the order. The caller owes the order and the places of that tree. Fails only when it is out of memory.
 pub fn solve<'a>(
     alloc: Global,
     tree: &'a Tree,

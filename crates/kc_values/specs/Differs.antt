@@ -1,4 +1,4 @@
--- Which symbols differ from what they would be without the user, and the lines that the values give.
+-- Trusted: Which symbols differ from what they would be without the user, and the lines that the values give.
 use Rattle.std.specs.Prelude.{◌≡◌, ℕ, ◌<◌, ◌&&◌, Bool, true, false, not, if◌then◌else◌, Option, Some, None}
 use Rattle.std.specs.List.{find}
 use Rattle.std.specs.Option.{option_map}

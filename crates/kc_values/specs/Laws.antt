@@ -1,4 +1,4 @@
--- What holds of the equations of a tree.
+-- Trusted: What holds of the equations of a tree.
 use Rattle.std.specs.Prelude.{◌≡◌, ℕ, ◌<◌, ◌↔◌, Option, Some, None, Bool, true, false}
 use Rattle.std.specs.List.{Contains}
 use Rattle.kc_expr.specs.Value.{Known}

@@ -1,4 +1,4 @@
--- What a tree says of a symbol and of a choice, by its number.
+-- Trusted: What a tree says of a symbol and of a choice, by its number.
 use Rattle.std.specs.Prelude.{ℕ, Bool, List, [], Option, length, nat_lt, slice_get, slice_index_or}
 use Rattle.kc_expr.specs.declared.expression.SymId.{SymId}
 use Rattle.kc_tree.specs.TreeFacts.{SymbolFacts, ChoiceFacts, TreeFacts}

@@ -1,4 +1,4 @@
--- The rows of needs as they are made, one symbol after another.
+-- For proofs: The rows of needs as they are made, one symbol after another.
 use Rattle.std.specs.Prelude.{◌≡◌, ℕ, ◌<◌, List, map, Option, Some, None, slice_get, slice_index_or, slice_set}
 use Rattle.std.specs.List.{range_with_len}
 use Rattle.kc_tree.specs.declared.parts.ChoiceId.{ChoiceId}

@@ -1,4 +1,4 @@
--- What the equation of a symbol reads: the symbols that it needs.
+-- Trusted: What the equation of a symbol reads: the symbols that it needs.
 use Rattle.std.specs.Prelude.{ℕ, List, [], ◌∷◌, ◌++◌, map, length, Option, Some, None}
 use Rattle.std.specs.List.{filter, flat_map, range_with_len}
 use Rattle.kc_expr.specs.Form.{symbols, leaf_symbols}

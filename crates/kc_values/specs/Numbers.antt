@@ -1,4 +1,4 @@
--- The numbers of an int or hex symbol, and how they are written.
+-- Trusted: The numbers of an int or hex symbol, and how they are written.
 use Rattle.std.specs.Prelude.{ℕ, ℤ, pos, int_lt, unsigned_abs, Bool, true, not, ◌&&◌, if◌then◌else◌, false, List, ◌++◌, codes, Option, Some, None, unwrap_or}
 use Rattle.std.specs.Fmt.{signed_decimal, digits}
 use Rattle.kc_text.specs.Numbers.{int_of, hex_of}

@@ -1,4 +1,4 @@
--- Selections that are settled once for all members of a choice, and what an equation depends on.
+-- Trusted: Selections that are settled once for all members of a choice, and what an equation depends on.
 use Rattle.std.specs.Prelude.{◌≡◌, ◌⊎◌, ℕ, List, Option, Some, None, slice_index_or, All}
 use Rattle.kc_expr.specs.Value.{Known}
 use Rattle.kc_expr.specs.declared.expression.SymId.{SymId}

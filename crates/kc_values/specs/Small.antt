@@ -1,4 +1,4 @@
--- Numbers of 64 bits and a sign.
+-- Trusted: Numbers of 64 bits and a sign.
 use Rattle.std.specs.Prelude.{◌<◌, ◌^◌, unsigned_abs}
 use Rattle.kc_values.specs.declared.intervals.Interval.{Interval}
 

@@ -1,4 +1,4 @@
--- One equation for each symbol, a user's places, and the valuation that solves.
+-- Trusted: One equation for each symbol, a user's places, and the valuation that solves.
 use Rattle.std.specs.Prelude.{ℕ, Option, Some, None, length, if◌then◌else◌}
 use Rattle.kc_expr.specs.Names.{symbol}
 use Rattle.kc_expr.specs.Value.{Known, Written}

@@ -1,4 +1,4 @@
--- A table of values by the numbers of the symbols, of which some places may be empty.
+-- Trusted: A table of values by the numbers of the symbols, of which some places may be empty.
 use Rattle.std.specs.Prelude.{ℕ, List, Option, Some, None, slice_index_or}
 use Rattle.std.specs.Borrow.{Bor}
 use Rattle.kc_expr.specs.Value.{Known, Truth, Written}

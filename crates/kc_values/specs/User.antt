@@ -1,4 +1,4 @@
--- A user's places and other values as the code holds them.
+-- Trusted: A user's places and other values as the code holds them.
 use Rattle.std.specs.Prelude.{Option, Some, None, ℕ, List}
 use Rattle.std.specs.Borrow.{Bor}
 use Rattle.kc_tree.specs.declared.parts.Symbol.{Symbol}

@@ -1,4 +1,4 @@
--- What the symbols of a tree are worth: the equations of the language.
+-- Trusted: What the symbols of a tree are worth: the equations of the language.
 -- Public sources: the kernel's kconfig-language document ("Menu attributes", "Menu dependencies", choices) and
 -- kconfiglib's documentation (visibility, `tri_value`, `str_value`, `selection`). What is our own is marked so.
 use Rattle.std.specs.Prelude.{ℕ, ◌==◌, ◌&&◌, Bool, true, false, not, if◌then◌else◌, List, [], map, Option, Some, None, unwrap_or}

@@ -1,4 +1,4 @@
--- What the values are warned of: whole lines, without the line feed (our own).
+-- Trusted: What the values are warned of: whole lines, without the line feed (our own).
 use Rattle.std.specs.Prelude.{ℕ, if◌then◌else◌, List, [], ◌∷◌, ◌++◌, codes, Option, Some, None}
 use Rattle.std.specs.List.{flat_map, range_with_len}
 use Rattle.kc_expr.specs.Form.{Form}

@@ -1,4 +1,4 @@
--- Which symbols are written, and which are unsettled. The rule of writing is the kernel's and kconfiglib's; the words are our own.
+-- Trusted: Which symbols are written, and which are unsettled. The rule of writing is the kernel's and kconfiglib's; the words are our own.
 use Rattle.std.specs.Prelude.{ℕ, ◌&&◌, ◌||◌, Bool, true, false, not, Option, Some, None}
 use Rattle.std.specs.Option.{is_some}
 use Rattle.kc_expr.specs.Value.{Known}

@@ -29,7 +29,7 @@ pub fn visible<V: Values>(tree: &Tree, id: SymId, values: &V) -> bool
 fn visible_member<V: Values>(tree: &Tree, choice: &Choice, id: SymId, values: &V) -> bool
     ensures { result ≡ spec.visible_member tree.now (known_by (V.kind_of values.now) (V.tri_of values.now) (V.text_of values.now)) (choice_facts_of choice.now) id }
 {
-    is_among(id, &choice.members) && visible(tree, id, values)
+    visible(tree, id, values) && is_among(id, &choice.members)
 }
 
 fn is_among(id: SymId, members: &[SymId]) -> bool

@@ -17,7 +17,7 @@ use kc_tree::tree::Tree;
 use std::alloc::{AllocError, Global};
 
 /// Whether the value of a symbol outside a choice is not what its equation gives, under the same values of all others,
-/// without what the user gave for it (our own rule of the minimal file). Fails for want of memory alone.
+/// without what the user gave for it (our own rule of the minimal file). Fails only when it is out of memory.
 pub fn own_differs<V: Values>(
     alloc: Global,
     tree: &Tree,

@@ -23,7 +23,7 @@ use std::alloc::{AllocError, Global};
 
 /// The value that the equation of a symbol outside a choice gives, by its type (the kernel's kconfig-language document,
 /// "Menu attributes"; kconfiglib's `tri_value` and `str_value`). Without a type it is the symbol's name, as of a name that
-/// is not defined (kconfiglib). Fails for want of memory alone.
+/// is not defined (kconfiglib). Fails only when it is out of memory.
 pub fn own_equation<V: Values>(
     alloc: Global,
     tree: &Tree,
@@ -58,7 +58,7 @@ pub fn own_equation<V: Values>(
 
 /// The value that the equation of a defined symbol gives: `user` is what was given for it, `users` what was given for
 /// each choice, `selections` those settled so far, to which that of the symbol's own choice is added (the kernel's
-/// kconfig-language document; where that is vague, kconfiglib's documented rules). Fails for want of memory alone; what
+/// kconfig-language document; where that is vague, kconfiglib's documented rules). Fails only when it is out of memory; what
 /// is settled then is right too.
 pub fn equation<V: Values>(
     alloc: Global,

@@ -24,7 +24,7 @@ pub struct Selections {
 }
 
 impl Selections {
-    /// No selection of so many choices is settled. Fails for want of memory alone (our own).
+    /// No selection of so many choices is settled. Fails only when it is out of memory (our own).
     pub fn new(alloc: Global, count: usize) -> Result<Selections, AllocError>
         ensures { IfOk result (λ s. s.settled.items ≡ replicate count None) }
     {

@@ -1,6 +1,6 @@
 //! What the equation of each symbol names: its needs.
 
-ghost use Rattle.std.specs.Prelude.{◌≡◌, ◌+◌, ◌++◌, map, slice_get, Some, IfOk, OnOk};
+ghost use Rattle.std.specs.Prelude.{◌≡◌, ◌+◌, ◌++◌, [], map, slice_get, Some, IfOk, OnOk};
 ghost use Rattle.std.specs.List.{flat_map};
 ghost use Rattle.kc_expr.specs.Form.{form_of, symbols};
 ghost use Rattle.kc_tree.specs.Views.{condition_of, facts_of, choice_facts_of, default_view, range_view, named_view};
@@ -17,9 +17,6 @@ use kc_tree::parts::{Choice, ChoiceId, Cond, Symbol};
 use kc_tree::tree::Tree;
 use std::alloc::{AllocError, Global};
 use std::rc::Rc;
-
-// Room for the names of an equation at first, since few have more.
-const ROOM: usize = 16;
 
 // The names in the parts of a condition.
 fn parts_into(parts: &[Rc<Expr>], out: &mut Vec<SymId>) -> Result<(), AllocError>
@@ -233,17 +230,35 @@ fn defined_numbers(alloc: Global, tree: &Tree, names: &[SymId]) -> Result<Vec<u3
     Ok(numbers)
 }
 
-/// What the symbol of a number needs: the numbers of the defined symbols that its equation names, each as often as it
-/// stands there (our own; the kernel's kconfig-language document forbids recursive dependencies and does not say which
-/// count). Fails for want of memory alone.
-pub fn needs_of(alloc: Global, tree: &Tree, id: SymId) -> Result<Vec<u32>, AllocError>
+// Room for so many names is kept for the next symbol; where there was more, it is given back.
+const ROOM: usize = 4096;
+
+// Makes a list of names empty.
+fn empty(alloc: Global, names: &mut Vec<SymId>)
+    ensures { names.new.items ≡ [] }
+{
+    if names.len() > ROOM {
+        *names = Vec::new(alloc);
+    }
+    names.clear();
+}
+
+// What the symbol of a number needs: the numbers of the defined symbols that its equation names, each as often as it
+// stands there (our own; the kernel's kconfig-language document forbids recursive dependencies and does not say which
+// count). `names` is room for those names, whatever it holds, so that it is made once for all symbols.
+fn needs_of(
+    alloc: Global,
+    tree: &Tree,
+    id: SymId,
+    names: &mut Vec<SymId>,
+) -> Result<Vec<u32>, AllocError>
     ensures { IfOk result (λ v. v.items ≡ spec.needs_of tree.now id.0) }
 {
-    let mut names = Vec::with_capacity(alloc, ROOM)?;
+    empty(alloc, names);
     if let Some(symbol) = facts(tree, id) {
-        symbol_into(tree, symbol, &mut names)?;
+        symbol_into(tree, symbol, names)?;
     }
-    let numbers = defined_numbers(alloc, tree, &names)?;
+    let numbers = defined_numbers(alloc, tree, names)?;
     Ok(numbers)
 }
 
@@ -279,6 +294,7 @@ fn add_needs(
     facts: &Symbol,
     needs: &mut Needs,
     first: &mut Vec<Option<u32>>,
+    names: &mut Vec<SymId>,
 ) -> Result<(), AllocError>
     requires facts { slice_get tree.now.symbols symbol ≡ Some (facts_of facts.now) }
     requires needs { needs.old ≡ rows.needs_before tree.now symbol }
@@ -290,23 +306,26 @@ fn add_needs(
         needs.add_same(member)?;
         return Ok(());
     }
-    let row = needs_of(alloc, tree, SymId(symbol as usize))?;
+    let row = needs_of(alloc, tree, SymId(symbol as usize), names)?;
     needs.add(row)?;
     note_first(first, facts.choice, symbol);
     Ok(())
 }
 
 /// What each symbol of a tree needs, by number. The members of a choice share one row, so that nothing grows with the
-/// square of them (our own). Fails for want of memory alone.
+/// square of them (our own). Fails only when it is out of memory.
 pub fn tree_needs(alloc: Global, tree: &Tree) -> Result<Needs, AllocError>
     ensures { IfOk result (λ n. n ≡ spec.needs tree.now) }
 {
     let count = tree.symbol_count();
     let mut needs = Needs::new(alloc);
     let mut first = vec![in alloc; None; tree.choices().len()]?;
+    let mut names = Vec::new(alloc);
     for i in 0..count {
         match tree.facts(tree.symbol(i)) {
-            Some(symbol) => add_needs(alloc, tree, i as u32, symbol, &mut needs, &mut first)?,
+            Some(symbol) => add_needs(
+                alloc, tree, i as u32, symbol, &mut needs, &mut first, &mut names,
+            )?,
             None => unreachable!(),
         }
     }

@@ -95,8 +95,8 @@ pub fn if_inside(kind: Kind, range: Option<Interval>, given: Option<&[u8]>) -> O
     }
 }
 
-/// A number as it is written: decimal for int, `0x` and lower-case digits for hex (kconfiglib's `str_value`). Fails for want
-/// of memory alone.
+/// A number as it is written: decimal for int, `0x` and lower-case digits for hex (kconfiglib's `str_value`). Fails only when it is
+/// out of memory.
 pub fn number_text(alloc: Global, kind: Kind, number: i128) -> Result<Vec<u8>, AllocError>
     requires { unsigned_abs number < 2 ^ 64 }
     ensures { IfOk result (λ v. v.items ≡ digits.number_text kind number) }
@@ -112,7 +112,7 @@ pub fn number_text(alloc: Global, kind: Kind, number: i128) -> Result<Vec<u8>, A
 }
 
 /// The text where its number is inside the range, else the bound that it passes, the low one first (kconfiglib's
-/// `str_value` of a default outside its range). What is no number counts as 0 (our own). Fails for want of memory alone.
+/// `str_value` of a default outside its range). What is no number counts as 0 (our own). Fails only when it is out of memory.
 pub fn clamped(
     alloc: Global,
     kind: Kind,
@@ -157,8 +157,8 @@ fn used_or_clamped(
 }
 
 /// The value of an int or hex symbol outside a choice: the visible user text that is inside the active range, in exactly its
-/// text, else the first default's text, clamped (kconfiglib's `str_value`); without both it is empty (our own). Fails for
-/// want of memory alone.
+/// text, else the first default's text, clamped (kconfiglib's `str_value`); without both it is empty (our own). Fails only when
+/// it is out of memory.
 pub fn number_equation<V: Values>(
     alloc: Global,
     tree: &Tree,

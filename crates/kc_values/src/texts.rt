@@ -58,7 +58,7 @@ pub fn typed(user: Option<&UserValue>, visibility: Tri) -> Option<&[u8]>
 }
 
 /// The value of a string symbol outside a choice: the user's text where it is visible, else the text of the first default
-/// whose condition is not n, else nothing (kconfiglib's `str_value`). Fails for want of memory alone.
+/// whose condition is not n, else nothing (kconfiglib's `str_value`). Fails only when it is out of memory.
 pub fn text_equation<V: Values>(
     alloc: Global,
     tree: &Tree,

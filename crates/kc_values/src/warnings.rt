@@ -262,7 +262,7 @@ fn select_warnings<V: Values>(
 
 /// The warnings of one symbol under these values, behind those that are there: whole lines without their end. A bool or
 /// tristate that is selected above its direct dependency; of an int or hex a visible user value outside the active range,
-/// then a default that was clamped; of a choice's member none (our own lines). Fails for want of memory alone; some lines
+/// then a default that was clamped; of a choice's member none (our own lines). Fails only when it is out of memory; some lines
 /// may then be there.
 pub fn warnings_into<V: Values>(
     alloc: Global,
