@@ -1,44 +1,42 @@
 -- What reading the .config that was written leaves in empty places.
-use Rattle.std.proofs.Common.{◌≡◌, ℕ, ◌+◌, ◌<◌, ◌≤◌, zero, suc, List, [], ◌∷◌, ◌++◌, Bool, true, false, not, length, get_or, cond, refl, sym, ap, ◌∙◌, subst, arith, inl, inr, ◌⊎◌, ◌↔◌, Option, Some, None}
+use Rattle.std.proofs.Common.{◌≡◌, ℕ, ◌<◌, zero, suc, List, [], ◌∷◌, ◌++◌, Bool, true, false, length, get_or, cond, refl, sym, ap, ◌∙◌, subst, arith, inl, inr, Option, Some, None}
 use Rattle.std.specs.Prelude.{◌&&◌, slice_get}
 use Rattle.std.specs.List.{Contains, cons_option, find, flat_map}
 use Rattle.std.specs.Option.{option_map, option_and_then}
-use Rattle.std.proofs.lemmas.Bool.{cases_Bool, and_parts, and_from, lt-ltb, true≢false}
+use Rattle.std.proofs.lemmas.Bool.{and_parts, and_from, lt-ltb, true≢false}
 use Rattle.std.proofs.lemmas.Option.{slice_get-get_or}
 use Rattle.kc_expr.specs.declared.expression.SymId.{SymId}
 use Rattle.kc_expr.specs.declared.expression.Tri.TheVariants.{N, M, Y}
-use Rattle.kc_expr.specs.declared.expression.Kind.{Kind}
 use Rattle.kc_expr.specs.declared.expression.Kind.TheVariants as kind
 use Rattle.kc_expr.specs.Names.{symbol}
 use Rattle.kc_expr.specs.Value.{Known, Truth, Written}
 use Rattle.kc_order.specs.Solution.{Solves}
 use Rattle.kc_tree.specs.TreeFacts.{TreeFacts, SymbolFacts, ChoiceFacts, Shown, SymbolShown, MenuShown, EndShown, CommentShown, IsLineText, IsWellFormed, OfTitles, ShowsEach}
-use Rattle.kc_user.specs.Given.{Given, Chosen, Member, Slot, At, In}
+use Rattle.kc_user.specs.Given.{Given, Member, Slot, At, In}
 use Rattle.kc_user.specs.Places.{Places, place_at, no_places, allowed, allowed_by, allowed_for, members_of}
 use Rattle.kc_values.specs.Differs as value
 use Rattle.kc_values.specs.Differs.{given_of, again}
 use Rattle.kc_values.specs.Laws.{MembersAreTheirs, MembersAreBools}
-use Rattle.kc_values.specs.Lookups.{facts, choice_at}
-use Rattle.kc_values.specs.Solution.{symbol_count, seen, slot, rhs, equations}
+use Rattle.kc_values.specs.Lookups.{choice_at}
+use Rattle.kc_values.specs.Solution.{symbol_count, seen, slot, equations}
 use Rattle.kc_values.specs.Written as ls
 use Rattle.kc_values.proofs.FixedLines.{slot_cases, slot_of_member, Sel}
 use Rattle.kc_values.proofs.Selection.{found}
 use Rattle.kc_dot.specs.Effects.{name_of}
 use Rattle.kc_dot.specs.Prefixes.{is_prefix}
-use Rattle.kc_dot.specs.Reading.{Assignment, Read, choice_of, is_yes, places_given, reading, lines_from}
+use Rattle.kc_dot.specs.Reading.{Assignment, is_yes, places_given}
 use Rattle.kc_dot.specs.Plain.{HasPlainTitles}
 use Rattle.kc_dot.specs.Reread.{told_by, read_alone}
 use Rattle.kc_dot.specs.HasNames.{HasNames}
 use Rattle.kc_dot.specs.SymbolLines.{config_line}
 use Rattle.kc_dot.specs.Texts.{config_text, symbol_config}
-use Rattle.kc_dot.specs.Told.{Told}
 use Rattle.kc_dot.proofs.ConfigTextLemmas.{config_gives, entry_given}
 use Rattle.kc_dot.proofs.FilledLemmas.{Holds, IsCandidate, filled_symbol, filled_member, filled_none, in_flat_map, to_flat_map, contains_here, contains_cases, no_element}
 use Rattle.kc_dot.proofs.GivesLemmas.{Gives, gives_whole}
 use Rattle.kc_dot.proofs.MinimalLaws.{read_alone_is}
-use Rattle.kc_dot.proofs.MinimalTextLemmas.{there, slot_by_choice, choice_by_slot, choice_there, yes_selected}
+use Rattle.kc_dot.proofs.MinimalTextLemmas.{there, choice_by_slot, choice_there, yes_selected}
 use Rattle.kc_dot.proofs.ShapeLemmas.{value_shape}
-use Rattle.kc_dot.proofs.SymbolLineLemmas.{IsOf, FitsLine, symbol_gives, own}
+use Rattle.kc_dot.proofs.SymbolLineLemmas.{IsOf, FitsLine, symbol_gives}
 
 -- what is found nowhere is no element
 missing_at : {X : Type 0} (p : X → Bool) (b : Bool) (x y : X) (xs : List X) → p x ≡ b → (find p xs ≡ None → Contains xs y → p y ≡ false) → cond b (Some x) (find p xs) ≡ None → Contains (x ∷ xs) y → p y ≡ false
@@ -67,7 +65,7 @@ yes_allowed (Truth M) e = absurd (true≢false (sym e))
 yes_allowed (Truth Y) e = refl
 yes_allowed (Written k bytes) e = absurd (true≢false (sym e))
 
-module _ (tree : TreeFacts) (user : Slot → Option Given) (V : ℕ → Known) (formed : IsWellFormed tree) (theirs : MembersAreTheirs tree) (bools : MembersAreBools tree) (named_all : HasNames tree) (shows : ShowsEach tree) (texts : OfTitles IsLineText tree) (solves : Solves (symbol_count tree) (equations tree user) V) (fits : (i : ℕ) → i < symbol_count tree → FitsLine (V i)) (prefix : List ℕ) (is_pre : is_prefix prefix ≡ true) (plain : HasPlainTitles tree prefix) where
+module _ (tree : TreeFacts) (user : Slot → Option Given) (V : ℕ → Known) (formed : IsWellFormed tree) (theirs : MembersAreTheirs tree) (bools : MembersAreBools tree) (named_all : HasNames tree) (shows : ShowsEach tree) (texts : OfTitles IsLineText tree) (solves : Solves (symbol_count tree) (equations tree user) V) (fits : (s : SymId) → s.0 < symbol_count tree → ls.written tree (seen tree V) s ≡ true → FitsLine (V s.0)) (prefix : List ℕ) (is_pre : is_prefix prefix ≡ true) (plain : HasPlainTitles tree prefix (told_by tree user V)) where
   abbrev K : SymId → Known
   K = seen tree V
 
@@ -95,7 +93,7 @@ module _ (tree : TreeFacts) (user : Slot → Option Given) (V : ℕ → Known) (
         | inl untyped ↦ absurd (true≢false (sym w ∙ ap (ls.written_facts tree K) at ∙ not_written tree K f f.choice (λ c e. bools s f c at e) untyped))
         | inr of ↦ rw (solves s.0 lt) of
       ] in
-      let line = symbol_gives tree prefix stream is_pre formed named_all s f at lt (V s.0) shape (fits s.0 lt) in
+      let line = symbol_gives tree prefix stream is_pre formed named_all s f at lt (V s.0) shape (fits s lt w) in
       subst (λ k. Gives tree prefix stream (config_line (prefix ++ name_of tree s) k) (given_to s)) (sym value_is) line
     where
       slice_there : (n : ℕ) (entry : Shown) → n < length tree.entries → get_or tree.entries n entry ≡ entry → slice_get tree.entries n ≡ Some entry

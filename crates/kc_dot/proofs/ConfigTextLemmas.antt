@@ -1,19 +1,19 @@
 -- What the lines of the .config give.
-use Rattle.std.proofs.Common.{◌≡◌, ℕ, ◌+◌, ◌<◌, ◌≤◌, zero, suc, List, [], ◌∷◌, ◌++◌, Bool, true, false, length, get_or, cond, refl, sym, ap, ◌∙◌, subst, arith, inl, inr, ◌⊎◌, Option, Some, None, append_assoc, codes}
-use Rattle.std.specs.Prelude.{◌&&◌, All, slice_get}
-use Rattle.std.specs.List.{Contains, cons_option, flat_map, list_all}
+use Rattle.std.proofs.Common.{◌≡◌, ℕ, ◌≤◌, List, [], ◌∷◌, ◌++◌, Bool, true, false, length, cond, refl, sym, ap, ◌∙◌, subst, arith, Option, Some, None, append_assoc, codes}
+use Rattle.std.specs.Prelude.{slice_get}
+use Rattle.std.specs.List.{Contains, flat_map}
 use Rattle.std.specs.Str.Lines.{strip_carriage_return}
 use Rattle.std.proofs.lemmas.List.{length-append}
-use Rattle.std.proofs.lemmas.List.Elements.{All-append, All-cons}
+use Rattle.std.proofs.lemmas.List.Elements.{All-append}
 use Rattle.std.proofs.lemmas.Option.{slice_get-get_or}
 use Rattle.kc_expr.specs.declared.expression.SymId.{SymId}
-use Rattle.kc_tree.specs.TreeFacts.{TreeFacts, Shown, SymbolShown, MenuShown, EndShown, CommentShown, IsLineText, OfTitle, OfTitles}
+use Rattle.kc_tree.specs.TreeFacts.{TreeFacts, Shown, SymbolShown, MenuShown, EndShown, CommentShown, IsLineText, OfTitles}
 use Rattle.kc_dot.specs.ConfigLine.{says}
 use Rattle.kc_dot.specs.Effects.{effect_of}
 use Rattle.kc_dot.specs.Prefixes.{is_prefix}
 use Rattle.kc_dot.specs.Reading.{Assignment, assignment_of, is_lf}
 use Rattle.kc_dot.specs.Plain.{IsNoUnset, HasPlainTitles, title_line}
-use Rattle.kc_dot.specs.Texts.{config_heading, config_text, title_lines, end_line, title_if, end_if, gap, is_title, shown_title, ends_after, symbol_config, entry_text, entries_text}
+use Rattle.kc_dot.specs.Texts.{config_heading, config_text, title_lines, end_line, title_if, end_if, gap, shown_title, ends_after, symbol_config, entry_text, entries_text}
 use Rattle.kc_dot.specs.Told.{Told, is_shown}
 use Rattle.kc_dot.proofs.CommentLemmas.{silent, silent_plain, unset_not_last, end_unsets_nothing}
 use Rattle.kc_dot.proofs.FilledLemmas.{contains_here, contains_later}
@@ -73,15 +73,15 @@ module _ (tree : TreeFacts) (prefix stream : List ℕ) (is_pre : is_prefix prefi
       (both (title_line text ++ 10 ∷ []) (35 ∷ 10 ∷ []) (title_quiet text line plain) hash_line)))
 
   -- Entries.
-  title_if_quiet : (shown : Bool) (text : List ℕ) → IsLineText text → IsNoUnset prefix (title_line text) → Gives tree prefix stream (title_if shown text) []
-  title_if_quiet true text line plain = title_quiet_lines text line plain
+  title_if_quiet : (shown : Bool) (text : List ℕ) → IsLineText text → (shown ≡ true → IsNoUnset prefix (title_line text)) → Gives tree prefix stream (title_if shown text) []
+  title_if_quiet true text line plain = title_quiet_lines text line (plain refl)
   title_if_quiet false text line plain = gives_nothing tree prefix stream
 
   gap_quiet : (after_end : Bool) → Gives tree prefix stream (gap after_end) []
   gap_quiet true = empty_line
   gap_quiet false = gives_nothing tree prefix stream
 
-  module _ (told : Told) (given : SymId → List Assignment) (texts : OfTitles IsLineText tree) (plain : HasPlainTitles tree prefix) where
+  module _ (told : Told) (given : SymId → List Assignment) (texts : OfTitles IsLineText tree) (plain : HasPlainTitles tree prefix told) where
     abbrev pub entry_given : Shown → List Assignment
     entry_given (SymbolShown s) = cond (told.written s) (given s) []
     entry_given (MenuShown text when) = []

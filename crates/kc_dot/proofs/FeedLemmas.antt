@@ -1,17 +1,17 @@
 -- Feeding in pieces is reading at once.
-use Rattle.std.proofs.Common.{◌≡◌, ℕ, ◌<◌, ◌≤◌, List, [], ◌∷◌, ◌++◌, true, false, length, take, drop, refl, sym, ap, ◌∙◌, arith, append_assoc, Option, Result, Ok, Err, OnOk}
+use Rattle.std.proofs.Common.{◌≡◌, ℕ, ◌<◌, ◌≤◌, List, [], ◌∷◌, ◌++◌, true, false, length, take, drop, refl, sym, ap, ◌∙◌, arith, append_assoc, append-nil, subst, Option, Result, Ok, Err, OnOk}
 use Rattle.std.specs.Prelude.{◌==◌}
-use Rattle.std.proofs.lemmas.Bool.{ne_eqb}
+use Rattle.std.proofs.lemmas.Bool.{eqb-true, ne_eqb}
 use Rattle.std.proofs.lemmas.List.{take-append-drop}
 use Rattle.kc_tree.specs.TreeFacts.{TreeFacts}
 use Rattle.kc_user.specs.Places.{Places}
 use Rattle.kc_dot.specs.declared.fault.DotFault.{DotFault}
 use Rattle.kc_dot.specs.declared.fault.DotFault.TheVariants.{ConfigLineTooLong, Sink, Memory}
-use Rattle.kc_dot.specs.Feeding.{Spot, IsOpen, to_come, Goes, Feeds, Because, StopsAt, Refuses, Finishes, FailsToEnd}
+use Rattle.kc_dot.specs.Feeding.{Spot, IsOpen, fed, to_come, BreaksAt, Goes, Feeds, Because, StopsAt, Refuses, Finishes, FailsToEnd}
 use Rattle.kc_dot.specs.LineSteps.{FailsIn}
-use Rattle.kc_dot.specs.Reading.{line, is_lf, next_number, lines_from, reading, told, places_after, warning}
-use Rattle.kc_dot.specs.Sink.{extended, BeginsWith}
-use Rattle.kc_dot.proofs.LineLemmas.{lines_from-lf, lines_from-last, is_within-line}
+use Rattle.kc_dot.specs.Reading.{Line, line, is_lf, is_within, next_number, lines_from, reading, told, places_after, warning}
+use Rattle.kc_dot.specs.Sink.{extended, BeginsWith, GoesBeyond}
+use Rattle.kc_dot.proofs.LineLemmas.{HasNoLf, lines_from-lf, lines_from-last, is_within-line}
 use Rattle.kc_dot.proofs.LongLineLemmas.{Stops-long, Stops-longer}
 use Rattle.kc_dot.proofs.ReadingLemmas.{told-told, reading_within}
 use Rattle.kc_dot.proofs.SinkLemmas.{extended-extended, extended-nothing}
@@ -50,11 +50,36 @@ module _ (tree : TreeFacts) (prefix name : List ℕ) where
 
   -- the warning of the next line broke off
   pub Because-lf : (b : ℕ) (old : Spot) (places : Places) (front : List ℕ) → IsOpen old → is_lf b ≡ true →
-      BeginsWith (warning tree prefix places (line name old.number old.pending true)) front → Because tree prefix name Sink (b ∷ []) old places front
-  Because-lf b old places front open' lf (more_text, is) rest more =
-      let l = line name old.number old.pending true in
-      let after = reading tree prefix (places_after tree prefix places (l ∷ [])) (lines_from name (next_number old.number) rest ++ more) in
-      rw (Goes-lf b old places open' lf rest more) (more_text ++ after.warned, rw is (append_assoc front more_text after.warned))
+      GoesBeyond (warning tree prefix places (line name old.number old.pending true)) front → Because tree prefix name Sink (b ∷ []) old places front
+  Because-lf b old places front open' lf begun =
+      let same : old.pending ≡ old.pending ++ [] = sym (append-nil old.pending) in
+      let is_10 : b ≡ 10 = eqb-true b 10 lf in
+      record {
+        text = [];
+        later = [];
+        ends = ap (λ x. x ∷ []) is_10;
+        one_line = subst HasNoLf same open'.one_line;
+        within = subst (λ t. length t ≤ 65535) same open'.within;
+        begun = subst (λ t. GoesBeyond (warning tree prefix places (line name old.number t true)) front) same begun;
+      }
+
+  -- whatever follows, what was handed out begins the warnings of the lines from there on
+  pub begins_at_break : (left : List ℕ) (spot : Spot) (places : Places) (front : List ℕ) → BreaksAt tree prefix name left spot places front →
+      (rest : List ℕ) (more : List Line) → BeginsWith (reading tree prefix places (to_come tree prefix name spot (left ++ rest) more)).warned front
+  begins_at_break left spot places front breaks rest more =
+      let bytes = spot.pending ++ breaks.text in
+      let l = line name spot.number bytes true in
+      let (b, beyond, begun) = breaks.begun in
+      let later = lines_from name (next_number spot.number) (breaks.later ++ rest) ++ more in
+      let after = reading tree prefix (places_after tree prefix places (l ∷ [])) later in
+      let split : spot.pending ++ (left ++ rest) ≡ bytes ++ 10 ∷ (breaks.later ++ rest) =
+      ap (λ t. spot.pending ++ (t ++ rest)) breaks.ends ∙ ap (λ t. spot.pending ++ t) (append_assoc breaks.text (10 ∷ breaks.later) rest)
+      ∙ sym (append_assoc spot.pending breaks.text (10 ∷ (breaks.later ++ rest))) in
+      let cut : lines_from name spot.number (spot.pending ++ (left ++ rest)) ≡ l ∷ lines_from name (next_number spot.number) (breaks.later ++ rest) =
+      ap (lines_from name spot.number) split ∙ lines_from-lf name spot.number bytes 10 (breaks.later ++ rest) breaks.one_line refl in
+      let read : reading tree prefix places (to_come tree prefix name spot (left ++ rest) more) ≡ told (warning tree prefix places l) after =
+      ap (λ ls. reading tree prefix places (ls ++ more)) cut ∙ reading_within tree prefix places l later (is_within-line name spot.number bytes true breaks.within) in
+      rw read ((b ∷ beyond) ++ after.warned, rw begun (append_assoc front (b ∷ beyond) after.warned))
 
   pub StopsAt-lf : (fault : DotFault) (b : ℕ) (old : Spot) (places : Places) (taken taken_after : Option (List ℕ)) → IsOpen old → is_lf b ≡ true →
       FailsIn (warning tree prefix places (line name old.number old.pending true)) fault taken taken_after → StopsAt tree prefix name fault (b ∷ []) old places taken taken_after
@@ -73,7 +98,14 @@ module _ (tree : TreeFacts) (prefix name : List ℕ) where
   Because-longer : (fault : DotFault) (a b : List ℕ) (spot : Spot) (places : Places) (front : List ℕ) → Because tree prefix name fault a spot places front → Because tree prefix name fault (a ++ b) spot places front
   Because-longer (ConfigLineTooLong n) a b spot places front (nothing, number, long, (x, rest, is, other), stops) =
       (nothing, number, long, (x, rest ++ b, ap (λ t. t ++ b) is, other), Stops-longer tree prefix name a b spot places stops)
-  Because-longer Sink a b spot places front begins = λ rest more. rw append_assoc (begins (b ++ rest) more)
+  Because-longer Sink a b spot places front breaks = record {
+    text = breaks.text;
+    later = breaks.later ++ b;
+    ends = ap (λ t. t ++ b) breaks.ends ∙ append_assoc breaks.text (10 ∷ breaks.later) b;
+    one_line = breaks.one_line;
+    within = breaks.within;
+    begun = breaks.begun;
+  }
   Because-longer Memory a b spot places front nothing = nothing
 
   pub StopsAt-longer : (fault : DotFault) (a b : List ℕ) (spot : Spot) (places : Places) (taken taken_after : Option (List ℕ)) →
@@ -82,15 +114,17 @@ module _ (tree : TreeFacts) (prefix name : List ℕ) where
 
   -- a refusal at one place of the piece
   pub Refuses-at : (fault : DotFault) (piece : List ℕ) (at : ℕ) (old new : Spot) (before after : Places) (taken taken_mid taken_after : Option (List ℕ)) →
-      Feeds tree prefix name (take at piece) old new before after taken taken_mid → StopsAt tree prefix name fault (drop at piece) new after taken_mid taken_after →
+      new ≡ fed (take at piece) old → Feeds tree prefix name (take at piece) old new before after taken taken_mid →
+      StopsAt tree prefix name fault (drop at piece) new after taken_mid taken_after →
       Refuses tree prefix name fault piece old new before after taken taken_after
-  Refuses-at fault piece at old new before after taken taken_mid taken_after (w, t, k) (front, handed, because) =
+  Refuses-at fault piece at old new before after taken taken_mid taken_after stands (w, t, k) (front, handed, because) =
       record {
         done = take at piece;
         left = drop at piece;
         warned = w;
         front = front;
         split = sym (take-append-drop at piece);
+        stands = stands;
         goes = k;
         handed = handed ∙ ap (λ o. extended o front) t ∙ extended-extended taken w front;
         because = because;
@@ -137,13 +171,14 @@ module _ (tree : TreeFacts) (prefix name : List ℕ) where
   pub FailsToEnd-line : (fault : DotFault) (spot : Spot) (places : Places) (taken taken_after : Option (List ℕ)) → IsOpen spot → 0 < length spot.pending →
       FailsIn (warning tree prefix places (line name spot.number spot.pending false)) fault taken taken_after → FailsToEnd tree prefix name fault spot places taken taken_after
   FailsToEnd-line (ConfigLineTooLong n) spot places taken taken_after opened some never = never
-  FailsToEnd-line Sink spot places taken taken_after opened some (front, (rest, begins), handed) =
-      let l = line name spot.number spot.pending false in (
-        front,
-        handed,
-        λ more.
-            let after = reading tree prefix (places_after tree prefix places (l ∷ [])) more in
-            rw (last_is spot opened some, reading_within tree prefix places l more (is_within-line name spot.number spot.pending false opened.within))
-            (rest ++ after.warned, rw begins (append_assoc front rest after.warned)),
-      )
+  FailsToEnd-line Sink spot places taken taken_after opened some broke =
+      (line name spot.number spot.pending false, last_is spot opened some, is_within-line name spot.number spot.pending false opened.within, broke)
   FailsToEnd-line Memory spot places taken taken_after opened some same = same
+
+  -- whatever lines follow, what was handed out begins the warnings of the last line and theirs
+  pub begins_at_end : (spot : Spot) (places : Places) (last : Line) (front : List ℕ) → lines_from name spot.number spot.pending ≡ last ∷ [] → is_within last ≡ true →
+      GoesBeyond (warning tree prefix places last) front →
+      (more : List Line) → BeginsWith (reading tree prefix places (lines_from name spot.number spot.pending ++ more)).warned front
+  begins_at_end spot places last front is within (b, beyond, begun) more =
+      let after = reading tree prefix (places_after tree prefix places (last ∷ [])) more in
+      rw (is, reading_within tree prefix places last more within) ((b ∷ beyond) ++ after.warned, rw begun (append_assoc front (b ∷ beyond) after.warned))

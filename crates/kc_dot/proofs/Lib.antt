@@ -1,4 +1,5 @@
 pub mod AllowedLemmas
+pub mod AssignLemmas
 pub mod BlankLemmas
 pub mod CallLemmas
 pub mod CommentLemmas
@@ -20,6 +21,7 @@ pub mod ReadingLemmas
 pub mod RoundTripLemmas
 pub mod SettledLaws
 pub mod ShapeLemmas
+pub mod ShortTextLemmas
 pub mod SinkLemmas
 pub mod SolutionLemmas
 pub mod StepLemmas

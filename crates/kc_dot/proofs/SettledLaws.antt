@@ -1,13 +1,15 @@
 -- When reading the .config that was written gives the values again.
 use Rattle.std.proofs.Common.{◌≡◌, ℕ, ◌<◌, List, true, false, sym, ap, ◌∙◌, subst, ◌↔◌, Option, None}
+use Rattle.kc_expr.specs.declared.expression.SymId.{SymId}
 use Rattle.kc_expr.specs.Value.{Known}
-use Rattle.kc_order.specs.Solution.{Solves, IsOnlySolution}
+use Rattle.kc_order.specs.Solution.{Solves}
 use Rattle.kc_tree.specs.TreeFacts.{TreeFacts, IsLineText, IsWellFormed, OfTitles, ShowsEach}
 use Rattle.kc_user.specs.Given.{Given, Slot}
 use Rattle.kc_user.specs.Places.{place_at}
 use Rattle.kc_values.specs.Differs.{again, is_unsettled}
 use Rattle.kc_values.specs.Laws.{IsAccepted, MembersAreTheirs, MembersAreBools, SolutionsAgree}
-use Rattle.kc_values.specs.Solution.{symbol_count, slot, rhs, equations}
+use Rattle.kc_values.specs.Solution.{symbol_count, seen, slot, rhs, equations}
+use Rattle.kc_values.specs.Written.{written}
 use Rattle.kc_dot.specs.Prefixes.{is_prefix}
 use Rattle.kc_dot.specs.Reading.{Read}
 use Rattle.kc_dot.specs.Plain.{HasPlainTitles}
@@ -17,7 +19,7 @@ use Rattle.kc_dot.specs.Texts.{config_text}
 use Rattle.kc_dot.proofs.ConfigLaws.{Reread, reread_at, config_read}
 use Rattle.kc_dot.proofs.SymbolLineLemmas.{FitsLine}
 
-module _ (tree : TreeFacts) (user : Slot → Option Given) (V : ℕ → Known) (formed : IsWellFormed tree) (theirs : MembersAreTheirs tree) (bools : MembersAreBools tree) (named_all : HasNames tree) (shows : ShowsEach tree) (texts : OfTitles IsLineText tree) (solves : Solves (symbol_count tree) (equations tree user) V) (fits : (i : ℕ) → i < symbol_count tree → FitsLine (V i)) (prefix : List ℕ) (is_pre : is_prefix prefix ≡ true) (plain : HasPlainTitles tree prefix) where
+module _ (tree : TreeFacts) (user : Slot → Option Given) (V : ℕ → Known) (formed : IsWellFormed tree) (theirs : MembersAreTheirs tree) (bools : MembersAreBools tree) (named_all : HasNames tree) (shows : ShowsEach tree) (texts : OfTitles IsLineText tree) (solves : Solves (symbol_count tree) (equations tree user) V) (fits : (s : SymId) → s.0 < symbol_count tree → written tree (seen tree V) s ≡ true → FitsLine (V s.0)) (prefix : List ℕ) (is_pre : is_prefix prefix ≡ true) (plain : HasPlainTitles tree prefix (told_by tree user V)) where
   abbrev IsSettled : Type 0
   IsSettled = (i : ℕ) → i < symbol_count tree → is_unsettled tree V i ≡ false
 

@@ -1,8 +1,8 @@
 -- What was told, as more and more of a text is taken.
-use Rattle.std.proofs.Common.{◌≡◌, ℕ, ◌+◌, ◌-◌, List, [], ◌++◌, length, take, drop, refl, sym, ap, ◌∙◌, append_assoc, append-nil, Option, Some, None, Result, Ok, Err, OnOk}
+use Rattle.std.proofs.Common.{◌≡◌, ℕ, ◌+◌, ◌-◌, ◌<◌, List, [], ◌∷◌, ◌++◌, length, take, drop, get_or, refl, sym, ap, ◌∙◌, append_assoc, append-nil, Option, Some, None, Result, Ok, Err, OnOk}
 use Rattle.std.proofs.Math.Seq.{take-add}
-use Rattle.std.proofs.lemmas.List.{take-append-drop, take_rest}
-use Rattle.kc_dot.specs.Sink.{extended, HandsOut}
+use Rattle.std.proofs.lemmas.List.{drop_more, take-append-drop, take_rest}
+use Rattle.kc_dot.specs.Sink.{extended, BreaksOff, HandsOut}
 
 -- the bytes of two calls are one text
 pub extended-extended : (told : Option (List ℕ)) (a b : List ℕ) → extended (extended told a) b ≡ extended told (a ++ b)
@@ -22,6 +22,11 @@ extended-nothing (Some before) = ap Some (sym (append-nil before))
 
 pub HandsOut-take : (text : List ℕ) (old new : Option (List ℕ)) (at : ℕ) → new ≡ extended old (take at text) → HandsOut text old new
 HandsOut-take text old new at is = (take at text, (drop at text, sym (take-append-drop at text)), is)
+
+pub BreaksOff-take : (text : List ℕ) (old new : Option (List ℕ)) (at : ℕ) → at < length text → new ≡ extended old (take at text) → BreaksOff text old new
+BreaksOff-take text old new at more is =
+    let next : drop at text ≡ get_or text at 0 ∷ drop (at + 1) text = drop_more text at 0 more in
+    (take at text, (get_or text at 0, drop (at + 1) text, sym (take-append-drop at text) ∙ ap (λ t. take at text ++ t) next), is)
 
 pub OnOk-weaker_both : {T E : Type 0} → (r : Result T E) (P Q R : Type 0) → (P → Q → R) → OnOk r P → OnOk r Q → OnOk r R
 OnOk-weaker_both (Ok x) P Q R f p q = f p q

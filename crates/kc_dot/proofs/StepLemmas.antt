@@ -14,7 +14,8 @@ use Rattle.kc_user.specs.Given.{Given}
 use Rattle.kc_user.specs.Places.{Places}
 use Rattle.kc_dot.specs.Effects.{set_effect, set_by_kind, assigned_or, kind_in}
 use Rattle.kc_dot.specs.LineValue.{line_value}
-use Rattle.kc_dot.specs.LineSteps.{AssignsDefined, with_member}
+use Rattle.kc_dot.specs.EffectView.{AssignsDefined}
+use Rattle.kc_dot.specs.LineSteps.{with_member}
 use Rattle.kc_dot.specs.Reading.{places_given, is_yes, choice_of}
 use Rattle.kc_dot.proofs.PlaceLemmas.{places_given-one}
 

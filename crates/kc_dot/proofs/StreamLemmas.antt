@@ -1,33 +1,31 @@
 -- Streams handed in pieces are read as they are at once, and reading keeps places that hold what is allowed.
-use Rattle.std.proofs.Common.{◌≡◌, ℕ, ◌+◌, ◌-◌, ◌<◌, ◌≤◌, zero, suc, List, [], ◌∷◌, ◌++◌, Bool, true, false, not, length, map, drop, reverse, replicate, get_or, cond, refl, sym, ap, ◌∙◌, subst, arith, inl, inr, ◌⊎◌, Option, Some, None, append_assoc, append-nil, slice_set}
-use Rattle.std.specs.Prelude.{◌==◌, All, slice_get}
-use Rattle.std.specs.List.{Contains, AllByRecursion, after_last, concat, cons_option, filter_map, onto_first, prefix_len, slice_split, suffix_len, take_while}
+use Rattle.std.proofs.Common.{◌≡◌, ℕ, ◌+◌, ◌-◌, ◌<◌, ◌≤◌, List, [], ◌∷◌, ◌++◌, Bool, true, false, not, length, map, drop, reverse, replicate, get_or, cond, refl, sym, ap, ◌∙◌, subst, arith, Option, Some, None, append_assoc, append-nil, slice_set}
+use Rattle.std.specs.Prelude.{◌==◌, slice_get}
+use Rattle.std.specs.List.{Contains, AllByRecursion, after_last, concat, cons_option, onto_first, slice_split, suffix_len}
 use Rattle.std.specs.Option.{option_and_then}
-use Rattle.std.proofs.lemmas.Bool.{cases_Bool, not-true, true≢false, lt-leb, ne_eqb}
+use Rattle.std.proofs.lemmas.Bool.{not-true, lt-leb, ne_eqb}
 use Rattle.std.proofs.lemmas.List.{get_or-replicate, length-append, length-replicate, get_or-reverse, length-reverse, length-drop, get_or-drop}
 use Rattle.std.proofs.lemmas.List.Elements.{All-append, All-cons, All-nil}
 use Rattle.std.proofs.lemmas.List.Sums.{suffix_len-le-length, prefix_len_passes, take_while-cons}
 use Rattle.std.specs.Str.Lines.{strip_carriage_return}
-use Rattle.std.proofs.lemmas.List.Splits.{slice_split-cons_no, slice_split-cons_yes}
 use Rattle.kc_expr.specs.declared.expression.SymId.{SymId}
 use Rattle.kc_tree.specs.TreeFacts.{TreeFacts, SymbolFacts, IsWellFormed}
 use Rattle.kc_user.specs.Given.{Given}
-use Rattle.kc_user.specs.Laws.{SettingKeepsPlaces, SelectingKeepsPlaces}
-use Rattle.kc_user.specs.Places.{ArePlaces, Places, allowed, members_of}
-use Rattle.kc_dot.specs.Calls.{Call, Feed, Finish, NextStream, Answers, Run, rest_of, more_of, lines_fed, CallsJoin}
+use Rattle.kc_user.specs.Laws.{EmptyArePlaces, SettingKeepsPlaces, SelectingKeepsPlaces}
+use Rattle.kc_user.specs.Places.{ArePlaces, Places, allowed, members_of, no_places}
+use Rattle.kc_dot.specs.Calls.{Call, Feed, Finish, NextStream, Answers, Run, rest_of, more_of, lines_fed}
 use Rattle.kc_dot.specs.ConfigLine.{says}
 use Rattle.kc_dot.specs.Effects.{Effect, Silent, Warns, Assigns, effect_of}
 use Rattle.kc_dot.specs.Feeding.{Spot, fed, ended, first_spot, Goes, Ends}
 use Rattle.kc_dot.specs.LineSteps.{with_member}
 use Rattle.kc_dot.specs.ReaderState.{ReaderState}
-use Rattle.kc_dot.specs.Reading.{Assignment, Line, Read, Stream, assignment_of, assignments, choice_of, counted, effect, is_lf, is_within, is_yes, last_line, line, lines_from, lines_of, lines_of_parts, next_number, places_given, reading, reading_of, text_of, told}
-use Rattle.kc_dot.specs.Streams.{Pieces, stream_of, feeds, calls_after, StreamsAreRead, ReadingKeepsPlaces}
+use Rattle.kc_dot.specs.Reading.{Assignment, Line, Read, Stream, assignment_of, assignments, choice_of, counted, effect, is_lf, is_within, is_yes, last_line, line, lines_from, lines_of, lines_of_parts, next_number, places_given, reading, text_of, told}
+use Rattle.kc_dot.specs.Streams.{Pieces, stream_of, feeds, calls_after, RefusalsKeepPlaces, StreamsAreRead, StreamsLeavePlaces, ReadingKeepsPlaces}
 use Rattle.kc_dot.proofs.AllowedLemmas.{assigned_allowed, strip_no_lf}
 use Rattle.kc_dot.proofs.CallLemmas.{calls_join}
 use Rattle.kc_dot.proofs.LineLemmas.{HasNoLf, lines_from-last}
-use Rattle.kc_dot.proofs.MinimalTextLemmas.{there}
 use Rattle.kc_dot.proofs.PlaceLemmas.{places_given-append, places_given-nothing, places_given-one}
-use Rattle.kc_dot.proofs.ReadingLemmas.{reading-nothing, reading_long, told-nothing}
+use Rattle.kc_dot.proofs.ReadingLemmas.{reading-nothing, reading_long}
 
 -- The lines that the calls feed are those of the streams.
 no_lines : (name : List ℕ) (n : ℕ) → lines_from name n [] ≡ []
@@ -174,6 +172,14 @@ pub stream_lines : (stream : List ℕ) (n : ℕ) (bytes : List ℕ) → AllByRec
 unfolding lines_from
 stream_lines stream n bytes = part_lines stream n (slice_split is_lf bytes) (parts_no_lf bytes)
 
+all_lines-append : (ls ms : List Line) → AllByRecursion (λ (l : Line). HasNoLf l.bytes) ls → AllByRecursion (λ (l : Line). HasNoLf l.bytes) ms → AllByRecursion (λ (l : Line). HasNoLf l.bytes) (ls ++ ms)
+all_lines-append [] ms a b = b
+all_lines-append (l ∷ ls) ms a b = (a.0, all_lines-append ls ms a.1 b)
+
+streams_lines : (streams : List Stream) → AllByRecursion (λ (l : Line). HasNoLf l.bytes) (lines_of streams)
+streams_lines [] = tt
+streams_lines (s ∷ streams) = all_lines-append (lines_from s.name 1 s.bytes) (lines_of streams) (stream_lines s.name 1 s.bytes) (streams_lines streams)
+
 -- what waits behind the last line feed holds none
 pub waiting_no_lf : (bytes : List ℕ) → HasNoLf (after_last is_lf bytes)
 waiting_no_lf bytes k d lt =
@@ -232,3 +238,14 @@ module _ (setting : SettingKeepsPlaces) (selecting : SelectingKeepsPlaces) where
       let (same, there_now) = call_keeps call old mid before middle first formed answers held in
       subst (λ t. ArePlaces t after) same
       (calls_keep calls mid new middle after later (subst IsWellFormed (sym same) formed) run (subst (λ t. ArePlaces t middle) (sym same) there_now))
+
+  -- what reading streams leaves, from empty places
+  pub streams_leave : EmptyArePlaces → StreamsLeavePlaces
+  streams_leave empty tree prefix streams formed =
+      reading_keeps tree prefix formed setting selecting (lines_of streams) (no_places tree) (streams_lines streams) (empty tree)
+
+  -- the lines before a refused one
+  pub refusals_keep : RefusalsKeepPlaces
+  refusals_keep tree prefix name fault piece old new before after taken taken_after formed refuses held =
+      feed_keeps tree prefix name refuses.done old new before after refuses.warned 65536 (omega arith) formed
+      (subst HasNoLf (sym (ap (λ (s : Spot). s.pending) refuses.stands)) (waiting_no_lf (old.pending ++ refuses.done))) refuses.goes held

@@ -1,15 +1,14 @@
 -- The line of a symbol, read again.
-use Rattle.std.proofs.Common.{◌≡◌, ℕ, ◌+◌, ◌-◌, ◌<◌, ◌≤◌, zero, suc, List, [], ◌∷◌, ◌++◌, Bool, true, false, not, length, take, get_or, eqb, cond, refl, sym, ap, ◌∙◌, subst, arith, inl, inr, ◌⊎◌, Option, Some, None, append_assoc, codes}
-use Rattle.std.specs.Prelude.{◌||◌, ◌==◌, ◌&&◌, All, is_some, nat_le, nat_lt, slice_get, slice_index, position}
+use Rattle.std.proofs.Common.{◌≡◌, ℕ, ◌+◌, ◌-◌, ◌<◌, ◌≤◌, List, [], ◌∷◌, ◌++◌, Bool, true, false, not, length, get_or, eqb, cond, refl, sym, ap, ◌∙◌, subst, arith, inl, inr, ◌⊎◌, Option, Some, None, append_assoc, codes}
+use Rattle.std.specs.Prelude.{◌&&◌, All, is_some, nat_le, slice_get}
 use Rattle.std.specs.List.{list_any, list_all, cons_option, position_or_len}
-use Rattle.std.specs.Option.{option_map}
 use Rattle.std.specs.Str.Lines.{strip_carriage_return}
 use Rattle.std.specs.Cmp.Lexicographic.{same_text}
 use Rattle.std.proofs.Math.Seq.{get_or-append_seam}
-use Rattle.std.proofs.lemmas.Bool.{ne_eqb, lt-ltb, le-leb, leb-true, leb-false, cases_Bool, or_parts, and_parts, not-true, false_from_ne_true}
-use Rattle.std.proofs.lemmas.Option.{slice_get-get_or, get_or_from_slice_get}
+use Rattle.std.proofs.lemmas.Bool.{lt-ltb, leb-true, cases_Bool, or_parts, and_parts, not-true, false_from_ne_true}
+use Rattle.std.proofs.lemmas.Option.{slice_get-get_or}
 use Rattle.std.proofs.lemmas.List.{length-append}
-use Rattle.std.proofs.lemmas.List.Elements.{All-append, All-cons, All-nil}
+use Rattle.std.proofs.lemmas.List.Elements.{All-append, All-cons}
 use Rattle.std.proofs.lemmas.List.Folds.{list_any_none}
 use Rattle.std.proofs.lemmas.List.Sums.{AllPass-from_list_all, position_or_len_is}
 use Rattle.std.proofs.lemmas.Slice.Eq.{bytes_eq-Decides}
@@ -20,22 +19,22 @@ use Rattle.kc_expr.specs.declared.expression.Tri.{Tri}
 use Rattle.kc_expr.specs.declared.expression.Tri.TheVariants.{N, M, Y}
 use Rattle.kc_expr.specs.declared.expression.Kind.{Kind}
 use Rattle.kc_expr.specs.declared.expression.Kind.TheVariants as kind
-use Rattle.kc_expr.specs.Names.{symbol, same_name}
+use Rattle.kc_expr.specs.Names.{same_name}
 use Rattle.kc_expr.specs.Value.{Known, Truth, Written}
 use Rattle.kc_tree.specs.TreeFacts.{TreeFacts, SymbolFacts, IsWellFormed}
 use Rattle.kc_user.specs.Given.{Given, Chosen, Typed}
 use Rattle.kc_user.specs.Places.{allowed, allowed_by, allowed_for, fits_quoted, is_line_feed}
 use Rattle.kc_values.specs.Differs.{given_of}
 use Rattle.kc_dot.specs.ConfigLine.{Set, Unset, says, trimmed}
-use Rattle.kc_dot.specs.Effects.{Effect, Silent, Warns, Assigns, NotAllowed, effect_of, set_effect, unset_effect, set_by_kind, unset_by_kind, assigned_or, kind_in, kind_of, symbol_named, name_of}
+use Rattle.kc_dot.specs.Effects.{effect_of, set_by_kind, unset_by_kind, assigned_or, symbol_named, name_of}
 use Rattle.kc_dot.specs.LineValue.{line_value, number_value}
 use Rattle.kc_dot.specs.Prefixes.{is_prefix, is_name_byte}
 use Rattle.kc_dot.specs.Reading.{Assignment, assignment_of, is_lf}
 use Rattle.kc_dot.specs.Plain.{is_end_byte, EndsPlainly}
 use Rattle.kc_dot.specs.HasNames.{HasNames}
-use Rattle.kc_dot.specs.RoundTrip.{IsName, IsShortText}
+use Rattle.kc_dot.specs.RoundTrip.{IsShortText}
 use Rattle.kc_dot.specs.SymbolLines.{config_line}
-use Rattle.kc_dot.proofs.GivesLemmas.{Gives, gives_line, gives_nothing}
+use Rattle.kc_dot.proofs.GivesLemmas.{Gives, gives_line}
 use Rattle.kc_dot.proofs.LineLemmas.{HasNoLf}
 use Rattle.kc_dot.proofs.RoundTripLemmas.{trimmed-solid, prefix_bytes, unset_read_again, set_read_again, string_read_again, written_short}
 use Rattle.kc_dot.proofs.TextBytes.{no_lf_by, escape_no_lf}
@@ -126,24 +125,24 @@ last_byte (x ∷ []) [] a b e = cc
 last_byte (x ∷ z ∷ xs) [] a b e = cc
 last_byte (x ∷ xs) (y ∷ ys) a b e = last_byte xs ys a b cc
 
-plain_quote : (text : List ℕ) → EndsPlainly (34 ∷ escape text ++ 34 ∷ [])
+pub plain_quote : (text : List ℕ) → EndsPlainly (34 ∷ escape text ++ 34 ∷ [])
 plain_quote text front b is = rw (← last_byte (34 ∷ escape text) front 34 b is) refl
 
-plain_one : (c : ℕ) → is_end_byte c ≡ false → EndsPlainly (c ∷ [])
+pub plain_one : (c : ℕ) → is_end_byte c ≡ false → EndsPlainly (c ∷ [])
 plain_one c plain front b is = rw (← last_byte [] front c b is) plain
 
 -- The line of one symbol.
 module _ (tree : TreeFacts) (prefix stream : List ℕ) (is_pre : is_prefix prefix ≡ true) (formed : IsWellFormed tree) (named : HasNames tree) (s : SymId) (f : SymbolFacts) (at : slice_get tree.symbols s.0 ≡ Some f) (defined : s.0 < length tree.symbols) where
-  abbrev full : List ℕ
+  abbrev pub full : List ℕ
   full = prefix ++ name_of tree s
 
   full_bytes : All (λ b. is_name_byte b ≡ true) full
   full_bytes = let n = named s defined in All-append (λ b. is_name_byte b ≡ true) prefix (name_of tree s) (prefix_bytes prefix is_pre) n.0.bytes
 
-  full_no_lf : HasNoLf full
+  pub full_no_lf : HasNoLf full
   full_no_lf = no_lf_by is_name_byte full refl full_bytes
 
-  set_says : (value : List ℕ) → EndsPlainly value → effect_of tree (says prefix (strip_carriage_return (full ++ 61 ∷ value))) ≡ set_by_kind (name_of tree s) s value f.kind
+  pub set_says : (value : List ℕ) → EndsPlainly value → effect_of tree (says prefix (strip_carriage_return (full ++ 61 ∷ value))) ≡ set_by_kind (name_of tree s) s value f.kind
   set_says value plain =
       let whole = whole_set full value plain in
       let n = named s defined in
@@ -173,14 +172,14 @@ module _ (tree : TreeFacts) (prefix stream : List ℕ) (is_pre : is_prefix prefi
   assigned_if true known = refl
   assigned_if false known = refl
 
-  set_no_lf : (value : List ℕ) → HasNoLf value → HasNoLf (full ++ 61 ∷ value)
+  pub set_no_lf : (value : List ℕ) → HasNoLf value → HasNoLf (full ++ 61 ∷ value)
   set_no_lf value none = All-append (λ b. is_lf b ≡ false) full (61 ∷ value) full_no_lf (All-cons (λ b. is_lf b ≡ false) 61 value refl none)
 
   unset_no_lf : HasNoLf ((codes "# " ++ full) ++ codes " is not set")
   unset_no_lf =
       All-append (λ b. is_lf b ≡ false) (codes "# " ++ full) (codes " is not set") (All-append (λ b. is_lf b ≡ false) (codes "# ") full (no_lf_check (codes "# ") refl) full_no_lf) (no_lf_check (codes " is not set") refl)
 
-  short_prefix : length prefix ≤ 64
+  pub short_prefix : length prefix ≤ 64
   short_prefix =
       let (front, rest) = and_parts _ _ is_pre in
       let (short, bytes) = and_parts (nat_le (length prefix) 64) _ rest in

@@ -12,7 +12,7 @@ use Rattle.kc_expr.specs.Value.{Known}
 use Rattle.kc_tree.specs.TreeFacts.{TreeFacts, Shown, SymbolShown, MenuShown, EndShown, CommentShown, IsWellFormed, IsEntrySound}
 use Rattle.kc_tree.specs.Views.{shown_of}
 use Rattle.kc_tree.specs.declared.parts.Entry.{Entry}
-use Rattle.kc_dot.specs.Writing.{MayAsk}
+use Rattle.kc_dot.specs.Asking.{MayAsk}
 use Rattle.kc_dot.specs.Effects.{name_of}
 use Rattle.kc_dot.specs.Sink.{extended, HandsOut}
 use Rattle.kc_dot.specs.SymbolLines.{config_line, header_line}

@@ -1,12 +1,11 @@
 -- The texts of the values fit a line.
-use Rattle.std.proofs.Common.{◌≡◌, ℕ, ◌+◌, ◌*◌, ◌<◌, ◌≤◌, zero, suc, List, [], ◌∷◌, ◌++◌, Bool, true, false, not, length, drop, get_or, eqb, cond, refl, sym, ap, ◌∙◌, subst, arith, inl, inr, ◌⊎◌, Option, Some, None, ℤ, pos, negsuc, codes, unwrap_or, map, ◌%◌, ◌/◌}
-use Rattle.std.specs.Prelude.{◌||◌, ◌==◌, ◌&&◌, All, is_some, nat_le, nat_lt, slice_get, slice_index_or, unsigned_abs, int_lt}
+use Rattle.std.proofs.Common.{◌≡◌, ℕ, ◌+◌, ◌*◌, ◌<◌, ◌≤◌, zero, suc, List, [], ◌∷◌, ◌++◌, Bool, true, false, not, length, get_or, eqb, cond, refl, sym, ap, ◌∙◌, arith, inl, inr, Option, Some, None, ℤ, pos, negsuc, codes, unwrap_or, ◌%◌, ◌/◌}
+use Rattle.std.specs.Prelude.{◌||◌, ◌==◌, ◌&&◌, All, is_some, nat_le, unsigned_abs, int_lt}
 use Rattle.std.specs.Fmt.{digits, digits_onto, digit_glyph, signed_decimal}
-use Rattle.std.specs.List.{Contains, find, list_any, range_with_len}
-use Rattle.std.specs.Option.{option_map}
-use Rattle.std.proofs.lemmas.Bool.{cases_Bool, and_parts, and_from, le-leb, leb-true, lt-ltb, ltb-true, le-ltb, true≢false, or_parts, ne_eqb, not-true, false_from_ne_true, cases_lt}
-use Rattle.std.proofs.lemmas.List.{length-append, get_or_past}
-use Rattle.std.proofs.lemmas.List.Elements.{All-cons, All-nil, All-append}
+use Rattle.std.specs.List.{Contains, list_any}
+use Rattle.std.proofs.lemmas.Bool.{and_parts, and_from, le-leb, leb-true, lt-ltb, le-ltb, true≢false, or_parts, ne_eqb, not-true, false_from_ne_true, cases_lt}
+use Rattle.std.proofs.lemmas.List.{get_or_past}
+use Rattle.std.proofs.lemmas.List.Elements.{All-cons, All-nil}
 use Rattle.std.proofs.lemmas.List.Folds.{list_any_at, list_any_none}
 use Rattle.std.proofs.lemmas.List.FromFn.{length-map-range_with_len}
 use Rattle.std.proofs.lemmas.Option.{slice_get-get_or}
@@ -17,14 +16,14 @@ use Rattle.kc_expr.specs.declared.expression.Tri.{Tri}
 use Rattle.kc_expr.specs.declared.expression.Tri.TheVariants.{N, M, Y}
 use Rattle.kc_expr.specs.declared.expression.Kind.{Kind}
 use Rattle.kc_expr.specs.declared.expression.Kind.TheVariants as kind
-use Rattle.kc_expr.specs.Form.{Form, Leaf, Text, Symbol, Single, Related, Negated, Every, Some_of}
+use Rattle.kc_expr.specs.Form.{Form, Text, Symbol, Single, Related, Negated, Every, Some_of}
 use Rattle.kc_expr.specs.Names.{symbol}
-use Rattle.kc_expr.specs.Value.{Known, Truth, Written, text, text_of_known, tri_text}
+use Rattle.kc_expr.specs.Value.{Known, Truth, Written, text_of_known, tri_text}
 use Rattle.kc_order.specs.Needs.{needs_in, stuck_after}
 use Rattle.kc_order.specs.Solution.{Solves}
 use Rattle.kc_tree.specs.TreeFacts.{TreeFacts, SymbolFacts, Guarded, HasLineTexts, IsLineForm, IsLineText}
-use Rattle.kc_user.specs.Given.{Given, Chosen, Typed, Member, Slot, At, In}
-use Rattle.kc_user.specs.Places.{allowed, allowed_by, allowed_for, allowed_text}
+use Rattle.kc_user.specs.Given.{Given, Chosen, Typed, Member, Slot, At}
+use Rattle.kc_user.specs.Places.{allowed_by, allowed_for, allowed_text}
 use Rattle.kc_values.specs.declared.intervals.Interval.{Interval}
 use Rattle.kc_values.specs.Differs.{AllowedPlaces}
 use Rattle.kc_values.specs.Laws.{IsAccepted, EquationsReadNeeds, NeedsAreDefined}
@@ -35,9 +34,10 @@ use Rattle.kc_values.specs.Solution as sol
 use Rattle.kc_values.specs.Solution.{symbol_count, seen, slot, rhs, equations}
 use Rattle.kc_values.specs.Values as v
 use Rattle.kc_values.specs.Values.{is_n}
+use Rattle.kc_values.specs.Written.{written}
 use Rattle.kc_values.proofs.Selection.{found}
 use Rattle.kc_dot.specs.Reading.{is_lf}
-use Rattle.kc_dot.specs.Plain.{IsPlainNumber, HasPlainNumbers, EndsPlainly}
+use Rattle.kc_dot.specs.Plain.{IsPlainNumber, HasPlainNumbers}
 use Rattle.kc_dot.proofs.LineLemmas.{HasNoLf}
 use Rattle.kc_dot.proofs.ShapeLemmas.{no_line_feed}
 use Rattle.kc_dot.proofs.SymbolLineLemmas.{FitsLine}
@@ -325,5 +325,5 @@ fits_line (Written kind.Int t) e plain = let (none, short) = fits_parts t e in l
 fits_line (Written kind.Hex t) e plain = let (none, short) = fits_parts t e in let l = escape_longer t in (none, omega arith, plain)
 
 pub values_fit_lines : (tree : TreeFacts) (user : Slot → Option Given) (V : ℕ → Known) → HasLineTexts tree → AllowedPlaces tree user V → EquationsReadNeeds → NeedsAreDefined → Solves (symbol_count tree) (equations tree user) V → IsAccepted tree → HasPlainNumbers tree V →
-    (i : ℕ) → i < symbol_count tree → FitsLine (V i)
-values_fit_lines tree user V texts allowed_at reads within solves accepted plain i lt = fits_line (V i) (values_fit tree user V texts allowed_at reads within solves accepted i lt) (plain i lt)
+    (s : SymId) → s.0 < symbol_count tree → written tree (seen tree V) s ≡ true → FitsLine (V s.0)
+values_fit_lines tree user V texts allowed_at reads within solves accepted plain s lt w = fits_line (V s.0) (values_fit tree user V texts allowed_at reads within solves accepted s.0 lt) (plain s lt w)

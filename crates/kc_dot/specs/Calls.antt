@@ -1,4 +1,4 @@
--- What any list of calls of a reader comes to.
+-- Trusted: What any list of calls of a reader comes to.
 use Rattle.std.specs.Prelude.{◌≡◌, ℕ, ◌++◌, List, [], ◌∷◌}
 use Rattle.kc_user.specs.Places.{Places}
 use Rattle.kc_dot.specs.Feeding.{Spot, fed, ended, first_spot, Goes, Ends}

@@ -1,4 +1,4 @@
--- What one line of a .config says under a prefix, whatever the tree.
+-- Trusted: What one line of a .config says under a prefix, whatever the tree.
 use Rattle.std.specs.Prelude.{ℕ, ◌-◌, List, length, take, drop, Bool, false, not, ◌==◌, ◌&&◌, nat_lt, find, Option, Some, None, codes, if◌then◌else◌}
 use Rattle.std.specs.Option.{option_and_then, option_map_or}
 use Rattle.std.specs.List.{suffix_len, list_any, position_or_len, before_first, after_first}

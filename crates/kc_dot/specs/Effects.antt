@@ -1,4 +1,4 @@
--- What a line does for a tree: nothing, a warning, or an assignment.
+-- Trusted: What a line does for a tree: nothing, a warning, or an assignment.
 use Rattle.std.specs.Prelude.{ℕ, ◌++◌, List, [], position, Option, Some, None, slice_get, slice_index_or, codes, decimal}
 use Rattle.std.specs.Option.{option_map}
 use Rattle.kc_expr.specs.declared.expression.SymId.{SymId}

@@ -1,12 +1,12 @@
--- What a reader does with the bytes that it is fed, whatever follows them.
-use Rattle.std.specs.Prelude.{◌≡◌, ℕ, ◌+◌, ◌-◌, ◌^◌, ◌<◌, ◌≤◌, ◌++◌, List, [], ◌∷◌, length, min, count_by, All, Option, Some, false, if◌then◌else◌, ◌==◌}
+-- Trusted: What a reader does with the bytes that it is fed, whatever follows them.
+use Rattle.std.specs.Prelude.{◌≡◌, ℕ, ◌+◌, ◌-◌, ◌^◌, ◌<◌, ◌≤◌, ◌++◌, List, [], ◌∷◌, length, min, count_by, All, Option, Some, true, false, if◌then◌else◌, ◌==◌}
 use Rattle.std.specs.List.{after_last}
 use Rattle.kc_tree.specs.TreeFacts.{TreeFacts}
 use Rattle.kc_user.specs.Places.{Places}
 use Rattle.kc_dot.specs.declared.fault.DotFault.{DotFault}
 use Rattle.kc_dot.specs.declared.fault.DotFault.TheVariants.{ConfigLineTooLong, Sink, Memory}
-use Rattle.kc_dot.specs.Reading.{Line, is_lf, next_number, lines_from, reading, told}
-use Rattle.kc_dot.specs.Sink.{extended, next_failure, BeginsWith}
+use Rattle.kc_dot.specs.Reading.{Line, line, is_lf, is_within, next_number, lines_from, reading, told, warning}
+use Rattle.kc_dot.specs.Sink.{extended, next_failure, BreaksOff, GoesBeyond}
 
 -- where a reader stands in its stream: the number of the line not yet ended, and its bytes so far
 pub record Spot : Type 0 where
@@ -69,12 +69,21 @@ module _ (tree : TreeFacts) (prefix name : List ℕ) where
       reading tree prefix places (to_come spot (left ++ rest) more)
       ≡ record { places = places; warned = []; stopped = Some (record { stream = name; number = spot.number }) }
 
+  -- The sink failed at the warning of the line at this spot: that line is the pending bytes and the first of what is
+  -- left, up to an LF, and of its warning a beginning was handed out, and not the whole.
+  pub record BreaksAt (left : List ℕ) (spot : Spot) (places : Places) (front : List ℕ) : Type 0 where
+    pub text : List ℕ
+    pub later : List ℕ
+    pub ends : left ≡ text ++ 10 ∷ later
+    pub one_line : All (λ b. is_lf b ≡ false) (spot.pending ++ text)
+    pub within : length (spot.pending ++ text) ≤ 65535
+    pub begun : GoesBeyond (warning tree prefix places (line name spot.number (spot.pending ++ text) true)) front
+
   -- why a reader stops before what is left, with a beginning of the next line's warning handed out
   abbrev pub Because : DotFault → List ℕ → Spot → Places → List ℕ → Type 0
   Because (ConfigLineTooLong n) left spot places front =
       (front ≡ []) × (n ≡ spot.number) × (length spot.pending ≡ 65535) × GoesOn left × Stops left spot places
-  Because Sink left spot places front =
-      (rest : List ℕ) (more : List Line) → BeginsWith (reading tree prefix places (to_come spot (left ++ rest) more)).warned front
+  Because Sink left spot places front = BreaksAt left spot places front
   Because Memory left spot places front = front ≡ []
 
   -- nothing of it was taken but a beginning of the next line's warning
@@ -89,6 +98,7 @@ module _ (tree : TreeFacts) (prefix name : List ℕ) where
     pub warned : List ℕ
     pub front : List ℕ
     pub split : piece ≡ done ++ left
+    pub stands : new ≡ fed done old
     pub goes : Goes done old new before after warned
     pub handed : taken_after ≡ extended taken (warned ++ front)
     pub because : Because fault left new after front
@@ -103,10 +113,10 @@ module _ (tree : TreeFacts) (prefix name : List ℕ) where
   Finishes old before after taken taken_after =
       (warned : List ℕ) × (taken_after ≡ extended taken warned) × Ends old before after warned
 
-  -- the last line could not be ended: a beginning of its warning was handed out
+  -- the last line could not be ended: where the sink failed, a beginning of its warning was handed out, and not the whole
   abbrev pub FailsToEnd : DotFault → Spot → Places → Option (List ℕ) → Option (List ℕ) → Type 0
   FailsToEnd (ConfigLineTooLong n) spot places taken taken_after = ⊥
   FailsToEnd Sink spot places taken taken_after =
-      (front : List ℕ) × (taken_after ≡ extended taken front)
-      × ((more : List Line) → BeginsWith (reading tree prefix places (lines_from name spot.number spot.pending ++ more)).warned front)
+      (last : Line) × (lines_from name spot.number spot.pending ≡ last ∷ []) × (is_within last ≡ true)
+      × BreaksOff (warning tree prefix places last) taken taken_after
   FailsToEnd Memory spot places taken taken_after = taken_after ≡ taken

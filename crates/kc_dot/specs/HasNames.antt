@@ -1,4 +1,4 @@
--- What the names of the defined symbols are.
+-- For proofs: What the names of the defined symbols are.
 use Rattle.std.specs.Prelude.{◌<◌, ◌≤◌, length}
 use Rattle.kc_expr.specs.declared.expression.SymId.{SymId}
 use Rattle.kc_tree.specs.TreeFacts.{TreeFacts}

@@ -1,4 +1,4 @@
--- What holds of the texts that are written, and of reading, for every tree and every prefix.
+-- Trusted: What holds of the texts that are written, and of reading, for every tree and every prefix.
 use Rattle.std.specs.Prelude.{◌≡◌, ℕ, ◌<◌, ◌↔◌, List, Bool, true, false, None, All}
 use Rattle.kc_expr.specs.declared.expression.SymId.{SymId}
 use Rattle.kc_expr.specs.Value.{Known}
@@ -13,7 +13,7 @@ use Rattle.kc_dot.specs.ConfigLine.{says}
 use Rattle.kc_dot.specs.Effects.{Assigns, effect_of}
 use Rattle.kc_dot.specs.Plain.{HasPlainNumbers, HasPlainTitles}
 use Rattle.kc_dot.specs.Prefixes.{is_prefix}
-use Rattle.kc_dot.specs.Reading.{is_lf}
+use Rattle.kc_dot.specs.Reading.{Line, effect, is_lf, is_within, lines_from}
 use Rattle.kc_dot.specs.Reread.{HasOtherSolution, IsOneSolution, kept_lines, read_alone, told_by}
 use Rattle.kc_dot.specs.Texts.{config_text, minimal_text}
 
@@ -22,6 +22,12 @@ abbrev pub AssignedAreAllowed : Type 0
 AssignedAreAllowed =
     (tree : TreeFacts) (prefix bytes : List ℕ) (s : SymId) (given : Given) → All (λ b. is_lf b ≡ false) bytes →
     effect_of tree (says prefix bytes) ≡ Assigns s given → allowed tree s given ≡ true
+
+-- Every value that is allowed for a symbol is assigned by some line, which is not too long.
+abbrev pub AllowedAreAssigned : Type 0
+AllowedAreAssigned =
+    (tree : TreeFacts) (prefix : List ℕ) (s : SymId) (given : Given) → IsWellFormed tree → is_prefix prefix ≡ true → allowed tree s given ≡ true →
+    (l : Line) × (l.ended ≡ true) × All (λ b. is_lf b ≡ false) l.bytes × (is_within l ≡ true) × (effect tree prefix l ≡ Assigns s given)
 
 -- the values of an accepted tree solve its equations under places that hold what is allowed
 pub record IsSolutionOf (tree : TreeFacts) (places : Places) (V : ℕ → Known) : Type 0 where
@@ -48,9 +54,19 @@ MinimalNeedsEach tree prefix places V =
 -- tristate symbol outside a choice stands above both its visibility and its reverse dependency.
 abbrev pub ConfigGivesBack : TreeFacts → List ℕ → Places → (ℕ → Known) → Type 0
 ConfigGivesBack tree prefix places V =
-    HasPlainNumbers tree V → HasPlainTitles tree prefix → (name : List ℕ) →
+    HasPlainNumbers tree V → HasPlainTitles tree prefix (told_by tree (place_at places) V) → (name : List ℕ) →
     let read = read_alone tree prefix name (config_text tree prefix (told_by tree (place_at places) V)) in
     (read.stopped ≡ None) × (IsOneSolution tree read.places V ↔ ((i : ℕ) → i < symbol_count tree → is_unsettled tree V i ≡ false))
+
+-- no line of the text, whatever its name, is too long to be read again
+abbrev pub HasShortLines : List ℕ → Type 0
+HasShortLines text = (name : List ℕ) → All (λ l. is_within l ≡ true) (lines_from name 1 text)
+
+-- No line of the .config or of the minimal file is too long to be read again, whatever the numbers and titles.
+abbrev pub WrittenTextsAreShort : Type 0
+WrittenTextsAreShort =
+    (tree : TreeFacts) (prefix : List ℕ) (places : Places) (V : ℕ → Known) → is_prefix prefix ≡ true → IsSolutionOf tree places V →
+    HasShortLines (config_text tree prefix (told_by tree (place_at places) V)) × HasShortLines (minimal_text tree prefix (told_by tree (place_at places) V))
 
 abbrev pub MinimalRestores : Type 0
 MinimalRestores =

@@ -1,5 +1,5 @@
--- What the code does with one line.
-use Rattle.std.specs.Prelude.{◌≡◌, ℕ, ◌<◌, List, [], ◌∷◌, length, Bool, true, false, Option, Some, None, slice_set}
+-- For proofs: What the code does with one line.
+use Rattle.std.specs.Prelude.{◌≡◌, ℕ, List, [], ◌∷◌, Bool, true, false, Option, Some, None, slice_set}
 use Rattle.kc_expr.specs.declared.expression.SymId.{SymId}
 use Rattle.kc_tree.specs.TreeFacts.{TreeFacts}
 use Rattle.kc_user.specs.Places.{Places}
@@ -7,13 +7,7 @@ use Rattle.kc_dot.specs.declared.fault.DotFault.{DotFault}
 use Rattle.kc_dot.specs.declared.fault.DotFault.TheVariants.{ConfigLineTooLong, Sink, Memory}
 use Rattle.kc_dot.specs.Effects.{Effect, Silent, Warns, Assigns}
 use Rattle.kc_dot.specs.Reading.{places_given}
-use Rattle.kc_dot.specs.Sink.{HandsOut}
-
--- an assignment is to a symbol that is defined
-abbrev pub AssignsDefined : TreeFacts → Effect → Type 0
-AssignsDefined tree Silent = Unit {0}
-AssignsDefined tree (Warns trouble) = Unit {0}
-AssignsDefined tree (Assigns s given) = s.0 < length tree.symbols
+use Rattle.kc_dot.specs.Sink.{BreaksOff}
 
 -- the member in its choice's place, where it is made y
 abbrev pub with_member : Bool → Option ℕ → SymId → List (Option SymId) → List (Option SymId)
@@ -27,8 +21,8 @@ places_by tree places Silent = places
 places_by tree places (Warns trouble) = places
 places_by tree places (Assigns s given) = places_given tree places (record { symbol = s; given = given } ∷ [])
 
--- a beginning of the text was handed out where the sink failed, nothing where there was no memory
+-- a beginning of the text, and not the whole, was handed out where the sink failed, nothing where there was no memory
 abbrev pub FailsIn : List ℕ → DotFault → Option (List ℕ) → Option (List ℕ) → Type 0
 FailsIn text (ConfigLineTooLong n) old new = ⊥
-FailsIn text Sink old new = HandsOut text old new
+FailsIn text Sink old new = BreaksOff text old new
 FailsIn text Memory old new = new ≡ old

@@ -1,4 +1,4 @@
--- The value that the text right of a line's `=` gives to a symbol of a type.
+-- Trusted: The value that the text right of a line's `=` gives to a symbol of a type.
 use Rattle.std.specs.Prelude.{ℕ, List, [], ◌∷◌, ◌++◌, length, drop, slice_index, Bool, ◌==◌, nat_le, Option, Some, None, is_some, if◌then◌else◌}
 use Rattle.std.specs.Option.{option_map}
 use Rattle.kc_text.specs.Escapes.{unescape}

@@ -1,4 +1,4 @@
--- The words around a symbol's name and its text in a line.
+-- For proofs: The words around a symbol's name and its text in a line.
 use Rattle.std.specs.Prelude.{ℕ, ◌++◌, List, [], Option, Some, None, codes}
 use Rattle.kc_text.specs.Escapes.{escape}
 use Rattle.kc_expr.specs.Value.{Known, Truth, Written}

@@ -1,13 +1,15 @@
--- Plain numbers and plain titles: what reads again as it was written.
-use Rattle.std.specs.Prelude.{◌≡◌, ℕ, ◌<◌, ◌≤◌, List, [], ◌∷◌, ◌++◌, Bool, false, ◌||◌, ◌==◌, if◌then◌else◌, codes}
+-- Trusted: Plain numbers and plain titles: what reads again as it was written.
+use Rattle.std.specs.Prelude.{◌≡◌, ℕ, ◌<◌, List, [], ◌∷◌, ◌++◌, Bool, true, false, ◌||◌, ◌==◌, Some, slice_get, codes}
 use Rattle.std.specs.Str.Lines.{strip_carriage_return}
 use Rattle.kc_text.specs.Lexemes.{is_blank}
 use Rattle.kc_expr.specs.declared.expression.Kind.TheVariants as kind
+use Rattle.kc_expr.specs.declared.expression.SymId.{SymId}
 use Rattle.kc_expr.specs.Value.{Known, Truth, Written}
-use Rattle.kc_tree.specs.TreeFacts.{TreeFacts, OfTitles}
-use Rattle.kc_values.specs.Solution.{symbol_count}
+use Rattle.kc_tree.specs.TreeFacts.{TreeFacts, Shown, SymbolShown, MenuShown, EndShown, CommentShown}
+use Rattle.kc_values.specs.Solution.{seen, symbol_count}
 use Rattle.kc_values.specs.Written.{written}
 use Rattle.kc_dot.specs.ConfigLine.{Unset, says}
+use Rattle.kc_dot.specs.Told.{Told, is_shown}
 
 -- a blank or a carriage return
 abbrev pub is_end_byte : ℕ → Bool
@@ -25,11 +27,20 @@ title_line text = codes "# " ++ text
 abbrev pub IsNoUnset : List ℕ → List ℕ → Type 0
 IsNoUnset prefix bytes = (name : List ℕ) → says prefix (strip_carriage_return bytes) ≡ Unset name → ⊥
 
--- plain titles: no main menu, menu or comment text is written as a line that reads as an unset line
-abbrev pub HasPlainTitles : TreeFacts → List ℕ → Type 0
-HasPlainTitles tree prefix = OfTitles (λ text. IsNoUnset prefix (title_line text)) tree
+-- the title of an entry, where it is shown, is not written as such a line
+abbrev pub HasPlainTitle : List ℕ → Told → Shown → Type 0
+HasPlainTitle prefix told (SymbolShown s) = Unit {0}
+HasPlainTitle prefix told (MenuShown text when) = is_shown (told.truth when) ≡ true → IsNoUnset prefix (title_line text)
+HasPlainTitle prefix told (EndShown menu) = Unit {0}
+HasPlainTitle prefix told (CommentShown text when) = is_shown (told.truth when) ≡ true → IsNoUnset prefix (title_line text)
 
--- plain numbers: no int or hex value ends in a blank or a carriage return
+-- plain titles: neither the main menu's text nor that of a menu or comment that is shown is written as a line that reads
+-- as an unset line
+pub record HasPlainTitles (tree : TreeFacts) (prefix : List ℕ) (told : Told) : Type 0 where
+  pub main_menu : IsNoUnset prefix (title_line tree.main_menu)
+  pub entries : (i : ℕ) (e : Shown) → slice_get tree.entries i ≡ Some e → HasPlainTitle prefix told e
+
+-- plain numbers: no int or hex value that is written ends in a blank or a carriage return
 abbrev pub IsPlainNumber : Known → Type 0
 IsPlainNumber (Truth t) = Unit {0}
 IsPlainNumber (Written kind.Undefined text) = Unit {0}
@@ -40,4 +51,4 @@ IsPlainNumber (Written kind.Int text) = EndsPlainly text
 IsPlainNumber (Written kind.Hex text) = EndsPlainly text
 
 abbrev pub HasPlainNumbers : TreeFacts → (ℕ → Known) → Type 0
-HasPlainNumbers tree V = (i : ℕ) → i < symbol_count tree → IsPlainNumber (V i)
+HasPlainNumbers tree V = (s : SymId) → s.0 < symbol_count tree → written tree (seen tree V) s ≡ true → IsPlainNumber (V s.0)

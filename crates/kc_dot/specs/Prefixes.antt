@@ -1,4 +1,4 @@
--- What may stand before the name of a symbol.
+-- Trusted: What may stand before the name of a symbol.
 use Rattle.std.specs.Prelude.{ℕ, List, length, slice_index, Bool, not, ◌==◌, ◌&&◌, ◌||◌, nat_le, Option, Some, None, if◌then◌else◌}
 use Rattle.std.specs.List.{list_all}
 use Rattle.std.specs.Char.{is_ascii_alphanumeric, is_ascii_digit}

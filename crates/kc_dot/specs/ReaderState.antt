@@ -1,4 +1,4 @@
--- What a reader of .config text stands for.
+-- Trusted: What a reader of .config text stands for.
 use Rattle.std.specs.Prelude.{ℕ, List, Option, refl}
 use Rattle.std.specs.Coded.{Coded, code_by, coded×, coded_ℕ, coded_list, coded_option}
 use Rattle.kc_tree.specs.TreeFacts.{TreeFacts}

@@ -1,4 +1,4 @@
--- What the fields of a reader say.
+-- Trusted: What the fields of a reader say.
 use Rattle.kc_dot.specs.Feeding.{Spot}
 use Rattle.kc_dot.specs.declared.cursor.Cursor.{Cursor}
 

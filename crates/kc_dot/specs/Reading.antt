@@ -1,4 +1,4 @@
--- What reading named streams of .config text gives: the user's places and the warnings.
+-- Trusted: What reading named streams of .config text gives: the user's places and the warnings.
 use Rattle.std.specs.Prelude.{ℕ, ◌+◌, ◌-◌, ◌^◌, ◌++◌, List, [], ◌∷◌, length, min, Bool, true, false, not, ◌&&◌, ◌==◌, nat_le, find, take_while, Option, Some, None, is_some, slice_get, if◌then◌else◌}
 use Rattle.std.specs.Option.{option_map, option_and_then}
 use Rattle.std.specs.List.{slice_split, filter_map, flat_map, last_or}

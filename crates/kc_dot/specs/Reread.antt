@@ -1,4 +1,4 @@
--- What reading a written text gives.
+-- Trusted: What reading a written text gives.
 use Rattle.std.specs.Prelude.{◌≡◌, ℕ, ◌<◌, ◌≤◌, List, [], ◌∷◌, ◌++◌, Bool, ◌||◌, ◌==◌, if◌then◌else◌, Option}
 use Rattle.std.specs.List.{flat_map}
 use Rattle.kc_expr.specs.declared.expression.SymId.{SymId}

@@ -1,4 +1,4 @@
--- A written line, read again.
+-- Trusted: A written line, read again.
 use Rattle.std.specs.Prelude.{◌≡◌, ℕ, ◌+◌, ◌<◌, ◌≤◌, ◌++◌, List, [], ◌∷◌, length, true, All, Some, codes}
 use Rattle.kc_text.specs.Escapes.{escape}
 use Rattle.kc_user.specs.Given.{Typed}

@@ -1,4 +1,4 @@
--- What a solution of a tree tells its writers.
+-- Trusted: What a solution of a tree tells its writers.
 use Rattle.kc_solve.specs.Solved.{Solution, value_of}
 use Rattle.kc_user.specs.Places.{place_at}
 use Rattle.kc_dot.specs.Reread.{told_by}

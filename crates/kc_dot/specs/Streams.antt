@@ -1,12 +1,13 @@
--- Streams that are handed to a reader in pieces of any size.
-use Rattle.std.specs.Prelude.{◌≡◌, ℕ, List, [], ◌∷◌, ◌++◌, map, None}
+-- Trusted: Streams that are handed to a reader in pieces of any size.
+use Rattle.std.specs.Prelude.{◌≡◌, ℕ, List, [], ◌∷◌, ◌++◌, map, Option, None}
 use Rattle.std.specs.List.{concat}
-use Rattle.kc_user.specs.Places.{ArePlaces, Places}
+use Rattle.kc_user.specs.Places.{ArePlaces, Places, no_places}
 use Rattle.kc_tree.specs.TreeFacts.{TreeFacts, IsWellFormed}
 use Rattle.kc_dot.specs.Calls.{Call, Feed, Finish, NextStream, Run}
-use Rattle.kc_dot.specs.Feeding.{first_spot}
+use Rattle.kc_dot.specs.declared.fault.DotFault.{DotFault}
+use Rattle.kc_dot.specs.Feeding.{Spot, Refuses, first_spot}
 use Rattle.kc_dot.specs.ReaderState.{ReaderState}
-use Rattle.kc_dot.specs.Reading.{Read, Stream, reading_of}
+use Rattle.kc_dot.specs.Reading.{Stream, reading_of}
 
 -- a stream's name, and its bytes as they are handed in
 pub record Pieces : Type 0 where
@@ -36,3 +37,16 @@ abbrev pub ReadingKeepsPlaces : Type 0
 ReadingKeepsPlaces =
     (calls : List Call) (old new : ReaderState) (before after : Places) (warned : List ℕ) → IsWellFormed old.tree →
     Run calls old new before after warned → ArePlaces old.tree before → ArePlaces old.tree after
+
+-- What reading any streams leaves, from empty places, holds what is allowed.
+abbrev pub StreamsLeavePlaces : Type 0
+StreamsLeavePlaces =
+    (tree : TreeFacts) (prefix : List ℕ) (streams : List Stream) → IsWellFormed tree →
+    ArePlaces tree (reading_of tree prefix (no_places tree) streams).places
+
+-- Places that hold what is allowed still do after a call that was refused.
+abbrev pub RefusalsKeepPlaces : Type 0
+RefusalsKeepPlaces =
+    (tree : TreeFacts) (prefix name : List ℕ) (fault : DotFault) (piece : List ℕ) (old new : Spot) (before after : Places) (taken taken_after : Option (List ℕ)) →
+    IsWellFormed tree → Refuses tree prefix name fault piece old new before after taken taken_after →
+    ArePlaces tree before → ArePlaces tree after

@@ -1,4 +1,4 @@
--- The line that tells a symbol's value, in a .config and in a header.
+-- Trusted: The line that tells a symbol's value, in a .config and in a header.
 use Rattle.std.specs.Prelude.{ℕ, ◌++◌, List, [], codes, if◌then◌else◌}
 use Rattle.kc_text.specs.Escapes.{escape}
 use Rattle.kc_text.specs.Numbers.{has_hex_prefix}

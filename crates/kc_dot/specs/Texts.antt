@@ -1,4 +1,4 @@
--- The three texts: the .config, the header and the minimal file.
+-- Trusted: The three texts: the .config, the header and the minimal file.
 use Rattle.std.specs.Prelude.{ℕ, ◌++◌, List, [], ◌∷◌, length, map, Bool, true, false, Option, Some, None, codes, slice_get, if◌then◌else◌}
 use Rattle.std.specs.List.{flat_map, range_with_len}
 use Rattle.kc_expr.specs.declared.expression.SymId.{SymId}

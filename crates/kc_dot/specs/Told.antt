@@ -1,4 +1,4 @@
--- What a solution tells of symbols and conditions, as functions.
+-- Trusted: What a solution tells of symbols and conditions, as functions.
 use Rattle.std.specs.Prelude.{Bool, true, false}
 use Rattle.kc_expr.specs.declared.expression.SymId.{SymId}
 use Rattle.kc_expr.specs.declared.expression.Tri.{Tri}

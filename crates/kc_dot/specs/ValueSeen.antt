@@ -1,4 +1,4 @@
--- What is known of a symbol by its value.
+-- Trusted: What is known of a symbol by its value.
 use Rattle.kc_expr.specs.Value.{Known}
 use Rattle.kc_expr.specs.Value as known
 use Rattle.kc_dot.specs.declared.solution.Value.{Value}

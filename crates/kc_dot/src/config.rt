@@ -4,17 +4,18 @@ ghost use Rattle.std.specs.Option.{option_copied};
 ghost use Rattle.kc_expr.specs.declared.expression.SymId.{SymId};
 ghost use Rattle.kc_tree.specs.TreeFacts.{IsWellFormed, SymbolShown};
 ghost use Rattle.kc_tree.specs.Views.{condition_of, shown_of};
-ghost use Rattle.kc_dot.specs.Laws.{ConfigGivesBack};
+ghost use Rattle.kc_dot.specs.Laws.{ConfigGivesBack, HasShortLines};
 ghost use Rattle.kc_dot.specs.Sink.{extended, next_failure, HandsOut};
 ghost use Rattle.kc_dot.specs.SolutionTold.{told_of};
 ghost use Rattle.kc_dot.specs.Texts.{title_if, end_if, gap, is_title, shown_title, entry_text, ends_after, entries_text, config_heading, config_text};
 ghost use Rattle.kc_dot.specs.Told.{is_shown};
-ghost use Rattle.kc_dot.specs.Writing.{counted_write, MayAsk};
+ghost use Rattle.kc_dot.specs.Asking.{MayAsk};
+ghost use Rattle.kc_dot.specs.Writing.{counted_write};
 ghost use Rattle.kc_solve.specs.Solved.{value_of};
 ghost use Rattle.kc_user.specs.Places.{ArePlaces};
 
 use crate::fault::WriteFault;
-use crate::laws::config_settles;
+use crate::laws::{config_settles, written_texts_are_short};
 use crate::parts::put_parts;
 use crate::prefix::Prefix;
 use crate::sink::{Fault, Sink, put};
@@ -250,8 +251,9 @@ fn put_config<V: Solution, S: Sink>(
 ///
 /// With the places that reading it leaves, from empty places, the one solution is the one that was written exactly where
 /// no visible tristate symbol outside a choice stands above both its visibility and its reverse dependency. This asks
-/// that the user's places hold what is allowed, that no int or hex value ends in a blank or a carriage return, and that
-/// no title is written as a line that reads as an unset line.
+/// that the user's places hold what is allowed, that no int or hex value that is written ends in a blank or a carriage
+/// return, and that neither the main menu's text nor that of a menu or comment that is shown is written as a line that
+/// reads as an unset line. Where the user's places hold what is allowed, no line is too long to be read again.
 pub fn write_config<S: Sink>(
     alloc: Global,
     tree: &Tree,
@@ -265,9 +267,11 @@ pub fn write_config<S: Sink>(
     ensures beginning { OnErr result (HandsOut (config_text tree.now prefix.now (told_of solved.now)) (S.taken sink.old) (S.taken sink.new)) }
     ensures counted { IfErr result (λ fault. S.failures sink.new ≡ counted_write fault (S.failures sink.old)) }
     ensures keeps { S.goes_to sink.old sink.new }
+    ensures short { ArePlaces tree.now solved.now.places → HasShortLines (config_text tree.now prefix.now (told_of solved.now)) }
     ensures settles { ArePlaces tree.now solved.now.places → ConfigGivesBack tree.now prefix.now solved.now.places (value_of solved.now) }
 {
     config_settles();
+    written_texts_are_short();
     solved.is_solution();
     solved.is_accepted();
     let _prefix = prefix.as_bytes();

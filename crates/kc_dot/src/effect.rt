@@ -4,9 +4,8 @@ ghost use Rattle.std.specs.Option.{option_map};
 ghost use Rattle.kc_user.specs.ValueView.{given_of_value};
 ghost use Rattle.kc_dot.specs.ConfigLine.{said};
 ghost use Rattle.kc_dot.specs.Effects as spec;
-ghost use Rattle.kc_dot.specs.EffectView.{trouble_of, effect_view};
-ghost use Rattle.kc_dot.specs.LineSteps.{AssignsDefined};
-ghost use Rattle.kc_dot.specs.Sink.{extended, next_failure, HandsOut};
+ghost use Rattle.kc_dot.specs.EffectView.{AssignsDefined, trouble_of, effect_view};
+ghost use Rattle.kc_dot.specs.Sink.{extended, next_failure, BreaksOff};
 
 use crate::line::ConfigLine;
 use crate::parts::put_parts;
@@ -40,7 +39,7 @@ pub enum Effect<'a> {
 }
 
 /// What the line does: an unset line gives n to a bool or tristate and leaves another symbol alone, a set line gives
-/// the value that its text spells, where it is allowed. Only want of memory is an error.
+/// the value that its text spells, where it is allowed. Its only error is to be out of memory.
 pub fn line_effect<'a>(
     alloc: Global,
     tree: &Tree,
@@ -124,7 +123,8 @@ fn words<'a>(trouble: Trouble<'a>) -> (&'a [u8], &'a [u8], &'a [u8])
     }
 }
 
-/// Hands out the warning's whole line: the stream's name, the number of the line, the code and the text.
+/// Hands out the warning's whole line: the stream's name, the number of the line, the code and the text. After an error
+/// the sink took a beginning of it, never the whole.
 pub fn warn<S: Sink>(
     stream: &[u8],
     number: u64,
@@ -133,7 +133,7 @@ pub fn warn<S: Sink>(
 ) -> Result<(), Fault>
     ensures whole { OnOk result (S.taken sink.new ≡ extended (S.taken sink.old) (spec.warning_line stream.now number (trouble_of trouble.entry))) }
     ensures quiet { OnOk result (S.failures sink.new ≡ S.failures sink.old) }
-    ensures beginning { OnErr result (HandsOut (spec.warning_line stream.now number (trouble_of trouble.entry)) (S.taken sink.old) (S.taken sink.new)) }
+    ensures broken { OnErr result (BreaksOff (spec.warning_line stream.now number (trouble_of trouble.entry)) (S.taken sink.old) (S.taken sink.new)) }
     ensures counted { OnErr result (S.failures sink.new ≡ next_failure (S.failures sink.old)) }
     ensures keeps { S.goes_to sink.old sink.new }
 {

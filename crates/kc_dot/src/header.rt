@@ -1,7 +1,7 @@
 //! The writers of the header and of the minimal file.
 ghost use Rattle.std.specs.Prelude.{◌≡◌, ◌<◌, length, OnOk, OnErr, IfErr, flat_map};
 ghost use Rattle.kc_expr.specs.declared.expression.SymId.{SymId};
-ghost use Rattle.kc_dot.specs.Laws.{MinimalGivesBack, MinimalNeedsEach};
+ghost use Rattle.kc_dot.specs.Laws.{HasShortLines, MinimalGivesBack, MinimalNeedsEach};
 ghost use Rattle.kc_dot.specs.Sink.{extended, next_failure, HandsOut};
 ghost use Rattle.kc_dot.specs.Texts.{header_heading, header_text, minimal_text, header_if, minimal_if, symbols_of};
 ghost use Rattle.kc_dot.specs.SolutionTold.{told_of};
@@ -10,7 +10,7 @@ ghost use Rattle.kc_solve.specs.Solved.{value_of};
 ghost use Rattle.kc_user.specs.Places.{ArePlaces};
 
 use crate::fault::WriteFault;
-use crate::laws::minimal_gives_back;
+use crate::laws::{minimal_gives_back, written_texts_are_short};
 use crate::parts::put_parts;
 use crate::prefix::Prefix;
 use crate::sink::{Fault, Sink};
@@ -170,7 +170,8 @@ pub fn write_header<S: Sink>(
 /// form.) The caller owes the solution of that tree. After an error the sink took a beginning of it.
 ///
 /// With the places that reading it leaves, from empty places, the one solution is the one that was written. With any
-/// nonempty set of its lines left out it is not. Both ask that the user's places hold what is allowed.
+/// nonempty set of its lines left out it is not. No line is too long to be read again. All three ask that the user's
+/// places hold what is allowed.
 pub fn write_minimal<S: Sink>(
     alloc: Global,
     tree: &Tree,
@@ -184,10 +185,12 @@ pub fn write_minimal<S: Sink>(
     ensures beginning { OnErr result (HandsOut (minimal_text tree.now prefix.now (told_of solved.now)) (S.taken sink.old) (S.taken sink.new)) }
     ensures counted { IfErr result (λ fault. S.failures sink.new ≡ counted_write fault (S.failures sink.old)) }
     ensures keeps { S.goes_to sink.old sink.new }
+    ensures short { ArePlaces tree.now solved.now.places → HasShortLines (minimal_text tree.now prefix.now (told_of solved.now)) }
     ensures restores { ArePlaces tree.now solved.now.places → MinimalGivesBack tree.now prefix.now solved.now.places (value_of solved.now) }
     ensures nothing_to_spare { ArePlaces tree.now solved.now.places → MinimalNeedsEach tree.now prefix.now solved.now.places (value_of solved.now) }
 {
     minimal_gives_back();
+    written_texts_are_short();
     solved.is_solution();
     solved.is_accepted();
     let _prefix = prefix.as_bytes();

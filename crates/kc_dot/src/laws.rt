@@ -1,6 +1,6 @@
 //! What holds of reading, stated as the contracts of functions that do nothing.
 ghost use Rattle.kc_dot.specs.Calls.{CallsJoin};
-ghost use Rattle.kc_dot.specs.Laws.{AssignedAreAllowed, ConfigSettles, MinimalHasNothingToSpare, MinimalRestores};
+ghost use Rattle.kc_dot.specs.Laws.{AllowedAreAssigned, AssignedAreAllowed, ConfigSettles, MinimalHasNothingToSpare, MinimalRestores, WrittenTextsAreShort};
 ghost use Rattle.kc_dot.specs.RoundTrip.{UnsetLineReadAgain, SetLineReadAgain, StringReadAgain, WrittenLinesAreShort};
 ghost use Rattle.kc_dot.specs.Streams.{ReadingKeepsPlaces, StreamsAreRead};
 
@@ -57,6 +57,21 @@ pub fn assigned_are_allowed()
     ensures { AssignedAreAllowed }
 {}
 
+/// And of a well-formed tree every value that is allowed for a symbol is assigned by some line of at most 65,535 bytes,
+/// under every prefix: `allowed` holds exactly what lines assign.
+pub fn allowed_are_assigned()
+    ensures { AllowedAreAssigned }
+{}
+
+/// No line of the written `.config` or of the minimal file has more than 65,535 bytes before its LF, so that reading
+/// either again never meets a line that is too long (E17). This asks nothing of numbers and titles. (Our own.)
+pub fn written_texts_are_short()
+    ensures { WrittenTextsAreShort }
+{
+    equations_read_needs();
+    needs_are_defined();
+}
+
 /// The minimal file gives the values back: with the places that reading it leaves, from empty places, they are the one
 /// solution. With any nonempty set of its lines left out they are not. (Our own.)
 pub fn minimal_gives_back()
@@ -70,8 +85,8 @@ pub fn minimal_gives_back()
 
 /// With the places that reading the written `.config` leaves, from empty places, the values are the one solution exactly
 /// where no visible tristate symbol outside a choice stands above both its visibility and its reverse dependency. This
-/// asks that no int or hex value ends in a blank or a carriage return, and that no title is written as a line that reads
-/// as an unset line. (Our own.)
+/// asks that no int or hex value that is written ends in a blank or a carriage return, and that neither the main menu's
+/// text nor that of a menu or comment that is shown is written as a line that reads as an unset line. (Our own.)
 pub fn config_settles()
     ensures { ConfigSettles }
 {

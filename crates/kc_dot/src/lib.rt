@@ -10,6 +10,7 @@ pub mod header;
 pub mod laws;
 pub mod line;
 pub mod parts;
+pub mod place_laws;
 pub mod prefix;
 pub mod reader;
 pub mod sink;

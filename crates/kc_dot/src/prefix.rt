@@ -28,7 +28,7 @@ impl Model for Prefix {
 }
 
 impl Prefix {
-    /// The text as a prefix, or None where it is none. Only want of memory is an error.
+    /// The text as a prefix, or None where it is none. Its only error is to be out of memory.
     pub fn new(alloc: Global, text: &[u8]) -> Result<Option<Prefix>, AllocError>
         ensures { IfOk result (λ found. found ≡ spec.prefix_of text.now) }
     {

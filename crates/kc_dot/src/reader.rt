@@ -65,8 +65,9 @@ impl<'a> DotReader<'a> {
         self.cursor.pending.len()
     }
 
-    /// Takes the next piece of the stream. After an error the places are as after the lines before the refused one,
-    /// and the sink took their warnings and, where it failed, a beginning of the next line's.
+    /// Takes the next piece of the stream. After an error the places are exactly those after the lines before the refused
+    /// one, and the sink took their warnings. Where it failed, it did at the next line's warning: it took a beginning of
+    /// that, never the whole, and the line, which the piece ends, assigned nothing.
     pub fn feed<S: Sink>(
         &mut self,
         piece: &[u8],
@@ -103,7 +104,9 @@ impl<'a> DotReader<'a> {
         }
     }
 
-    /// Ends the last line; a later `feed` begins the next one. After an error all is as it was but for the refusal.
+    /// Ends the last line; a later `feed` begins the next one. After an error the user's places are as they were, and so
+    /// is the reader but that it keeps the fault and answers it to every later call; where the sink failed it took a
+    /// beginning of the line's warning, never the whole, and otherwise nothing.
     pub fn finish<S: Sink>(&mut self, user: &mut User, sink: &mut S) -> Result<(), DotFault>
         requires { IsUserOf self.old.tree user.old }
         ensures ok { OnOk result (Finishes self.old.tree self.old.prefix self.old.name self.old.spot user.old user.new (S.taken sink.old) (S.taken sink.new)) }
@@ -128,7 +131,8 @@ impl<'a> DotReader<'a> {
         }
     }
 
-    /// Ends the last line, and goes on at line 1 of another stream. After an error all is as it was but for the refusal.
+    /// Ends the last line, and goes on at line 1 of another stream. After an error it is as after one of `finish`, and the
+    /// stream is the one that was to end.
     pub fn next_stream<S: Sink>(
         &mut self,
         name: &'a [u8],

@@ -9,7 +9,7 @@ ghost use Rattle.kc_user.specs.Places.{IsUserOf};
 ghost use Rattle.kc_dot.specs.Feeding.{counted_fault};
 ghost use Rattle.kc_dot.specs.LineSteps.{places_by, with_member, FailsIn};
 ghost use Rattle.kc_dot.specs.Reading.{again, trouble_of, warning_words, choice_of, is_yes, places_given};
-ghost use Rattle.kc_dot.specs.Sink.{extended, next_failure, HandsOut};
+ghost use Rattle.kc_dot.specs.Sink.{extended, next_failure, BreaksOff};
 
 use crate::effect::{Effect, Trouble, line_effect, warn};
 use crate::fault::DotFault;
@@ -102,7 +102,7 @@ fn warn_again<S: Sink>(
     requires user { IsUserOf source.now.tree.now user.now }
     ensures whole { OnOk result (S.taken sink.new ≡ extended (S.taken sink.old) (warning_words source.now.name.now number (again source.now.tree.now user.now id))) }
     ensures quiet { OnOk result (S.failures sink.new ≡ S.failures sink.old) }
-    ensures beginning { OnErr result (HandsOut (warning_words source.now.name.now number (again source.now.tree.now user.now id)) (S.taken sink.old) (S.taken sink.new)) }
+    ensures broken { OnErr result (BreaksOff (warning_words source.now.name.now number (again source.now.tree.now user.now id)) (S.taken sink.old) (S.taken sink.new)) }
     ensures counted { OnErr result (S.failures sink.new ≡ next_failure (S.failures sink.old)) }
     ensures keeps { S.goes_to sink.old sink.new }
 {

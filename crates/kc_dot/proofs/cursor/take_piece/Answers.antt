@@ -55,4 +55,4 @@ returns-in_err-at-clause-err g c =
     let left = take_all (length c.args.piece.now - c.loop-at.at) (drop c.loop-at.at c.args.piece.now) (let count = length-drop c.loop-at.at c.args.piece.now in omega (arith, count)) in
     rw (p.1, p.2, ensures.stays, ensures.unchanged)
     (Refuses-at source.tree.now source.prefix.now source.name.now _ c.args.piece.now c.loop-at.at (spot_of c.args.cursor.now) (spot_of c.loop-at.cursor) c.args.user.now c.loop-at.user _ _ _
-    c.loop-at.invariant.taken (subst (λ l. StopsAt source.tree.now source.prefix.now source.name.now c.in_err-at.field-0.0 l (spot_of c.loop-at.cursor) c.loop-at.user (g.S.Sink.taken c.loop-at.sink) (g.S.Sink.taken c.take_front.new.sink)) left ensures.err))
+    c.loop-at.invariant.spot c.loop-at.invariant.taken (subst (λ l. StopsAt source.tree.now source.prefix.now source.name.now c.in_err-at.field-0.0 l (spot_of c.loop-at.cursor) c.loop-at.user (g.S.Sink.taken c.loop-at.sink) (g.S.Sink.taken c.take_front.new.sink)) left ensures.err))

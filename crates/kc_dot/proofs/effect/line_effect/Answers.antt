@@ -1,7 +1,7 @@
 use Rattle.std.proofs.Common.{subst, sym}
 use Rattle.std.proofs.lemmas.Result.{IfOk-weaker}
 use Rattle.kc_dot.specs.Effects.{symbol_named}
-use Rattle.kc_dot.specs.LineSteps.{AssignsDefined}
+use Rattle.kc_dot.specs.EffectView.{AssignsDefined}
 use Rattle.kc_dot.proofs.StepLemmas.{set_defined}
 use Rattle.kc_dot.proofs.effect.line_effect.Goals as goal
 

@@ -2,13 +2,18 @@
 use Rattle.std.proofs.Common.{◌∙◌, arith}
 use Rattle.std.proofs.lemmas.Grind.{common_steps}
 use Rattle.std.proofs.lemmas.Result.{err_from_is_err_and}
-use Rattle.kc_dot.proofs.SinkLemmas.{HandsOut-take, extended-take}
+use Rattle.kc_dot.proofs.SinkLemmas.{BreaksOff-take, HandsOut-take, extended-take}
 use Rattle.kc_dot.proofs.sink.put.Goals as goal
 
 pub returns-in_err-count-clause-beginning : goal.returns-in_err-count-clause-beginning
 returns-in_err-count-clause-beginning g c =
     let p = err_from_is_err_and c.from_residual.result c.from_residual.ensures.1 in
     rw p.1 (HandsOut-take c.args.text.now _ _ c.loop-at.at (c.in_err-count.ensures.none_taken ∙ c.loop-at.invariant.taken))
+
+pub returns-in_err-count-clause-broken : goal.returns-in_err-count-clause-broken
+returns-in_err-count-clause-broken g c =
+    let p = err_from_is_err_and c.from_residual.result c.from_residual.ensures.1 in
+    rw p.1 (BreaksOff-take c.args.text.now _ _ c.loop-at.at (omega arith) (c.in_err-count.ensures.none_taken ∙ c.loop-at.invariant.taken))
 
 pub loop-at-preserved : goal.loop-at-preserved
 loop-at-preserved g c =

@@ -1,0 +1,115 @@
+-- A line that assigns a value that is allowed.
+use Rattle.std.proofs.Common.{◌≡◌, ℕ, ◌+◌, ◌≤◌, List, [], ◌∷◌, ◌++◌, true, false, length, refl, sym, ap, ◌∙◌, arith, Option, Some, None}
+use Rattle.std.specs.Prelude.{is_some, nat_le, slice_get}
+use Rattle.std.specs.List.{list_any}
+use Rattle.std.proofs.lemmas.Bool.{leb-true, and_parts, not-true, true≢false}
+use Rattle.std.proofs.lemmas.List.{length-append}
+use Rattle.std.proofs.lemmas.List.Elements.{All-append, All-cons}
+use Rattle.std.proofs.lemmas.Option.{slice_get_within}
+use Rattle.std.specs.Prelude.{not}
+use Rattle.kc_text.specs.Escapes.{escape}
+use Rattle.kc_text.specs.Numbers.{int_of, hex_of}
+use Rattle.kc_expr.specs.declared.expression.SymId.{SymId}
+use Rattle.kc_expr.specs.declared.expression.Tri.{Tri}
+use Rattle.kc_expr.specs.declared.expression.Tri.TheVariants.{N, M, Y}
+use Rattle.kc_expr.specs.declared.expression.Kind.{Kind}
+use Rattle.kc_expr.specs.declared.expression.Kind.TheVariants as kind
+use Rattle.kc_tree.specs.TreeFacts.{TreeFacts, SymbolFacts, IsWellFormed}
+use Rattle.kc_user.specs.Given.{Given, Chosen, Typed, Member}
+use Rattle.kc_user.specs.Places.{allowed, allowed_by, allowed_for, allowed_truth, allowed_text, is_line_feed}
+use Rattle.kc_dot.specs.Effects.{Assigns, name_of, set_by_kind, assigned_or}
+use Rattle.kc_dot.specs.HasNames.{HasNames}
+use Rattle.kc_dot.specs.Laws.{AllowedAreAssigned}
+use Rattle.kc_dot.specs.Plain.{EndsPlainly}
+use Rattle.kc_dot.specs.Prefixes.{is_prefix}
+use Rattle.kc_dot.specs.Reading.{Line, line, is_lf, is_within, effect}
+use Rattle.kc_dot.proofs.LineLemmas.{HasNoLf, is_within-line}
+use Rattle.kc_dot.proofs.RoundTripLemmas.{string_read_again}
+use Rattle.kc_dot.proofs.ShapeLemmas.{no_line_feed}
+use Rattle.kc_dot.proofs.SolutionLemmas.{has_names}
+use Rattle.kc_dot.proofs.SymbolLineLemmas.{no_lf_check, plain_quote, plain_one, set_says, set_no_lf, short_prefix}
+use Rattle.kc_dot.proofs.TextBytes.{int_bytes, hex_bytes, number_plain, number_no_lf, escape_no_lf}
+
+-- A text that stands right of a line's `=` and gives a symbol of this type the value.
+module _ (name : List ℕ) (s : SymId) where
+  pub record Sets (k : Kind) (g : Given) (value : List ℕ) : Type 0 where
+    pub none : HasNoLf value
+    pub plain : EndsPlainly value
+    pub short : length value ≤ 65000
+    pub means : set_by_kind name s value k ≡ Assigns s g
+
+  letter : (k : Kind) (g : Given) (b : ℕ) → HasNoLf (b ∷ []) → EndsPlainly (b ∷ []) → set_by_kind name s (b ∷ []) k ≡ Assigns s g → (value : List ℕ) × Sets k g value
+  letter k g b none plain means = (b ∷ [], record { none = none; plain = plain; short = omega arith; means = means })
+
+  truth_sets : (k : Kind) (t : Tri) → allowed_truth k t ≡ true → (value : List ℕ) × Sets k (Chosen t) value
+  truth_sets kind.Undefined t ok = absurd (true≢false (sym ok))
+  truth_sets kind.Bool N ok = letter kind.Bool (Chosen N) 110 (no_lf_check (110 ∷ []) refl) (plain_one 110 refl) refl
+  truth_sets kind.Bool M ok = absurd (true≢false (sym ok))
+  truth_sets kind.Bool Y ok = letter kind.Bool (Chosen Y) 121 (no_lf_check (121 ∷ []) refl) (plain_one 121 refl) refl
+  truth_sets kind.Tristate N ok = letter kind.Tristate (Chosen N) 110 (no_lf_check (110 ∷ []) refl) (plain_one 110 refl) refl
+  truth_sets kind.Tristate M ok = letter kind.Tristate (Chosen M) 109 (no_lf_check (109 ∷ []) refl) (plain_one 109 refl) refl
+  truth_sets kind.Tristate Y ok = letter kind.Tristate (Chosen Y) 121 (no_lf_check (121 ∷ []) refl) (plain_one 121 refl) refl
+  truth_sets kind.Str t ok = absurd (true≢false (sym ok))
+  truth_sets kind.Int t ok = absurd (true≢false (sym ok))
+  truth_sets kind.Hex t ok = absurd (true≢false (sym ok))
+
+  string_sets : (text : List ℕ) → length (escape text) + 2 ≤ 65000 → HasNoLf text → Sets kind.Str (Typed text) (34 ∷ escape text ++ 34 ∷ [])
+  string_sets text fits none = record {
+    none = All-append (λ b. is_lf b ≡ false) (34 ∷ escape text) (34 ∷ []) (All-cons (λ b. is_lf b ≡ false) 34 (escape text) refl (escape_no_lf text none)) (no_lf_check (34 ∷ []) refl);
+    plain = plain_quote text;
+    short = omega (arith, fits, length-append (34 ∷ escape text) (34 ∷ []));
+    means = ap (assigned_or name s) (string_read_again text fits);
+  }
+
+  text_sets : (k : Kind) (text : List ℕ) → allowed_text k text ≡ true → (value : List ℕ) × Sets k (Typed text) value
+  text_sets kind.Undefined text ok = absurd (true≢false (sym ok))
+  text_sets kind.Bool text ok = absurd (true≢false (sym ok))
+  text_sets kind.Tristate text ok = absurd (true≢false (sym ok))
+  text_sets kind.Str text ok =
+      let (short, one) = and_parts (nat_le (length (escape text) + 2) 65000) (not (list_any is_line_feed text)) ok in
+      (34 ∷ escape text ++ 34 ∷ [], string_sets text (leb-true (length (escape text) + 2) 65000 short) (no_line_feed text (not-true _ one)))
+  text_sets kind.Int text ok =
+      let (short, number) = and_parts (nat_le (length text) 65000) (is_some (int_of text)) ok in
+      let bytes = int_bytes text number in
+      (text, record { none = number_no_lf text bytes; plain = number_plain text bytes; short = leb-true (length text) 65000 short; means = rw (short, number) refl })
+  text_sets kind.Hex text ok =
+      let (short, number) = and_parts (nat_le (length text) 65000) (is_some (hex_of text)) ok in
+      let bytes = hex_bytes text number in
+      (text, record { none = number_no_lf text bytes; plain = number_plain text bytes; short = leb-true (length text) 65000 short; means = rw (short, number) refl })
+
+  sets : (k : Kind) (g : Given) → allowed_by k g ≡ true → (value : List ℕ) × Sets k g value
+  sets k (Chosen t) ok = truth_sets k t ok
+  sets k (Typed text) ok = text_sets k text ok
+  sets k (Member m) ok = absurd (true≢false (sym ok))
+
+module _ (tree : TreeFacts) (prefix stream : List ℕ) (is_pre : is_prefix prefix ≡ true) (formed : IsWellFormed tree) (s : SymId) (g : Given) where
+  -- a line that gives the symbol the value
+  abbrev IsAssigned : Type 0
+  IsAssigned = (l : Line) × (l.ended ≡ true) × HasNoLf l.bytes × (is_within l ≡ true) × (effect tree prefix l ≡ Assigns s g)
+
+  line_assigns : (f : SymbolFacts) → slice_get tree.symbols s.0 ≡ Some f → allowed_by f.kind g ≡ true → IsAssigned
+  unfolding effect
+  line_assigns f at ok =
+      let defined = slice_get_within tree.symbols s.0 f at in
+      let named : HasNames tree = has_names tree formed in
+      let known = named s defined in
+      let (value, is) = sets (name_of tree s) s f.kind g ok in
+      let few : length prefix ≤ 64 = short_prefix tree prefix stream is_pre formed named s f at defined in
+      let body = (prefix ++ name_of tree s) ++ 61 ∷ value in
+      let fits : length body ≤ 65535 = (let v = is.short in let n = known.1 in omega (arith, v, n, few, length-append (prefix ++ name_of tree s) (61 ∷ value), length-append prefix (name_of tree s))) in (
+        line stream 1 body true,
+        refl,
+        set_no_lf tree prefix stream is_pre formed named s f at defined value is.none,
+        is_within-line stream 1 body true fits,
+        set_says tree prefix stream is_pre formed named s f at defined value is.plain ∙ is.means,
+      )
+
+  by_facts : (o : Option SymbolFacts) → slice_get tree.symbols s.0 ≡ o → allowed_for o g ≡ true → IsAssigned
+  by_facts None at ok = absurd (true≢false (sym ok))
+  by_facts (Some f) at ok = line_assigns f at ok
+
+  pub value_assigned : allowed tree s g ≡ true → IsAssigned
+  value_assigned ok = by_facts (slice_get tree.symbols s.0) refl ok
+
+pub allowed_assigned : AllowedAreAssigned
+allowed_assigned tree prefix s g formed is_pre ok = value_assigned tree prefix [] is_pre formed s g ok
