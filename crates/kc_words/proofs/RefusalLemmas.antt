@@ -22,17 +22,21 @@ has_kind app words e is h = subst (λ (a : App). HasKind (fault_of a words) e) i
 
 pub refused_prefix : (kinds : Kinds) (p q : Text) → kinds ≡ [] → p ≡ q → (u : Usage) → IsNoPrefix p u → IsRefused kinds q u
 refused_prefix kinds p q none same (usage.Help t) h = absurd h
+refused_prefix kinds p q none same (usage.Version t) h = absurd h
 refused_prefix kinds p q none same (usage.Bad t) h = inr (none, ap is_prefix (sym same) ∙ h)
 refused_prefix kinds p q none same usage.Memory h = tt
 
 pub only_memory : (p q : Text) → p ≡ q → is_prefix q ≡ true → (u : Usage) → IsNoPrefix p u → u ≡ usage.Memory
 only_memory p q same good (usage.Help t) h = absurd h
+only_memory p q same good (usage.Version t) h = absurd h
 only_memory p q same good (usage.Bad t) h = absurd (let e : true ≡ false = sym good ∙ ap is_prefix (sym same) ∙ h in cc)
 only_memory p q same good usage.Memory h = λ i. usage.Memory
 
 pub refused_words : (kinds : Kinds) (prefix : Text) (k : ErrorKind) (u : Usage) → (k ≡ kind.OutOfMemory) ⊎ IsAmong k kinds → IsKindOf k u → IsRefused kinds prefix u
 refused_words kinds prefix k (usage.Help t) (inl m) is = absurd (let e : kind.OutOfMemory ≡ kind.DisplayHelp = sym m ∙ is in cc)
 refused_words kinds prefix k (usage.Help t) (inr among) is = subst (λ (x : ErrorKind). IsAmong x kinds) is among
-refused_words kinds prefix k (usage.Bad t) (inl m) is = absurd (is.1 m)
-refused_words kinds prefix k (usage.Bad t) (inr among) is = inl (k, is.0, among)
+refused_words kinds prefix k (usage.Version t) (inl m) is = absurd (let e : kind.OutOfMemory ≡ kind.DisplayVersion = sym m ∙ is in cc)
+refused_words kinds prefix k (usage.Version t) (inr among) is = subst (λ (x : ErrorKind). IsAmong x kinds) is among
+refused_words kinds prefix k (usage.Bad t) (inl m) is = absurd (is.2 m)
+refused_words kinds prefix k (usage.Bad t) (inr among) is = inl (k, is.0, is.1, among)
 refused_words kinds prefix k usage.Memory among is = tt

@@ -1,4 +1,4 @@
--- What the options hold.
+-- Trusted: What the options hold.
 use Rattle.std.specs.Prelude.{◌≡◌, List, [], map, option_map, unwrap_or, string_bytes, codes}
 use Rattle.clap.specs.Words.{Row, Text, all_of, first_of}
 use Rattle.kc_words.specs.declared.options.Options.{Options}

@@ -1,4 +1,4 @@
--- The command line of the program, in clap's words for it.
+-- Trusted: The command line of the program, in clap's words for it.
 use Rattle.std.specs.Prelude.{List, Some, true, codes, map, string_bytes, String}
 use Rattle.std.specs.declared.alloc.Global.{Global}
 use Rattle.clap.specs.Words.{App, Row, Rule, Text, matches_of, new_app, new_rule, with_rule}
@@ -17,9 +17,9 @@ kconfig_rule = record (new_rule (codes "KCONFIG")) { required = true }
 abbrev pub fragment_rule : Rule
 fragment_rule = record (new_rule (codes "FRAGMENT")) { action = Some Append }
 
--- the first of the words is no name of a program
+-- the first of the words is no name of a program, and --version is there beside --help
 abbrev pub bare_app : App
-bare_app = on_top (λ s. record s { no_binary_name = true }) (new_app (codes "kconf"))
+bare_app = on_top (λ s. record s { no_binary_name = true; has_version = true }) (new_app (codes "kconf"))
 
 -- [--root DIR] [--config FILE] [--out FILE] [--header FILE] [--savedefconfig FILE] [--prefix TEXT]
 unfoldable pub with_options : App → App

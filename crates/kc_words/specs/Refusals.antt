@@ -1,4 +1,4 @@
--- Why words give no options.
+-- Trusted: Why words give no options.
 use Rattle.std.specs.Prelude.{◌≡◌, ◌≢◌, ◌⊎◌, [], false, codes, string_bytes}
 use Rattle.clap.specs.Words.{Kinds, IsAmong, Text}
 use Rattle.clap.specs.declared.error.kind.ErrorKind.{ErrorKind}
@@ -10,27 +10,31 @@ use Rattle.kc_words.specs.declared.usage.Usage.TheVariants as usage
 -- the text to print
 abbrev pub text_of : Usage → Text
 text_of (usage.Help text) = string_bytes text
+text_of (usage.Version text) = string_bytes text
 text_of (usage.Bad text) = string_bytes text
 text_of usage.Memory = codes "error E20: out of memory\n"
 
--- what an error of this kind is told as; any may be told as want of memory, since its text needs some
+-- what an error of this kind is told as; any may be told as out of memory, since its text needs some
 abbrev pub IsKindOf : ErrorKind → Usage → Type 0
 IsKindOf k (usage.Help text) = k ≡ kind.DisplayHelp
-IsKindOf k (usage.Bad text) = (k ≢ kind.DisplayHelp) × (k ≢ kind.OutOfMemory)
+IsKindOf k (usage.Version text) = k ≡ kind.DisplayVersion
+IsKindOf k (usage.Bad text) = (k ≢ kind.DisplayHelp) × (k ≢ kind.DisplayVersion) × (k ≢ kind.OutOfMemory)
 IsKindOf k usage.Memory = Unit {0}
 
 -- memory was refused, or the text is no prefix
 abbrev pub IsNoPrefix : Text → Usage → Type 0
 IsNoPrefix text (usage.Help _) = ⊥
+IsNoPrefix text (usage.Version _) = ⊥
 IsNoPrefix text (usage.Bad _) = is_prefix text ≡ false
 IsNoPrefix text usage.Memory = Unit {0}
 
--- one of the faults is no call for help
+-- one of the faults is no call for help or the version
 abbrev pub HasOther : Kinds → Type 0
-HasOther kinds = (k : ErrorKind) × (k ≢ kind.DisplayHelp) × IsAmong k kinds
+HasOther kinds = (k : ErrorKind) × (k ≢ kind.DisplayHelp) × (k ≢ kind.DisplayVersion) × IsAmong k kinds
 
 -- words with these faults, which ask for this prefix, are refused so
 abbrev pub IsRefused : Kinds → Text → Usage → Type 0
 IsRefused kinds prefix (usage.Help _) = IsAmong kind.DisplayHelp kinds
+IsRefused kinds prefix (usage.Version _) = IsAmong kind.DisplayVersion kinds
 IsRefused kinds prefix (usage.Bad _) = HasOther kinds ⊎ ((kinds ≡ []) × (is_prefix prefix ≡ false))
 IsRefused kinds prefix usage.Memory = Unit {0}

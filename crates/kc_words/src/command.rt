@@ -7,6 +7,22 @@ ghost use Rattle.kc_words.specs.Kconf.{bare_app, kconf_app, option_rule, kconfig
 use clap::{Arg, ArgAction, Command};
 use std::alloc::{AllocError, Global};
 
+// The version of the program. It stands here alone.
+const VERSION: &str = "0.9.0";
+
+// What help says behind the options.
+const AFTER_HELP: &str = "\
+Example: bring .config up to date with a fragment, and write the lines that are enough to get it again
+  kconf --savedefconfig defconfig Kconfig site.config
+
+Exit status:
+  0  done: every file is whole
+  1  the tree was refused, or a .config line is too long: no file was begun
+  2  the command line is wrong
+  3  a device failed or there was no memory: what was begun holds a beginning
+
+Read on: man kconf; docs/formats.md has each message, its cause and what to do";
+
 // What help says of an option's value and of the option.
 #[derive(Clone, Copy)]
 struct Said {
@@ -87,9 +103,11 @@ fn with_fragments<'a>(alloc: Global, command: Command<'a>) -> Result<Command<'a>
 fn bare_command<'a>(alloc: Global) -> Command<'a>
     ensures { app_of result ≡ bare_app }
 {
-    Command::new(alloc, "kconf").no_binary_name(true).about(
-        "Computes the configuration that Kconfig files and a .config give",
-    )
+    Command::new(alloc, "kconf")
+        .no_binary_name(true)
+        .version(VERSION)
+        .about("Computes the configuration that Kconfig files and a .config give")
+        .after_help(AFTER_HELP)
 }
 
 // Adds the options.

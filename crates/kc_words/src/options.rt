@@ -129,13 +129,15 @@ fn usage_of(alloc: Global, error: &Error) -> Usage
     }
     match error.to_string(alloc) {
         Ok(text) if error.kind() == ErrorKind::DisplayHelp => Usage::Help(text),
+        Ok(text) if error.kind() == ErrorKind::DisplayVersion => Usage::Version(text),
         Ok(text) => Usage::Bad(text),
         Err(_) => Usage::Memory,
     }
 }
 
 /// Reads the words after the program's name, as the command line
-/// `[--root DIR] [--config FILE] [--out FILE] [--header FILE] [--savedefconfig FILE] [--prefix TEXT] KCONFIG [FRAGMENT ..]`
+/// `[--root DIR] [--config FILE] [--out FILE] [--header FILE] [--savedefconfig FILE] [--prefix TEXT] KCONFIG [FRAGMENT ..]`,
+/// `--help`, `-h`, `--version` or `-V`
 /// (our own; the reading of the words is that of Rust's `clap`, whose documentation has the rules).
 ///
 /// Each field is what the words hold, or for an absent option: root `.`, config `.config`, out the file of
@@ -146,9 +148,9 @@ pub fn options_of(alloc: Global, words: &[String]) -> Result<Options, Usage>
     ensures ok { IfOk result (Holds (rows_for words.now)) }
     // Options are given only where clap finds no fault in the words.
     ensures faultless { IfOk result (λ _. fault_of kconf_app (words_of words.now) ≡ []) }
-    // Help only where clap finds that it is asked for, Bad only for another of its faults or a prefix that is none.
+    // Help and the version only where clap finds that they are asked for, Bad only for another of its faults or a prefix that is none.
     ensures refused { IfErr result (IsRefused (fault_of kconf_app (words_of words.now)) (prefix_word (rows_for words.now))) }
-    // Words that the command takes, with a prefix that is one, fail only for want of memory.
+    // Words that the command takes, with a prefix that is one, fail only when out of memory.
     ensures taken { takes kconf_app (words_of words.now) ≡ true → is_prefix (prefix_word (rows_for words.now)) ≡ true → IfErr result (λ usage. usage ≡ Usage.Memory) }
 {
     let command = command(alloc)?;

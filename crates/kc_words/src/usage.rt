@@ -11,6 +11,8 @@ use std::alloc::AllocError;
 pub enum Usage {
     /// The words ask for help, by `--help` or `-h`: the help, for standard output.
     Help(String),
+    /// The words ask for the version, by `--version` or `-V`: the program's name and version, for standard output.
+    Version(String),
     /// The command does not take the words, or the prefix is none: what is wrong, for standard error.
     Bad(String),
     /// E20: a growth was refused.
@@ -31,7 +33,7 @@ impl Usage {
         ensures { result.now ≡ text_of self.now }
     {
         match self {
-            Usage::Help(text) | Usage::Bad(text) => text.as_str(),
+            Usage::Help(text) | Usage::Version(text) | Usage::Bad(text) => text.as_str(),
             Usage::Memory => "error E20: out of memory\n",
         }
     }

@@ -39,6 +39,7 @@ fn given(rt: &HostRuntime, row: &str) -> Result<String, Fail> {
     let text = match options_of(rt.alloc(), words.as_slice()) {
         Ok(options) => shown(rt, &options)?,
         Err(Usage::Help(_help)) => String::from_str(rt.alloc(), "help")?,
+        Err(Usage::Version(text)) => text,
         Err(Usage::Bad(_text)) => String::from_str(rt.alloc(), "bad")?,
         Err(Usage::Memory) => String::from_str(rt.alloc(), "memory")?,
     };
@@ -72,7 +73,7 @@ fn each_option_has_its_value_or_what_stands_for_none(rt: HostRuntime) -> Result<
 }
 
 #[test]
-fn other_words_are_bad_or_ask_for_help(rt: HostRuntime) -> Result<(), Fail> {
+fn other_words_are_bad_or_ask_for_help_or_the_version(rt: HostRuntime) -> Result<(), Fail> {
     let rows = [
         ("", "bad"),
         ("--root|d", "bad"),
@@ -88,6 +89,11 @@ fn other_words_are_bad_or_ask_for_help(rt: HostRuntime) -> Result<(), Fail> {
         ("--prefix|9X|--help", "help"),
         ("--help|--none", "help"),
         ("--none|--help", "bad"),
+        ("--version", "kconf 0.9.0\n"),
+        ("-V", "kconf 0.9.0\n"),
+        ("K|--version", "kconf 0.9.0\n"),
+        ("--version|--help", "kconf 0.9.0\n"),
+        ("--version=1", "bad"),
     ];
     for (row, want) in rows {
         assert_eq!(rt; given(&rt, row)?.as_str(), want);
@@ -99,6 +105,7 @@ fn other_words_are_bad_or_ask_for_help(rt: HostRuntime) -> Result<(), Fail> {
 fn each_usage_has_a_text(rt: HostRuntime) -> Result<(), Fail> {
     let rows = [
         ("--help", "Usage: kconf [OPTIONS] <KCONFIG> [FRAGMENT]..."),
+        ("--help", "Exit status:"),
         ("", "<KCONFIG>"),
         ("--prefix|9X|K", "invalid value '9X' for '--prefix <TEXT>'"),
     ];
