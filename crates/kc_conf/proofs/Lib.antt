@@ -1,7 +1,9 @@
+pub mod ExistenceLemmas
 pub mod ListLemmas
 pub mod PlacesLemmas
 pub mod OutcomeLemmas
 pub mod Once
 pub mod ReadsLemmas
+pub mod RerunLemmas
 pub mod RunLemmas
 pub mod StreamLemmas

@@ -7,6 +7,7 @@ use Rattle.kc_dot.specs.Reading.{Line, Read, lines_from, lines_of, reading, told
 use Rattle.kc_dot.specs.Sink.{BeginsWith, extended}
 use Rattle.kc_dot.specs.declared.fault.DotFault.{DotFault}
 use Rattle.kc_dot.specs.declared.fault.DotFault.TheVariants.{ConfigLineTooLong, Sink, Memory}
+use Rattle.kc_dot.proofs.FeedLemmas.{begins_at_break, begins_at_end}
 use Rattle.kc_dot.proofs.ReadingLemmas.{reading-nothing}
 use Rattle.kc_dot.proofs.SinkLemmas.{extended-extended, extended-nothing}
 use Rattle.kc_conf.specs.Given.{preceded, IsAtEnd, AreToCome, AreAllToCome}
@@ -146,7 +147,7 @@ module _ (tree : TreeFacts) (prefix : List ℕ) where
     )
 
     pub begins_at_sink : (new : Spot) (after : Places) (left front : List ℕ) → Because tree prefix name Sink left new after front → (rest : List ℕ) (more : List Line) → BeginsWith (reading tree prefix after (to_come tree prefix name new (left ++ rest) more)).warned front
-    begins_at_sink new after left front because = because
+    begins_at_sink new after left front because = begins_at_break tree prefix name left new after front because
 
     pub begins_at_memory : (new : Spot) (after : Places) (left front : List ℕ) → Because tree prefix name Memory left new after front → (rest : List ℕ) (more : List Line) → BeginsWith (reading tree prefix after (to_come tree prefix name new (left ++ rest) more)).warned front
     begins_at_memory new after left front because rest more = (_, ap (λ f. f ++ (reading tree prefix after (to_come tree prefix name new (left ++ rest) more)).warned) (sym because))
@@ -203,7 +204,8 @@ module _ (tree : TreeFacts) (prefix : List ℕ) where
         TakesPieces tree prefix name None given first_spot spot before places text text_mid → FailsToEnd tree prefix name fault spot places text_mid text_after →
         BreaksStream tree prefix name given before text text_after
     BreaksStream-fails (ConfigLineTooLong n) given spot before places text text_mid text_after takes never = absurd never
-    BreaksStream-fails Sink given spot before places text text_mid text_after takes (front, grew, begins) = BreaksStream-end given spot before places text text_mid text_after takes front grew begins
+    BreaksStream-fails Sink given spot before places text text_mid text_after takes (last, is, within, (front, begun, grew)) =
+        BreaksStream-end given spot before places text text_mid text_after takes front grew (begins_at_end tree prefix name spot places last front is within begun)
     BreaksStream-fails Memory given spot before places text text_mid text_after takes same =
         BreaksStream-end given spot before places text text_mid text_after takes [] (same ∙ extended-nothing text_mid) (λ more. (_, refl))
 

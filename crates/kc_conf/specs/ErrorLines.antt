@@ -1,4 +1,4 @@
--- The error lines (our own).
+-- Trusted: The error lines (our own).
 use Rattle.std.specs.Prelude.{ℕ, List, ◌++◌, Option, None, Some, codes, decimal}
 use Rattle.kc_read.specs.Expansion.{Refused}
 use Rattle.kc_read.specs.declared.refusal.Code.{Code}

@@ -1,4 +1,4 @@
--- What a run leaves, with and without a fault.
+-- Trusted: What a run leaves, with and without a fault.
 use Rattle.std.specs.Prelude.{◌≡◌, ◌⊎◌, ℕ, ◌<◌, List, [], ◌++◌, length, Option, None, Some, codes, string_bytes, slice_index, slice_index_or, slice_set, ⊤}
 use Rattle.std.specs.Option.{option_map_or}
 use Rattle.kc_dot.specs.Sink.{BeginsWith, next_failure}

@@ -1,4 +1,4 @@
--- What a run keeps for its caller.
+-- Trusted: What a run keeps for its caller.
 use Rattle.std.specs.Prelude.{◌≡◌, Option, None, Some}
 use Rattle.kc_tree.specs.TreeFacts.{TreeFacts}
 use Rattle.kc_values.specs.Needs.{needs}

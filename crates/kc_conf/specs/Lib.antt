@@ -1,7 +1,9 @@
 pub mod Places
 pub mod Given
 pub mod ErrorLines
+pub mod Existence
 pub mod Outcome
 pub mod Kept
 pub mod Reads
+pub mod Reruns
 pub mod Faults

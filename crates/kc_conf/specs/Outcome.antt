@@ -1,4 +1,4 @@
--- What a run is to leave.
+-- Trusted: What a run is to leave.
 use Rattle.std.specs.Prelude.{◌≡◌, ℕ, List, [], ◌∷◌, ◌++◌, map, flat_map, Option, None, Some, Ok, Err, codes, string_bytes}
 use Rattle.kc_read.specs.Expansion.{Refused}
 use Rattle.kc_read.specs.Files.{Files}

@@ -1,4 +1,4 @@
--- What is known of the four outputs.
+-- Trusted: What is known of the four outputs.
 use Rattle.std.specs.Prelude.{◌≡◌, ℕ, Bool, true, List, [], Option, None, Some, refl}
 use Rattle.std.specs.Option.{option_map}
 use Rattle.kc_dot.specs.Sink.{extended, next_failure, BeginsWith}

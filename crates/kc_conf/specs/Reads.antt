@@ -1,4 +1,4 @@
--- What reading the streams does.
+-- For proofs: What reading the streams does.
 use Rattle.std.specs.Prelude.{◌≡◌, ℕ, List, ◌++◌, Option, Some, None}
 use Rattle.kc_tree.specs.TreeFacts.{TreeFacts}
 use Rattle.kc_user.specs.Places.{Places as UserPlaces}

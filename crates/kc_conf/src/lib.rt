@@ -3,6 +3,7 @@
 
 mod cause;
 mod input;
+pub mod laws;
 mod notes;
 mod options;
 mod outputs;

@@ -63,7 +63,7 @@ fn words_before(code: Code) -> &'static [u8]
     }
 }
 
-// And behind it.
+// What an error line says behind the name, word or loop that it is about.
 fn words_behind(code: Code) -> &'static [u8]
     ensures { result.now ≡ words_behind code }
 {

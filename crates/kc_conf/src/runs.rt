@@ -227,7 +227,8 @@ pub fn run<I: Input, O: Outputs>(
         × ((outcome : Outcome) × IsOutcome (bytes_in files.now) options.now all outcome
         × Finishes outcome result (O.seen outputs.old) (O.seen outputs.new)) }
     ensures quiet_inputs { result ≢ Status.Faulted → map I.failures inputs.new ≡ map I.failures inputs.old }
-    // After a fault there is its cause, whose count rose by one and no other, and all before it is whole.
+    // After a fault there is its cause, whose count rose by one, and all before it is whole. No other count rose but the
+    // notes', where they fail while the error line is written.
     ensures fault { result ≡ Status.Faulted → (cause : Cause) × (all : List (List ℕ)) × AreAllToCome (map I.remaining inputs.old) all
         × CountsInputs cause (map I.failures inputs.old) (map I.failures inputs.new)
         × ((outcome : Outcome) → IsOutcome (bytes_in files.now) options.now all outcome
@@ -257,7 +258,8 @@ pub fn run_keeping<I: Input, O: Outputs>(
         × ((outcome : Outcome) × IsOutcome (bytes_in files.now) options.now all outcome
         × Finishes outcome result (O.seen outputs.old) (O.seen outputs.new)) }
     ensures quiet_inputs { result ≢ Status.Faulted → map I.failures inputs.new ≡ map I.failures inputs.old }
-    // After a fault there is its cause, whose count rose by one and no other, and all before it is whole.
+    // After a fault there is its cause, whose count rose by one, and all before it is whole. No other count rose but the
+    // notes', where they fail while the error line is written.
     ensures fault { result ≡ Status.Faulted → (cause : Cause) × (all : List (List ℕ)) × AreAllToCome (map I.remaining inputs.old) all
         × CountsInputs cause (map I.failures inputs.old) (map I.failures inputs.new)
         × ((outcome : Outcome) → IsOutcome (bytes_in files.now) options.now all outcome
@@ -281,7 +283,7 @@ pub fn run_keeping<I: Input, O: Outputs>(
 }
 
 // No tree is both accepted and refused, and none is refused in two ways.
-fn one_answer()
+pub fn one_answer()
     ensures { OneAnswer }
 {
     one_tree();

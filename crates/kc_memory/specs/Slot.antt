@@ -1,4 +1,4 @@
--- What is known of outputs in memory.
+-- Trusted: What is known of outputs in memory.
 use Rattle.std.specs.Prelude.{◌≡◌, ℕ, Some, [], false}
 use Rattle.kc_conf.specs.Places.{Place, Places}
 use Rattle.kc_memory.specs.declared.memory.Slot.{Slot}

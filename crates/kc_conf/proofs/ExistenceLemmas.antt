@@ -1,0 +1,105 @@
+-- There is an outcome.
+use Rattle.std.proofs.Common.{◌≡◌, ◌⊎◌, ℕ, ◌<◌, ◌+◌, List, [], ◌∷◌, length, map, get_or, Option, Some, None, Result, Ok, Err, refl, ap, sym, ◌∙◌, arith, inl, inr, subst}
+use Rattle.std.specs.List.{Contains, range_with_len}
+use Rattle.std.proofs.lemmas.List.FromFn.{get_or-map-range_with_len, length-map-range_with_len}
+use Rattle.kc_expr.specs.Value.{Known, Written}
+use Rattle.kc_expr.specs.declared.expression.Kind.TheVariants.{Undefined}
+use Rattle.kc_read.specs.Expansion.{Expands, Log, Refused}
+use Rattle.kc_read.specs.Files.{Files}
+use Rattle.kc_tree.specs.TreeFacts.{TreeFacts}
+use Rattle.kc_tree.specs.Trees.{IsTreeOf, TreesAreWellFormed, tree_of_log}
+use Rattle.kc_user.specs.Places.{ArePlaces, IsUserOf, Places, no_places, place_at}
+use Rattle.kc_order.specs.Laws as order
+use Rattle.kc_order.specs.Needs.{needs_in}
+use Rattle.kc_order.specs.Solution.{IsOnlySolution, Solves}
+use Rattle.kc_values.specs.Laws.{AcceptedHaveOneSolution, EquationsReadNeeds, IsAccepted, NeedsAreDefined}
+use Rattle.kc_values.specs.Needs.{needs, needs_of}
+use Rattle.kc_values.specs.Solution.{equations, symbol_count}
+use Rattle.kc_solve.specs.LoopText.{loop_text}
+use Rattle.kc_solve.specs.Refused.{loop_refused}
+use Rattle.kc_solve.specs.Solved.{Solution, value_of}
+use Rattle.kc_dot.specs.Reading.{Read, Stop}
+use Rattle.kc_dot.specs.Streams.{StreamsLeavePlaces}
+use Rattle.kc_words.specs.declared.options.Options.{Options}
+use Rattle.kc_conf.specs.ErrorLines.{refusal_line, too_long_line}
+use Rattle.kc_conf.specs.Existence.{AcceptedHaveAnOutcome, AnswerExists, OutcomeExists, SolutionExists}
+use Rattle.kc_conf.specs.Outcome.{IsAcceptedTree, IsOutcome, IsOutcomeOfReading, IsRefusedTree, IsSolutionFor, Outcome, accepted_tree, lines_text, long_line, looped, names_of, no_tree, noted, outcome_of, read_of, refused, refused_tree, root_of, streams, whole}
+
+-- ---- a solution
+
+module _ (reads : EquationsReadNeeds) (within : NeedsAreDefined) (tree : TreeFacts) (places : Places) (V : ℕ → Known) where
+  abbrev values : List Known
+  values = map V (range_with_len 0 (symbol_count tree))
+
+  abbrev listed : Solution
+  listed = record { tree = tree; places = places; values = values }
+
+  same_value : (i : ℕ) → i < symbol_count tree → value_of listed i ≡ V i
+  same_value i l = get_or-map-range_with_len V 0 (symbol_count tree) i i (Written Undefined []) l (omega arith)
+
+  needs_long : length (needs tree) ≡ symbol_count tree
+  needs_long = length-map-range_with_len (needs_of tree) 0 (symbol_count tree)
+
+  listed_solves : Solves (symbol_count tree) (equations tree (place_at places)) V → Solves (symbol_count tree) (equations tree (place_at places)) (value_of listed)
+  listed_solves solves i l =
+      let long = needs_long in
+      same_value i l ∙ solves i l
+      ∙ reads tree (place_at places) i V (value_of listed)
+      (λ t c. sym (same_value t (let lt : t < length (needs tree) = within tree i t (omega arith) c in omega arith)))
+
+  listed_only : IsOnlySolution (symbol_count tree) (equations tree (place_at places)) V → IsOnlySolution (symbol_count tree) (equations tree (place_at places)) (value_of listed)
+  listed_only only W solves i l = only W solves i l ∙ sym (same_value i l)
+
+pub solution_exists : AcceptedHaveOneSolution → EquationsReadNeeds → NeedsAreDefined → SolutionExists
+solution_exists exists reads within tree places accepted there =
+    let (V, solves, only) = exists tree (place_at places) accepted in (
+      record { tree = tree; places = places; values = map V (range_with_len 0 (symbol_count tree)) },
+      record {
+        tree_is = refl;
+        places_are = refl;
+        solves = record {
+          places = there;
+          count = length-map-range_with_len V 0 (symbol_count tree);
+          solves = listed_solves reads within tree places V solves;
+          only = listed_only reads within tree places V only;
+        };
+      },
+    )
+
+-- ---- an answer
+
+module _ (either : order.AcceptedOrStuck) (named : order.StuckHaveALoop) (within : NeedsAreDefined) where
+  tree_answer : (files : Files) (root : List ℕ) (r : Result TreeFacts Refused) → IsTreeOf files root r →
+      ((tree : TreeFacts) × IsAcceptedTree files root tree) ⊎ ((r : Refused) × IsRefusedTree files root r)
+  tree_answer files root (Err r) built = inr (r, no_tree built)
+  tree_answer files root (Ok tree) built = elim (either (needs tree)) [
+    | inl accepted ↦ inl (tree, record { built = built; accepted = accepted })
+    | inr stuck ↦
+        let (loop, is) = named (needs tree) (within tree) stuck in
+        inr (loop_refused (loop_text tree loop), looped tree (loop_text tree loop) built (loop, is, refl) refl)
+  ]
+
+  pub answer_exists : AnswerExists
+  answer_exists files root e expands = tree_answer files root (tree_of_log e) (e, expands, refl)
+
+-- ---- an outcome
+
+module _ (formed : TreesAreWellFormed) (leaves : StreamsLeavePlaces) (solved : SolutionExists) where
+  of_stop : (files : Files) (options : Options) (all : List (List ℕ)) (tree : TreeFacts) → IsAcceptedTree files (root_of options) tree →
+      (stopped : Option Stop) → (read_of options tree all).stopped ≡ stopped → (rest : Outcome) × IsOutcomeOfReading options tree (read_of options tree all) rest
+  of_stop files options all tree accepted (Some stop) is = (noted (read_of options tree all).warned (refused (too_long_line stop)), long_line stop is refl)
+  of_stop files options all tree accepted None is =
+      let held : ArePlaces tree (read_of options tree all).places = leaves tree options.prefix (streams (names_of options) all) (formed files (root_of options) tree accepted.built) in
+      let (solution, for) = solved tree (read_of options tree all).places accepted.accepted held.there in
+      (noted (read_of options tree all).warned (outcome_of options tree solution), whole solution is for refl)
+
+  pub accepted_outcome : AcceptedHaveAnOutcome
+  accepted_outcome files options all tree accepted =
+      let (rest, part) = of_stop files options all tree accepted (read_of options tree all).stopped refl in
+      (noted (lines_text tree.warnings) rest, accepted_tree tree accepted (rest, part, refl))
+
+  pub outcome_exists : AnswerExists → OutcomeExists
+  outcome_exists answer files options all e expands = elim (answer files (root_of options) e expands) [
+    | inl a ↦ accepted_outcome files options all a.0 a.1
+    | inr b ↦ (refused (refusal_line b.0), refused_tree b.0 b.1 refl)
+  ]

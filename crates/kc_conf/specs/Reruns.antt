@@ -1,0 +1,48 @@
+-- Trusted: What the texts that a run writes give when they are read again.
+use Rattle.std.specs.Prelude.{◌≡◌, ℕ, List, [], ◌∷◌, Option, Some, None, true}
+use Rattle.kc_read.specs.Files.{Files}
+use Rattle.kc_tree.specs.TreeFacts.{TreeFacts}
+use Rattle.kc_solve.specs.Solved.{Solution, value_of}
+use Rattle.kc_dot.specs.Laws.{ConfigGivesBack, MinimalGivesBack, MinimalNeedsEach}
+use Rattle.kc_dot.specs.Prefixes.{is_prefix}
+use Rattle.kc_words.specs.declared.options.Options.{Options}
+use Rattle.kc_conf.specs.Outcome.{IsAcceptedTree, IsOutcome, IsSolutionFor, Outcome, lines_text, noted, outcome_of, read_of, root_of}
+
+-- A run that refuses nothing: its tree is accepted, no line of its streams is too long, and these are the values.
+pub record IsWhole (files : Files) (options : Options) (all : List (List ℕ)) (tree : TreeFacts) (solution : Solution) : Type 0 where
+  pub accepted : IsAcceptedTree files (root_of options) tree
+  pub read_whole : (read_of options tree all).stopped ≡ None
+  pub solution_is : IsSolutionFor tree (read_of options tree all).places solution
+
+-- An outcome with a .config is that of a run that refuses nothing, and all its texts are those of the values.
+abbrev pub WrittenAreWhole : Type 0
+WrittenAreWhole =
+    (files : Files) (options : Options) (all : List (List ℕ)) (outcome : Outcome) (text : List ℕ) → IsOutcome files options all outcome → outcome.config ≡ Some text →
+    (tree : TreeFacts) × (solution : Solution) × IsWhole files options all tree solution
+    × (outcome ≡ noted (lines_text tree.warnings) (noted (read_of options tree all).warned (outcome_of options tree solution)))
+
+-- The minimal file, read alone and from empty places, gives the values back; with any nonempty set of its lines left out
+-- it does not.
+abbrev pub MinimalIsReadAgain : Type 0
+MinimalIsReadAgain =
+    (files : Files) (options : Options) (all : List (List ℕ)) (tree : TreeFacts) (solution : Solution) → is_prefix options.prefix ≡ true →
+    IsWhole files options all tree solution →
+    MinimalGivesBack tree options.prefix solution.places (value_of solution) × MinimalNeedsEach tree options.prefix solution.places (value_of solution)
+
+-- The .config, read alone and from empty places, gives the values back exactly where the rule says.
+abbrev pub ConfigIsReadAgain : Type 0
+ConfigIsReadAgain =
+    (files : Files) (options : Options) (all : List (List ℕ)) (tree : TreeFacts) (solution : Solution) → is_prefix options.prefix ≡ true →
+    IsWhole files options all tree solution → ConfigGivesBack tree options.prefix solution.places (value_of solution)
+
+-- options with the same root file and prefix, and without fragments
+pub record AreAlone (options alone : Options) : Type 0 where
+  pub root : root_of alone ≡ root_of options
+  pub prefix : alone.prefix ≡ options.prefix
+  pub no_fragments : alone.fragments.items ≡ []
+
+-- A run on the minimal file alone writes the .config that was written with it.
+abbrev pub MinimalIsRunAgain : Type 0
+MinimalIsRunAgain =
+    (files : Files) (options alone : Options) (all : List (List ℕ)) (outcome later : Outcome) (text : List ℕ) → is_prefix options.prefix ≡ true → AreAlone options alone →
+    IsOutcome files options all outcome → outcome.minimal ≡ Some text → IsOutcome files alone (text ∷ []) later → later.config ≡ outcome.config

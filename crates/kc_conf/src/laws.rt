@@ -1,0 +1,55 @@
+//! What holds of the outcomes of runs, stated as the contracts of functions that do nothing.
+ghost use Rattle.kc_conf.specs.Existence.{AcceptedHaveAnOutcome, AnswerExists, OutcomeExists, SolutionExists};
+ghost use Rattle.kc_conf.specs.Reruns.{ConfigIsReadAgain, MinimalIsReadAgain, MinimalIsRunAgain, WrittenAreWhole};
+
+use crate::runs::one_answer;
+use kc_dot::laws::{config_settles, minimal_gives_back};
+use kc_dot::place_laws::reading_leaves_allowed_places;
+use kc_order::stuck_have_a_loop;
+use kc_tree::laws::trees_are_well_formed;
+use kc_values::laws::{accepted_have_one_solution, equations_read_needs, needs_are_defined};
+
+/// An outcome with a `.config` is that of a run that refuses nothing: its tree is accepted, no line of its streams is too
+/// long, and the texts are those of the one solution. (Our own.)
+pub fn written_are_whole()
+    ensures { WrittenAreWhole }
+{}
+
+/// For every file map, options and streams whose run refuses nothing, the minimal file and the `.config` read again, each
+/// alone and from empty places: the minimal file gives the values back, and with any nonempty set of its lines left out it
+/// does not; the `.config` does exactly where no visible tristate symbol outside a choice stands above both its visibility
+/// and its reverse dependency, under the premises of `config_settles` of kc_dot. (Our own.)
+pub fn texts_are_read_again()
+    ensures minimal { MinimalIsReadAgain }
+    ensures config { ConfigIsReadAgain }
+{
+    trees_are_well_formed();
+    reading_leaves_allowed_places();
+    minimal_gives_back();
+    config_settles();
+}
+
+/// A run on the minimal file alone, with the same files, root file and prefix, writes the `.config` that was written with
+/// that file. (Our own.)
+pub fn minimal_is_run_again()
+    ensures { MinimalIsRunAgain }
+{
+    one_answer();
+    texts_are_read_again();
+}
+
+/// Where a root file has an expansion there is an outcome, whatever the options and the streams: an accepted tree has a
+/// solution, and a tree of which some symbol is stuck has a loop that is named. (Our own.)
+pub fn outcome_exists()
+    ensures solution { SolutionExists }
+    ensures answer { AnswerExists }
+    ensures accepted { AcceptedHaveAnOutcome }
+    ensures outcome { OutcomeExists }
+{
+    accepted_have_one_solution();
+    equations_read_needs();
+    needs_are_defined();
+    stuck_have_a_loop();
+    trees_are_well_formed();
+    reading_leaves_allowed_places();
+}
