@@ -1,4 +1,4 @@
--- What is known of devices on a disk.
+-- Trusted: What is known of devices on a disk.
 use Rattle.std.specs.Prelude.{ℕ, ◌-◌, ◌^◌, false, None}
 use Rattle.kc_conf.specs.Places.{Place, Places}
 use Rattle.kc_conf.specs.declared.options.Status.{Status}

@@ -1,4 +1,4 @@
--- What reaches a file before a fault.
+-- For proofs: What reaches a file before a fault.
 use Rattle.std.specs.Prelude.{ℕ, List, Option}
 use Rattle.std.specs.Io.KnownBytes.{Appends}
 use Rattle.kc_dot.specs.Sink.{BeginsWith}

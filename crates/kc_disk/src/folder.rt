@@ -1,7 +1,8 @@
 //! The files of a tree on a disk.
-ghost use Rattle.std.specs.Prelude.{◌≡◌, None};
+ghost use Rattle.std.specs.Prelude.{◌≡◌, None, IfOk};
 
 use kc_load::{Folder, FolderFault};
+use std::alloc::AllocError;
 use std::fs::File;
 use std::io::{self, ErrorKind, Read};
 
@@ -12,23 +13,43 @@ use std::io::{self, ErrorKind, Read};
 #[derive(Drop)]
 pub(crate) struct Disk<'a> {
     rt: &'a HostRuntime,
+    // What is read of a file goes through it. It is made once, so that no room is made zero for each file.
+    buffer: Vec<u8>,
     failures: u64,
 }
 
 impl<'a> Disk<'a> {
-    pub(crate) fn new(rt: &'a HostRuntime) -> Disk<'a>
-        ensures { result.failures ≡ 0 }
+    pub(crate) fn new(rt: &'a HostRuntime) -> Result<Disk<'a>, AllocError>
+        ensures { IfOk result (λ disk. disk.failures ≡ 0) }
     {
-        Disk { rt, failures: 0 }
+        let alloc = rt.alloc();
+        let buffer = vec![in alloc; 0; ROOM]?;
+        Ok(Disk {
+            rt,
+            buffer,
+            failures: 0,
+        })
     }
 }
 
-// The bytes of a file, read into room for as many as the disk tells.
-fn read_whole(rt: &HostRuntime, path: &str) -> io::Result<Vec<u8>> {
+// How many bytes are read at once.
+const ROOM: usize = 65_536;
+
+// The bytes of a file, read through the buffer. A read that was interrupted is tried again.
+fn read_whole(rt: &HostRuntime, path: &str, buffer: &mut [u8]) -> io::Result<Vec<u8>> {
     let mut file = File::open(rt, path)?;
-    let size = file.metadata()?.len() as usize;
-    let mut bytes = Vec::with_capacity(rt.alloc(), size.saturating_add(1))?;
-    file.read_to_end(&mut bytes)?;
+    let mut bytes = Vec::new(rt.alloc());
+    for _ in 0..u64::MAX {
+        let count = match file.read(buffer) {
+            Ok(count) => count,
+            Err(error) if error.kind() == ErrorKind::Interrupted => continue,
+            Err(error) => return Err(error),
+        };
+        if count == 0 {
+            return Ok(bytes);
+        }
+        bytes.extend_from_slice(&buffer[..count])?;
+    }
     Ok(bytes)
 }
 
@@ -38,7 +59,7 @@ impl<'a> Folder for Disk<'a> {
     ghost failures = { λ s. s.failures };
 
     fn read(&mut self, path: &str) -> Result<Option<Vec<u8>>, FolderFault> {
-        match read_whole(self.rt, path) {
+        match read_whole(self.rt, path, &mut self.buffer) {
             Ok(bytes) => Ok(Some(bytes)),
             Err(error) if error.kind() == ErrorKind::NotFound => Ok(None),
             Err(error) if error.kind() == ErrorKind::OutOfMemory => Err(FolderFault::Memory),

@@ -9,6 +9,10 @@ use kc_dot::Fault;
 use kc_words::Options;
 use std::alloc::{AllocError, Global};
 use std::fs::File;
+use std::os::fd::AsFd;
+
+// What the system answers where a descriptor is not open.
+const NOT_OPEN: i32 = 9;
 
 // The file that is being written.
 #[derive(Drop)]
@@ -22,6 +26,10 @@ struct Open {
 /// The bytes of a file wait in one buffer, so a file's fault may be seen as late as at the begin of the next file, which
 /// is then not begun, or at the end. `late` names such a file. The notes take nothing then: the error line with that
 /// file's name is written by who owns the outputs.
+///
+/// A line of the notes waits until its line feed has come and goes out in one write, so that lines of several processes
+/// on one log do not mix. A line of more than 65,536 bytes goes out in pieces. Where standard error was closed when the
+/// outputs were made, the notes fail: its descriptor may be that of a file that was opened since.
 #[derive(Drop)]
 pub(crate) struct FileOutputs<'a> {
     rt: &'a HostRuntime,
@@ -29,7 +37,17 @@ pub(crate) struct FileOutputs<'a> {
     buffer: Buffer,
     open: Option<Open>,
     late: Option<Which>,
+    line: Buffer,
+    has_notes: bool,
     records: Records,
+}
+
+// Whether standard error is open.
+fn has_stderr(rt: &HostRuntime) -> bool {
+    match rt.stderr().as_fd().try_clone_to_owned() {
+        Ok(_) => true,
+        Err(error) => error.raw_os_error() != Some(NOT_OPEN),
+    }
 }
 
 /// The name of an output, as the options have it.
@@ -43,7 +61,7 @@ pub(crate) fn name_of(options: &Options, which: Which) -> &str {
 }
 
 impl<'a> FileOutputs<'a> {
-    /// Outputs of which none was begun or has failed.
+    /// Outputs of which none was begun or has failed. They are made before any other file is open.
     pub(crate) fn new(
         alloc: Global,
         rt: &'a HostRuntime,
@@ -55,6 +73,8 @@ impl<'a> FileOutputs<'a> {
             buffer: Buffer::new(alloc)?,
             open: None,
             late: None,
+            line: Buffer::new(alloc)?,
+            has_notes: has_stderr(rt),
             records: Records::new(),
         })
     }
@@ -106,19 +126,26 @@ impl<'a> FileOutputs<'a> {
         Err(Fault)
     }
 
-    // Writes a beginning of the bytes to standard error. An interrupted or empty write is a fault.
-    fn note(&self, bytes: &[u8]) -> Result<usize, Fault>
+    // Takes a beginning of the bytes for standard error, and writes the line that ends with them. An interrupted or empty
+    // write is a fault.
+    fn note(&mut self, bytes: &[u8]) -> Result<usize, Fault>
         requires { 0 < length bytes.now }
         ensures some { IfOk result (λ count. 0 < count) }
         ensures within { IfOk result (λ count. count ≤ length bytes.now) }
+        ensures records { self.new.records ≡ self.old.records }
     {
         if self.late.is_some() {
             return Ok(bytes.len());
         }
-        match self.rt.stderr().write_some(bytes) {
-            Ok(0) | Err(_) => Err(Fault),
-            Ok(count) => Ok(count),
+        if !self.has_notes {
+            return Err(Fault);
         }
+        let mut stderr = self.rt.stderr();
+        let count = self.line.take(bytes, &mut stderr)?;
+        if bytes[..count].ends_with(b"\n") {
+            self.line.flush(&mut stderr)?;
+        }
+        Ok(count)
     }
 
     /// Writes what still waits. Answers the file whose fault was not told before.

@@ -1,5 +1,5 @@
 //! The work of the program.
-ghost use Rattle.std.specs.Prelude.{◌≡◌, ◌+◌, length, vec_len, IfOk};
+ghost use Rattle.std.specs.Prelude.{◌≡◌, ◌+◌, length, vec_len, flat_map, IfOk};
 ghost use Rattle.kc_disk.specs.Devices.{exit_status};
 
 use crate::folder::Disk;
@@ -9,11 +9,27 @@ use crate::words::words;
 use kc_conf::{Status, run_keeping};
 use kc_load::{LoadFault, load};
 use kc_words::{Options, Usage, options_of};
-use std::alloc::AllocError;
+use std::alloc::{AllocError, Global};
 use std::mem;
 
-// Writes the parts of a line to standard error. A fault in it changes nothing.
+// The parts, one behind another.
+fn joined(alloc: Global, parts: &[&[u8]]) -> Result<Vec<u8>, AllocError>
+    ensures { IfOk result (λ line. line.items ≡ flat_map (λ part. part.now) parts.now) }
+{
+    let mut line = Vec::new(alloc);
+    for part in parts {
+        line.extend_from_slice(part)?;
+    }
+    Ok(line)
+}
+
+// Writes a line to standard error in one write, or part by part where there is no memory for it. A fault in it changes
+// nothing.
 fn complain(rt: &HostRuntime, parts: &[&[u8]]) {
+    if let Ok(line) = joined(rt.alloc(), parts) {
+        let _ = rt.stderr().write_all(&line);
+        return;
+    }
     for part in parts {
         let _ = rt.stderr().write_all(part);
     }
@@ -23,7 +39,7 @@ fn complain(rt: &HostRuntime, parts: &[&[u8]]) {
 fn print_usage(rt: &HostRuntime, usage: &Usage) -> Status {
     let text = usage.text().as_bytes();
     match usage {
-        Usage::Help(_) => {
+        Usage::Help(_) | Usage::Version(_) => {
             let _ = rt.stdout().write_all(text);
             Status::Done
         }
@@ -58,7 +74,8 @@ fn run_files(rt: &HostRuntime, options: &Options) -> Result<Status, LoadFault> {
     let alloc = rt.alloc();
     let root = options.root.as_str();
     let kconfig = options.kconfig.as_str();
-    let files = load(alloc, &mut Disk::new(rt), root, kconfig)?;
+    let mut disk = Disk::new(rt)?;
+    let files = load(alloc, &mut disk, root, kconfig)?;
     let mut inputs = inputs_of(rt, options)?;
     let mut outputs = FileOutputs::new(alloc, rt, options)?;
     let mut kept = None;
@@ -81,7 +98,7 @@ fn run_files(rt: &HostRuntime, options: &Options) -> Result<Status, LoadFault> {
 /// writes the files and the notes (our own).
 ///
 /// The help goes to standard output and a bad command line is told on standard error. A file of the tree that cannot be
-/// read is E18, want of memory E20; each is one line on standard error, and no file is begun then.
+/// read is E18, out of memory E20; each is one line on standard error, and no file is begun then.
 ///
 /// It is made for a program that ends afterwards: the memory of the tree and of its files is left to the end of the
 /// process, so each call of a process that goes on keeps that much.

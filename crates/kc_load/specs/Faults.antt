@@ -1,4 +1,4 @@
--- Why loading ends early.
+-- Trusted: Why loading ends early.
 use Rattle.std.specs.Prelude.{◌≡◌, ℕ, ◌≤◌, List, None}
 use Rattle.kc_read.specs.Files.{bytes_in}
 use Rattle.kc_load.specs.Folders.{Told, next_failure}
@@ -18,7 +18,7 @@ abbrev pub IsLoadFault : Told → List ℕ → List ℕ → LoadFault → Type 0
 IsLoadFault told dir first (CannotRead name) = IsNext told dir first name.items
 IsLoadFault told dir first Memory = Unit {0}
 
--- the device's failure is counted, want of memory is not
+-- the device's failure is counted, being out of memory is not
 abbrev pub counted_load : LoadFault → ℕ → ℕ
 counted_load (CannotRead name) n = next_failure n
 counted_load Memory n = n

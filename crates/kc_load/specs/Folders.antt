@@ -1,4 +1,4 @@
--- What a folder tells of its files.
+-- Trusted: What a folder tells of its files.
 use Rattle.std.specs.Prelude.{◌≡◌, ℕ, ◌+◌, ◌-◌, ◌^◌, ◌++◌, ◌∷◌, List, [], Bool, true, false, ◌==◌, min, Option, Some, None, if◌then◌else◌}
 use Rattle.kc_load.specs.declared.folder.FolderFault.{FolderFault}
 use Rattle.kc_load.specs.declared.folder.FolderFault.TheVariants.{Device, Memory}
@@ -16,7 +16,7 @@ AnswersAs (Some files) path found = files path ≡ found
 abbrev pub next_failure : ℕ → ℕ
 next_failure n = min (n + 1) (2 ^ 64 - 1)
 
--- a failure of the device is counted, want of memory is not
+-- a failure of the device is counted, being out of memory is not
 abbrev pub counted : FolderFault → ℕ → ℕ
 counted Device n = next_failure n
 counted Memory n = n

@@ -34,7 +34,7 @@ pub fn load<F: Folder>(
     ensures quiet { OnOk result (F.failures folder.new ≡ F.failures folder.old) }
     // A file that could not be read is one whose turn it was.
     ensures fault { IfErr result (IsLoadFault (F.files folder.old) root.now kconfig.now) }
-    // The device's failure is counted, want of memory is not.
+    // The device's failure is counted, being out of memory is not.
     ensures counted { IfErr result (λ fault. F.failures folder.new ≡ counted_load fault (F.failures folder.old)) }
 {
     let mut loading = Loading::new(alloc, kconfig)?;

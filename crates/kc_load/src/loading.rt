@@ -106,7 +106,7 @@ impl Loading {
         Ok(())
     }
 
-    // The name has its turn.
+    // Reads the file of this name, where it was not asked for before, and keeps the names of its `source` lines for later.
     pub(crate) fn visit<F: Folder>(
         &mut self,
         folder: &mut F,

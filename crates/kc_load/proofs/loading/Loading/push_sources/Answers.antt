@@ -5,7 +5,7 @@ use Rattle.kc_load.proofs.loading.Loading.push_sources.Goals as goal
 pub returns : goal.returns
 returns c = record {
   names = map (λ v. v.items) c.in_ok-names.names.items;
-  sources = c.in_ok-names.ensures;
+  sources = c.in_ok-names.ensures.names;
   waiting_is = waits_more _ _ c.in_ok-names.names.items _ c.in_ok-append.ensures.items c.reverse.ensures.items;
   files_are = refl;
   asked_are = refl;
