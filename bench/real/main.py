@@ -1,0 +1,110 @@
+"""kconf on the trees of others, beside their own tools: see bench/real.sh."""
+
+import os
+import pathlib
+import shutil
+import subprocess
+import sys
+import tempfile
+import time
+
+import builds
+import trees
+from conf import environment
+from debian import say
+from known import Known
+from runs import Runs, told
+
+HERE = pathlib.Path(__file__).resolve().parent
+# What the trees' own tools are built with, and the compiler for arm64: each program with its packages and what they go by.
+PROGRAMS = {
+    "flex": ["flex"],
+    "bison": ["bison"],
+    "m4": ["m4"],
+    "aarch64-linux-gnu-gcc-12": ["gcc-12-aarch64-linux-gnu", "cpp-12-aarch64-linux-gnu", "binutils-aarch64-linux-gnu", "libgcc-12-dev-arm64-cross"],
+}
+BUILDS = {"seabios": builds.seabios_of, "toybox": builds.toybox_of}
+
+
+def programs(place):
+    """Puts the programs that are wanted on the path: the machine's own where it is there, else from its packages, unpacked."""
+    for name, packages in PROGRAMS.items():
+        if shutil.which(name):
+            continue
+        folder = place.package(*packages) / "usr"
+        os.environ["PATH"] = f"{os.environ['PATH']}:{folder / 'bin'}"
+        if name == "m4":
+            os.environ["M4"] = str(folder / "bin/m4")
+        elif name == "bison":
+            os.environ["BISON_PKGDATADIR"] = str(folder / "share/bison")
+        elif packages[1:]:
+            libraries = next(folder.glob("lib/*/libbfd-*.so")).parent
+            os.environ["LD_LIBRARY_PATH"] = f"{libraries}:{os.environ.get('LD_LIBRARY_PATH', '')}".rstrip(":")
+
+
+def library(place):
+    """The companion's library: the machine's own where it is there, else from its package, unpacked."""
+    if subprocess.run(["/usr/bin/python3", "-c", "import kconfiglib"], capture_output=True, check=False).returncode:
+        os.environ["PYTHONPATH"] = str(place.package("python3-kconfiglib") / "usr/lib/python3/dist-packages")
+
+
+def flat(tree, place):
+    """The tree as kconf takes it: as it is, or as the companion writes it."""
+    if tree.flattened is None:
+        return tree.folder, tree.kconfig
+    made = place.folder / "flat" / f"{tree.name}.Kconfig"
+    made.parent.mkdir(exist_ok=True)
+    made.with_suffix(".settings").write_text("".join(f"{name}={value}\n" for name, value in tree.settings.items()))
+    companion = os.environ.get("KCONF_FLATTEN") or str(HERE.parent.parent / "tools" / "kconf-flatten")
+    say([companion, *tree.flattened, "--out", str(made), tree.kconfig], cwd=tree.folder, env=environment(tree.settings))
+    return made.parent, made.name
+
+
+def one_tree(name, place, kconf, known):
+    """All runs of a tree."""
+    began = time.monotonic()
+    tree = trees.TREES[name](place)
+    print(f"{name}: {tree.kconfig}", flush=True)
+    runs = Runs(tree, kconf, flat(tree, place), place.folder / "runs" / name)
+    summary = told(tree, runs.all(place.none), known)
+    print(f"  {time.monotonic() - began:.0f} s", flush=True)
+    return summary
+
+
+def table(summaries):
+    """The summary of all trees."""
+    print(f"\n{'tree':<14}{'configurations':>15}{'values compared':>17}{'differing':>11}{'known':>7}{'faults':>8}")
+    for each in summaries:
+        print(f"{each.tree:<14}{each.configurations:>15}{each.compared:>17}{each.differing:>11}{each.known:>7}{each.faults:>8}")
+
+
+def build_linux(place, kconf, known):
+    """Prepares a build of Linux from Debian's configuration, by the flat file that the runs of the tree made."""
+    tree = trees.linux_x86(place)
+    start = tree.starts["config.amd64_none_amd64"]
+    flat_file = place.folder / "flat" / f"{tree.name}.Kconfig"
+    return builds.linux(tree, flat_file, start, place.folder / "build/linux", known, kconf, place.package("libelf-dev", "libelf1"))
+
+
+def main():
+    kconf = pathlib.Path(os.environ.get("KCONF") or HERE.parent.parent / "crates/kconf/out/kconf").resolve()
+    if not os.access(kconf, os.X_OK):
+        sys.exit(f"there is no {kconf}: make build makes it")
+    folder = os.environ.get("KCONF_TREES") or tempfile.gettempdir() + "/kconf-trees"
+    place = trees.Place(folder)
+    programs(place)
+    library(place)
+    known, names = Known(), sys.argv[1:] or list(trees.TREES)
+    summaries = [one_tree(name, place, kconf, known) for name in names]
+    table(summaries)
+    for entry in known.unmet(names):
+        print(f"known, and not met: {' '.join(entry)}")
+    print()
+    built = [builds.pair(name, BUILDS[name], place.tree(name), place.folder / "build", kconf) for name in names if name in BUILDS]
+    if "linux-x86" in names:
+        built.append(build_linux(place, kconf, known))
+    sys.exit(not all(built) or any(each.faults or each.differing > each.known for each in summaries))
+
+
+if __name__ == "__main__":
+    main()

@@ -1,0 +1,123 @@
+"""The runs of a tree: from each of its configurations kconf and the tree's own tool, and what differs."""
+
+import concurrent.futures
+import dataclasses
+import pathlib
+import shutil
+import subprocess
+
+import dotconfig
+from conf import environment
+from trees import DOLLAR
+
+AT_ONCE = 3
+MODES = [("allyesconfig", 0), ("allnoconfig", 0)] + [("randconfig", seed) for seed in range(1, 6)]
+
+
+@dataclasses.dataclass
+class Outcome:
+    """One run: what differs as (symbol, here, there), how many symbols were compared, and what else went wrong."""
+
+    start: str
+    differs: list = dataclasses.field(default_factory=list)
+    compared: int = 0
+    faults: list = dataclasses.field(default_factory=list)
+    lines: tuple = (0, 0, 0)
+
+
+@dataclasses.dataclass
+class Summary:
+    """All runs of a tree."""
+
+    tree: str
+    configurations: int = 0
+    compared: int = 0
+    differing: int = 0
+    known: int = 0
+    faults: int = 0
+
+
+class Runs:
+    """The runs of one tree, over its flat file where it has one."""
+
+    def __init__(self, tree, kconf, flat, work):
+        self.tree, self.kconf, self.work = tree, kconf, work
+        self.root, self.kconfig = flat
+        shutil.rmtree(work, ignore_errors=True)
+        work.mkdir(parents=True)
+
+    def ours(self, config, made, *more):
+        """Runs kconf from one .config to another; its notes where it fails."""
+        command = [str(self.kconf), "--root", str(self.root), "--prefix", self.tree.prefix, "--config", str(config), "--out", f"{made}.config", *more]
+        ran = subprocess.run([*command, self.kconfig], stdin=subprocess.DEVNULL, capture_output=True, env=environment({}), check=False)
+        if ran.returncode:
+            return [f"kconf ended with status {ran.returncode}: {ran.stderr.decode(errors='replace').splitlines()[-1:]}"]
+        return []
+
+    def start(self, name, place):
+        """The .config to begin with: one of the tree's own, or what its tool makes."""
+        if name in self.tree.starts:
+            return self.tree.starts[name]
+        if name == "no .config":
+            return place
+        mode, seed = name.split()
+        config = self.work / f"{mode}-{seed}.start"
+        self.tree.tool.made(f"--{mode}", seed, config)
+        return config
+
+    def files(self, made, outcome):
+        """Whether the header says what the .config does, and whether the minimal file restores it."""
+        found = dotconfig.lines(f"{made}.config", self.tree.prefix)
+        if not dotconfig.says(dotconfig.header(f"{made}.h", self.tree.prefix), found):
+            outcome.faults.append("the header says something else than the .config")
+        outcome.faults += self.ours(f"{made}.min", f"{made}.again")
+        if pathlib.Path(f"{made}.config").read_bytes() != pathlib.Path(f"{made}.again.config").read_bytes():
+            outcome.faults.append("the minimal file does not restore the .config")
+
+    def here(self, config):
+        """The lines of a .config of ours, each literal $ as the tree has it."""
+        return {name: value.replace(DOLLAR, "$") for name, value in dotconfig.lines(config, self.tree.prefix).items()}
+
+    def one(self, number, name, none):
+        """One run."""
+        outcome = Outcome(name)
+        made, theirs = self.work / f"{number:03d}", self.work / f"{number:03d}.theirs"
+        try:
+            start = self.start(name, none)
+            outcome.faults += self.ours(start, made, "--header", f"{made}.h", "--savedefconfig", f"{made}.min")
+            if not outcome.faults:
+                self.files(made, outcome)
+                self.tree.tool.completed(start, theirs)
+                here, there = self.here(f"{made}.config"), dotconfig.lines(theirs, self.tree.prefix)
+                names, outcome.compared = dotconfig.differing(here, there)
+                outcome.differs = [(symbol, here.get(symbol, "no line"), there.get(symbol, "no line")) for symbol in names]
+        except RuntimeError as error:
+            outcome.faults.append(str(error))
+        return outcome
+
+    def all(self, none):
+        """All runs, some at once, in order."""
+        names = ["no .config", *self.tree.starts, *(f"{mode} {seed}" for mode, seed in MODES)]
+        with concurrent.futures.ThreadPoolExecutor(AT_ONCE) as pool:
+            return list(pool.map(lambda pair: self.one(pair[0], pair[1], none), enumerate(names)))
+
+
+def told(tree, outcomes, known):
+    """Prints what differs in the runs of a tree, each symbol once for each reason, and gives the summary."""
+    summary, groups = Summary(tree.name, len(outcomes)), {}
+    for outcome in outcomes:
+        summary.compared += outcome.compared
+        summary.differing += len(outcome.differs)
+        summary.faults += len(outcome.faults)
+        for fault in outcome.faults:
+            print(f"  {outcome.start}: {fault}")
+        for symbol, here, there in outcome.differs:
+            reason = known.reason(tree.name, symbol, here, there)
+            summary.known += reason is not None
+            symbols = groups.setdefault(f"known: {reason}" if reason else "NOT KNOWN", {})
+            symbols.setdefault(symbol, []).append(f"{here} here, {there} there, from {outcome.start}")
+    for reason, symbols in sorted(groups.items()):
+        print(f"  {reason}: {sum(map(len, symbols.values()))} values of {len(symbols)} symbols")
+        for symbol, runs in sorted(symbols.items()):
+            print(f"    {symbol}: {runs[0]}{f' and {len(runs) - 1} more' if runs[1:] else ''}")
+    return summary
