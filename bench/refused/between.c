@@ -1,0 +1,146 @@
+/*
+ * Stands between a program and the C library, counts its calls of one kind, and refuses one of them.
+ *
+ * KIND names the kind. REFUSED is the number of the call that is refused, counted from 1; with 0 none is. Where LASTING is
+ * there, each later call of the kind for the same file is refused too. A refused call of the kinds "short read" and "short
+ * write" moves one byte, one of the kinds "interrupted read" and "interrupted write" is told to be tried again.
+ * When the program ends, the file that REPORT names gets one line: how many calls of the kind there were, and what the refused
+ * one was for: '<' or '>' and the name of a file that was opened to read or to write, or ">&2" for standard error.
+ */
+#define _GNU_SOURCE
+#include <dlfcn.h>
+#include <errno.h>
+#include <fcntl.h>
+#include <stdarg.h>
+#include <stdio.h>
+#include <stdlib.h>
+#include <string.h>
+#include <sys/stat.h>
+#include <sys/types.h>
+#include <unistd.h>
+
+#define FILES 64
+
+static const char *kind = "";
+static long refused, calls;
+static int lasting;
+static char files[FILES][512] = {"<&0", ">&1", ">&2"};
+static char struck[512];
+
+#define REAL(name, result, ...) \
+    static result (*real)(__VA_ARGS__); \
+    if (!real) *(void **)&real = dlsym(RTLD_NEXT, name)
+
+__attribute__((constructor)) static void begin(void) {
+    refused = getenv("REFUSED") ? atol(getenv("REFUSED")) : 0;
+    lasting = getenv("LASTING") != NULL;
+    kind = getenv("KIND") ? getenv("KIND") : "";
+}
+
+__attribute__((destructor)) static void end(void) {
+    const char *name = getenv("REPORT");
+    FILE *file;
+    kind = "";
+    file = name ? fopen(name, "w") : NULL;
+    if (file) {
+        fprintf(file, "%ld %s\n", calls, struck);
+        fclose(file);
+    }
+}
+
+/* Counts a call of this kind. The answer is whether it is refused. */
+static int is_refused(const char *name, const char *file) {
+    if (strcmp(kind, name)) return 0;
+    calls += 1;
+    if (calls == refused) snprintf(struck, sizeof struck, "%s", file);
+    return refused && (calls == refused || (lasting && calls > refused && !strcmp(struck, file)));
+}
+
+static const char *file_of(int file) { return file >= 0 && file < FILES ? files[file] : "?"; }
+
+static int opened(int file, const char *path, int flags) {
+    if (file >= 0 && file < FILES)
+        snprintf(files[file], sizeof files[file], "%c%s", (flags & O_ACCMODE) == O_RDONLY ? '<' : '>', path);
+    return file;
+}
+
+static int is_open_refused(const char *path, int flags) {
+    char file[512];
+    snprintf(file, sizeof file, "%c%s", (flags & O_ACCMODE) == O_RDONLY ? '<' : '>', path);
+    return is_refused("open", file);
+}
+
+void *malloc(size_t size) {
+    REAL("malloc", void *, size_t);
+    if (is_refused("growth", "")) return errno = ENOMEM, NULL;
+    return real(size);
+}
+
+void *realloc(void *old, size_t size) {
+    REAL("realloc", void *, void *, size_t);
+    if (is_refused("growth", "")) return errno = ENOMEM, NULL;
+    return real(old, size);
+}
+
+int open(const char *path, int flags, ...) {
+    va_list more;
+    mode_t mode;
+    REAL("open", int, const char *, int, ...);
+    va_start(more, flags);
+    mode = flags & O_CREAT ? va_arg(more, mode_t) : 0;
+    va_end(more);
+    if (is_open_refused(path, flags)) return errno = EIO, -1;
+    return opened(real(path, flags, mode), path, flags);
+}
+
+int open64(const char *path, int flags, ...) {
+    va_list more;
+    mode_t mode;
+    va_start(more, flags);
+    mode = flags & O_CREAT ? va_arg(more, mode_t) : 0;
+    va_end(more);
+    return open(path, flags, mode);
+}
+
+int statx(int folder, const char *path, int flags, unsigned mask, struct statx *told) {
+    REAL("statx", int, int, const char *, int, unsigned, struct statx *);
+    if (is_refused("statx", *path ? path : file_of(folder))) return errno = EIO, -1;
+    return real(folder, path, flags, mask, told);
+}
+
+ssize_t read(int file, void *bytes, size_t count) {
+    REAL("read", ssize_t, int, void *, size_t);
+    if (is_refused("read", file_of(file))) return errno = EIO, -1;
+    if (is_refused("interrupted read", file_of(file))) return errno = EINTR, -1;
+    if (is_refused("short read", file_of(file)) && count) count = 1;
+    return real(file, bytes, count);
+}
+
+ssize_t write(int file, const void *bytes, size_t count) {
+    REAL("write", ssize_t, int, const void *, size_t);
+    if (is_refused("write", file_of(file))) return errno = ENOSPC, -1;
+    if (is_refused("interrupted write", file_of(file))) return errno = EINTR, -1;
+    if (is_refused("short write", file_of(file)) && count) count = 1;
+    return real(file, bytes, count);
+}
+
+ssize_t __write(int file, const void *bytes, size_t count) { return write(file, bytes, count); }
+
+int close(int file) {
+    int is_struck = is_refused("close", file_of(file));
+    REAL("close", int, int);
+    if (real(file)) return -1;
+    return is_struck ? (errno = EIO, -1) : 0;
+}
+
+int fsync(int file) {
+    REAL("fsync", int, int);
+    if (is_refused("sync", file_of(file))) return errno = EIO, -1;
+    return real(file);
+}
+
+int fdatasync(int file) {
+    REAL("fdatasync", int, int);
+    if (is_refused("sync", file_of(file))) return errno = EIO, -1;
+    return real(file);
+}

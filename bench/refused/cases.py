@@ -1,0 +1,233 @@
+"""The runs that the checker makes, and what each has to leave.
+
+The texts follow from the rules of docs/formats.md and docs/language.md, worked by hand or, in the wide tree, by a few lines
+beside the tree itself; none was taken from a run. Those of the firmware are the stored texts of crates/kconf_firmware.
+"""
+
+import dataclasses
+import pathlib
+
+TOP = pathlib.Path(__file__).resolve().parent.parent.parent
+
+
+def config_of(text, title="Main menu"):
+    """A full .config: its heading, and what stands behind it."""
+    return f"#\n# Automatically generated file; DO NOT EDIT.\n# {title}\n#\n{text}"
+
+
+def header_of(text, title="Main menu"):
+    """A header: its heading, and what stands behind it."""
+    return f"/*\n * Automatically generated file; DO NOT EDIT.\n * {title}\n */\n{text}"
+
+
+@dataclasses.dataclass
+class Case:
+    """One run: its files, its words, and what it has to leave. A refused tree has no outputs, and its last note says why."""
+
+    name: str
+    tree: dict  # the files of the tree by their names, the root file first
+    notes: str
+    settings: str = None  # the .config, start.config; None: there is none
+    fragments: dict = dataclasses.field(default_factory=dict)
+    outputs: dict = dataclasses.field(default_factory=dict)  # out.config, out.h and out.min, those that are asked for, in this order
+    status: int = 0
+    root: str = "."
+    prefix: str = None
+
+    def words(self):
+        """The words behind the program's name."""
+        said = ["--root", self.root, "--config", "start.config", "--out", "out.config"]
+        if "out.h" in self.outputs:
+            said += ["--header", "out.h"]
+        if "out.min" in self.outputs:
+            said += ["--savedefconfig", "out.min"]
+        if self.prefix is not None:
+            said += ["--prefix", self.prefix]
+        return said + [next(iter(self.tree)), *self.fragments]
+
+    def inputs(self):
+        """Each file that is there before the run, by its path."""
+        there = {f"{self.root}/{name}": text for name, text in self.tree.items()}
+        if self.settings is not None:
+            there["start.config"] = self.settings
+        return there | self.fragments
+
+
+def outputs(config, header=None, minimal=None, title="Main menu"):
+    """The outputs behind their headings, those that are asked for."""
+    texts = {"out.config": config_of(config, title)}
+    if header is not None:
+        texts["out.h"] = header_of(header, title)
+    if minimal is not None:
+        texts["out.min"] = minimal
+    return texts
+
+
+TWO = 'config A\n\tbool "a"\n\tdefault y\n\nconfig B\n\tbool "b"\n\tdepends on A\n'
+
+RANGED = 'config N\n\tint "n"\n\trange 5 10\n\tdefault 20\n'
+
+SELECTED = 'config A\n\tbool "a"\n\tdefault y\n\tselect B\nconfig B\n\tbool "b"\n\tdepends on C\nconfig C\n\tbool "c"\n'
+
+MODULES = 'config MODULES\n\tdef_bool y\nconfig T\n\ttristate\n\tdefault m\nconfig A\n\ttristate "a" if T\n\tdefault y\n'
+
+ILL = """config A
+	bool "a"
+	string "s"
+config B
+config C
+	def_bool y
+	select D
+	imply D
+	select E
+config D
+	int "d"
+choice
+	prompt "ch"
+	default C
+config E
+	bool "e"
+endchoice
+"""
+
+ILL_NOTES = """Kconfig:3: warning K1: type of A redefined, the first is kept
+Kconfig:3: warning K2: prompt of A redefined, the last is kept
+Kconfig:4: warning K3: B has no type
+Kconfig:7: warning K4: D is not bool or tristate, the select has no effect
+Kconfig:8: warning K4: D is not bool or tristate, the imply has no effect
+Kconfig:9: warning K6: E is a choice member, the select has no effect
+Kconfig:14: warning K5: C is not a member of the choice
+"""
+
+SMALL = [
+    Case(
+        name="the warnings of a .config",
+        tree={"Kconfig": TWO},
+        settings="CONFIG_A=y\nCONFIG_Q=y\nCONFIG_B=m\njunk\n# CONFIG_A is not set\n",
+        outputs=outputs("# CONFIG_A is not set\n", "", "# CONFIG_A is not set\n"),
+        notes="start.config:2: warning K7: unknown symbol Q\n"
+        "start.config:3: warning K8: value not allowed for B\n"
+        "start.config:4: warning K9: malformed line\n"
+        "start.config:5: warning K10: A is set again\n",
+    ),
+    Case(
+        name="the warnings of values",
+        tree={"Kconfig": RANGED},
+        settings="CONFIG_N=3\n",
+        outputs=outputs("CONFIG_N=10\n", "#define CONFIG_N 10\n", ""),
+        notes="warning K12: user value 3 of N is outside 5 to 10\nwarning K13: default 20 of N is outside 5 to 10, 10 is used\n",
+    ),
+    Case(
+        name="a select, and no .config",
+        tree={"Kconfig": SELECTED},
+        outputs=outputs("CONFIG_A=y\nCONFIG_B=y\n# CONFIG_C is not set\n", None, ""),
+        notes="warning K11: B is selected to y while its dependency is n\n",
+    ),
+    Case(
+        name="the warnings of a tree, in a folder",
+        tree={"Kconfig": ILL},
+        root="tree",
+        outputs=outputs(
+            "# CONFIG_A is not set\nCONFIG_C=y\nCONFIG_D=\nCONFIG_E=y\n",
+            "#define CONFIG_C 1\n#define CONFIG_D \n#define CONFIG_E 1\n",
+            "",
+        ),
+        notes=ILL_NOTES,
+    ),
+    Case(
+        name="fragments",
+        tree={"Kconfig": TWO},
+        settings="CONFIG_A=n\n",
+        fragments={"x.cfg": "CONFIG_B=y", "y.cfg": "CONFIG_A=y\n"},
+        outputs=outputs("CONFIG_A=y\nCONFIG_B=y\n", "#define CONFIG_A 1\n#define CONFIG_B 1\n", "CONFIG_B=y\n"),
+        notes="y.cfg:1: warning K10: A is set again\n",
+    ),
+    Case(
+        name="modules",
+        tree={"Kconfig": MODULES},
+        settings=config_of("CONFIG_MODULES=y\nCONFIG_T=m\nCONFIG_A=y\n"),
+        outputs=outputs(
+            "CONFIG_MODULES=y\nCONFIG_T=m\nCONFIG_A=m\n",
+            "#define CONFIG_MODULES 1\n#define CONFIG_T_MODULE 1\n#define CONFIG_A_MODULE 1\n",
+            "CONFIG_A=m\n",
+        ),
+        notes="",
+    ),
+    Case(
+        name="another prefix",
+        tree={"Kconfig": TWO},
+        settings="BR2_B=y\nCONFIG_A=n\n",
+        prefix="BR2_",
+        outputs=outputs("BR2_A=y\nBR2_B=y\n", "#define BR2_A 1\n#define BR2_B 1\n", "BR2_B=y\n"),
+        notes="start.config:2: warning K9: malformed line\n",
+    ),
+    Case(
+        name="the .config alone",
+        tree={"Kconfig": 'source "a/Kconfig"\nconfig B\n\tbool "b"\n', "a/Kconfig": 'config A\n\tstring "a"\n'},
+        settings='CONFIG_A="q\\"\\\\z" tail\n',
+        outputs=outputs('CONFIG_A="q\\"\\\\z"\n# CONFIG_B is not set\n'),
+        notes="",
+    ),
+    Case(name="a loop", tree={"Kconfig": 'config A\n\tbool "a"\n\tdepends on B\n\tselect B\nconfig B\n\tbool "b"\n'}, status=1, notes="error E15: dependency loop: A -> B -> A\n"),
+    Case(name="a missing file", tree={"Kconfig": 'source "a"\n'}, status=1, notes="Kconfig:1: error E1: no file a\n"),
+    Case(
+        name="a line that is too long",
+        tree={"Kconfig": TWO},
+        settings="CONFIG_Q=y\n" + "x" * 65536,
+        status=1,
+        notes="start.config:1: warning K7: unknown symbol Q\nstart.config:2: error E17: line longer than 65535 bytes\n",
+    ),
+]
+
+
+def firmware():
+    """The example, whose texts the gate compares too: this is the first of the stored runs of kconf_firmware."""
+    folder = TOP / "examples" / "firmware"
+    names = ["Kconfig", "board/Kconfig", "drivers/Kconfig", "net/Kconfig", "debug/Kconfig"]
+    stored = (TOP / "crates" / "kconf_firmware" / "stdout").read_text()
+    sections = {}
+    for section in stored.split("\nstatus ")[0].split("== ")[1:]:
+        name, _, text = section.partition("\n")
+        sections[name] = text if text.endswith("\n") else text + "\n"
+    return Case(
+        name="the firmware",
+        tree={name: (folder / name).read_text() for name in names},
+        settings=(folder / "start.config").read_text(),
+        fragments={"site.config": (folder / "site.config").read_text()},
+        outputs={"out.config": sections["full.config"], "out.h": sections["config.h"], "out.min": sections["defconfig"]},
+        notes="start.config:7: warning K7: unknown symbol OLD_DRIVER\n"
+        "site.config:3: warning K10: RELAYS is set again\n"
+        "warning K12: user value 7200 of SENSOR_PERIOD is outside 1 to 3600\n",
+    )
+
+
+def wide():
+    """A tree whose outputs and notes have more than 64 KiB each: 24 symbols without a default that the .config sets."""
+    tree, settings, config, header, notes = [], [], [], [], []
+    for number in range(24):
+        name = f"SYMBOL_{number:02d}"
+        if number % 8 == 0:
+            tree.append(f'config {name}\n\tbool "{number}"\n')
+            value, defined = "y", "1"
+        else:
+            tree.append(f'config {name}\n\tstring "{number}"\n')
+            value = defined = '"' + f'\\"{number}\\\\ ' * 600 + '"'
+        unknown = f"UNKNOWN_{number:02d}_" + "X" * 3000
+        settings.append(f"CONFIG_{name}={value}\nCONFIG_{unknown}=y\n")
+        config.append(f"CONFIG_{name}={value}\n")
+        header.append(f"#define CONFIG_{name} {defined}\n")
+        notes.append(f"start.config:{2 * number + 2}: warning K7: unknown symbol {unknown}\n")
+    case = Case(
+        name="a wide tree",
+        tree={"Kconfig": "".join(tree)},
+        settings="".join(settings),
+        outputs=outputs("".join(config), "".join(header), "".join(config)),
+        notes="".join(notes),
+    )
+    assert all(len(text) > 65536 for text in [*case.outputs.values(), case.notes])
+    return case
+
+
+def cases():
+    """All runs."""
+    return [*SMALL, firmware(), wide()]

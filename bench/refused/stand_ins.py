@@ -1,0 +1,67 @@
+"""Shows that the checker tells right from wrong: stand_ins.py BETWEEN
+
+BETWEEN is the library that between.c gives. For three of the runs of cases.py stand_in.c is built as it is, which has to pass,
+and once for each of its faults, which has to fail at a run in which a call was refused; the fault ANY_TEXT already where none was.
+
+The status is 1 where the checker judges one of them otherwise.
+"""
+
+import os
+import pathlib
+import subprocess
+import sys
+import tempfile
+
+import cases
+import check
+
+FAULTS = ["ANY_TEXT", "SILENT", "OTHER_NAME", "EARLY", "GOES_ON"]
+
+
+def quoted(text):
+    """A C string of these bytes."""
+    return '"' + "".join(f"\\{byte:03o}" for byte in text.encode()) + '"'
+
+
+def rows(name, texts):
+    """An array of texts: the name of each file, its bytes, and how many there are."""
+    lines = [f"    {{{quoted(file)}, {quoted(text)}, {count}}}," for file, text, count in texts]
+    return "\n".join([f"static const struct text {name}[] = {{", *lines, "};"])
+
+
+def header_of(case):
+    """The names and texts of a run. Of a file that is read there stands the name that an error line gives it."""
+    inputs = [(os.path.normpath(f"{case.root}/{name}"), name, 1) for name in case.tree]
+    inputs += [(name, name, 1) for name in (["start.config"] if case.settings is not None else []) + list(case.fragments)]
+    outputs = [(name, text, len(text.encode())) for name, text in case.outputs.items()]
+    counts = {"INPUTS": len(inputs), "OUTPUTS": len(outputs), "NOTES": len(case.notes.encode())}
+    defined = [f"#define {word} {count}" for word, count in counts.items()]
+    return "\n".join([*defined, rows("inputs", inputs), rows("outputs", outputs), f"static const char notes[] = {quoted(case.notes)};", ""])
+
+
+def is_judged(folder, between, case, fault):
+    """Whether the checker judges the stand-in with this fault, or with none, as it has to."""
+    program = folder / f"stand_in_{fault}"
+    words = ["cc", "-O1", "-w", f"-I{folder}", "-o", program, pathlib.Path(check.__file__).with_name("stand_in.c")]
+    subprocess.run(words + ([f"-D{fault}"] if fault else []), check=True)
+    wrong = check.check(between, str(program), [case], is_quiet=True)
+    said = f"{len(wrong)} runs are wrong, the first: {wrong[0].split(': status')[0]}" if wrong else "no run is wrong"
+    print(f"stand-in, {case.name}, {fault or 'without a fault'}: {said}")
+    return bool(wrong) == bool(fault)
+
+
+def main():
+    between = sys.argv[1]
+    judged = []
+    every = {case.name: case for case in cases.cases()}
+    for name in ["fragments", "the warnings of a tree, in a folder", "a wide tree"]:
+        with tempfile.TemporaryDirectory() as folder:
+            (pathlib.Path(folder) / "run.h").write_text(header_of(every[name]))
+            for fault in [None, *FAULTS]:
+                judged.append(is_judged(pathlib.Path(folder), between, every[name], fault))
+    if not all(judged):
+        sys.exit("the checker does not tell right from wrong")
+
+
+if __name__ == "__main__":
+    main()
