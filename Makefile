@@ -1,15 +1,19 @@
 # Thin: every target is one or two commands of the kit.
-.PHONY: build install example test wrong bench real refused clean
+.PHONY: build install example test wrong bench shapes real refused flatten-test docs clean
 
 PREFIX ?= /usr/local
 
 build:
 	cd crates/kconf && rt run -- --help > /dev/null
 
-# Puts the program into $(PREFIX)/bin; DESTDIR stands before it, for packages.
+# Puts the program, the companion that flattens trees, the man page and the completions below $(PREFIX); DESTDIR stands
+# before it, for packages.
 install: build
-	install -d $(DESTDIR)$(PREFIX)/bin
-	install -m 755 crates/kconf/out/kconf $(DESTDIR)$(PREFIX)/bin/kconf
+	install -D -m 755 crates/kconf/out/kconf $(DESTDIR)$(PREFIX)/bin/kconf
+	install -D -m 755 tools/kconf-flatten $(DESTDIR)$(PREFIX)/bin/kconf-flatten
+	install -D -m 644 man/kconf.1 $(DESTDIR)$(PREFIX)/share/man/man1/kconf.1
+	install -D -m 644 completions/kconf.bash $(DESTDIR)$(PREFIX)/share/bash-completion/completions/kconf
+	install -D -m 644 completions/_kconf $(DESTDIR)$(PREFIX)/share/zsh/site-functions/_kconf
 
 # The main job on the example: its full .config on standard output.
 example: build
@@ -17,6 +21,10 @@ example: build
 
 test:
 	rt ci
+
+# Tests kconf-flatten: kconf on the flat files of small trees beside kconfiglib on the trees themselves.
+flatten-test: build
+	tools/tests/flatten.py
 
 # Tries the wrong bodies that the gate leaves out. It proves the crates below each first, so it takes long.
 wrong:
@@ -26,13 +34,22 @@ wrong:
 bench: build
 	bench/run.sh
 
-# Runs two trees of others, fetched from Debian, and compares with the same tools.
+# Runs small trees that could take much, each at three sizes, and fails where one takes much more than twice as much at twice the size.
+shapes: build
+	bench/shapes.sh
+
+# Runs the trees of others, fetched from Debian by apt, beside their own tools, and builds some of them with kconf.
 real: build
 	bench/real.sh
 
-# Refuses each growth of memory and fails each open, read and write of a run in turn.
+# Refuses each growth of memory and fails each open, read and write of some runs in turn, and looks at what each leaves.
 refused: build
+	cd crates/kc_call_turns && rt run > /dev/null
 	bench/refused.sh
+
+# Runs each example of docs/formats.md, and looks whether each link of the documents leads somewhere.
+docs: build
+	bench/docs.py crates/kconf/out/kconf
 
 clean:
 	rm -rf crates/*/out

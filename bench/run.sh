@@ -6,6 +6,10 @@
 # and the minimal file. kconfig-conf and kconfiglib are taken where they are there (Debian's packages kconfig-frontends-nox and
 # python3-kconfiglib). conf writes one file a run, so it is run for the .config and for the minimal file.
 #
+# Before them stands Linux 6.1 with Debian's configuration for amd64, where `make real` has left it (in the folder that KCONF_TREES
+# names, as there): kconf on the flat file, and the tree's own conf on the flat file and on the tree. On the tree conf expands the
+# macros, for which it starts a compiler some hundred times; kconf-flatten has done that once for the flat file.
+#
 # Each command runs ten times. The table shows the run with the least processor time (user and system together), and of all runs
 # the least wall time and the greatest peak memory, as getrusage tells them. The machine should have nothing else to do.
 set -eu
@@ -35,7 +39,7 @@ spent, walls, peaks = [], [], []
 for _ in range(runs):
     shutil.copyfile("dot.config", ".config")
     start = time.monotonic()
-    process = subprocess.Popen(command, stdin=subprocess.DEVNULL, stdout=subprocess.DEVNULL, stderr=subprocess.DEVNULL)
+    process = subprocess.Popen(command, cwd=os.environ.get("RUNS_IN"), stdin=subprocess.DEVNULL, stdout=subprocess.DEVNULL, stderr=subprocess.DEVNULL)
     _, status, usage = os.wait4(process.pid, 0)
     walls.append(time.monotonic() - start)
     if status:
@@ -60,6 +64,39 @@ our_run() {
     measure "$1" "$kconf" --config dot.config --out .config --header kconf.h --savedefconfig kconf.min Kconfig
 }
 
+library_run() {
+    measure 'kconfiglib, all three files' "$python" -c 'import kconfiglib
+tree = kconfiglib.Kconfig("Kconfig", warn=False)
+tree.load_config("dot.config")
+tree.write_config("kconfiglib.config", save_old=False)
+tree.write_min_config("kconfiglib.min")
+tree.write_autoconf("kconfiglib.h")'
+}
+
+trees=${KCONF_TREES:-${TMPDIR:-/tmp}/kconf-trees}
+if [ -f "$trees/flat/linux-x86.Kconfig" ]; then
+    mkdir "$work/linux"
+    cd "$work/linux"
+    cp "$trees/flat/linux-x86.Kconfig" Kconfig
+    cp "$trees/debian-configurations/config.amd64_none_amd64" dot.config
+    touch auto.conf
+    echo "Linux 6.1 for x86, $(wc -l <Kconfig) lines in one flat file, $(wc -l <dot.config) lines of .config; $runs runs each"
+    heads 'Linux 6.1'
+    our_run 'kconf, all three files'
+    (
+        export KCONFIG_AUTOCONFIG=$work/linux/auto.conf
+        measure "its conf --olddefconfig" "$trees/conf/linux/conf" --olddefconfig Kconfig
+        measure "its conf --savedefconfig" "$trees/conf/linux/conf" --savedefconfig=conf.min Kconfig
+        export KCONFIG_CONFIG=$work/linux/.config
+        while IFS='=' read -r name value; do export "$name=$value"; done <"$trees/flat/linux-x86.settings"
+        RUNS_IN=$trees/trees/linux measure "the same on the tree, not flat" "$trees/conf/linux/conf" --olddefconfig Kconfig
+    )
+    # kconfiglib knows the modules symbol by its older spelling alone.
+    sed -i 's/^\tmodules$/\toption modules/' Kconfig
+    if "$python" -c 'import kconfiglib' 2>/dev/null; then library_run; fi
+    echo
+fi
+
 make_tree "$symbols"
 echo "$symbols symbols, $(cat Kconfig parts/* | wc -l) lines in $(cat Kconfig parts/* | grep -c '^source') sourced files, $(wc -l <dot.config) lines of .config; $runs runs each"
 heads 'one tree'
@@ -68,14 +105,7 @@ if command -v kconfig-conf >/dev/null; then
     measure 'kconfig-conf --olddefconfig' kconfig-conf --olddefconfig Kconfig
     measure 'kconfig-conf --savedefconfig' kconfig-conf --savedefconfig=conf.min Kconfig
 fi
-if "$python" -c 'import kconfiglib' 2>/dev/null; then
-    measure 'kconfiglib, all three files' "$python" -c 'import kconfiglib
-tree = kconfiglib.Kconfig("Kconfig", warn=False)
-tree.load_config("dot.config")
-tree.write_config("kconfiglib.config", save_old=False)
-tree.write_min_config("kconfiglib.min")
-tree.write_autoconf("kconfiglib.h")'
-fi
+if "$python" -c 'import kconfiglib' 2>/dev/null; then library_run; fi
 
 echo
 heads 'growth'

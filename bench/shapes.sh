@@ -1,0 +1,215 @@
+#!/usr/bin/env bash
+# Small trees that could take much: each shape at three sizes, each twice the one before, with the processor time and the peak memory
+# of one run of kconf: bench/shapes.sh [SHAPE ..], all shapes without one.
+#
+# kconf is crates/kconf/out/kconf (make build), or the program that KCONF names. It fails where a doubling of a shape makes time or
+# memory more than 2.6 times as much, but for the shapes that are marked as not linear yet: of those the growth is shown alone.
+# Time is the least of ten runs. What takes less than 0.05 seconds or 16 MiB counts as so much, and a run may have 6 GiB. The machine
+# should have nothing else to do.
+set -eu
+here=$(cd "$(dirname "$0")" && pwd)
+exec /usr/bin/python3 - "$(realpath -m "${KCONF:-$here/../crates/kconf/out/kconf}")" "$@" <<'EOF'
+import os
+import pathlib
+import resource
+import subprocess
+import sys
+import tempfile
+import time
+
+MOST = 2.6  # how much more a doubling may take
+TIMES = 10  # runs of each size
+SHORT, SMALL = 0.05, 16.0  # what takes less seconds or MiB counts as so much
+ROOM = 6 << 30  # the memory that one run may take
+
+
+def config(name, *lines):
+    """An entry with its lines."""
+    return "\n\t".join([f"config {name}", *lines]) + "\n"
+
+
+def loop_beside_a_chain(count):
+    """Each symbol of a chain has the next as its default; beside it one symbol depends on itself."""
+    chain = [config(f"S_{i}", "bool", f"default S_{i + 1}") for i in range(count)]
+    return "".join(chain) + config(f"S_{count}", "def_bool y") + config("L", "def_bool L")
+
+
+def loop_beside_wide_conditions(count):
+    """The same chain, where each prompt also asks for 100 names."""
+    names = [f"N_{i}" for i in range(100)]
+    asked = 'bool "p" if ' + " || ".join(names)
+    chain = [config(f"S_{i}", asked, f"default S_{i + 1}") for i in range(count)]
+    return "".join(config(name, "bool") for name in names) + "".join(chain) + config(f"S_{count}", "def_bool y") + config("L", "def_bool L")
+
+
+def hidden_choice_defaults(count):
+    """A choice of so many members with as many defaults, which all name the last member; that one has no visible prompt."""
+    defaults = "".join(f"\tdefault M_{count - 1}\n" for _ in range(count))
+    members = [config(f"M_{i}", 'bool "m"' if i < count - 1 else 'bool "m" if NEVER') for i in range(count)]
+    return config("NEVER", "bool") + 'choice\n\tprompt "c"\n' + defaults + "\n" + "".join(members) + "endchoice\n"
+
+
+def visible_strangers(count):
+    """A choice of so many members with as many defaults, which all name a symbol that is visible and no member."""
+    defaults = "".join("\tdefault OTHER\n" for _ in range(count))
+    members = [config(f"M_{i}", 'bool "m"') for i in range(count)]
+    return config("OTHER", 'bool "o"') + 'choice\n\tprompt "c"\n' + defaults + "\n" + "".join(members) + "endchoice\n"
+
+
+def dependencies(count):
+    """So many names, and a line for each that depends on it."""
+    return "".join(config(f"D_{i}", "bool") for i in range(count)), [f"depends on D_{i}" for i in range(count)]
+
+
+def depends_and_defaults(count):
+    """One entry with so many dependencies and defaults."""
+    names, depends = dependencies(count)
+    return names + config("A", "bool", *depends, *["default y" for _ in range(count)])
+
+
+def depends_and_ranges(count):
+    """One entry with so many dependencies and ranges."""
+    names, depends = dependencies(count)
+    return names + config("A", "int", *depends, *[f"range 0 {i + 1}" for i in range(count)])
+
+
+def depends_and_selects(count):
+    """One entry with so many dependencies and selects."""
+    names, depends = dependencies(count)
+    others = "".join(config(f"O_{i}", "bool") for i in range(count))
+    return names + others + config("A", "bool", *depends, *[f"select O_{i}" for i in range(count)])
+
+
+def menu_with(lines, inside):
+    """A menu with these lines round this."""
+    return 'menu "m"\n' + "".join(f"\t{line}\n" for line in lines) + "\n" + inside + "endmenu\n"
+
+
+def menu_round_symbols(count):
+    """A menu with so many dependencies round as many symbols."""
+    names, depends = dependencies(count)
+    return names + menu_with(depends, "".join(config(f"S_{i}", 'bool "s"') for i in range(count)))
+
+
+def hidden_menu_round_symbols(count):
+    """A menu with so many conditions of visibility round as many symbols."""
+    names, depends = dependencies(count)
+    visible = [line.replace("depends on", "visible if") for line in depends]
+    return names + menu_with(visible, "".join(config(f"S_{i}", 'bool "s"') for i in range(count)))
+
+
+def menu_round_choices(count):
+    """A menu with so many dependencies round as many choices."""
+    names, depends = dependencies(count)
+    choices = ['choice\n\tprompt "c"\n\n' + config(f"C_{i}", 'bool "m"') + "endchoice\n" for i in range(count)]
+    return names + menu_with(depends, "".join(choices))
+
+
+def menu_round_comments(count):
+    """A menu with so many dependencies round as many comments."""
+    names, depends = dependencies(count)
+    return names + menu_with(depends, "".join(f'comment "c {i}"\n' for i in range(count)))
+
+
+def menu_round_one_symbol(count):
+    """A menu with so many dependencies round as many definitions of one symbol."""
+    names, depends = dependencies(count)
+    return names + menu_with(depends, config("A", 'bool "s"') * count)
+
+
+def menu_round_selects(count):
+    """A menu with so many dependencies round as many symbols that select one symbol."""
+    names, depends = dependencies(count)
+    return names + config("T", "bool") + menu_with(depends, "".join(config(f"S_{i}", 'bool "s"', "select T") for i in range(count)))
+
+
+def unknown_names(count):
+    """A .config with so many lines, each of a symbol that the tree has not; so each is a warning."""
+    return config("A", "bool"), "".join(f"CONFIG_U_{i}=y\n" for i in range(count))
+
+
+# Each shape with its least size, and whether it is to grow with its size alone today.
+SHAPES = [
+    (loop_beside_a_chain, 16000, True),
+    (loop_beside_wide_conditions, 4000, True),
+    (hidden_choice_defaults, 15000, True),
+    (visible_strangers, 15000, True),
+    (depends_and_defaults, 1000, False),
+    (depends_and_ranges, 1000, False),
+    (depends_and_selects, 1000, False),
+    (menu_round_symbols, 1000, False),
+    (hidden_menu_round_symbols, 1000, False),
+    (menu_round_choices, 1000, False),
+    (menu_round_comments, 2000, False),
+    (menu_round_one_symbol, 1000, False),
+    (menu_round_selects, 1000, False),
+    (unknown_names, 100000, True),
+]
+
+
+def write(shape, count, folder):
+    """Writes a shape, in a process of its own: what this one holds counts for the peak of the programs that it starts."""
+    child = os.fork()
+    if child == 0:
+        made = shape(count)
+        tree, settings = made if isinstance(made, tuple) else (made, "")
+        pathlib.Path(folder, "Kconfig").write_text(tree)
+        pathlib.Path(folder, "dot.config").write_text(settings)
+        os._exit(0)
+    if os.waitpid(child, 0)[1]:
+        sys.exit(f"{shape.__name__} was not written")
+
+
+def spent(program, folder):
+    """The least processor time of some runs in seconds, and the greatest peak memory in MiB."""
+    times, peaks = [], []
+    for _ in range(TIMES):
+        process = subprocess.Popen(
+            [program, "--config", "dot.config", "--out", "out", "Kconfig"], cwd=folder, stdin=subprocess.DEVNULL,
+            stdout=subprocess.DEVNULL, stderr=subprocess.DEVNULL,
+            preexec_fn=lambda: resource.setrlimit(resource.RLIMIT_AS, (ROOM, ROOM)))
+        _, status, usage = os.wait4(process.pid, 0)
+        code = os.waitstatus_to_exitcode(status)
+        if code not in (0, 1):
+            sys.exit(f"a run ended with status {code}")
+        times.append(usage.ru_utime + usage.ru_stime)
+        peaks.append(usage.ru_maxrss / 1024)
+        if times[-1] > 5:
+            break
+    return min(times), max(peaks)
+
+
+def main():
+    program, wanted = sys.argv[1], sys.argv[2:]
+    if not os.access(program, os.X_OK):
+        sys.exit(f"there is no {program}: make build makes it")
+    strange = set(wanted) - {shape.__name__ for shape, _, _ in SHAPES}
+    if strange:
+        sys.exit(f"no shape is named {', '.join(sorted(strange))}")
+    failed = []
+    for shape, least, linear in SHAPES:
+        name = shape.__name__
+        if wanted and name not in wanted:
+            continue
+        rows = []
+        for count in (least, 2 * least, 4 * least):
+            with tempfile.TemporaryDirectory() as folder:
+                write(shape, count, folder)
+                rows.append((count, *spent(program, folder)))
+        print(f"{name:<28}", *(f"{count:>7}: {seconds:7.3f} s {peak:7.1f} MiB" for count, seconds, peak in rows),
+              "" if linear else "  not linear yet", flush=True)
+        for (count, seconds, peak), (_, more_seconds, more_peak) in zip(rows, rows[1:]):
+            grown = []
+            if max(seconds, SHORT) * MOST < more_seconds:
+                grown.append(f"time {more_seconds / max(seconds, SHORT):.1f}")
+            if max(peak, SMALL) * MOST < more_peak:
+                grown.append(f"memory {more_peak / max(peak, SMALL):.1f}")
+            if grown and linear:
+                failed.append(f"{name}: from {count} to {2 * count} it takes {' and '.join(grown)} times as much")
+    for line in failed:
+        print(line)
+    return 1 if failed else 0
+
+
+sys.exit(main())
+EOF

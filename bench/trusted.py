@@ -1,0 +1,184 @@
+#!/usr/bin/env python3
+"""Lists the definitions that the contracts of public functions cite, which a reader has to trust: bench/trusted.py [--cited]
+
+Each file of a crate's specs/ begins with `-- Trusted: ` where the contract of a public function cites some of its
+definitions, directly or through other definitions, and with `-- For proofs: ` where none does. Without an argument the
+trusted files are listed with their line counts, and a file without such a head line ends the run with status 1.
+With --cited the definitions are followed from the contracts, by name, and each file whose head line says something else
+than was found is printed, with the names that are cited in it; the status is then 1.
+"""
+import os
+import re
+import sys
+
+TOP = os.path.dirname(os.path.dirname(os.path.abspath(__file__)))
+HEADS = {"-- Trusted: ": True, "-- For proofs: ": False}
+WORD = re.compile(r"[A-Za-z_][\w'«»-]*(?:\.[A-Za-z_0-9][\w'-]*)*")
+
+
+def read(path):
+    with open(path, encoding="utf-8") as file:
+        return file.read()
+
+
+def crates():
+    folder = os.path.join(TOP, "crates")
+    return sorted(name for name in os.listdir(folder) if os.path.isdir(os.path.join(folder, name, "src")))
+
+
+def spec_files(crate):
+    folder = os.path.join(TOP, "crates", crate, "specs")
+    if not os.path.isdir(folder):
+        return []
+    return sorted(name for name in os.listdir(folder) if name.endswith(".antt") and name != "Lib.antt")
+
+
+def imports(text):
+    """What `use` lines bring: the names, and the names of whole modules, each with where it comes from."""
+    names, modules = {}, {}
+    for crate, module, rest in re.findall(r"use Rattle\.(\w+)\.specs\.(\w+)(\.\{[^}]*\}| as \w+)", text):
+        if rest.startswith(" as "):
+            modules[rest[4:]] = (crate, module)
+            continue
+        for item in rest[2:-1].split(","):
+            parts = item.strip().split(" as ")
+            names[parts[-1].strip()] = (crate, module, parts[0].strip())
+    return names, modules
+
+
+def definitions(text):
+    """The definitions of a file: each name with the text that it stands in. The parts of a block share its text, and a
+    record is one definition with its fields."""
+    blocks, current = [], []
+    for line in text.split("\n"):
+        if line.startswith("use ") or line.startswith("-- "):
+            continue
+        if line.strip() == "" and current:
+            blocks.append("\n".join(current))
+            current = []
+        elif line.strip():
+            current.append(line)
+    blocks.append("\n".join(current))
+    found = {}
+    for block in blocks:
+        records = re.findall(r"^ *(?:pub )?record ([A-Za-z_][\w'-]*)", block, re.M)
+        names = records or re.findall(r"^ *(?:mutual +)?(?:abbrev +|unfoldable +)*(?:pub +)?(?:data +|record +)?([A-Za-z_][\w'-]*)(?: [^:=\n]*)? : ", block, re.M)
+        for name in names:
+            found[name] = found.get(name, "") + "\n" + block
+    return found
+
+
+def public_items(crate):
+    """The modules of the crate that others see, and the items of private ones that they see."""
+    for root in ("lib.rt", "main.rt"):
+        path = os.path.join(TOP, "crates", crate, "src", root)
+        if os.path.exists(path):
+            break
+    text = read(path)
+    modules = set(re.findall(r"^pub mod (\w+);", text, re.M))
+    items = {}
+    for module, many, one in re.findall(r"^pub use (?:crate::)?(\w+)::(?:\{([^}]*)\}|(\w+));", text, re.M):
+        items.setdefault(module, set()).update(item.strip() for item in (many or one).split(",") if item.strip())
+    return modules, items
+
+
+def contracts(crate):
+    """The clauses of public functions, and the views and ghost members of public types, by file."""
+    modules, items = public_items(crate)
+    folder = os.path.join(TOP, "crates", crate, "src")
+    for name in sorted(os.listdir(folder)):
+        module = name[:-3]
+        if not name.endswith(".rt") or (module not in modules and module not in items):
+            continue
+        text = read(os.path.join(folder, name))
+        clauses, holder, shown, public = [], None, True, False
+        for line in text.split("\n"):
+            opens = re.match(r"(?:pub )?(?:impl|trait)\b(?:<[^{]*?>)? ?(?:[\w<>', ]+ for )?&?(?:'\w+ )?(\w+)", line)
+            if opens and not line.startswith(" "):
+                holder = opens.group(1)
+                shown = module in modules or holder in items[module] or " for " in line
+            if line == "}":
+                holder, shown = None, True
+            starts = re.match(r" *(pub )?(?:const )?fn (\w+)", line)
+            if starts:
+                trait = holder is not None and re.search(rf"trait {holder}\b", text) is not None
+                public = bool(starts.group(1)) or trait
+                if holder is None:
+                    public = public and (module in modules or starts.group(2) in items[module])
+                else:
+                    public = public and shown
+            if re.match(r" +(ensures|requires)\b", line) and public or re.match(r" +ghost \w+ = ", line) and shown:
+                clauses.append(line)
+            elif clauses and public and re.match(r" {8,}[^ ]", line) and not re.match(r" +(let|if|match|for|while|return|self)\b", line):
+                clauses.append(line)
+        if clauses:
+            yield "\n".join(clauses), imports(text)
+
+
+def cited():
+    """The definitions that public contracts cite, as (crate, module, name)."""
+    texts = {}
+    for crate in crates():
+        for name in spec_files(crate):
+            text = read(os.path.join(TOP, "crates", crate, "specs", name))
+            texts[crate, name[:-5]] = (definitions(text), imports(text))
+    found, waiting = set(), []
+
+    def follow(text, uses, here):
+        names, modules = uses
+        for word in set(WORD.findall(text)):
+            parts = word.split(".")
+            if parts[0] in modules and len(parts) > 1:
+                goal = modules[parts[0]] + (parts[1],)
+            elif parts[0] in names:
+                goal = names[parts[0]]
+            elif here is not None and parts[0] in texts[here][0]:
+                goal = here + (parts[0],)
+            else:
+                continue
+            if goal[:2] in texts and goal not in found:
+                found.add(goal)
+                waiting.append(goal)
+
+    for crate in crates():
+        for text, uses in contracts(crate):
+            follow(text, uses, None)
+    while waiting:
+        crate, module, name = waiting.pop()
+        known, uses = texts[crate, module]
+        if name in known:
+            follow(known[name], uses, (crate, module))
+        else:
+            for block in known.values():
+                if re.search(rf"(?<![\w.]){re.escape(name)}(?![\w'])", block):
+                    follow(block, uses, (crate, module))
+    return found
+
+
+def main():
+    compare = "--cited" in sys.argv[1:]
+    found = cited() if compare else set()
+    wrong, files, lines = 0, 0, 0
+    for crate in crates():
+        for name in spec_files(crate):
+            path = os.path.join("crates", crate, "specs", name)
+            text = read(os.path.join(TOP, path))
+            trusted = next((is_trusted for head, is_trusted in HEADS.items() if text.startswith(head)), None)
+            count = text.count("\n")
+            if trusted is None:
+                print(f"{path}: no head line")
+                wrong += 1
+            elif trusted:
+                files, lines = files + 1, lines + count
+                if not compare:
+                    print(f"{count:5} {path}")
+            if compare:
+                names = sorted(item[2] for item in found if item[:2] == (crate, name[:-5]))
+                if bool(names) != trusted:
+                    print(f"{path}: {'cited' if names else 'not cited'} {' '.join(names)}")
+                    wrong += trusted is not None
+    print(f"{lines:5} lines in {files} trusted files")
+    sys.exit(1 if wrong else 0)
+
+
+main()
