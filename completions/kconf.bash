@@ -1,0 +1,22 @@
+# bash completion for kconf
+_kconf() {
+    local word=${COMP_WORDS[COMP_CWORD]} before=${COMP_WORDS[COMP_CWORD-1]}
+    case $before in
+        --root)
+            COMPREPLY=($(compgen -d -- "$word"))
+            return ;;
+        --config | --out | --header | --savedefconfig)
+            COMPREPLY=($(compgen -f -- "$word"))
+            return ;;
+        --prefix)
+            COMPREPLY=($(compgen -W 'CONFIG_ BR2_' -- "$word"))
+            return ;;
+    esac
+    if [[ $word == -* ]]; then
+        COMPREPLY=($(compgen -W \
+            '--root --config --out --header --savedefconfig --prefix --help --version' -- "$word"))
+    else
+        COMPREPLY=($(compgen -f -- "$word"))
+    fi
+}
+complete -o filenames -F _kconf kconf
