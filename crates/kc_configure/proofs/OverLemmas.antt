@@ -1,0 +1,80 @@
+-- Over files that expand alike, trees, refusals and outcomes are the same.
+use Rattle.std.proofs.Common.{◌≡◌, ◌≢◌, ℕ, List, Option, Result, refl, sym, ◌∙◌}
+use Rattle.kc_read.specs.Existing.{HasOneExpansion}
+use Rattle.kc_read.specs.Expansion.{Refused}
+use Rattle.kc_read.specs.Files.{Files}
+use Rattle.kc_tree.specs.TreeFacts.{TreeFacts}
+use Rattle.kc_tree.specs.Trees.{IsTreeOf}
+use Rattle.kc_load.specs.Expanding.{ExpandsAlike}
+use Rattle.kc_words.specs.declared.options.Options.{Options}
+use Rattle.kc_conf.specs.Existence.{OutcomeExists}
+use Rattle.kc_conf.specs.Faults.{CountsInputs, Faults, Finishes}
+use Rattle.kc_conf.specs.Given.{AreAllToCome}
+use Rattle.kc_conf.specs.Outcome.{IsAcceptedTree, IsOutcome, IsRefusedTree, Outcome, accepted_tree, looped, no_tree, refused_tree, root_of}
+use Rattle.kc_conf.specs.Places.{Only, Places}
+use Rattle.kc_conf.specs.declared.cause.Cause.{Cause}
+use Rattle.kc_conf.specs.declared.options.Status.{Status}
+use Rattle.kc_conf.specs.declared.options.Status.TheVariants.{Done, Refused as IsRefused, Usage, Faulted}
+use Rattle.kc_conf.specs.declared.outputs.Which.TheVariants.{Notes}
+use Rattle.kc_configure.specs.Configured.{Leaves}
+
+pub flipped : (root : List ℕ) (files others : Files) → ExpandsAlike root files others → ExpandsAlike root others files
+flipped root files others alike r = ((alike r).1, (alike r).0)
+
+module _ (root : List ℕ) (files others : Files) (alike : ExpandsAlike root files others) where
+  tree_over : (r : Result TreeFacts Refused) → IsTreeOf files root r → IsTreeOf others root r
+  tree_over r x = (x.0, (alike x.0).0 x.1, x.2)
+
+  pub refused_over : (r : Refused) → IsRefusedTree files root r → IsRefusedTree others root r
+  refused_over r (no_tree x) = no_tree (tree_over _ x)
+  refused_over r (looped tree text x t e) = looped tree text (tree_over _ x) t e
+
+  pub accepted_over : (tree : TreeFacts) → IsAcceptedTree files root tree → IsAcceptedTree others root tree
+  accepted_over tree x = record { built = tree_over _ x.built; accepted = x.accepted }
+
+pub outcome_over : (files others : Files) (options : Options) → ExpandsAlike (root_of options) files others → (all : List (List ℕ)) (outcome : Outcome) → IsOutcome files options all outcome → IsOutcome others options all outcome
+outcome_over files others options alike all outcome (refused_tree r x e) = refused_tree r (refused_over (root_of options) files others alike r x) e
+outcome_over files others options alike all outcome (accepted_tree tree x y) = accepted_tree tree (accepted_over (root_of options) files others alike tree x) y
+
+-- what a run over the loaded files says, said of the folder's
+pub leaves_over : (files loaded : Files) (options : Options) (given : List (Option (List ℕ))) (counts counts_after : List ℕ) (status : Status) (old new : Places) → HasOneExpansion → OutcomeExists → ExpandsAlike (root_of options) files loaded →
+    (status ≢ Faulted → (all : List (List ℕ)) × AreAllToCome given all × ((outcome : Outcome) × IsOutcome loaded options all outcome × Finishes outcome status old new)) →
+    (status ≢ Faulted → counts_after ≡ counts) →
+    (status ≡ Faulted → (cause : Cause) × (all : List (List ℕ)) × AreAllToCome given all × CountsInputs cause counts counts_after × ((outcome : Outcome) → IsOutcome loaded options all outcome → Faults options outcome cause old new)) →
+    ((r : Refused) → IsRefusedTree loaded (root_of options) r → Only Notes old new) →
+    Leaves files options given counts counts_after status old new
+leaves_over files loaded options given counts counts_after status old new expansion exists alike exactly quiet fault refused = by status refl
+  where
+    whole : status ≢ Faulted → Leaves files options given counts counts_after status old new
+    whole un =
+        let x = exactly un in
+        record {
+          all = x.0;
+          to_come = x.1;
+          outcome = x.2;
+          is_outcome = outcome_over loaded files options (flipped (root_of options) files loaded alike) x.0 x.2 x.3;
+          finished = λ _. (x.4, quiet un);
+          broken = λ e. absurd (un e);
+          refused = λ r h. refused r (refused_over (root_of options) files loaded alike r h);
+        }
+
+    struck : status ≡ Faulted → Leaves files options given counts counts_after status old new
+    struck is =
+        let x = fault is in
+        let e = expansion files (root_of options) in
+        let o = exists files options x.1 e.0 e.1 in
+        record {
+          all = x.1;
+          to_come = x.2;
+          outcome = o.0;
+          is_outcome = o.1;
+          finished = λ un. absurd (un is);
+          broken = λ _. (x.0, x.3, x.4 o.0 (outcome_over files loaded options alike x.1 o.0 o.1));
+          refused = λ r h. refused r (refused_over (root_of options) files loaded alike r h);
+        }
+
+    by : (s : Status) → status ≡ s → Leaves files options given counts counts_after status old new
+    by Done e = whole (λ is. let clash : Done ≡ Faulted = sym e ∙ is in absurd cc)
+    by IsRefused e = whole (λ is. let clash : IsRefused ≡ Faulted = sym e ∙ is in absurd cc)
+    by Usage e = whole (λ is. let clash : Usage ≡ Faulted = sym e ∙ is in absurd cc)
+    by Faulted e = struck e

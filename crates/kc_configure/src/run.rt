@@ -1,0 +1,65 @@
+//! Loading and running in one call.
+ghost use Rattle.std.specs.Prelude.{◌≡◌, ◌+◌, length, map, string_bytes, IfErr, IfOk, OnErr, OnOk};
+ghost use Rattle.kc_read.specs.Expansion.{Refused};
+ghost use Rattle.kc_read.specs.Files.{Files, bytes_in};
+ghost use Rattle.kc_load.specs.Expanding.{AreFilesOf};
+ghost use Rattle.kc_load.specs.Faults.{IsLoadFault, counted_load};
+ghost use Rattle.kc_load.specs.Loaded.{Loads};
+ghost use Rattle.kc_conf.specs.Outcome.{IsRefusedTree, root_of};
+ghost use Rattle.kc_configure.specs.Configured.{Keeps, Leaves};
+
+use kc_conf::laws::outcome_exists;
+use kc_conf::{FileMap, Input, Kept, Options, Outputs, Status, run_keeping};
+use kc_load::{Folder, LoadFault, load};
+use kc_read::laws::has_one_expansion;
+use std::alloc::Global;
+
+/// Loads the tree from the folder, reads the streams, and writes the files and the notes (our own; the values are those of
+/// the kernel's kconfig-language document and of kconfiglib's documentation).
+///
+/// A file of the tree is the folder's file at the path `root/NAME`, or at the name itself where it begins with `/`; a name
+/// that is no UTF-8 has none. The caller owes one input for the `.config` and one for each fragment, in order.
+///
+/// For these files, the options and the bytes of the streams there is exactly one outcome: the tree's refusal (E1 to E16), a
+/// line's (E17), or the files and notes of the tree's one solution. `Done` and `Refused` are answered only where the outputs
+/// are the outcome's; `Faulted` as `run_keeping` of kc_conf answers it.
+///
+/// An error is a fault of loading: E18 where the folder's device failed at a file whose turn it was, E20 where memory was
+/// refused. Nothing was read from an input then, no output was begun or written, and `files` and `kept` are as they were.
+/// Else `files` is what was read of the folder, and `kept` what `run_keeping` keeps. A program that ends anyway may forget
+/// both.
+pub fn configure<F: Folder, I: Input, O: Outputs>(
+    alloc: Global,
+    folder: &mut F,
+    options: &Options,
+    inputs: &mut [I],
+    outputs: &mut O,
+    files: &mut FileMap,
+    kept: &mut Option<Kept>,
+) -> Result<Status, LoadFault>
+    requires { length inputs.old ≡ length options.now.fragments.items + 1 }
+    // The run leaves the outcome of the folder's files, or a part of it and a cause. A refused tree leaves the inputs
+    // untouched.
+    ensures ran { IfOk result (λ status. (tree_files : Files) × AreFilesOf (F.files folder.old) (string_bytes options.now.root) tree_files
+        × Leaves tree_files options.now (map I.remaining inputs.old) (map I.failures inputs.old) (map I.failures inputs.new) status (O.seen outputs.old) (O.seen outputs.new)
+        × ((r : Refused) → IsRefusedTree tree_files (root_of options.now) r → inputs.new ≡ inputs.old)
+        × Keeps tree_files options.now status kept.old kept.new) }
+    // What was read of the folder is handed out.
+    ensures loaded { OnOk result (Loads (F.files folder.old) (string_bytes options.now.root) (root_of options.now) (bytes_in files.new)) }
+    // A file that could not be read is one whose turn it was.
+    ensures fault { IfErr result (IsLoadFault (F.files folder.old) (string_bytes options.now.root) (root_of options.now)) }
+    // After a fault of loading all is as it was.
+    ensures untouched_inputs { OnErr result (inputs.new ≡ inputs.old) }
+    ensures untouched_outputs { OnErr result (outputs.new ≡ outputs.old) }
+    ensures untouched_files { OnErr result (files.new ≡ files.old) }
+    ensures untouched_kept { OnErr result (kept.new ≡ kept.old) }
+    // The folder's files stay, and a failure of it is counted only where it ended the loading.
+    ensures stays { F.files folder.new ≡ F.files folder.old }
+    ensures quiet { OnOk result (F.failures folder.new ≡ F.failures folder.old) }
+    ensures counted { IfErr result (λ fault. F.failures folder.new ≡ counted_load fault (F.failures folder.old)) }
+{
+    has_one_expansion();
+    outcome_exists();
+    *files = load(alloc, folder, options.root.as_str(), options.kconfig.as_str())?;
+    Ok(run_keeping(alloc, files, options, inputs, outputs, kept))
+}
