@@ -51,9 +51,9 @@ leaves_over files loaded options given counts counts_after status old new expans
         record {
           all = x.0;
           to_come = x.1;
-          outcome = x.2;
-          is_outcome = outcome_over loaded files options (flipped (root_of options) files loaded alike) x.0 x.2 x.3;
-          finished = λ _. (x.4, quiet un);
+          outcome = x.2.0;
+          is_outcome = outcome_over loaded files options (flipped (root_of options) files loaded alike) x.0 x.2.0 x.2.1;
+          finished = λ _. (x.2.2, quiet un);
           broken = λ e. absurd (un e);
           refused = λ r h. refused r (refused_over (root_of options) files loaded alike r h);
         }
