@@ -1,10 +1,11 @@
 //! Where the files and the diagnostics go.
-ghost use Rattle.std.specs.Prelude.{◌≡◌, ◌<◌, ◌≤◌, List, ℕ, Option, length, take, IfOk, OnOk, OnErr};
+ghost use Rattle.std.specs.Prelude.{◌≡◌, ◌<◌, ◌≤◌, List, ℕ, Option, length, take, IfOk, OnOk, OnErr, flat_map};
 ghost use Rattle.kc_dot.specs.Sink.{extended, next_failure};
 ghost use Rattle.kc_conf.specs.Places.{Places, at, with_place, begun, failed, grown, Only, Only-same, Only-only, Broke};
 ghost use Rattle.std.proofs.Common.{refl, ◌∙◌};
 
-use kc_dot::{Fault, Sink, put};
+use kc_dot::parts::put_parts;
+use kc_dot::{Fault, Sink};
 
 /// One of the outputs (our own). `Notes` is the place of diagnostics: it is there from the start and is never begun.
 #[derive(Clone, Copy, Debug, PartialEq, Eq)]
@@ -72,11 +73,11 @@ impl<'a, O: Outputs> Sink for OutputSink<'a, O> {
     ghost goes_on = { λ s t u h k. (k.0 ∙ h.0, k.1 ∙ h.1, Only-only s.which (O.seen s.outputs.now) (O.seen t.outputs.now) (O.seen u.outputs.now) h.2 (Prim.rw h.1 at k.2)) };
 }
 
-// Writes the whole text to one output, or after an error a beginning of it.
-pub fn put_to<O: Outputs>(outputs: &mut O, which: Which, text: &[u8]) -> Result<(), Fault>
-    ensures ok { OnOk result (O.seen outputs.new ≡ with_place (O.seen outputs.old) which (grown (at (O.seen outputs.old) which) text.now)) }
-    ensures err { OnErr result (Broke which text.now (O.seen outputs.old) (O.seen outputs.new)) }
+// Writes the parts to one output, one after another, or after an error a beginning of them.
+pub fn put_to<O: Outputs>(outputs: &mut O, which: Which, parts: &[&[u8]]) -> Result<(), Fault>
+    ensures ok { OnOk result (O.seen outputs.new ≡ with_place (O.seen outputs.old) which (grown (at (O.seen outputs.old) which) (flat_map (λ part. part.now) parts.now))) }
+    ensures err { OnErr result (Broke which (flat_map (λ part. part.now) parts.now) (O.seen outputs.old) (O.seen outputs.new)) }
 {
     let mut sink = OutputSink::new(outputs, which);
-    put(text, &mut sink)
+    put_parts(parts, &mut sink)
 }
