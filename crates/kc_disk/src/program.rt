@@ -54,7 +54,7 @@ fn print_usage(rt: &HostRuntime, usage: &Usage) -> Status {
     }
 }
 
-// The `.config`, and then the fragments.
+// The `.config`, which may be missing where `--must-exist` was not given, and then the fragments.
 fn inputs_of<'a>(
     rt: &'a HostRuntime,
     options: &'a Options,
@@ -62,9 +62,14 @@ fn inputs_of<'a>(
     ensures { IfOk result (λ inputs. length inputs.items ≡ length options.now.fragments.items + 1) }
 {
     let mut inputs = Vec::new(rt.alloc());
-    inputs.push(FileInput::config(rt, options.config.as_str()))?;
+    let config = options.config.as_str();
+    inputs.push(if options.must_exist {
+        FileInput::existing(rt, config)
+    } else {
+        FileInput::config(rt, config)
+    })?;
     for fragment in &options.fragments {
-        inputs.push(FileInput::fragment(rt, fragment.as_str()))?;
+        inputs.push(FileInput::existing(rt, fragment.as_str()))?;
     }
     Ok(inputs)
 }
