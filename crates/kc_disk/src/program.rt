@@ -4,7 +4,7 @@ ghost use Rattle.kc_disk.specs.Devices.{exit_status};
 
 use crate::folder::Disk;
 use crate::input::FileInput;
-use crate::outputs::{FileOutputs, name_of};
+use crate::outputs::FileOutputs;
 use crate::words::words;
 use kc_conf::{Status, run_keeping};
 use kc_load::{LoadFault, load};
@@ -89,14 +89,8 @@ fn run_files(rt: &HostRuntime, options: &Options) -> Result<Status, LoadFault> {
     // less than to give back each piece: see `kconf_of`.
     mem::forget(files);
     mem::forget(kept);
-    match outputs.finish(status) {
-        None => Ok(status),
-        Some(which) => {
-            let name = name_of(options, which).as_bytes();
-            complain(rt, &[b"error E19: cannot write ", name, b"\n"]);
-            Ok(Status::Faulted)
-        }
-    }
+    outputs.finish();
+    Ok(status)
 }
 
 /// Runs `kconf` with these words after the program's name: loads the tree, reads the `.config` and the fragments, and
