@@ -1,7 +1,7 @@
 //! Where the files and the diagnostics go.
 ghost use Rattle.std.specs.Prelude.{◌≡◌, ◌<◌, ◌≤◌, List, ℕ, Option, length, take, IfOk, OnOk, OnErr, flat_map};
 ghost use Rattle.kc_dot.specs.Sink.{extended, next_failure};
-ghost use Rattle.kc_conf.specs.Places.{Places, at, with_place, begun, failed, grown, Only, Only-same, Only-only, Broke};
+ghost use Rattle.kc_conf.specs.Places.{Places, at, with_place, begun, ended, failed, grown, Only, Only-same, Only-only, Broke};
 ghost use Rattle.std.proofs.Common.{refl, ◌∙◌};
 
 use kc_dot::parts::put_parts;
@@ -37,6 +37,13 @@ pub trait Outputs {
         ensures some { IfOk result (λ count. 0 < count) }
         ensures within { IfOk result (λ count. count ≤ length bytes.now) }
         ensures ok { IfOk result (λ count. seen self.new ≡ with_place (seen self.old) which (grown (at (seen self.old) which) (take count bytes.now))) }
+        ensures err { OnErr result (seen self.new ≡ with_place (seen self.old) which (failed (at (seen self.old) which))) };
+
+    /// Ends an output: its text is whole. A fault that the bytes taken so far meet comes here at the latest.
+    ///
+    /// On `Fault` one failure more of that output is counted, and nothing else is changed.
+    fn end(&mut self, which: Which) -> Result<(), Fault>
+        ensures ok { OnOk result (seen self.new ≡ with_place (seen self.old) which (ended (at (seen self.old) which))) }
         ensures err { OnErr result (seen self.new ≡ with_place (seen self.old) which (failed (at (seen self.old) which))) };
 }
 

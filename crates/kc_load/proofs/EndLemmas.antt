@@ -5,11 +5,10 @@ use Rattle.std.proofs.lemmas.List.{nil_from_length}
 use Rattle.std.proofs.Math.ListN.{length-map}
 use Rattle.std.specs.declared.vec.Vec.{Vec}
 use Rattle.std.specs.declared.alloc.Global.{Global}
-use Rattle.kc_text.specs.Lines.{physical_lines}
 use Rattle.kc_read.specs.Files.{bytes_in}
 use Rattle.kc_load.specs.Faults.{IsLoadFault, IsNext}
 use Rattle.kc_load.specs.Folders.{Told}
-use Rattle.kc_load.specs.Loaded.{AreSources, IsWhole, Loads, Reached, itself, line_limit, lines_of}
+use Rattle.kc_load.specs.Loaded.{IsWhole, Loads, Reached, itself, line_limit, lines_of}
 use Rattle.kc_load.specs.Steps.{FailsAt, State, Visits, no_text, known, no_file, file, begun, most}
 use Rattle.kc_load.specs.declared.fault.LoadFault.{LoadFault}
 use Rattle.kc_load.specs.declared.fault.LoadFault.TheVariants.{CannotRead, Memory}

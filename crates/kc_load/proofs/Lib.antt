@@ -4,3 +4,6 @@ pub mod HeldLemmas
 pub mod Ongoing
 pub mod TurnLemmas
 pub mod EndLemmas
+pub mod Walks
+pub mod FollowLemmas
+pub mod EnoughLemmas

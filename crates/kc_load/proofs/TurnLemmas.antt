@@ -1,12 +1,12 @@
 -- The turn of one name keeps what holds while files are loaded.
-use Rattle.std.proofs.Common.{◌≡◌, ◌⊎◌, ℕ, ◌+◌, ◌≤◌, Bool, true, false, List, [], ◌∷◌, ◌++◌, reverse, length, min, Some, None, Option, Contains, IsUtf8, inl, inr, arith, refl, sym, ap, ◌∙◌, subst, if◌then◌else◌}
+use Rattle.std.proofs.Common.{◌≡◌, ◌⊎◌, ℕ, ◌≤◌, true, false, List, [], ◌∷◌, ◌++◌, reverse, min, Some, None, Option, Contains, IsUtf8, inl, inr, arith, refl, sym, ap, ◌∙◌, subst, if◌then◌else◌}
 use Rattle.std.proofs.lemmas.List.Elements.{Contains-append_left, Contains-append_right, Contains-append_cases}
 use Rattle.kc_expr.specs.Names.{same_name, mention}
 use Rattle.kc_read.specs.Files.{bytes_in}
 use Rattle.kc_load.specs.Folders.{Told, AnswersAs, path_of}
-use Rattle.kc_load.specs.Loaded.{AreRead, File, IsWhole, Reached, itself, sourced, line_limit, line_total, lines_of}
+use Rattle.kc_load.specs.Loaded.{AreRead, File, IsWhole, Reached, sourced, line_limit, line_total}
 use Rattle.kc_load.specs.Steps.{Asks, IsDue, State, Takes, Visits, no_text, known, no_file, file, most, was_asked}
-use Rattle.kc_load.proofs.HeldLemmas.{held_cases, held_new, held_old, held_more, reached_more, asked_still, asked_itself, asked_cases, apart_asked, only_element}
+use Rattle.kc_load.proofs.HeldLemmas.{held_cases, held_new, held_old, reached_more, asked_still, asked_itself, asked_cases, apart_asked, only_element}
 use Rattle.kc_load.proofs.ListLemmas.{reversed_in, reversed_out}
 use Rattle.kc_load.proofs.Ongoing.{AreMet, IsMet, Ongoing}
 

@@ -1,5 +1,5 @@
 -- Trusted: What a folder tells of its files.
-use Rattle.std.specs.Prelude.{◌≡◌, ℕ, ◌+◌, ◌-◌, ◌^◌, ◌++◌, ◌∷◌, List, [], Bool, true, false, ◌==◌, min, Option, Some, None, if◌then◌else◌}
+use Rattle.std.specs.Prelude.{◌≡◌, ℕ, ◌+◌, ◌-◌, ◌^◌, ◌++◌, ◌∷◌, List, [], Bool, false, ◌==◌, min, Option, Some, None, if◌then◌else◌}
 use Rattle.kc_load.specs.declared.folder.FolderFault.{FolderFault}
 use Rattle.kc_load.specs.declared.folder.FolderFault.TheVariants.{Device, Memory}
 

@@ -1,4 +1,5 @@
 pub mod Folders
 pub mod Loaded
+pub mod Expanding
 pub mod Faults
 pub mod Steps

@@ -1,5 +1,5 @@
 -- Trusted: What loading gives: the files that a first one reaches.
-use Rattle.std.specs.Prelude.{◌≡◌, ℕ, ◌+◌, ◌≤◌, List, [], ◌∷◌, length, Option, Some, None, Contains}
+use Rattle.std.specs.Prelude.{◌≡◌, ℕ, ◌+◌, ◌≤◌, List, [], ◌∷◌, length, Some, None, Contains}
 use Rattle.std.specs.Str.{IsUtf8}
 use Rattle.kc_text.specs.Lines.{left, physical_lines}
 use Rattle.kc_read.specs.Files.{Files, bytes_in}

@@ -2,6 +2,7 @@
 
 ghost use Rattle.std.specs.Prelude.{◌≡◌, IfOk, IfErr, OnOk};
 ghost use Rattle.kc_read.specs.Files.{bytes_in};
+ghost use Rattle.kc_load.specs.Expanding.{Suffices};
 ghost use Rattle.kc_load.specs.Faults.{IsLoadFault, counted_load};
 ghost use Rattle.kc_load.specs.Loaded.{Loads};
 
@@ -17,7 +18,8 @@ use std::alloc::Global;
 /// A name is read at the path `root/NAME`, or at the name itself where it begins with `/`. Each name is read once, depth
 /// first, in the order of the `source` lines. A name that is no UTF-8, or of which there is no file, is left out.
 /// Reading stops after the file with which there are more than 1,000,000 physical lines: such a tree is refused at that
-/// file or before it.
+/// file or before it. So what is read is always enough: over it the root file gives the list, or the refusal, that it gives
+/// over all the files of the folder.
 ///
 /// E18 where the folder's device failed, E20 where memory was refused. Nothing of the map is left then.
 pub fn load<F: Folder>(
@@ -28,6 +30,8 @@ pub fn load<F: Folder>(
 ) -> Result<FileMap, LoadFault>
     // The map holds the files that the first one reaches, with the folder's bytes.
     ensures loaded { IfOk result (λ map. Loads (F.files folder.old) root.now kconfig.now (bytes_in map)) }
+    // They are enough: over them the first file gives what it gives over all the folder's files.
+    ensures enough { IfOk result (λ map. Suffices (F.files folder.old) root.now kconfig.now (bytes_in map)) }
     // The folder's files stay.
     ensures stays { F.files folder.new ≡ F.files folder.old }
     // No failure is counted where all was read.

@@ -1,16 +1,19 @@
-use Rattle.std.proofs.Common.{◌≡◌, ℕ, ◌≤◌, List, map, refl, ap, sym, subst, ◌∙◌, arith}
+use Rattle.std.proofs.Common.{◌≡◌, ℕ, true, false, refl, ap, sym, subst, ◌∙◌, arith}
 use Rattle.std.proofs.lemmas.Result.{err_from_is_err_and}
 use Rattle.std.specs.declared.vec.Vec.{Vec}
 use Rattle.std.specs.declared.alloc.Global.{Global}
-use Rattle.kc_load.specs.Steps.{State, begun, state_of}
+use Rattle.kc_load.specs.Steps.{State, state_of}
 use Rattle.kc_load.proofs.EndLemmas.{at_end, at_fault, at_start, falls, fits, is_over, none_waits, not_over, turned, when_over}
+use Rattle.kc_load.proofs.EnoughLemmas.{enough}
 use Rattle.kc_load.proofs.ListLemmas.{popped_last}
 use Rattle.kc_load.proofs.Ongoing.{Ongoing}
+use Rattle.kc_load.proofs.Walks.{IsOnWay, ended_walk, over_walk, walk_begins, walk_turned}
 use Rattle.kc_load.proofs.loader.load.Goals as goal
 
 pub loop-name-init : goal.loop-name-init
 loop-name-init g c = record {
   ongoing = subst (λ (s : State). Ongoing (g.F.Folder.files c.args.folder.now) c.args.root.now c.args.kconfig.now s) (sym c.in_ok-loading.ensures) (at_start _ c.args.root.now c.args.kconfig.now c.utf8.kconfig);
+  on_way = subst (λ (s : State). IsOnWay (g.F.Folder.files c.args.folder.now) c.args.root.now c.args.kconfig.now s) (sym c.in_ok-loading.ensures) (walk_begins _ c.args.root.now c.args.kconfig.now);
   within = let none : c.in_ok-loading.loading.lines ≡ 0 = ap (λ s. s.lines) c.in_ok-loading.ensures in omega arith;
   stays = refl;
   quiet = refl;
@@ -27,6 +30,13 @@ returns-then-is_over-clause-loaded g c =
     let i = c.loop-name.invariant in
     when_over _ _ _ (state_of c.visit.new.self) (turned _ _ _ _ (state_of c.loop-name.loading) i.ongoing i.within i.stays _ c.in-Some.name.items (popped_last (λ (v : Vec ℕ Global). v.items) c.pop.new.self.items c.in-Some.name _ c.in-Some.ensures.items) (state_of c.visit.new.self) c.in_ok-visit.ensures.ok) (is_over _ c.if-is_over.ensures)
 
+pub returns-then-is_over-clause-enough : goal.returns-then-is_over-clause-enough
+returns-then-is_over-clause-enough g c =
+    let i = c.loop-name.invariant in
+    let last = popped_last (λ (v : Vec ℕ Global). v.items) c.pop.new.self.items c.in-Some.name _ c.in-Some.ensures.items in
+    enough _ _ _ (state_of c.visit.new.self) (turned _ _ _ _ (state_of c.loop-name.loading) i.ongoing i.within i.stays _ c.in-Some.name.items last (state_of c.visit.new.self) c.in_ok-visit.ensures.ok) true
+    (over_walk _ _ _ (state_of c.visit.new.self) (walk_turned _ _ _ _ (state_of c.loop-name.loading) i.on_way i.stays _ c.in-Some.name.items last (state_of c.visit.new.self) c.in_ok-visit.ensures.ok) (is_over _ c.if-is_over.ensures))
+
 pub loop-name-smaller : goal.loop-name-smaller
 loop-name-smaller g c =
     let i = c.loop-name.invariant in
@@ -37,6 +47,7 @@ loop-name-preserved g c =
     let i = c.loop-name.invariant in
     record {
       ongoing = turned _ _ _ _ (state_of c.loop-name.loading) i.ongoing i.within i.stays _ c.in-Some.name.items (popped_last (λ (v : Vec ℕ Global). v.items) c.pop.new.self.items c.in-Some.name _ c.in-Some.ensures.items) (state_of c.visit.new.self) c.in_ok-visit.ensures.ok;
+      on_way = walk_turned _ _ _ _ (state_of c.loop-name.loading) i.on_way i.stays _ c.in-Some.name.items (popped_last (λ (v : Vec ℕ Global). v.items) c.pop.new.self.items c.in-Some.name _ c.in-Some.ensures.items) (state_of c.visit.new.self) c.in_ok-visit.ensures.ok;
       within = not_over _ c.if-is_over.ensures;
       stays = c.in_ok-visit.ensures.stays ∙ i.stays;
       quiet = c.in_ok-visit.ensures.quiet ∙ i.quiet;
@@ -45,3 +56,9 @@ loop-name-preserved g c =
 pub returns-clause-loaded : goal.returns-clause-loaded
 returns-clause-loaded g c =
     at_end _ _ _ (state_of c.loop-name.loading) c.loop-name.invariant.ongoing (none_waits c.loop-name.loading.waiting c.in_default.ensures.cases.0)
+
+pub returns-clause-enough : goal.returns-clause-enough
+returns-clause-enough g c =
+    let i = c.loop-name.invariant in
+    enough _ _ _ (state_of c.loop-name.loading) i.ongoing false
+    (ended_walk _ _ _ (state_of c.loop-name.loading) i.on_way (none_waits c.loop-name.loading.waiting c.in_default.ensures.cases.0))

@@ -3,11 +3,13 @@ use Rattle.kc_load.specs.Loaded.{line_limit}
 use Rattle.kc_load.specs.Steps.{state_of}
 use Rattle.kc_load.proofs.EndLemmas.{still_left}
 use Rattle.kc_load.proofs.Ongoing.{Ongoing}
+use Rattle.kc_load.proofs.Walks.{IsOnWay}
 use Rattle.kc_load.proofs.loader.load.Given as goal
 
 abbrev pub invariant-loop-name : goal.invariant-loop-name
 invariant-loop-name g l = record {
   ongoing : Ongoing (g.F.Folder.files l.fn.folder) l.root l.kconfig (state_of l.loading);
+  on_way : IsOnWay (g.F.Folder.files l.fn.folder) l.root l.kconfig (state_of l.loading);
   within : l.loading.lines ≤ line_limit;
   stays : g.F.Folder.files l.folder ≡ g.F.Folder.files l.fn.folder;
   quiet : g.F.Folder.failures l.folder ≡ g.F.Folder.failures l.fn.folder;

@@ -1,0 +1,114 @@
+-- What was loaded is enough: the expansion over it is the expansion over the folder's files.
+use Rattle.std.proofs.Common.{◌≡◌, ℕ, Bool, true, false, cond, nat_le, List, [], ◌∷◌, ◌++◌, length, Option, Some, None, MatchOption, Result, Err, Contains, IsUtf8, arith, refl, sym, ap, ◌∙◌, subst}
+use Rattle.std.proofs.lemmas.Bool.{false≢true}
+use Rattle.std.proofs.lemmas.List.Elements.{Contains-append_left, Contains-append_right}
+use Rattle.std.proofs.lemmas.Str.{IsUtf8-from_is_utf8, is_utf8-from_IsUtf8}
+use Rattle.std.specs.List.{list_any}
+use Rattle.std.specs.Str.{is_utf8}
+use Rattle.kc_text.specs.Lines.{Left, left}
+use Rattle.kc_expr.specs.Names.{same_name}
+use Rattle.kc_read.specs.declared.refusal.Code.TheVariants as code
+use Rattle.kc_read.specs.Expansion.{Around, Expands, Log, Refused, Rest, bytes_cause, nothing_read, of_file, opening, refused, root_around, sourcing_cause, at_end, unclosed, too_long, no_tokens, blank, bad_line, bad_effect, statement, bad_source, refused_inside, source}
+use Rattle.kc_read.specs.Files.{Files, bytes_in}
+use Rattle.kc_read.specs.Lines.{Cause, cause}
+use Rattle.kc_read.specs.Openings.{asked}
+use Rattle.kc_read.specs.Statements.{Placed, Written}
+use Rattle.kc_read.proofs.ExpansionThere.{has_one_expansion}
+use Rattle.kc_read.proofs.OneExpansion.{one_expansion_law}
+use Rattle.kc_load.specs.Expanding.{ExpandsAlike, Suffices, named}
+use Rattle.kc_load.specs.Folders.{Told, path_of}
+use Rattle.kc_load.specs.Loaded.{Reached, itself, sourced}
+use Rattle.kc_load.specs.Steps.{State}
+use Rattle.kc_load.proofs.FollowLemmas.{IsClosed, enter, few_lines, follow}
+use Rattle.kc_load.proofs.Ongoing.{Ongoing}
+use Rattle.kc_load.proofs.Walks.{IsMetIn, Walks, first_met}
+
+-- ---- Files that agree on all that is asked for
+
+here : (x : List ℕ) (xs : List (List ℕ)) → Contains (x ∷ xs) x
+here x xs = (0, omega arith, refl)
+
+module _ (files others : Files) where
+  same_cause : (opens : List (List ℕ)) (n : ℕ) (name : List ℕ) (o : Option Cause) → others name ≡ files name → sourcing_cause files opens n name ≡ o → sourcing_cause others opens n name ≡ o
+  same_cause opens n name o e h =
+      ap (λ f. cond (list_any (same_name name) opens) (Some (of_file code.InclusionLoop name)) (cond (nat_le 64 (length opens)) (Some (cause code.TooDeep)) (bytes_cause name n f))) e ∙ h
+
+  -- the expansion over the one is one over the other
+  pub over : {a : Around} {l : Left} {own : List (Placed Written)} {log : Log} {r : Result Log Refused} (d : Rest files a l own log r) → ((y : List ℕ) → Contains (asked d) y → others y ≡ files y) → Rest others a l own log r
+  over (at_end a l own log none closed) h = at_end a l own log none closed
+  over (unclosed a l own log line none unmatched) h = unclosed a l own log line none unmatched
+  over (too_long a l own log long) h = too_long a l own log long
+  over (no_tokens a l m own log ts why next) h = no_tokens a l m own log ts why next
+  over (blank a l m own log r next d) h = blank a l m own log r next (over d h)
+  over (bad_line a l m own log c n) h = bad_line a l m own log c n
+  over (bad_effect a l m own log s c n f) h = bad_effect a l m own log s c n f
+  over (statement a l m own log s r n plain f d) h = statement a l m own log s r n plain f (over d h)
+  over (bad_source a l m own log name c n f) h = bad_source a l m own log name c n (same_cause a.open_files log.counted name (Some c) (h name (here name [])) f)
+  over (refused_inside a l m own log name bytes e n free there d) h =
+      let same = h name (here name (asked d)) in
+      refused_inside a l m own log name bytes e n (same_cause a.open_files log.counted name None same free) (same ∙ there) (over d (λ y c. h y (Contains-append_right (name ∷ []) (asked d) y c)))
+  over (source a l m own log more name bytes r n free there d g) h =
+      let same = h name (here name (asked d ++ asked g)) in
+      source a l m own log more name bytes r n (same_cause a.open_files log.counted name None same free) (same ∙ there)
+      (over d (λ y c. h y (Contains-append_right (name ∷ []) (asked d ++ asked g) y (Contains-append_left (asked d) (asked g) y c))))
+      (over g (λ y c. h y (Contains-append_right (name ∷ []) (asked d ++ asked g) y (Contains-append_right (asked d) (asked g) y c))))
+
+-- ---- From the root file on
+
+abbrev RootGives : Files → List ℕ → Result Log Refused → Type 0
+RootGives files root r = (bytes : List ℕ) × (files root ≡ Some bytes) × Rest files (root_around root) (left bytes 1) [] (opening nothing_read bytes) r
+
+module _ (told : List ℕ → Option (List ℕ)) (dir first : List ℕ) (loaded : Files) (w : List (List ℕ)) (m : ℕ) (b : Bool) (text : IsUtf8 first) (walk : Walks (Some told) dir [] 0 (first ∷ []) w m b) (agree : (y : List ℕ) → IsMetIn w y → loaded y ≡ named told dir y) where
+  same_root : loaded first ≡ named told dir first
+  same_root = agree first (first_met (omega arith) walk)
+
+  opened_alike : (r : Result Log Refused) → bytes_cause first 0 (named told dir first) ≡ None → RootGives (named told dir) first r → RootGives loaded first r
+  opened_alike r free (bytes, there, d) =
+      let few = few_lines first bytes 0 (named told dir first) free there in
+      let free : list_any (same_name first) [] ≡ false = refl in
+      let shut : IsClosed told dir [] [] = λ x c now. absurd (false≢true now) in
+      let en = enter told dir {opens = []} bytes 0 there free (omega arith) (omega arith) shut walk in
+      let f = follow told dir d en.names en.sources en.walk en.closed en.fewer few in
+      (bytes, same_root ∙ there, over (named told dir) loaded d (λ y c. agree y (en.grown y (f.asks y c))))
+
+  pub forward : (r : Result Log Refused) → Expands (named told dir) first r → Expands loaded first r
+  forward r d = by (bytes_cause first 0 (named told dir first)) refl d
+    where
+      by : (o : Option Cause) → bytes_cause first 0 (named told dir first) ≡ o → MatchOption o (RootGives (named told dir) first r) (λ c. r ≡ Err (refused c first 0)) → Expands loaded first r
+      by None e x = subst (λ (k : Option Cause). MatchOption k (RootGives loaded first r) (λ c. r ≡ Err (refused c first 0))) (sym (ap (bytes_cause first 0) same_root ∙ e)) (opened_alike r e x)
+      by (Some c) e x = subst (λ (k : Option Cause). MatchOption k (RootGives loaded first r) (λ c. r ≡ Err (refused c first 0))) (sym (ap (bytes_cause first 0) same_root ∙ e)) x
+
+  pub alike : ExpandsAlike first (named told dir) loaded
+  alike r = (forward r, back)
+    where
+      back : Expands loaded first r → Expands (named told dir) first r
+      back h =
+          let x = has_one_expansion (named told dir) first in
+          subst (Expands (named told dir) first) (one_expansion_law loaded first x.0 r (forward x.0 x.1) h) x.1
+
+-- ---- The end of the loading
+
+-- what is reached from a text is a text
+reached_text : (files : Files) (first : List ℕ) → IsUtf8 first → (name : List ℕ) → Reached files first name → is_utf8 name ≡ true
+reached_text files first text name itself = is_utf8-from_IsUtf8 first text
+reached_text files first text name (sourced file bytes x names r e s among t) = is_utf8-from_IsUtf8 x t
+
+module _ (told : List ℕ → Option (List ℕ)) (dir first : List ℕ) (s : State) (h : Ongoing (Some told) dir first s) where
+  -- each name that was asked for has the folder's file
+  asked_are_whole : (y : List ℕ) → IsMetIn s.asked y → s.files y ≡ named told dir y
+  asked_are_whole y met = by (is_utf8 y) refl
+    where
+      none : is_utf8 y ≡ false → (o : Option (List ℕ)) → bytes_in h.read y ≡ o → o ≡ None
+      none u None e = refl
+      none u (Some c) e = absurd (false≢true (sym u ∙ reached_text (bytes_in h.read) first h.text y (h.are_read.reached y c e)))
+
+      by : (b : Bool) → is_utf8 y ≡ b → s.files y ≡ cond b (told (path_of dir y)) None
+      by true u = h.held y ∙ sym (h.answers y (met (IsUtf8-from_is_utf8 y u)))
+      by false u = h.held y ∙ none u (bytes_in h.read y) refl
+
+  pub enough_told : (b : Bool) → Walks (Some told) dir [] 0 (first ∷ []) s.asked s.lines b → Suffices (Some told) dir first s.files
+  enough_told b walk = (named told dir, refl, alike told dir first s.files s.asked s.lines b h.text walk asked_are_whole)
+
+pub enough : (told : Told) (dir first : List ℕ) (s : State) → Ongoing told dir first s → (b : Bool) → Walks told dir [] 0 (first ∷ []) s.asked s.lines b → Suffices told dir first s.files
+enough None dir first s h b walk = (s.files, tt, λ r. (λ x. x, λ x. x))
+enough (Some told) dir first s h b walk = enough_told told dir first s h b walk

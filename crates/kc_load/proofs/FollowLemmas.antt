@@ -1,0 +1,278 @@
+-- What an expansion asks for, the loading asked for: along the rest of a file, by the walk through its names.
+use Rattle.std.proofs.Common.{◌≡◌, ℕ, ◌+◌, ◌≤◌, Bool, true, false, cond, ◌||◌, nat_le, nat_lt, List, [], ◌∷◌, ◌++◌, length, codes, drop, min, Option, Some, None, Result, Ok, Err, Contains, inl, inr, arith, refl, sym, ap, ◌∙◌, subst}
+use Rattle.std.proofs.lemmas.Bool.{cases_Bool, both_ways, or_from, or_parts, true≢false, false≢true}
+use Rattle.std.proofs.lemmas.Bool.Decides.{nat_tests}
+use Rattle.std.proofs.lemmas.List.Elements.{Contains-append_cases}
+use Rattle.std.proofs.lemmas.List.Folds.{list_any-append}
+use Rattle.std.proofs.lemmas.Str.{IsUtf8-from_is_utf8}
+use Rattle.std.specs.List.{list_any}
+use Rattle.std.specs.Str.{is_utf8}
+use Rattle.kc_text.specs.Lexemes.{Lexeme}
+use Rattle.kc_text.specs.Lines.{Left}
+use Rattle.kc_expr.specs.Names.{same_name, mention}
+use Rattle.kc_expr.proofs.NamesLemmas.{same_name-refl}
+use Rattle.kc_read.specs.declared.refusal.Code.TheVariants as code
+use Rattle.kc_read.specs.Expansion.{Around, Log, Refused, Rest, NextStatement, bytes_cause, is_source, lexemes, of_file, sourcing_cause, at_end, unclosed, too_long, no_tokens, blank, bad_line, bad_effect, statement, bad_source, refused_inside, source}
+use Rattle.kc_read.specs.Files.{Files}
+use Rattle.kc_read.specs.Lines.{Context, After, Cause, ReadsSource, begins_with, cause, finish, plain_text, text_of}
+use Rattle.kc_read.specs.Openings.{asked}
+use Rattle.kc_read.specs.Sources.{Names}
+use Rattle.kc_read.specs.Statements.{Placed, Written, SourceLine}
+use Rattle.kc_read.proofs.FileLemmas.{same_name_eq}
+use Rattle.kc_read.proofs.OneExpansion.{none_or_some, one_some, source_line}
+use Rattle.kc_read.proofs.SourceLines as lines
+use Rattle.kc_read.proofs.SourceWord.{source_begins, begins_source}
+use Rattle.kc_load.specs.Expanding.{named}
+use Rattle.kc_load.specs.Folders.{path_of}
+use Rattle.kc_load.specs.Loaded.{AreSources, line_limit, lines_of}
+use Rattle.kc_load.specs.Steps.{most, was_asked}
+use Rattle.kc_load.proofs.HeldLemmas.{asked_cases, asked_itself, asked_still, only_element}
+use Rattle.kc_load.proofs.Walks.{IsMetIn, Walks, stopped, passed, missing, taken, all_passed, first_met, first_or_later, grows, meets, no_name, split}
+use Rattle.kc_load.proofs.Walks as walks
+
+-- ---- The names behind a line
+
+read_on : {A : Type 0} (o : Result A Cause) (Next : A → Result Written Cause → Type 0) (s : Written) → After o Next (Ok s) → (a : A) × Next a (Ok s)
+read_on (Ok a) Next s h = (a, h)
+read_on (Err c) Next s h = absurd (let e : Ok s ≡ Err c = h in cc)
+
+ends_as : (s t : Written) (ts : List Lexeme) → Ok s ≡ finish t ts → s ≡ t
+ends_as s t [] e = cc
+ends_as s t (x ∷ xs) e = absurd cc
+
+-- nothing else than a `source` line
+reads_source : (ts : List Lexeme) (s : Written) → ReadsSource ts (Ok s) → is_source s ≡ true
+reads_source ts s h =
+    let (t, plain) = read_on (text_of ts) (λ t. After (plain_text t) (λ u r. r ≡ finish (SourceLine u) (drop 1 ts))) s h in
+    let (u, e) = read_on (plain_text t) (λ u r. r ≡ finish (SourceLine u) (drop 1 ts)) s plain in
+    let is : s ≡ source_line u = ends_as s (source_line u) (drop 1 ts) e in
+    ap is_source is
+
+-- behind a statement that is no `source` line the names are those before it
+names_plain : (l m : Left) (c : Context) (s : Written) (ns : List (List ℕ)) → NextStatement l m c (Ok s) → is_source s ≡ false → Names l ns → Names m ns
+names_plain l m c s ns n plain d = elim (cases_Bool (begins_with (codes "source") (lexemes n.tokens))) [
+  | inl b ↦ absurd (both_ways (is_source s) plain (reads_source (drop 1 (lexemes n.tokens)) s (begins_source c (lexemes n.tokens) (Ok s) b n.reads)))
+  | inr b ↦ lines.after_other l m ns (n.tokens, n.next, b) d
+]
+
+-- a `source` line names its file first
+names_source : (l m : Left) (c : Context) (name : List ℕ) (ns : List (List ℕ)) → NextStatement l m c (Ok (SourceLine name)) → Names l ns → (more : List (List ℕ)) × (ns ≡ name ∷ more) × Names m more
+names_source l m c name ns n d =
+    let b = source_begins c (lexemes n.tokens) name n.reads in
+    lines.after_source l m name ns (n.tokens, n.next, b, begins_source c (lexemes n.tokens) (Ok (SourceLine name)) b n.reads) d
+
+-- ---- A file that may be opened
+
+-- with its lines there are no more than the limit
+pub few_lines : (name bytes : List ℕ) (n : ℕ) (o : Option (List ℕ)) → bytes_cause name n o ≡ None → o ≡ Some bytes → n + lines_of bytes ≤ line_limit
+few_lines name bytes n None e f = absurd cc
+few_lines name bytes n (Some c) e f =
+    let same : c ≡ bytes = cc in
+    subst (λ b. n + lines_of b ≤ line_limit) same (by (nat_lt 1000000 (n + lines_of c)) refl e)
+  where
+    by : (b : Bool) → nat_lt 1000000 (n + lines_of c) ≡ b → cond b (Some (cause code.TooManyLines)) None ≡ None → n + lines_of c ≤ line_limit
+    by true g h = absurd cc
+    by false g h = grind (arith, nat_tests)
+
+-- and it is not open
+may_open : (files : Files) (opens : List (List ℕ)) (n : ℕ) (name bytes : List ℕ) → sourcing_cause files opens n name ≡ None → files name ≡ Some bytes → (list_any (same_name name) opens ≡ false) × (n + lines_of bytes ≤ line_limit)
+may_open files opens n name bytes h there = by (list_any (same_name name) opens) (nat_le 64 (length opens)) refl h
+  where
+    by : (open_now full : Bool) → list_any (same_name name) opens ≡ open_now → cond open_now (Some (of_file code.InclusionLoop name)) (cond full (Some (cause code.TooDeep)) (bytes_cause name n (files name))) ≡ None → (list_any (same_name name) opens ≡ false) × (n + lines_of bytes ≤ line_limit)
+    by true full e g = absurd cc
+    by false true e g = absurd cc
+    by false false e g = (e, few_lines name bytes n (files name) g there)
+
+-- ---- The folder
+
+module _ (told : List ℕ → Option (List ℕ)) (dir : List ℕ) where
+  abbrev pub all : Files
+  all = named told dir
+
+  -- a name that has a file is text, and the folder tells that file
+  pub is_found : (x bytes : List ℕ) → all x ≡ Some bytes → (is_utf8 x ≡ true) × (told (path_of dir x) ≡ Some bytes)
+  is_found x bytes e = by (is_utf8 x) refl e
+    where
+      by : (b : Bool) → is_utf8 x ≡ b → cond b (told (path_of dir x)) None ≡ Some bytes → (is_utf8 x ≡ true) × (told (path_of dir x) ≡ Some bytes)
+      by true u h = (u, h)
+      by false u h = absurd cc
+
+  -- the names that the file sources were asked for
+  abbrev pub AreAsked : List (List ℕ) → List ℕ → Type 0
+  AreAsked v bytes = (names : List (List ℕ)) × AreSources bytes names × ((y : List ℕ) → Contains names y → IsMetIn v y)
+
+  -- so were those of each file that was asked for and is not open
+  abbrev pub IsClosed : List (List ℕ) → List (List ℕ) → Type 0
+  IsClosed opens v = (x bytes : List ℕ) → was_asked v x ≡ true → list_any (same_name x) opens ≡ false → all x ≡ Some bytes → AreAsked v bytes
+
+  module _ (opens : List (List ℕ)) (x : List ℕ) where
+    one_open_more : (z : List ℕ) → list_any (same_name z) (opens ++ x ∷ []) ≡ (list_any (same_name z) opens || (same_name z x || false))
+    one_open_more z = list_any-append (same_name z) opens (x ∷ [])
+
+    apart : (z : List ℕ) → list_any (same_name z) (opens ++ x ∷ []) ≡ false → (list_any (same_name z) opens ≡ false) × (same_name z x ≡ false)
+    apart z h =
+        let p = or_parts (list_any (same_name z) opens) (same_name z x || false) (sym (one_open_more z) ∙ h) in
+        (p.0, (or_parts (same_name z x) false p.1).0)
+
+    not_open : (z : List ℕ) → list_any (same_name z) opens ≡ false → same_name z x ≡ false → list_any (same_name z) (opens ++ x ∷ []) ≡ false
+    not_open z h g = one_open_more z ∙ or_from (list_any (same_name z) opens) (same_name z x || false) h (or_from (same_name z x) false g refl)
+
+    -- one more file is open
+    wider : (v : List (List ℕ)) → IsClosed opens v → IsClosed (opens ++ x ∷ []) v
+    wider v shut z c a h = shut z c a (apart z h).0
+
+    -- and was asked for now
+    opened : (v : List (List ℕ)) → was_asked v x ≡ false → IsClosed opens v → IsClosed (opens ++ x ∷ []) (mention v x)
+    opened v new shut z c a h e =
+        let p = apart z h in
+        elim (asked_cases v x new z a) [
+          | inl before ↦ let k = shut z c before p.0 e in (k.0, k.1, λ y among t. asked_still v x new y (k.2 y among t))
+          | inr is ↦ absurd (false≢true (sym p.1 ∙ ap (λ (q : List ℕ). same_name q x) is ∙ same_name-refl x))
+        ]
+
+    -- its names were asked for: it is open no more
+    left_now : (v : List (List ℕ)) (bytes : List ℕ) → all x ≡ Some bytes → AreAsked v bytes → IsClosed (opens ++ x ∷ []) v → IsClosed opens v
+    left_now v bytes there own shut z c a h e = by (same_name z x) refl
+      where
+        by : (b : Bool) → same_name z x ≡ b → AreAsked v c
+        by true g =
+            let same : bytes ≡ c = one_some (all x) bytes c there (ap all (sym (same_name_eq z x g)) ∙ e) in
+            subst (AreAsked v) same own
+        by false g = shut z c a (not_open z h g) e
+
+    -- The walk goes into a file that may be opened, and on behind it.
+    pub record Enters (bytes : List ℕ) (counted : ℕ) (rest w : List (List ℕ)) (m : ℕ) (b : Bool) : Type 0 where
+      pub names : List (List ℕ)
+      pub sources : AreSources bytes names
+      pub before : List (List ℕ)
+      pub count : ℕ
+      pub after : List (List ℕ)
+      pub count_after : ℕ
+      pub over : Bool
+      pub walk : Walks (Some told) dir before count names after count_after over
+      pub closed : IsClosed (opens ++ x ∷ []) before
+      pub fewer : count ≤ counted + lines_of bytes
+      pub grown : (y : List ℕ) → IsMetIn after y → IsMetIn w y
+      pub met : IsMetIn w x
+      pub leaves : over ≡ false → IsClosed (opens ++ x ∷ []) after → IsClosed opens after × Walks (Some told) dir after count_after rest w m b
+
+    -- a file that was not asked for before
+    entered_new : (bytes : List ℕ) (counted : ℕ) (rest v w names : List (List ℕ)) (n m : ℕ) (b : Bool) → all x ≡ Some bytes → n ≤ counted → IsClosed opens v → was_asked v x ≡ false → AreSources bytes names → Walks (Some told) dir (mention v x) (min (n + lines_of bytes) most) (names ++ rest) w m b → Enters bytes counted rest w m b
+    entered_new bytes counted rest v w names n m b there le shut new are d = elim (split d names rest refl) [
+      | inl r ↦ record {
+        names = names;
+        sources = are;
+        before = mention v x;
+        count = min (n + lines_of bytes) most;
+        after = r.0;
+        count_after = r.1;
+        over = false;
+        walk = r.2;
+        closed = opened v new shut;
+        fewer = omega arith;
+        grown = λ y h t. grows r.3 y (h t);
+        met = λ t. grows r.3 x (grows r.2 x (asked_itself v x new));
+        leaves = λ e c. (left_now r.0 bytes there (names, are, meets r.2 refl) c, r.3);
+      }
+      | inr r ↦ record {
+        names = names;
+        sources = are;
+        before = mention v x;
+        count = min (n + lines_of bytes) most;
+        after = w;
+        count_after = m;
+        over = true;
+        walk = r.1;
+        closed = opened v new shut;
+        fewer = omega arith;
+        grown = λ y h. h;
+        met = λ t. grows r.1 x (asked_itself v x new);
+        leaves = λ e c. absurd (true≢false e);
+      }
+    ]
+
+  pub enter : {opens v rest w : List (List ℕ)} {x : List ℕ} {n m : ℕ} {b : Bool} (bytes : List ℕ) (counted : ℕ) → all x ≡ Some bytes → list_any (same_name x) opens ≡ false → n ≤ counted → counted ≤ line_limit → IsClosed opens v → Walks (Some told) dir v n (x ∷ rest) w m b → Enters opens x bytes counted rest w m b
+  enter bytes counted there free le lim shut (stopped v xs n lt) = absurd (omega arith)
+  enter {opens} bytes counted there free le lim shut (passed v xs w x n m b met d) =
+      let now = met (IsUtf8-from_is_utf8 x (is_found x bytes there).0) in
+      let own = shut x bytes now free there in
+      record {
+        names = own.0;
+        sources = own.1;
+        before = v;
+        count = n;
+        after = v;
+        count_after = n;
+        over = false;
+        walk = all_passed (Some told) dir v n own.0 own.2;
+        closed = wider opens x v shut;
+        fewer = omega arith;
+        grown = λ y h t. grows d y (h t);
+        met = λ t. grows d x now;
+        leaves = λ e c. (shut, d);
+      }
+  enter bytes counted there free le lim shut (missing v xs w x n m b new none d) =
+      none_or_some (told (path_of dir x)) bytes none (is_found x bytes there).1
+  enter {opens} bytes counted there free le lim shut (taken v xs w names x c n m b new some are d) =
+      let same : c ≡ bytes = one_some (told (path_of dir x)) c bytes some (is_found x bytes there).1 in
+      entered_new opens x bytes counted xs v w names n m b there le shut new (subst (λ k. AreSources k names) same are) (subst (λ k. Walks (Some told) dir (mention v x) (min (n + lines_of k) most) (names ++ xs) w m b) same d)
+
+  -- ---- The rest of a file
+
+  -- where the rest of the file is whole, so was the walk
+  abbrev pub Ends : Around → Result Log Refused → List (List ℕ) → ℕ → Bool → Type 0
+  Ends a (Ok log) w m b = (b ≡ false) × IsClosed a.open_files w × (m ≤ log.counted) × (log.counted ≤ line_limit)
+  Ends a (Err e) w m b = Unit {0}
+
+  -- the walk asked for these names
+  pub record Follows (a : Around) (r : Result Log Refused) (names w : List (List ℕ)) (m : ℕ) (b : Bool) : Type 0 where
+    pub asks : (y : List ℕ) → Contains names y → IsMetIn w y
+    pub ends : Ends a r w m b
+
+  none_asked : (a : Around) (e : Refused) (w : List (List ℕ)) (m : ℕ) (b : Bool) → Follows a (Err e) [] w m b
+  none_asked a e w m b = record { asks = λ y c. absurd (no_name y c); ends = tt }
+
+  pub follow : {a : Around} {l : Left} {own : List (Placed Written)} {log : Log} {r : Result Log Refused} (d : Rest all a l own log r) {v w : List (List ℕ)} {n m : ℕ} {b : Bool} (ns : List (List ℕ)) → Names l ns → Walks (Some told) dir v n ns w m b → IsClosed a.open_files v → n ≤ log.counted → log.counted ≤ line_limit → Follows a r (asked d) w m b
+  follow (at_end a l own log none closed) ns names walk shut le lim =
+      let e = walks.at_end walk (lines.one_list l ns [] names (lines.at_end l none)) (omega arith) in
+      record { asks = λ y c. absurd (no_name y c); ends = (e.2, subst (IsClosed a.open_files) e.0 shut, let k = e.1 in omega arith, lim) }
+  follow (unclosed a l own log line none unmatched) ns names walk shut le lim = none_asked a _ _ _ _
+  follow (too_long a l own log long) ns names walk shut le lim = none_asked a _ _ _ _
+  follow (no_tokens a l m own log ts why next) ns names walk shut le lim = none_asked a _ _ _ _
+  follow (blank a l m own log r next d) ns names walk shut le lim = follow d ns (lines.after_other l m ns ([], next, refl) names) walk shut le lim
+  follow (bad_line a l m own log c n) ns names walk shut le lim = none_asked a _ _ _ _
+  follow (bad_effect a l m own log s c n f) ns names walk shut le lim = none_asked a _ _ _ _
+  follow (statement a l m own log s r n plain f d) ns names walk shut le lim = follow d ns (names_plain l m _ s ns n plain names) walk shut le lim
+  follow (bad_source a l l' own log name c next f) {v} {w} {n} {m} {b} ns names walk shut le lim =
+      let x = names_source l l' _ name ns next names in
+      let met = first_met (omega arith) (subst (λ zs. Walks (Some told) dir v n zs w m b) x.1 walk) in
+      record { asks = λ y c. subst (IsMetIn w) (only_element name y c) met; ends = tt }
+  follow (refused_inside a l l' own log name bytes e next free there d) {v} {w} {n} {m} {b} ns names walk shut le lim =
+      let x = names_source l l' _ name ns next names in
+      let may = may_open all a.open_files log.counted name bytes free there in
+      let en = enter bytes log.counted there may.0 le lim shut (subst (λ zs. Walks (Some told) dir v n zs w m b) x.1 walk) in
+      let f = follow d en.names en.sources en.walk en.closed en.fewer may.1 in
+      record {
+        asks = λ y c. elim (first_or_later name (asked d) y c) [
+          | inl is ↦ subst (IsMetIn w) is en.met
+          | inr inside ↦ en.grown y (f.asks y inside)
+        ];
+        ends = tt;
+      }
+  follow (source a l l' own log more name bytes r next free there d g) {v} {w} {n} {m} {b} ns names walk shut le lim =
+      let x = names_source l l' _ name ns next names in
+      let may = may_open all a.open_files log.counted name bytes free there in
+      let en = enter bytes log.counted there may.0 le lim shut (subst (λ zs. Walks (Some told) dir v n zs w m b) x.1 walk) in
+      let f = follow d en.names en.sources en.walk en.closed en.fewer may.1 in
+      let on = en.leaves f.ends.0 f.ends.1 in
+      let h = follow g x.0 x.2 on.1 on.0 f.ends.2 f.ends.3 in
+      record {
+        asks = λ y c. elim (first_or_later name (asked d ++ asked g) y c) [
+          | inl is ↦ subst (IsMetIn w) is en.met
+          | inr later ↦ elim (Contains-append_cases (asked d) (asked g) y later) [
+            | inl inside ↦ en.grown y (f.asks y inside)
+            | inr behind ↦ h.asks y behind
+          ]
+        ];
+        ends = h.ends;
+      }
