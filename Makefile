@@ -47,7 +47,7 @@ refused: build
 	cd crates/kc_call_turns && rt run > /dev/null
 	bench/refused.sh
 
-# Runs each example of docs/formats.md, and looks whether each link of the documents leads somewhere.
+# Runs each example of docs/formats.md and the makefile of docs/make.md, and looks whether each link of the documents leads somewhere.
 docs: build
 	bench/docs.py crates/kconf/out/kconf
 

@@ -2,12 +2,13 @@
 """Checks what the documents say of the built program: docs.py KCONF
 
 Every example of a diagnostic in docs/formats.md is run, and the line that comes must be the one
-that stands there. Every link from a document to a file of the repository must lead somewhere, and
+that stands there. The makefile of docs/make.md is run over examples/firmware. Every link from a document to a file of the repository must lead somewhere, and
 the lines of README.md must fit into 100 columns.
 """
 
 import os
 import re
+import shutil
 import subprocess
 import sys
 import tempfile
@@ -53,6 +54,76 @@ def examples(kconf):
     return complaints, len(found)
 
 
+class Built:
+    """A copy of the example, with the makefile of docs/make.md and a program that the configuration goes into."""
+
+    PROGRAM = '#include <stdio.h>\nint main(void) { return printf("%d\\n", CONFIG_RELAYS) < 0; }\n'
+
+    def __init__(self, folder, kconf):
+        self.folder, self.kconf = folder, kconf
+        shutil.copytree(os.path.join(TOP, "examples/firmware"), folder, dirs_exist_ok=True)
+        shutil.copy(os.path.join(folder, "start.config"), os.path.join(folder, ".config"))
+        self.put("Makefile", re.search(r"^```make\n(.*?)^```$", read("docs/make.md"), re.M | re.S).group(1))
+        self.put("main.c", self.PROGRAM)
+
+    def put(self, name, text):
+        """Gives a file a text, and a time after those of all others."""
+        with open(os.path.join(self.folder, name), "w", encoding="utf-8") as file:
+            file.write(text)
+        self.touch(name)
+
+    def touch(self, name):
+        """Gives a file a time after those of all others."""
+        times = [os.stat(os.path.join(at, it)).st_mtime_ns for at, _, them in os.walk(self.folder) for it in them]
+        os.utime(os.path.join(self.folder, name), ns=(max(times) + 10**6,) * 2)
+
+    def get(self, name):
+        """A file's text."""
+        with open(os.path.join(self.folder, name), encoding="utf-8") as file:
+            return file.read()
+
+    def make(self):
+        """Runs make. The answer: its status, and whether it ran kconf and the compiler."""
+        told = dict(os.environ, KCONF=self.kconf, CC="cc", LC_ALL="C")
+        run = subprocess.run(["make"], cwd=self.folder, env=told, capture_output=True, text=True)
+        return run.returncode, "--header" in run.stdout, "-include" in run.stdout, run.stderr
+
+
+def makefile(kconf):
+    """Complaints about the makefile of docs/make.md."""
+    complaints = []
+
+    def expect(what, found, wanted):
+        if found != wanted:
+            complaints.append(f"docs/make.md: {what}: {found}, not {wanted}")
+
+    with tempfile.TemporaryDirectory() as folder:
+        it = Built(folder, kconf)
+        expect("the first make", it.make()[:3], (0, True, True))
+        expect("the next make", it.make()[:3], (0, False, False))
+        it.touch("Kconfig")
+        expect("a Kconfig file is newer", it.make()[:3], (0, True, False))
+        it.touch(".config")
+        expect("the .config is newer", it.make()[:3], (0, True, False))
+        it.put("site.config", it.get("site.config").replace("RELAYS=7", "RELAYS=6"))
+        expect("a value changes", it.make()[:3], (0, True, True))
+        expect("the header's value", "#define CONFIG_RELAYS 6\n" in it.get("autoconf.h"), True)
+        before = it.get(".config"), it.get("autoconf.h")
+        tree = it.get("Kconfig")
+        it.put("Kconfig", tree + "nonsense\n")
+        status, *_, said = it.make()
+        expect("a tree is refused", (status, "Error 1" in said), (2, True))
+        expect("the files behind it", (it.get(".config"), it.get("autoconf.h")) == before, True)
+        it.put("Kconfig", tree)
+        expect("the tree is mended", it.make()[:3], (0, True, False))
+        it.put("Makefile", it.get("Makefile").replace("--header autoconf.h.new", "--header no/folder"))
+        it.touch("Kconfig")
+        status, *_, said = it.make()
+        expect("a file cannot be made", (status, "Error 3" in said), (2, True))
+        expect("the files behind that", (it.get(".config"), it.get("autoconf.h")) == before, True)
+    return complaints
+
+
 def links():
     """Complaints about links that lead nowhere, and how many links there are."""
     pages = ["README.md", "SECURITY.md", "CHANGELOG.md"]
@@ -69,9 +140,10 @@ def links():
 def main():
     kconf = os.path.abspath(sys.argv[1])
     wrong, runs = examples(kconf)
+    unmade = makefile(kconf)
     broken, count = links()
     wide = [n for n, line in enumerate(read("README.md").split("\n"), 1) if len(line) > 100]
-    complaints = wrong + broken + [f"README.md:{n}: over 100 columns" for n in wide]
+    complaints = wrong + unmade + broken + [f"README.md:{n}: over 100 columns" for n in wide]
     for complaint in complaints:
         print(complaint)
     print(f"{runs} examples, {count} links, {len(complaints)} complaints")

@@ -14,7 +14,7 @@ _kconf() {
     esac
     if [[ $word == -* ]]; then
         COMPREPLY=($(compgen -W \
-            '--root --config --out --header --savedefconfig --prefix --help --version' -- "$word"))
+            '--root --config --out --header --savedefconfig --prefix --must-exist --help --version' -- "$word"))
     else
         COMPREPLY=($(compgen -f -- "$word"))
     fi

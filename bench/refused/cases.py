@@ -33,6 +33,7 @@ class Case:
     status: int = 0
     root: str = "."
     prefix: str = None
+    flags: tuple = ()
 
     def words(self):
         """The words behind the program's name."""
@@ -43,6 +44,7 @@ class Case:
             said += ["--savedefconfig", "out.min"]
         if self.prefix is not None:
             said += ["--prefix", self.prefix]
+        said += self.flags
         return said + [next(iter(self.tree)), *self.fragments]
 
     def inputs(self):
@@ -169,6 +171,13 @@ SMALL = [
         notes="",
     ),
     Case(name="a loop", tree={"Kconfig": 'config A\n\tbool "a"\n\tdepends on B\n\tselect B\nconfig B\n\tbool "b"\n'}, status=1, notes="error E15: dependency loop: A -> B -> A\n"),
+    Case(
+        name="no .config where it has to exist",
+        tree={"Kconfig": TWO},
+        flags=("--must-exist",),
+        status=3,
+        notes="error E18: cannot read start.config\n",
+    ),
     Case(name="a missing file", tree={"Kconfig": 'source "a"\n'}, status=1, notes="Kconfig:1: error E1: no file a\n"),
     Case(
         name="a line that is too long",

@@ -12,6 +12,9 @@ begun, and before an output that could not be written all is whole. What a progr
 without, to the same end as if nothing had been refused: a growth, the size of a file, the closing of one. A call that was
 interrupted may be tried again, and where it is not it counts as refused. A call that moves one byte is no fault.
 
+Where standard error is closed the notes can't be written, so a run that has any ends with status 3 and begins nothing, and no
+word of the notes or of an error line stands in an output, whatever is refused besides.
+
 The status is 1 where a run left anything else.
 """
 
@@ -41,6 +44,8 @@ KINDS = [
     ("short read", False, True, True),
     ("short write", False, True, True),
 ]
+# The kinds of calls that are refused once more with standard error closed.
+CLOSED = ["growth", "open", "read", "write"]
 # Without a call of these, nothing is looked at.
 NEEDED = ["growth", "open", "read", "write"]
 # What each output holds before a run.
@@ -48,9 +53,10 @@ BEFORE = b"from the run before\n"
 
 
 class Run:
-    """One run, and what it left. `struck` is what the refused call was for, as between.c tells it."""
+    """One run, and what it left. `struck` is what the refused call was for, as between.c tells it. Without `has_stderr`
+    standard error is closed."""
 
-    def __init__(self, work, between, program, case, kind, number, is_lasting):
+    def __init__(self, work, between, program, case, kind, number, is_lasting, has_stderr=True):
         for name in case.outputs or ["out.config"]:
             (work / name).write_bytes(BEFORE)
         report = work.parent / "report"
@@ -58,7 +64,9 @@ class Run:
         told = {"LD_PRELOAD": between, "KIND": kind, "REFUSED": str(number), "REPORT": str(report)}
         if is_lasting:
             told["LASTING"] = "1"
-        ran = subprocess.run([program, *case.words()], cwd=work, env=told, stdin=subprocess.DEVNULL, capture_output=True, timeout=60)
+        words = [program, *case.words()]
+        close = None if has_stderr else lambda: os.close(2)
+        ran = subprocess.run(words, cwd=work, env=told, stdin=subprocess.DEVNULL, capture_output=True, timeout=60, preexec_fn=close)
         self.status = ran.returncode
         self.said = ran.stdout
         self.notes = ran.stderr
@@ -152,6 +160,29 @@ def judge(case, run, kind, may_go_on, has_to):
     return None
 
 
+def judge_closed(case, run, is_refused):
+    """What is wrong with a run whose standard error was closed; None where nothing is."""
+    if run.said or run.notes:
+        return "it said something"
+    if run.status != 3 and (case.notes or run.left() != right(case)):
+        return "it did not end with status 3"
+    if run.status == 3 and not (case.notes or is_refused):
+        return "it did not go on"
+    return begun_in_order(case, run.outputs, not case.notes)
+
+
+def check_closed(work, between, program, case, kind):
+    """Refuses each call of a kind with standard error closed. The answer: how many runs there were, and what was wrong."""
+    count = Run(work, between, program, case, kind, 0, False, False).calls
+    wrong = []
+    for number in range(count + 1):
+        run = Run(work, between, program, case, kind, number, False, False)
+        why = judge_closed(case, run, number > 0)
+        if why:
+            wrong.append(f"{kind} {number}, standard error closed: {why}: status {run.status}, outputs {run.outputs}"[:400])
+    return count + 1, wrong
+
+
 def check_kind(work, between, program, case, kind, is_lasting, may_go_on, has_to):
     """Refuses each call of a kind. The answer: how many runs there were, how many went on, and what was wrong."""
     start = Run(work, between, program, case, kind, 0, False)
@@ -171,7 +202,7 @@ def check_kind(work, between, program, case, kind, is_lasting, may_go_on, has_to
 
 def check(between, program, some, is_quiet=False):
     """Makes all runs of some cases. The answer is what was wrong."""
-    wrong, counts = [], {}
+    wrong, counts, closed = [], {}, 0
     for case in some:
         with tempfile.TemporaryDirectory() as folder:
             work = pathlib.Path(folder) / "work"
@@ -183,10 +214,15 @@ def check(between, program, some, is_quiet=False):
                 before = counts.get((kind, is_lasting), (0, 0))
                 counts[kind, is_lasting] = before[0] + runs, before[1] + went_on
                 wrong += [f"{case.name}: {line}" for line in why]
+            for kind in CLOSED:
+                runs, why = check_closed(work, between, program, case, kind)
+                closed += runs
+                wrong += [f"{case.name}: {line}" for line in why]
     if not is_quiet:
         for (kind, is_lasting), (runs, went_on) in counts.items():
             name = f"{kind}, and all later ones" if is_lasting else kind
             print(f"{name}: {runs} runs, {went_on} of them went on to the right end")
+        print(f"standard error closed: {closed} runs")
     return wrong
 
 

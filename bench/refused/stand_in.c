@@ -8,6 +8,7 @@
  * OTHER_NAME names another file where one cannot be read or written
  * EARLY      begins each output before the one before it is whole
  * GOES_ON    writes the outputs behind one that could not be written too
+ * BLIND      writes to descriptor 2 where standard error is closed, and so into a file that it opened
  */
 #include <fcntl.h>
 #include <stdlib.h>
@@ -17,6 +18,8 @@
 struct text { const char *name, *bytes; size_t count; };
 
 #include "run.h"
+
+static int has_stderr;
 
 static int put(int file, const char *bytes, size_t count) {
     while (count) {
@@ -32,6 +35,7 @@ static int put(int file, const char *bytes, size_t count) {
 static int fault(const char *what, const char *name) {
     char line[256] = "error ";
     strcat(strcat(strcat(line, what), name), "\n");
+    if (!has_stderr) return 3;
 #if !defined SILENT && !defined ANY_TEXT
     put(2, line, strlen(line));
 #endif
@@ -61,9 +65,14 @@ static int make(const char *name) { return open(name, O_WRONLY | O_CREAT | O_TRU
 
 int main(void) {
     int made[OUTPUTS], status = 0;
+#ifdef BLIND
+    has_stderr = 1;
+#else
+    has_stderr = fcntl(2, F_GETFD) >= 0;
+#endif
     for (size_t at = 0; at < INPUTS; at++)
         if (take(&inputs[at])) return 3;
-    if (put(2, notes, NOTES)) return 3;
+    if (NOTES && (!has_stderr || put(2, notes, NOTES))) return 3;
     for (size_t at = 0; at < OUTPUTS; at++) {
         const struct text *output = &outputs[at];
 #ifdef EARLY

@@ -1,7 +1,8 @@
 """Shows that the checker tells right from wrong: stand_ins.py BETWEEN
 
-BETWEEN is the library that between.c gives. For three of the runs of cases.py stand_in.c is built as it is, which has to pass,
-and once for each of its faults, which has to fail at a run in which a call was refused; the fault ANY_TEXT already where none was.
+BETWEEN is the library that between.c gives. For some of the runs of cases.py stand_in.c is built as it is, which has to pass,
+and once for each of its faults, which has to fail at a run in which a call was refused; the fault ANY_TEXT already where none was,
+and BLIND, in a run that has no notes, where standard error is closed.
 
 The status is 1 where the checker judges one of them otherwise.
 """
@@ -16,6 +17,7 @@ import cases
 import check
 
 FAULTS = ["ANY_TEXT", "SILENT", "OTHER_NAME", "EARLY", "GOES_ON"]
+RUNS = [("fragments", FAULTS), ("the warnings of a tree, in a folder", FAULTS), ("a wide tree", FAULTS), ("modules", ["BLIND"])]
 
 
 def quoted(text):
@@ -54,10 +56,10 @@ def main():
     between = sys.argv[1]
     judged = []
     every = {case.name: case for case in cases.cases()}
-    for name in ["fragments", "the warnings of a tree, in a folder", "a wide tree"]:
+    for name, faults in RUNS:
         with tempfile.TemporaryDirectory() as folder:
             (pathlib.Path(folder) / "run.h").write_text(header_of(every[name]))
-            for fault in [None, *FAULTS]:
+            for fault in [None, *faults]:
                 judged.append(is_judged(pathlib.Path(folder), between, every[name], fault))
     if not all(judged):
         sys.exit("the checker does not tell right from wrong")

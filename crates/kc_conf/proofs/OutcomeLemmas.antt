@@ -2,7 +2,7 @@
 use Rattle.std.proofs.Common.{◌≡◌, inl, inr, ℕ, List, [], ◌++◌, refl, sym, ap, subst, ◌∙◌, append_assoc, Option, Some, None}
 use Rattle.kc_dot.specs.Sink.{BeginsWith}
 use Rattle.kc_dot.proofs.SinkLemmas.{extended-nothing}
-use Rattle.kc_conf.specs.Places.{Place, Places, with_place, written, made, Broke}
+use Rattle.kc_conf.specs.Places.{Place, Places, with_place, written, begun_with, Broke}
 use Rattle.kc_conf.specs.Outcome.{Outcome, noted, refused}
 use Rattle.kc_conf.specs.Faults.{files_before, files_made, file_text, up_to, finished, Finishes, marked, Broken, in_notes, not_begun, in_file, BreaksNotes, BreaksFile, BreaksFiles}
 use Rattle.kc_conf.specs.declared.cause.Cause.{Cause}
@@ -15,7 +15,7 @@ use Rattle.kc_conf.proofs.PlacesLemmas.{written-written}
 -- nothing more is written
 pub written-nothing : (places : Places) → places ≡ written Notes [] places
 written-nothing places =
-    ap (λ t. with_place places Notes (let p : Place = record { is_begun = places.notes.is_begun; text = t; failures = places.notes.failures } in p)) (extended-nothing places.notes.text)
+    ap (λ t. with_place places Notes (let p : Place = record { is_begun = places.notes.is_begun; is_ended = places.notes.is_ended; text = t; failures = places.notes.failures } in p)) (extended-nothing places.notes.text)
 
 -- notes before a run change none of its files
 files_before-noted : (file : Which) (text : List ℕ) (outcome : Outcome) (places : Places) → files_before file outcome places ≡ files_before file (noted text outcome) places
@@ -46,7 +46,7 @@ Broken-noted text outcome cause old new (in_notes front strikes (rest, begins) i
 Broken-noted text outcome cause old new (not_begun file whole strikes there is) =
     not_begun file whole strikes (file_text-noted file text outcome ∙ there) (is ∙ ap (marked cause) (up_to-noted file text outcome old))
 Broken-noted text outcome cause old new (in_file file whole front strikes there begins is) =
-    in_file file whole front strikes (file_text-noted file text outcome ∙ there) begins (is ∙ ap (λ p. marked cause (made file front p)) (up_to-noted file text outcome old))
+    in_file file whole front strikes (file_text-noted file text outcome ∙ there) begins (is ∙ ap (λ p. marked cause (begun_with file front p)) (up_to-noted file text outcome old))
 
 pub Broken-after : (text : List ℕ) (part : Outcome) (cause : Cause) (old mid new : Places) → mid ≡ written Notes text old →
     Broken part cause mid new → Broken (noted text part) cause old new

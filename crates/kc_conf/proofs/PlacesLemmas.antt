@@ -46,7 +46,7 @@ Broke-at f xs i d old mid new within so_far broke =
 -- an output after the only change of it
 pub Only-text : (which : Which) (old new : Places) (text : Option (List ℕ)) (failures : ℕ) → Only which old new →
     (at new which).text ≡ text → (at new which).failures ≡ failures →
-    new ≡ with_place old which (let p : Place = record { is_begun = (at old which).is_begun; text = text; failures = failures } in p)
+    new ≡ with_place old which (let p : Place = record { is_begun = (at old which).is_begun; is_ended = (at old which).is_ended; text = text; failures = failures } in p)
 Only-text which old new text failures only first second = rw (← first, ← second) only
 
 -- the notes grew by this

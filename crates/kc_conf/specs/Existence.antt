@@ -1,5 +1,5 @@
--- Trusted: That there is an outcome.
-use Rattle.std.specs.Prelude.{◌⊎◌, List, ℕ, Result}
+-- Trusted: That there is an outcome, and one.
+use Rattle.std.specs.Prelude.{◌≡◌, ◌⊎◌, List, ℕ, Result}
 use Rattle.kc_read.specs.Expansion.{Expands, Log, Refused}
 use Rattle.kc_read.specs.Files.{Files}
 use Rattle.kc_tree.specs.TreeFacts.{TreeFacts}
@@ -30,3 +30,9 @@ abbrev pub OutcomeExists : Type 0
 OutcomeExists =
     (files : Files) (options : Options) (all : List (List ℕ)) (e : Result Log Refused) → Expands files (root_of options) e →
     (outcome : Outcome) × IsOutcome files options all outcome
+
+-- For all files, options and streams there is an outcome, and no other.
+abbrev pub ExactlyOneOutcome : Type 0
+ExactlyOneOutcome =
+    (files : Files) (options : Options) (all : List (List ℕ)) →
+    (outcome : Outcome) × IsOutcome files options all outcome × ((other : Outcome) → IsOutcome files options all other → outcome ≡ other)

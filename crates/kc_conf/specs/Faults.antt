@@ -6,7 +6,7 @@ use Rattle.kc_dot.specs.declared.fault.WriteFault.{WriteFault}
 use Rattle.kc_dot.specs.declared.fault.WriteFault.TheVariants as write
 use Rattle.kc_words.specs.declared.options.Options.{Options}
 use Rattle.kc_conf.specs.Outcome.{Outcome, names_of}
-use Rattle.kc_conf.specs.Places.{Places, at, with_place, failed, written, made, made_if, Broke}
+use Rattle.kc_conf.specs.Places.{Places, at, with_place, failed, written, begun_with, made_if, Broke}
 use Rattle.kc_conf.specs.declared.outputs.Which.{Which}
 use Rattle.kc_conf.specs.declared.outputs.Which.TheVariants.{Config, Header, Minimal, Notes}
 use Rattle.kc_conf.specs.declared.options.Status.{Status}
@@ -65,12 +65,13 @@ StrikesFile file (Read input) = ⊥
 StrikesFile file Memory = ⊤
 StrikesFile file (Write which) = which ≡ file
 
--- A run that was to leave this outcome broke off, for this cause. All before the place where it broke off is whole.
+-- A run that was to leave this outcome broke off, for this cause. All before the place where it broke off is whole. A file
+-- that broke off was not ended: it holds a beginning of its text, or all of it where its end failed.
 pub data Broken (outcome : Outcome) (cause : Cause) (old new : Places) : Type 0 where
   in_notes : (front : List ℕ) → StrikesNotes cause → BeginsWith outcome.notes front → new ≡ marked cause (written Notes front old) → Broken outcome cause old new
   not_begun : (file : Which) (text : List ℕ) → StrikesFile file cause → file_text outcome file ≡ Some text → new ≡ marked cause (up_to file outcome old) → Broken outcome cause old new
   in_file : (file : Which) (text front : List ℕ) → StrikesFile file cause → file_text outcome file ≡ Some text → BeginsWith text front →
-      new ≡ marked cause (made file front (up_to file outcome old)) → Broken outcome cause old new
+      new ≡ marked cause (begun_with file front (up_to file outcome old)) → Broken outcome cause old new
 
 -- the cause is no failure of an input
 abbrev pub IsOfOutputs : Cause → Type 0
@@ -128,7 +129,7 @@ BreaksNotes text cause old new = (front : List ℕ) × StrikesNotes cause × Beg
 abbrev pub BreaksFile : Which → Option (List ℕ) → Cause → Places → Places → Type 0
 BreaksFile file None cause old new = ⊥
 BreaksFile file (Some text) cause old new =
-    StrikesFile file cause × ((new ≡ marked cause old) ⊎ ((front : List ℕ) × BeginsWith text front × (new ≡ marked cause (made file front old))))
+    StrikesFile file cause × ((new ≡ marked cause old) ⊎ ((front : List ℕ) × BeginsWith text front × (new ≡ marked cause (begun_with file front old))))
 
 -- one of the files broke off, behind those before it
 abbrev pub BreaksFiles : Outcome → Cause → Places → Places → Type 0

@@ -1,13 +1,14 @@
 -- Trusted: What is known of the four outputs.
-use Rattle.std.specs.Prelude.{◌≡◌, ℕ, Bool, true, List, [], Option, None, Some, refl}
+use Rattle.std.specs.Prelude.{◌≡◌, ℕ, Bool, true, false, List, [], Option, None, Some, refl}
 use Rattle.std.specs.Option.{option_map}
 use Rattle.kc_dot.specs.Sink.{extended, next_failure, BeginsWith}
 use Rattle.kc_conf.specs.declared.outputs.Which.{Which}
 use Rattle.kc_conf.specs.declared.outputs.Which.TheVariants.{Config, Header, Minimal, Notes}
 
--- one output: whether it was begun, its bytes or nothing told, and how often it has failed
+-- one output: whether it was begun, whether its end was told since, its bytes or nothing told, and how often it has failed
 pub record Place : Type 0 where
   pub is_begun : Bool
+  pub is_ended : Bool
   pub text : Option (List ℕ)
   pub failures : ℕ
 
@@ -32,11 +33,15 @@ with_place places Notes place = record places { notes = place }
 
 -- made empty
 abbrev pub begun : Place → Place
-begun place = record place { is_begun = true; text = option_map (λ _. []) place.text }
+begun place = record place { is_begun = true; is_ended = false; text = option_map (λ _. []) place.text }
 
 -- with these bytes after its own
 abbrev pub grown : Place → List ℕ → Place
 grown place bytes = record place { text = extended place.text bytes }
+
+-- whole, with its end told
+abbrev pub ended : Place → Place
+ended place = record place { is_ended = true }
 
 -- after one failure more
 abbrev pub failed : Place → Place
@@ -44,7 +49,7 @@ failed place = record place { failures = next_failure place.failures }
 
 -- only the text and the failures of this output changed
 abbrev pub Only : Which → Places → Places → Type 0
-Only which old new = new ≡ with_place old which (record { is_begun = (at old which).is_begun; text = (at new which).text; failures = (at new which).failures })
+Only which old new = new ≡ with_place old which (record { is_begun = (at old which).is_begun; is_ended = (at old which).is_ended; text = (at new which).text; failures = (at new which).failures })
 
 -- a beginning of the text was written there, and then the output failed
 abbrev pub Broke : Which → List ℕ → Places → Places → Type 0
@@ -55,8 +60,12 @@ abbrev pub written : Which → List ℕ → Places → Places
 written which text places = with_place places which (grown (at places which) text)
 
 -- that output begun, with this text and no other
+abbrev pub begun_with : Which → List ℕ → Places → Places
+begun_with which text places = with_place places which (grown (begun (at places which)) text)
+
+-- and ended
 abbrev pub made : Which → List ℕ → Places → Places
-made which text places = with_place places which (grown (begun (at places which)) text)
+made which text places = with_place places which (ended (grown (begun (at places which)) text))
 
 -- the same, where there is a text
 abbrev pub made_if : Which → Option (List ℕ) → Places → Places

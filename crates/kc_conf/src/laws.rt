@@ -1,11 +1,12 @@
 //! What holds of the outcomes of runs, stated as the contracts of functions that do nothing.
-ghost use Rattle.kc_conf.specs.Existence.{AcceptedHaveAnOutcome, AnswerExists, OutcomeExists, SolutionExists};
+ghost use Rattle.kc_conf.specs.Existence.{AcceptedHaveAnOutcome, AnswerExists, ExactlyOneOutcome, OutcomeExists, SolutionExists};
 ghost use Rattle.kc_conf.specs.Reruns.{ConfigIsReadAgain, MinimalIsReadAgain, MinimalIsRunAgain, WrittenAreWhole};
 
-use crate::runs::one_answer;
+use crate::runs::{one_answer, one_outcome};
 use kc_dot::laws::{config_settles, minimal_gives_back};
 use kc_dot::place_laws::reading_leaves_allowed_places;
 use kc_order::stuck_have_a_loop;
+use kc_read::laws::has_one_expansion;
 use kc_tree::laws::trees_are_well_formed;
 use kc_values::laws::{accepted_have_one_solution, equations_read_needs, needs_are_defined};
 
@@ -52,4 +53,13 @@ pub fn outcome_exists()
     stuck_have_a_loop();
     trees_are_well_formed();
     reading_leaves_allowed_places();
+}
+
+/// The law of the outcome: for every file map, options and streams there is exactly one. (Our own.)
+pub fn exactly_one_outcome()
+    ensures { ExactlyOneOutcome }
+{
+    has_one_expansion();
+    outcome_exists();
+    one_outcome();
 }

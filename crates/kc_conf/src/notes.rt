@@ -21,10 +21,7 @@ fn note_parts<O: Outputs>(outputs: &mut O, parts: &[&[u8]]) -> Result<(), Fault>
     ensures ok { OnOk result (O.seen outputs.new ≡ written Which.Notes (flat_map (λ part. part.now) parts.now) (O.seen outputs.old)) }
     ensures err { OnErr result (Broke Which.Notes (flat_map (λ part. part.now) parts.now) (O.seen outputs.old) (O.seen outputs.new)) }
 {
-    for part in parts {
-        put_to(outputs, Which::Notes, part)?;
-    }
-    Ok(())
+    put_to(outputs, Which::Notes, parts)
 }
 
 // Writes each line, with its LF, to the notes.

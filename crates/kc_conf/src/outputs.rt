@@ -1,10 +1,11 @@
 //! Where the files and the diagnostics go.
-ghost use Rattle.std.specs.Prelude.{◌≡◌, ◌<◌, ◌≤◌, List, ℕ, Option, length, take, IfOk, OnOk, OnErr};
+ghost use Rattle.std.specs.Prelude.{◌≡◌, ◌<◌, ◌≤◌, List, ℕ, Option, length, take, IfOk, OnOk, OnErr, flat_map};
 ghost use Rattle.kc_dot.specs.Sink.{extended, next_failure};
-ghost use Rattle.kc_conf.specs.Places.{Places, at, with_place, begun, failed, grown, Only, Only-same, Only-only, Broke};
+ghost use Rattle.kc_conf.specs.Places.{Places, at, with_place, begun, ended, failed, grown, Only, Only-same, Only-only, Broke};
 ghost use Rattle.std.proofs.Common.{refl, ◌∙◌};
 
-use kc_dot::{Fault, Sink, put};
+use kc_dot::parts::put_parts;
+use kc_dot::{Fault, Sink};
 
 /// One of the outputs (our own). `Notes` is the place of diagnostics: it is there from the start and is never begun.
 #[derive(Clone, Copy, Debug, PartialEq, Eq)]
@@ -36,6 +37,13 @@ pub trait Outputs {
         ensures some { IfOk result (λ count. 0 < count) }
         ensures within { IfOk result (λ count. count ≤ length bytes.now) }
         ensures ok { IfOk result (λ count. seen self.new ≡ with_place (seen self.old) which (grown (at (seen self.old) which) (take count bytes.now))) }
+        ensures err { OnErr result (seen self.new ≡ with_place (seen self.old) which (failed (at (seen self.old) which))) };
+
+    /// Ends an output: its text is whole. A fault that the bytes taken so far meet comes here at the latest.
+    ///
+    /// On `Fault` one failure more of that output is counted, and nothing else is changed.
+    fn end(&mut self, which: Which) -> Result<(), Fault>
+        ensures ok { OnOk result (seen self.new ≡ with_place (seen self.old) which (ended (at (seen self.old) which))) }
         ensures err { OnErr result (seen self.new ≡ with_place (seen self.old) which (failed (at (seen self.old) which))) };
 }
 
@@ -72,11 +80,11 @@ impl<'a, O: Outputs> Sink for OutputSink<'a, O> {
     ghost goes_on = { λ s t u h k. (k.0 ∙ h.0, k.1 ∙ h.1, Only-only s.which (O.seen s.outputs.now) (O.seen t.outputs.now) (O.seen u.outputs.now) h.2 (Prim.rw h.1 at k.2)) };
 }
 
-// Writes the whole text to one output, or after an error a beginning of it.
-pub fn put_to<O: Outputs>(outputs: &mut O, which: Which, text: &[u8]) -> Result<(), Fault>
-    ensures ok { OnOk result (O.seen outputs.new ≡ with_place (O.seen outputs.old) which (grown (at (O.seen outputs.old) which) text.now)) }
-    ensures err { OnErr result (Broke which text.now (O.seen outputs.old) (O.seen outputs.new)) }
+// Writes the parts to one output, one after another, or after an error a beginning of them.
+pub fn put_to<O: Outputs>(outputs: &mut O, which: Which, parts: &[&[u8]]) -> Result<(), Fault>
+    ensures ok { OnOk result (O.seen outputs.new ≡ with_place (O.seen outputs.old) which (grown (at (O.seen outputs.old) which) (flat_map (λ part. part.now) parts.now))) }
+    ensures err { OnErr result (Broke which (flat_map (λ part. part.now) parts.now) (O.seen outputs.old) (O.seen outputs.new)) }
 {
     let mut sink = OutputSink::new(outputs, which);
-    put(text, &mut sink)
+    put_parts(parts, &mut sink)
 }

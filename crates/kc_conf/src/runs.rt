@@ -19,6 +19,7 @@ ghost use Rattle.kc_conf.specs.declared.cause.Cause.{Cause};
 
 use crate::cause::Cause;
 use crate::input::Input;
+use crate::laws::exactly_one_outcome;
 use crate::notes::{note_lines, note_refusal, note_too_long, report};
 use crate::options::Status;
 use crate::outputs::{Outputs, Which};
@@ -189,7 +190,6 @@ fn run_through<I: Input, O: Outputs>(
     ensures refused_kept { (r : Refused) → IsRefusedTree (bytes_in files.now) (root_of options.now) r → kept.new ≡ kept.old }
     ensures either_kept { (tree : TreeFacts) → IsAcceptedTree (bytes_in files.now) (root_of options.now) tree → (kept.new ≡ kept.old) ⊎ Holds tree kept.new }
 {
-    one_outcome();
     one_answer();
     match accepted(alloc, files, options.kconfig.as_bytes()) {
         Ok((tree, order)) => {
@@ -227,12 +227,12 @@ pub fn run<I: Input, O: Outputs>(
         × ((outcome : Outcome) × IsOutcome (bytes_in files.now) options.now all outcome
         × Finishes outcome result (O.seen outputs.old) (O.seen outputs.new)) }
     ensures quiet_inputs { result ≢ Status.Faulted → map I.failures inputs.new ≡ map I.failures inputs.old }
-    // After a fault there is its cause, whose count rose by one, and all before it is whole. No other count rose but the
-    // notes', where they fail while the error line is written.
+    // After a fault there is its cause, whose count rose by one, and of the outcome all before it is whole. No other count
+    // rose but the notes', where they fail while the error line is written.
     ensures fault { result ≡ Status.Faulted → (cause : Cause) × (all : List (List ℕ)) × AreAllToCome (map I.remaining inputs.old) all
         × CountsInputs cause (map I.failures inputs.old) (map I.failures inputs.new)
-        × ((outcome : Outcome) → IsOutcome (bytes_in files.now) options.now all outcome
-        → Faults options.now outcome cause (O.seen outputs.old) (O.seen outputs.new)) }
+        × ((outcome : Outcome) × IsOutcome (bytes_in files.now) options.now all outcome
+        × Faults options.now outcome cause (O.seen outputs.old) (O.seen outputs.new)) }
     // A refused tree leaves the inputs untouched, and begins nothing.
     ensures refused_inputs { (r : Refused) → IsRefusedTree (bytes_in files.now) (root_of options.now) r → inputs.new ≡ inputs.old }
     ensures refused_outputs { (r : Refused) → IsRefusedTree (bytes_in files.now) (root_of options.now) r → Only Which.Notes (O.seen outputs.old) (O.seen outputs.new) }
@@ -258,12 +258,12 @@ pub fn run_keeping<I: Input, O: Outputs>(
         × ((outcome : Outcome) × IsOutcome (bytes_in files.now) options.now all outcome
         × Finishes outcome result (O.seen outputs.old) (O.seen outputs.new)) }
     ensures quiet_inputs { result ≢ Status.Faulted → map I.failures inputs.new ≡ map I.failures inputs.old }
-    // After a fault there is its cause, whose count rose by one, and all before it is whole. No other count rose but the
-    // notes', where they fail while the error line is written.
+    // After a fault there is its cause, whose count rose by one, and of the outcome all before it is whole. No other count
+    // rose but the notes', where they fail while the error line is written.
     ensures fault { result ≡ Status.Faulted → (cause : Cause) × (all : List (List ℕ)) × AreAllToCome (map I.remaining inputs.old) all
         × CountsInputs cause (map I.failures inputs.old) (map I.failures inputs.new)
-        × ((outcome : Outcome) → IsOutcome (bytes_in files.now) options.now all outcome
-        → Faults options.now outcome cause (O.seen outputs.old) (O.seen outputs.new)) }
+        × ((outcome : Outcome) × IsOutcome (bytes_in files.now) options.now all outcome
+        × Faults options.now outcome cause (O.seen outputs.old) (O.seen outputs.new)) }
     // A refused tree leaves the inputs untouched, and begins nothing.
     ensures refused_inputs { (r : Refused) → IsRefusedTree (bytes_in files.now) (root_of options.now) r → inputs.new ≡ inputs.old }
     ensures refused_outputs { (r : Refused) → IsRefusedTree (bytes_in files.now) (root_of options.now) r → Only Which.Notes (O.seen outputs.old) (O.seen outputs.new) }
@@ -273,6 +273,7 @@ pub fn run_keeping<I: Input, O: Outputs>(
     // Whatever comes, it is what was there or the accepted tree.
     ensures either_kept { (tree : TreeFacts) → IsAcceptedTree (bytes_in files.now) (root_of options.now) tree → (kept.new ≡ kept.old) ⊎ Holds tree kept.new }
 {
+    exactly_one_outcome();
     match run_through(alloc, files, options, inputs, outputs, kept) {
         Ok(status) => status,
         Err(cause) => {

@@ -3,9 +3,9 @@ ghost use Rattle.std.specs.Prelude.{◌≡◌, Some, OnOk, IfErr};
 ghost use Rattle.kc_dot.specs.SolutionTold.{told_of};
 ghost use Rattle.kc_dot.specs.Texts.{config_text, header_text, minimal_text};
 ghost use Rattle.kc_solve.specs.Solved.{Solution};
-ghost use Rattle.kc_conf.specs.Faults.{files_made, BreaksFile, BreaksFiles, IsOfOutputs, write_cause};
+ghost use Rattle.kc_conf.specs.Faults.{files_made, BreaksFile, BreaksFiles, IsOfOutputs, marked, write_cause};
 ghost use Rattle.kc_conf.specs.Outcome.{outcome_of, text_if};
-ghost use Rattle.kc_conf.specs.Places.{made_if};
+ghost use Rattle.kc_conf.specs.Places.{at, ended, made_if, with_place};
 
 use crate::cause::Cause;
 use crate::outputs::{OutputSink, Outputs, Which};
@@ -28,7 +28,18 @@ fn cause_of(fault: WriteFault, which: Which) -> Cause
     }
 }
 
-// Begins and writes Config.
+// Ends an output.
+fn end<O: Outputs>(which: Which, outputs: &mut O) -> Result<(), Cause>
+    ensures ok { OnOk result (O.seen outputs.new ≡ with_place (O.seen outputs.old) which (ended (at (O.seen outputs.old) which))) }
+    ensures err { IfErr result (λ cause. (cause ≡ Cause.Write which) × (O.seen outputs.new ≡ marked cause (O.seen outputs.old))) }
+{
+    match outputs.end(which) {
+        Ok(()) => Ok(()),
+        Err(Fault) => Err(Cause::Write(which)),
+    }
+}
+
+// Begins, writes and ends Config.
 fn make_config<O: Outputs>(
     alloc: Global,
     options: &Options,
@@ -44,13 +55,13 @@ fn make_config<O: Outputs>(
         return Err(Cause::Write(Which::Config));
     }
     let mut sink = OutputSink::new(outputs, Which::Config);
-    match write_config(alloc, tree, solved, &options.prefix, &mut sink) {
-        Ok(()) => Ok(()),
-        Err(fault) => Err(cause_of(fault, Which::Config)),
+    if let Err(fault) = write_config(alloc, tree, solved, &options.prefix, &mut sink) {
+        return Err(cause_of(fault, Which::Config));
     }
+    end(Which::Config, outputs)
 }
 
-// Begins and writes Header, where it is wanted.
+// Begins, writes and ends Header, where it is wanted.
 fn make_header<O: Outputs>(
     alloc: Global,
     options: &Options,
@@ -69,13 +80,13 @@ fn make_header<O: Outputs>(
         return Err(Cause::Write(Which::Header));
     }
     let mut sink = OutputSink::new(outputs, Which::Header);
-    match write_header(alloc, tree, solved, &options.prefix, &mut sink) {
-        Ok(()) => Ok(()),
-        Err(fault) => Err(cause_of(fault, Which::Header)),
+    if let Err(fault) = write_header(alloc, tree, solved, &options.prefix, &mut sink) {
+        return Err(cause_of(fault, Which::Header));
     }
+    end(Which::Header, outputs)
 }
 
-// Begins and writes Minimal, where it is wanted.
+// Begins, writes and ends Minimal, where it is wanted.
 fn make_minimal<O: Outputs>(
     alloc: Global,
     options: &Options,
@@ -94,10 +105,10 @@ fn make_minimal<O: Outputs>(
         return Err(Cause::Write(Which::Minimal));
     }
     let mut sink = OutputSink::new(outputs, Which::Minimal);
-    match write_minimal(alloc, tree, solved, &options.prefix, &mut sink) {
-        Ok(()) => Ok(()),
-        Err(fault) => Err(cause_of(fault, Which::Minimal)),
+    if let Err(fault) = write_minimal(alloc, tree, solved, &options.prefix, &mut sink) {
+        return Err(cause_of(fault, Which::Minimal));
     }
+    end(Which::Minimal, outputs)
 }
 
 // Writes the files that are wanted, in order.

@@ -20,8 +20,8 @@ enum Stage {
 
 /// A file that is opened at its first read.
 ///
-/// A read is a fault where the file cannot be opened, but for a `.config` that does not exist, which is empty; where
-/// the system's read fails or is interrupted; and after 2^63 reads that gave bytes.
+/// A read is a fault where the file cannot be opened, but for a `.config` that does not exist and need not, which is
+/// empty; where the system's read fails or is interrupted; and after 2^63 reads that gave bytes.
 #[derive(Drop)]
 pub(crate) struct FileInput<'a> {
     rt: &'a HostRuntime,
@@ -47,8 +47,8 @@ impl<'a> FileInput<'a> {
         }
     }
 
-    /// A fragment, which has to be there.
-    pub(crate) fn fragment(rt: &'a HostRuntime, name: &'a str) -> FileInput<'a>
+    /// A file that has to be there.
+    pub(crate) fn existing(rt: &'a HostRuntime, name: &'a str) -> FileInput<'a>
         ensures { result.failures ≡ 0 }
     {
         FileInput {

@@ -4,7 +4,7 @@ ghost use Rattle.kc_disk.specs.Devices.{places_of};
 
 use crate::buffer::Buffer;
 use crate::records::Records;
-use kc_conf::{Outputs, Status, Which};
+use kc_conf::{Outputs, Which};
 use kc_dot::Fault;
 use kc_words::Options;
 use std::alloc::{AllocError, Global};
@@ -21,11 +21,10 @@ struct Open {
     file: File,
 }
 
-/// Config, Header and Minimal are files that are made at their begin; the notes are standard error.
+/// Config, Header and Minimal are files that are made at their begin and closed at their end; the notes are standard error.
 ///
-/// The bytes of a file wait in one buffer, so a file's fault may be seen as late as at the begin of the next file, which
-/// is then not begun, or at the end. `late` names such a file. The notes take nothing then: the error line with that
-/// file's name is written by who owns the outputs.
+/// The bytes of a file wait in one buffer until then, so a file's fault is seen at its end at the latest. A file is begun
+/// only where the one before was ended.
 ///
 /// A line of the notes waits until its line feed has come and goes out in one write, so that lines of several processes
 /// on one log do not mix. A line of more than 65,536 bytes goes out in pieces. Where standard error was closed when the
@@ -36,7 +35,6 @@ pub(crate) struct FileOutputs<'a> {
     options: &'a Options,
     buffer: Buffer,
     open: Option<Open>,
-    late: Option<Which>,
     line: Buffer,
     has_notes: bool,
     records: Records,
@@ -50,8 +48,8 @@ fn has_stderr(rt: &HostRuntime) -> bool {
     }
 }
 
-/// The name of an output, as the options have it.
-pub(crate) fn name_of(options: &Options, which: Which) -> &str {
+// The name of an output, as the options have it.
+fn name_of(options: &Options, which: Which) -> &str {
     match which {
         Which::Config => options.out.as_str(),
         Which::Header => options.header.as_ref().map_or("", |name| name.as_str()),
@@ -72,31 +70,27 @@ impl<'a> FileOutputs<'a> {
             options,
             buffer: Buffer::new(alloc)?,
             open: None,
-            late: None,
             line: Buffer::new(alloc)?,
             has_notes: has_stderr(rt),
             records: Records::new(),
         })
     }
 
-    // Writes what waits for the open file, and closes it. On an error the file is named.
-    fn close(&mut self) -> Result<(), Which>
+    // Writes what waits for the open file, and closes it.
+    fn close(&mut self) -> Result<(), Fault>
         ensures { self.new.records ≡ self.old.records }
     {
-        if let Some(mut open) = self.open.take()
-            && let Err(Fault) = self.buffer.flush(&mut open.file)
-        {
-            return Err(open.which);
+        match self.open.take() {
+            Some(mut open) => self.buffer.flush(&mut open.file),
+            None => Err(Fault),
         }
-        Ok(())
     }
 
-    // Closes the file before, and makes this one.
+    // Makes this file, where none is open.
     fn open(&mut self, which: Which) -> Result<(), Fault>
         ensures { self.new.records ≡ self.old.records }
     {
-        if let Err(late) = self.close() {
-            self.late = Some(late);
+        if self.open.is_some() {
             return Err(Fault);
         }
         let Ok(file) = File::create(self.rt, name_of(self.options, which)) else {
@@ -134,9 +128,6 @@ impl<'a> FileOutputs<'a> {
         ensures within { IfOk result (λ count. count ≤ length bytes.now) }
         ensures records { self.new.records ≡ self.old.records }
     {
-        if self.late.is_some() {
-            return Ok(bytes.len());
-        }
         if !self.has_notes {
             return Err(Fault);
         }
@@ -148,12 +139,9 @@ impl<'a> FileOutputs<'a> {
         Ok(count)
     }
 
-    /// Writes what still waits. Answers the file whose fault was not told before.
-    pub(crate) fn finish(&mut self, status: Status) -> Option<Which> {
-        match self.close() {
-            Err(which) if status != Status::Faulted => Some(which),
-            _ => self.late,
-        }
+    /// Writes what still waits for a file that was not ended, as much of it as the file takes.
+    pub(crate) fn finish(&mut self) {
+        let _ = self.close();
     }
 }
 
@@ -177,5 +165,13 @@ impl<'a> Outputs for FileOutputs<'a> {
             Ok(count) => Ok(count),
             Err(Fault) => Err(self.records.fail(which)),
         }
+    }
+
+    fn end(&mut self, which: Which) -> Result<(), Fault> {
+        if self.close().is_err() {
+            return Err(self.records.fail(which));
+        }
+        self.records.end(which);
+        Ok(())
     }
 }

@@ -4,7 +4,7 @@ ghost use Rattle.kc_disk.specs.Devices.{exit_status};
 
 use crate::folder::Disk;
 use crate::input::FileInput;
-use crate::outputs::{FileOutputs, name_of};
+use crate::outputs::FileOutputs;
 use crate::words::words;
 use kc_conf::{Status, run_keeping};
 use kc_load::{LoadFault, load};
@@ -54,7 +54,7 @@ fn print_usage(rt: &HostRuntime, usage: &Usage) -> Status {
     }
 }
 
-// The `.config`, and then the fragments.
+// The `.config`, which may be missing where `--must-exist` was not given, and then the fragments.
 fn inputs_of<'a>(
     rt: &'a HostRuntime,
     options: &'a Options,
@@ -62,9 +62,14 @@ fn inputs_of<'a>(
     ensures { IfOk result (λ inputs. length inputs.items ≡ length options.now.fragments.items + 1) }
 {
     let mut inputs = Vec::new(rt.alloc());
-    inputs.push(FileInput::config(rt, options.config.as_str()))?;
+    let config = options.config.as_str();
+    inputs.push(if options.must_exist {
+        FileInput::existing(rt, config)
+    } else {
+        FileInput::config(rt, config)
+    })?;
     for fragment in &options.fragments {
-        inputs.push(FileInput::fragment(rt, fragment.as_str()))?;
+        inputs.push(FileInput::existing(rt, fragment.as_str()))?;
     }
     Ok(inputs)
 }
@@ -84,14 +89,8 @@ fn run_files(rt: &HostRuntime, options: &Options) -> Result<Status, LoadFault> {
     // less than to give back each piece: see `kconf_of`.
     mem::forget(files);
     mem::forget(kept);
-    match outputs.finish(status) {
-        None => Ok(status),
-        Some(which) => {
-            let name = name_of(options, which).as_bytes();
-            complain(rt, &[b"error E19: cannot write ", name, b"\n"]);
-            Ok(Status::Faulted)
-        }
-    }
+    outputs.finish();
+    Ok(status)
 }
 
 /// Runs `kconf` with these words after the program's name: loads the tree, reads the `.config` and the fragments, and

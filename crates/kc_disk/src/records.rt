@@ -1,15 +1,16 @@
-//! Which outputs were begun, and how often each has failed.
+//! Which outputs were begun and ended, and how often each has failed.
 ghost use Rattle.std.specs.Prelude.{◌≡◌};
-ghost use Rattle.kc_conf.specs.Places.{at, begun, failed, with_place};
+ghost use Rattle.kc_conf.specs.Places.{at, begun, ended, failed, with_place};
 ghost use Rattle.kc_disk.specs.Devices.{fresh, place_of, places_of};
 
 use kc_conf::Which;
 use kc_dot::Fault;
 
-/// Whether an output was begun, and how often it has failed.
+/// Whether an output was begun, whether it was ended since, and how often it has failed.
 #[derive(Drop)]
 pub(crate) struct Record {
     is_begun: bool,
+    is_ended: bool,
     failures: u64,
 }
 
@@ -19,6 +20,7 @@ impl Record {
     {
         Record {
             is_begun: false,
+            is_ended: false,
             failures: 0,
         }
     }
@@ -27,6 +29,13 @@ impl Record {
         ensures { place_of self.new ≡ begun (place_of self.old) }
     {
         self.is_begun = true;
+        self.is_ended = false;
+    }
+
+    fn end(&mut self)
+        ensures { place_of self.new ≡ ended (place_of self.old) }
+    {
+        self.is_ended = true;
     }
 
     fn fail(&mut self)
@@ -67,6 +76,18 @@ impl Records {
             Which::Header => self.header.begin(),
             Which::Minimal => self.minimal.begin(),
             Which::Notes => self.notes.begin(),
+        }
+    }
+
+    /// An output is ended.
+    pub(crate) fn end(&mut self, which: Which)
+        ensures { places_of self.new ≡ with_place (places_of self.old) which (ended (at (places_of self.old) which)) }
+    {
+        match which {
+            Which::Config => self.config.end(),
+            Which::Header => self.header.end(),
+            Which::Minimal => self.minimal.end(),
+            Which::Notes => self.notes.end(),
         }
     }
 

@@ -86,19 +86,19 @@ fn after_a_fault_the_file_holds_a_beginning(rt: HostRuntime) -> Result<(), Fail>
 }
 
 #[test]
-fn a_config_may_be_missing_and_a_fragment_not(rt: HostRuntime) -> Result<(), Fail> {
+fn a_config_may_be_missing_and_another_file_not(rt: HostRuntime) -> Result<(), Fail> {
     let mut bytes = [0u8; 16];
     assert_eq!(rt;
         FileInput::config(&rt, "no/such/file").read(&mut bytes),
         Ok(0)
     );
     assert_eq!(rt;
-        FileInput::fragment(&rt, "no/such/file").read(&mut bytes),
+        FileInput::existing(&rt, "no/such/file").read(&mut bytes),
         Err(Fault)
     );
     assert_eq!(rt; FileInput::config(&rt, ".").read(&mut bytes), Err(Fault));
     assert_eq!(rt;
-        FileInput::fragment(&rt, "/dev/null").read(&mut bytes),
+        FileInput::existing(&rt, "/dev/null").read(&mut bytes),
         Ok(0)
     );
     assert_eq!(rt;

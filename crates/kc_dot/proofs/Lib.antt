@@ -11,7 +11,7 @@ pub mod FilledLemmas
 pub mod GivesLemmas
 pub mod LineLemmas
 pub mod LongLineLemmas
-pub mod LineWordLemmas
+pub mod PageLemmas
 pub mod MinimalLaws
 pub mod MinimalTextLemmas
 pub mod PartLemmas

@@ -8,7 +8,7 @@ pub mod HasNames
 pub mod Laws
 pub mod LineSteps
 pub mod LineValue
-pub mod LineWords
+pub mod Pages
 pub mod Plain
 pub mod Prefixes
 pub mod ReaderState

@@ -5,7 +5,7 @@ ghost use Rattle.kc_expr.specs.declared.expression.SymId.{SymId};
 ghost use Rattle.kc_tree.specs.TreeFacts.{IsWellFormed, SymbolShown};
 ghost use Rattle.kc_tree.specs.Views.{condition_of, shown_of};
 ghost use Rattle.kc_dot.specs.Laws.{ConfigGivesBack, HasShortLines};
-ghost use Rattle.kc_dot.specs.Sink.{extended, next_failure, HandsOut};
+ghost use Rattle.kc_dot.specs.Sink.{extended, HandsOut};
 ghost use Rattle.kc_dot.specs.SolutionTold.{told_of};
 ghost use Rattle.kc_dot.specs.Texts.{title_if, end_if, gap, is_title, shown_title, entry_text, ends_after, entries_text, config_heading, config_text};
 ghost use Rattle.kc_dot.specs.Told.{is_shown};
@@ -16,16 +16,16 @@ ghost use Rattle.kc_user.specs.Places.{ArePlaces};
 
 use crate::fault::WriteFault;
 use crate::laws::{config_settles, written_texts_are_short};
-use crate::parts::put_parts;
+use crate::page::{add_parts, new_page, put_full};
 use crate::prefix::Prefix;
-use crate::sink::{Fault, Sink, put};
+use crate::sink::{Sink, put};
 use crate::solution::Solution;
-use crate::symbol_line::put_config_line;
+use crate::symbol_line::add_config_line;
 use kc_expr::expression::{SymId, Tri};
 use kc_solve::solved::Solved;
 use kc_tree::parts::Entry;
 use kc_tree::tree::Tree;
-use std::alloc::Global;
+use std::alloc::{AllocError, Global};
 
 // Whether the value is not n.
 fn is_shown(tri: Tri) -> bool
@@ -37,43 +37,34 @@ fn is_shown(tri: Tri) -> bool
     }
 }
 
-// Hands out an empty line, the title and the lines around it, where it is shown.
-fn put_title_if<S: Sink>(shown: bool, text: &[u8], sink: &mut S) -> Result<(), Fault>
-    ensures whole { OnOk result (S.taken sink.new ≡ extended (S.taken sink.old) (title_if shown text.now)) }
-    ensures quiet { OnOk result (S.failures sink.new ≡ S.failures sink.old) }
-    ensures beginning { OnErr result (HandsOut (title_if shown text.now) (S.taken sink.old) (S.taken sink.new)) }
-    ensures counted { OnErr result (S.failures sink.new ≡ next_failure (S.failures sink.old)) }
-    ensures keeps { S.goes_to sink.old sink.new }
+// Adds an empty line, the title and the lines around it, where it is shown.
+fn add_title_if(shown: bool, text: &[u8], page: &mut Vec<u8>) -> Result<(), AllocError>
+    ensures { OnOk result (page.new.items ≡ page.old.items ++ title_if shown text.now) }
 {
     if !shown {
         return Ok(());
     }
-    put_parts(&[b"\n#\n# ", text, b"\n#\n"], sink)
+    add_parts(&[b"\n#\n# ", text, b"\n#\n"], page)
 }
 
-// Hands out the end line of a menu, where its title is shown.
-fn put_end_if<S: Sink>(title: Option<&[u8]>, sink: &mut S) -> Result<(), Fault>
-    ensures whole { OnOk result (S.taken sink.new ≡ extended (S.taken sink.old) (end_if (option_copied title.entry))) }
-    ensures quiet { OnOk result (S.failures sink.new ≡ S.failures sink.old) }
-    ensures beginning { OnErr result (HandsOut (end_if (option_copied title.entry)) (S.taken sink.old) (S.taken sink.new)) }
-    ensures counted { OnErr result (S.failures sink.new ≡ next_failure (S.failures sink.old)) }
-    ensures keeps { S.goes_to sink.old sink.new }
+// Adds the end line of a menu, where its title is shown.
+fn add_end_if(title: Option<&[u8]>, page: &mut Vec<u8>) -> Result<(), AllocError>
+    ensures { OnOk result (page.new.items ≡ page.old.items ++ end_if (option_copied title.entry)) }
 {
     match title {
         None => Ok(()),
-        Some(text) => put_parts(&[b"# end of ", text, b"\n"], sink),
+        Some(text) => add_parts(&[b"# end of ", text, b"\n"], page),
     }
 }
 
-// Hands out an empty line after an end line.
-fn put_gap<S: Sink>(after_end: bool, sink: &mut S) -> Result<(), Fault>
-    ensures whole { OnOk result (S.taken sink.new ≡ extended (S.taken sink.old) (gap after_end)) }
-    ensures quiet { OnOk result (S.failures sink.new ≡ S.failures sink.old) }
-    ensures beginning { OnErr result (HandsOut (gap after_end) (S.taken sink.old) (S.taken sink.new)) }
-    ensures counted { OnErr result (S.failures sink.new ≡ next_failure (S.failures sink.old)) }
-    ensures keeps { S.goes_to sink.old sink.new }
+// Adds an empty line after an end line.
+fn add_gap(after_end: bool, page: &mut Vec<u8>) -> Result<(), AllocError>
+    ensures { OnOk result (page.new.items ≡ page.old.items ++ gap after_end) }
 {
-    put(if after_end { b"\n" } else { b"" }, sink)
+    if !after_end {
+        return Ok(());
+    }
+    page.extend_from_slice(b"\n")
 }
 
 // The title of the menu at this place among the entries, where it is shown.
@@ -92,107 +83,89 @@ fn shown_title<'a, V: Solution>(tree: &'a Tree, solution: &V, menu: usize) -> Op
     }
 }
 
-// Hands out the symbol's line where it is written, after an empty line where an end line stands before it. Answers
-// whether the last line is an end line now.
-fn put_symbol_if<V: Solution, S: Sink>(
-    alloc: Global,
+// Adds the symbol's line where it is written, after an empty line where an end line stands before it. Answers whether
+// the last line is an end line now.
+fn add_symbol_if<V: Solution>(
     tree: &Tree,
     solution: &V,
     prefix: &Prefix,
     id: SymId,
     after_end: bool,
-    sink: &mut S,
-) -> Result<bool, WriteFault>
+    page: &mut Vec<u8>,
+) -> Result<bool, AllocError>
     requires named { id.0 < length tree.now.names }
     requires known { V.knows solution.now id }
-    ensures whole { OnOk result (S.taken sink.new ≡ extended (S.taken sink.old) (entry_text tree.now prefix.now (V.told solution.now) after_end (SymbolShown id))) }
+    ensures text { OnOk result (page.new.items ≡ page.old.items ++ entry_text tree.now prefix.now (V.told solution.now) after_end (SymbolShown id)) }
     ensures next { IfOk result (λ next. next ≡ ends_after tree.now (V.told solution.now) after_end (SymbolShown id)) }
-    ensures quiet { OnOk result (S.failures sink.new ≡ S.failures sink.old) }
-    ensures beginning { OnErr result (HandsOut (entry_text tree.now prefix.now (V.told solution.now) after_end (SymbolShown id)) (S.taken sink.old) (S.taken sink.new)) }
-    ensures counted { IfErr result (λ fault. S.failures sink.new ≡ counted_write fault (S.failures sink.old)) }
-    ensures keeps { S.goes_to sink.old sink.new }
 {
     if !solution.written(id) {
         return Ok(after_end);
     }
-    put_gap(after_end, sink)?;
-    put_config_line(alloc, prefix, tree.name(id), solution.value(id), sink)?;
+    add_gap(after_end, page)?;
+    add_config_line(prefix, tree.name(id), solution.value(id), page)?;
     Ok(false)
 }
 
-// Hands out the title where it is shown. Answers whether the last line is an end line now.
-fn put_title<S: Sink>(
+// Adds the title where it is shown. Answers whether the last line is an end line now.
+fn add_title(
     shown: bool,
     text: &[u8],
     after_end: bool,
-    sink: &mut S,
-) -> Result<bool, WriteFault>
-    ensures whole { OnOk result (S.taken sink.new ≡ extended (S.taken sink.old) (title_if shown text.now)) }
+    page: &mut Vec<u8>,
+) -> Result<bool, AllocError>
+    ensures text { OnOk result (page.new.items ≡ page.old.items ++ title_if shown text.now) }
     ensures next { IfOk result (λ next. next ≡ (if shown then false else after_end)) }
-    ensures quiet { OnOk result (S.failures sink.new ≡ S.failures sink.old) }
-    ensures beginning { OnErr result (HandsOut (title_if shown text.now) (S.taken sink.old) (S.taken sink.new)) }
-    ensures counted { IfErr result (λ fault. S.failures sink.new ≡ counted_write fault (S.failures sink.old)) }
-    ensures keeps { S.goes_to sink.old sink.new }
 {
-    put_title_if(shown, text, sink)?;
+    add_title_if(shown, text, page)?;
     Ok(!shown && after_end)
 }
 
-// Hands out the end line where there is a title. Answers whether the last line is an end line now.
-fn put_end<S: Sink>(title: Option<&[u8]>, after_end: bool, sink: &mut S) -> Result<bool, WriteFault>
-    ensures whole { OnOk result (S.taken sink.new ≡ extended (S.taken sink.old) (end_if (option_copied title.entry))) }
+// Adds the end line where there is a title. Answers whether the last line is an end line now.
+fn add_end(title: Option<&[u8]>, after_end: bool, page: &mut Vec<u8>) -> Result<bool, AllocError>
+    ensures text { OnOk result (page.new.items ≡ page.old.items ++ end_if (option_copied title.entry)) }
     ensures next { IfOk result (λ next. next ≡ (if is_title (option_copied title.entry) then true else after_end)) }
-    ensures quiet { OnOk result (S.failures sink.new ≡ S.failures sink.old) }
-    ensures beginning { OnErr result (HandsOut (end_if (option_copied title.entry)) (S.taken sink.old) (S.taken sink.new)) }
-    ensures counted { IfErr result (λ fault. S.failures sink.new ≡ counted_write fault (S.failures sink.old)) }
-    ensures keeps { S.goes_to sink.old sink.new }
 {
-    put_end_if(title, sink)?;
+    add_end_if(title, page)?;
     Ok(title.is_some() || after_end)
 }
 
-// Hands out what an entry gives. Answers whether the last line is an end line now.
-fn put_entry<V: Solution, S: Sink>(
-    alloc: Global,
+// Adds what an entry gives. Answers whether the last line is an end line now.
+fn add_entry<V: Solution>(
     tree: &Tree,
     solution: &V,
     prefix: &Prefix,
     entry: &Entry,
     after_end: bool,
-    sink: &mut S,
-) -> Result<bool, WriteFault>
+    page: &mut Vec<u8>,
+) -> Result<bool, AllocError>
     requires { MayAsk tree.now (V.knows solution.now) (shown_of entry.now) }
-    ensures whole { OnOk result (S.taken sink.new ≡ extended (S.taken sink.old) (entry_text tree.now prefix.now (V.told solution.now) after_end (shown_of entry.now))) }
+    ensures text { OnOk result (page.new.items ≡ page.old.items ++ entry_text tree.now prefix.now (V.told solution.now) after_end (shown_of entry.now)) }
     ensures next { IfOk result (λ next. next ≡ ends_after tree.now (V.told solution.now) after_end (shown_of entry.now)) }
-    ensures quiet { OnOk result (S.failures sink.new ≡ S.failures sink.old) }
-    ensures beginning { OnErr result (HandsOut (entry_text tree.now prefix.now (V.told solution.now) after_end (shown_of entry.now)) (S.taken sink.old) (S.taken sink.new)) }
-    ensures counted { IfErr result (λ fault. S.failures sink.new ≡ counted_write fault (S.failures sink.old)) }
-    ensures keeps { S.goes_to sink.old sink.new }
 {
     match entry {
-        Entry::Symbol(id) => put_symbol_if(alloc, tree, solution, prefix, *id, after_end, sink),
+        Entry::Symbol(id) => add_symbol_if(tree, solution, prefix, *id, after_end, page),
         Entry::Menu { text, when } => {
-            put_title(is_shown(solution.truth(when)), text, after_end, sink)
+            add_title(is_shown(solution.truth(when)), text, after_end, page)
         }
         Entry::Comment { text, when } => {
-            put_title(is_shown(solution.truth(when)), text, after_end, sink)
+            add_title(is_shown(solution.truth(when)), text, after_end, page)
         }
-        Entry::End { menu } => put_end(shown_title(tree, solution, *menu), after_end, sink),
+        Entry::End { menu } => add_end(shown_title(tree, solution, *menu), after_end, page),
     }
 }
 
-// Hands out what the entries give.
+// Hands out what waits on the page, and what the entries give.
 fn put_entries<V: Solution, S: Sink>(
-    alloc: Global,
     tree: &Tree,
     solution: &V,
     prefix: &Prefix,
+    page: &mut Vec<u8>,
     sink: &mut S,
 ) -> Result<(), WriteFault>
     requires { (id : SymId) → id.0 < length tree.now.symbols → V.knows solution.now id }
-    ensures whole { OnOk result (S.taken sink.new ≡ extended (S.taken sink.old) (entries_text tree.now prefix.now (V.told solution.now) false tree.now.entries)) }
+    ensures whole { OnOk result (S.taken sink.new ≡ extended (S.taken sink.old) (page.old.items ++ entries_text tree.now prefix.now (V.told solution.now) false tree.now.entries)) }
     ensures quiet { OnOk result (S.failures sink.new ≡ S.failures sink.old) }
-    ensures beginning { OnErr result (HandsOut (entries_text tree.now prefix.now (V.told solution.now) false tree.now.entries) (S.taken sink.old) (S.taken sink.new)) }
+    ensures beginning { OnErr result (HandsOut (page.old.items ++ entries_text tree.now prefix.now (V.told solution.now) false tree.now.entries) (S.taken sink.old) (S.taken sink.new)) }
     ensures counted { IfErr result (λ fault. S.failures sink.new ≡ counted_write fault (S.failures sink.old)) }
     ensures keeps { S.goes_to sink.old sink.new }
 {
@@ -201,26 +174,24 @@ fn put_entries<V: Solution, S: Sink>(
     let entries = tree.entries();
     let mut after_end = false;
     for entry in entries {
-        after_end = put_entry(alloc, tree, solution, prefix, entry, after_end, sink)?;
+        after_end = add_entry(tree, solution, prefix, entry, after_end, page)?;
+        put_full(page, sink)?;
     }
+    put(page, sink)?;
     Ok(())
 }
 
-// Hands out the heading.
-fn put_heading<S: Sink>(title: &[u8], sink: &mut S) -> Result<(), Fault>
-    ensures whole { OnOk result (S.taken sink.new ≡ extended (S.taken sink.old) (config_heading title.now)) }
-    ensures quiet { OnOk result (S.failures sink.new ≡ S.failures sink.old) }
-    ensures beginning { OnErr result (HandsOut (config_heading title.now) (S.taken sink.old) (S.taken sink.new)) }
-    ensures counted { OnErr result (S.failures sink.new ≡ next_failure (S.failures sink.old)) }
-    ensures keeps { S.goes_to sink.old sink.new }
+// Adds the heading.
+fn add_heading(title: &[u8], page: &mut Vec<u8>) -> Result<(), AllocError>
+    ensures { OnOk result (page.new.items ≡ page.old.items ++ config_heading title.now) }
 {
-    put_parts(
+    add_parts(
         &[
             b"#\n# Automatically generated file; DO NOT EDIT.\n# ",
             title,
             b"\n#\n",
         ],
-        sink,
+        page,
     )
 }
 
@@ -239,8 +210,9 @@ fn put_config<V: Solution, S: Sink>(
     ensures counted { IfErr result (λ fault. S.failures sink.new ≡ counted_write fault (S.failures sink.old)) }
     ensures keeps { S.goes_to sink.old sink.new }
 {
-    put_heading(tree.main_menu(), sink)?;
-    put_entries(alloc, tree, solution, prefix, sink)
+    let mut page = new_page(alloc)?;
+    add_heading(tree.main_menu(), &mut page)?;
+    put_entries(tree, solution, prefix, &mut page, sink)
 }
 
 /// Hands out the full `.config`: the heading, then in the order of the entries the line of each written symbol at its

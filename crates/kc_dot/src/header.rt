@@ -1,8 +1,8 @@
 //! The writers of the header and of the minimal file.
-ghost use Rattle.std.specs.Prelude.{◌≡◌, ◌<◌, length, OnOk, OnErr, IfErr, flat_map};
+ghost use Rattle.std.specs.Prelude.{◌≡◌, ◌<◌, ◌++◌, length, OnOk, OnErr, IfErr, flat_map};
 ghost use Rattle.kc_expr.specs.declared.expression.SymId.{SymId};
 ghost use Rattle.kc_dot.specs.Laws.{HasShortLines, MinimalGivesBack, MinimalNeedsEach};
-ghost use Rattle.kc_dot.specs.Sink.{extended, next_failure, HandsOut};
+ghost use Rattle.kc_dot.specs.Sink.{extended, HandsOut};
 ghost use Rattle.kc_dot.specs.Texts.{header_heading, header_text, minimal_text, header_if, minimal_if, symbols_of};
 ghost use Rattle.kc_dot.specs.SolutionTold.{told_of};
 ghost use Rattle.kc_dot.specs.Writing.{counted_write};
@@ -11,98 +11,86 @@ ghost use Rattle.kc_user.specs.Places.{ArePlaces};
 
 use crate::fault::WriteFault;
 use crate::laws::{minimal_gives_back, written_texts_are_short};
-use crate::parts::put_parts;
+use crate::page::{add_parts, new_page, put_full};
 use crate::prefix::Prefix;
-use crate::sink::{Fault, Sink};
+use crate::sink::{Sink, put};
 use crate::solution::Solution;
-use crate::symbol_line::{put_config_line, put_header_line};
+use crate::symbol_line::{add_config_line, add_header_line};
 use kc_expr::expression::SymId;
 use kc_solve::solved::Solved;
 use kc_tree::tree::Tree;
-use std::alloc::Global;
+use std::alloc::{AllocError, Global};
 
-// Hands out the symbol's header line where it is written.
-fn put_header_if<V: Solution, S: Sink>(
-    alloc: Global,
+// Adds the symbol's header line where it is written.
+fn add_header_if<V: Solution>(
     tree: &Tree,
     solution: &V,
     prefix: &Prefix,
     id: SymId,
-    sink: &mut S,
-) -> Result<(), WriteFault>
+    page: &mut Vec<u8>,
+) -> Result<(), AllocError>
     requires named { id.0 < length tree.now.names }
     requires known { V.knows solution.now id }
-    ensures whole { OnOk result (S.taken sink.new ≡ extended (S.taken sink.old) (header_if tree.now prefix.now (V.told solution.now) id)) }
-    ensures quiet { OnOk result (S.failures sink.new ≡ S.failures sink.old) }
-    ensures beginning { OnErr result (HandsOut (header_if tree.now prefix.now (V.told solution.now) id) (S.taken sink.old) (S.taken sink.new)) }
-    ensures counted { IfErr result (λ fault. S.failures sink.new ≡ counted_write fault (S.failures sink.old)) }
-    ensures keeps { S.goes_to sink.old sink.new }
+    ensures { OnOk result (page.new.items ≡ page.old.items ++ header_if tree.now prefix.now (V.told solution.now) id) }
 {
     if !solution.written(id) {
         return Ok(());
     }
-    put_header_line(alloc, prefix, tree.name(id), solution.value(id), sink)
+    add_header_line(prefix, tree.name(id), solution.value(id), page)
 }
 
-// Hands out the symbol's line where it differs.
-fn put_minimal_if<V: Solution, S: Sink>(
-    alloc: Global,
+// Adds the symbol's line where it differs.
+fn add_minimal_if<V: Solution>(
     tree: &Tree,
     solution: &V,
     prefix: &Prefix,
     id: SymId,
-    sink: &mut S,
-) -> Result<(), WriteFault>
+    page: &mut Vec<u8>,
+) -> Result<(), AllocError>
     requires named { id.0 < length tree.now.names }
     requires known { V.knows solution.now id }
-    ensures whole { OnOk result (S.taken sink.new ≡ extended (S.taken sink.old) (minimal_if tree.now prefix.now (V.told solution.now) id)) }
-    ensures quiet { OnOk result (S.failures sink.new ≡ S.failures sink.old) }
-    ensures beginning { OnErr result (HandsOut (minimal_if tree.now prefix.now (V.told solution.now) id) (S.taken sink.old) (S.taken sink.new)) }
-    ensures counted { IfErr result (λ fault. S.failures sink.new ≡ counted_write fault (S.failures sink.old)) }
-    ensures keeps { S.goes_to sink.old sink.new }
+    ensures { OnOk result (page.new.items ≡ page.old.items ++ minimal_if tree.now prefix.now (V.told solution.now) id) }
 {
     if !solution.differs(id) {
         return Ok(());
     }
-    put_config_line(alloc, prefix, tree.name(id), solution.value(id), sink)
+    add_config_line(prefix, tree.name(id), solution.value(id), page)
 }
 
-// Hands out the header lines of the written symbols.
+// Hands out what waits on the page, and the header lines of the written symbols.
 fn put_header_lines<V: Solution, S: Sink>(
-    alloc: Global,
     tree: &Tree,
     solution: &V,
     prefix: &Prefix,
+    page: &mut Vec<u8>,
     sink: &mut S,
 ) -> Result<(), WriteFault>
     requires { (id : SymId) → id.0 < length tree.now.symbols → V.knows solution.now id }
-    ensures whole { OnOk result (S.taken sink.new ≡ extended (S.taken sink.old) (flat_map (header_if tree.now prefix.now (V.told solution.now)) (symbols_of tree.now))) }
+    ensures whole { OnOk result (S.taken sink.new ≡ extended (S.taken sink.old) (page.old.items ++ flat_map (header_if tree.now prefix.now (V.told solution.now)) (symbols_of tree.now))) }
     ensures quiet { OnOk result (S.failures sink.new ≡ S.failures sink.old) }
-    ensures beginning { OnErr result (HandsOut (flat_map (header_if tree.now prefix.now (V.told solution.now)) (symbols_of tree.now)) (S.taken sink.old) (S.taken sink.new)) }
+    ensures beginning { OnErr result (HandsOut (page.old.items ++ flat_map (header_if tree.now prefix.now (V.told solution.now)) (symbols_of tree.now)) (S.taken sink.old) (S.taken sink.new)) }
     ensures counted { IfErr result (λ fault. S.failures sink.new ≡ counted_write fault (S.failures sink.old)) }
     ensures keeps { S.goes_to sink.old sink.new }
 {
     for i in 0..tree.symbol_count() {
-        put_header_if(alloc, tree, solution, prefix, tree.symbol(i), sink)?;
+        add_header_if(tree, solution, prefix, tree.symbol(i), page)?;
+        put_full(page, sink)?;
     }
+    put(page, sink)?;
     Ok(())
 }
 
-// Hands out the heading.
-fn put_heading<S: Sink>(title: &[u8], sink: &mut S) -> Result<(), Fault>
-    ensures whole { OnOk result (S.taken sink.new ≡ extended (S.taken sink.old) (header_heading title.now)) }
-    ensures quiet { OnOk result (S.failures sink.new ≡ S.failures sink.old) }
-    ensures beginning { OnErr result (HandsOut (header_heading title.now) (S.taken sink.old) (S.taken sink.new)) }
-    ensures counted { OnErr result (S.failures sink.new ≡ next_failure (S.failures sink.old)) }
-    ensures keeps { S.goes_to sink.old sink.new }
+// Adds the heading.
+fn add_heading(title: &[u8], page: &mut Vec<u8>) -> Result<(), AllocError>
+    ensures { OnOk result (page.new.items ≡ page.old.items ++ header_heading title.now) }
 {
-    put_parts(
+    add_parts(
         &[
             b"/*\n * Automatically generated file; DO NOT EDIT.\n * ",
             title,
             b"\n */\n",
         ],
-        sink,
+        page,
     )
 }
 
@@ -121,8 +109,9 @@ fn put_header<V: Solution, S: Sink>(
     ensures counted { IfErr result (λ fault. S.failures sink.new ≡ counted_write fault (S.failures sink.old)) }
     ensures keeps { S.goes_to sink.old sink.new }
 {
-    put_heading(tree.main_menu(), sink)?;
-    put_header_lines(alloc, tree, solution, prefix, sink)
+    let mut page = new_page(alloc)?;
+    add_heading(tree.main_menu(), &mut page)?;
+    put_header_lines(tree, solution, prefix, &mut page, sink)
 }
 
 // Hands out the minimal file.
@@ -140,9 +129,12 @@ fn put_minimal<V: Solution, S: Sink>(
     ensures counted { IfErr result (λ fault. S.failures sink.new ≡ counted_write fault (S.failures sink.old)) }
     ensures keeps { S.goes_to sink.old sink.new }
 {
+    let mut page = new_page(alloc)?;
     for i in 0..tree.symbol_count() {
-        put_minimal_if(alloc, tree, solution, prefix, tree.symbol(i), sink)?;
+        add_minimal_if(tree, solution, prefix, tree.symbol(i), &mut page)?;
+        put_full(&mut page, sink)?;
     }
+    put(&page, sink)?;
     Ok(())
 }
 

@@ -1,7 +1,6 @@
 //! The `.config` reader and the writers of the three files.
 #![tactic(auto)]
 
-mod around;
 pub mod config;
 mod cursor;
 pub mod effect;
@@ -9,6 +8,7 @@ pub mod fault;
 pub mod header;
 pub mod laws;
 pub mod line;
+mod page;
 pub mod parts;
 pub mod place_laws;
 pub mod prefix;
@@ -18,6 +18,5 @@ pub mod solution;
 mod step;
 mod symbol_line;
 pub mod value;
-mod words;
 
 pub use sink::{Fault, Sink, put};

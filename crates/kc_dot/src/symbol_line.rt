@@ -1,78 +1,96 @@
 //! The line that tells a symbol's value.
-ghost use Rattle.std.specs.Prelude.{◌≡◌, ◌++◌, OnOk, OnErr, IfErr};
-ghost use Rattle.std.specs.Option.{option_map};
-ghost use Rattle.kc_dot.specs.LineWords.{around, worded};
-ghost use Rattle.kc_dot.specs.Sink.{extended, next_failure, HandsOut};
-ghost use Rattle.kc_dot.specs.SymbolLines.{config_line, header_line};
+ghost use Rattle.std.specs.Prelude.{◌≡◌, ◌++◌, OnOk, codes, flat_map};
+ghost use Rattle.kc_text.specs.Escapes.{escape};
+ghost use Rattle.kc_text.specs.Numbers as numbers;
+ghost use Rattle.kc_dot.specs.SymbolLines.{config_line, header_line, hex_text};
 ghost use Rattle.kc_dot.specs.ValueSeen.{known_by};
-ghost use Rattle.kc_dot.specs.Writing.{counted_write};
 
-use crate::around::Words;
-use crate::fault::WriteFault;
-use crate::parts::put_parts;
+use crate::page::add_parts;
 use crate::prefix::Prefix;
-use crate::sink::{Fault, Sink};
 use crate::solution::Value;
-use crate::words::{config_shown, config_words, header_shown, header_words};
-use std::alloc::Global;
+use kc_expr::expression::{Kind, Tri};
+use kc_text::escape_into;
+use std::alloc::AllocError;
 
-// Hands out the words around the prefix, the name and the text; nothing without words.
-fn put_words<'a, S: Sink>(
-    words: Option<Words<'a>>,
-    prefix: &'a [u8],
-    name: &'a [u8],
-    text: &'a [u8],
-    sink: &mut S,
-) -> Result<(), Fault>
-    ensures whole { OnOk result (S.taken sink.new ≡ extended (S.taken sink.old) (worded (option_map around words.entry) (prefix.now ++ name.now) text.now)) }
-    ensures quiet { OnOk result (S.failures sink.new ≡ S.failures sink.old) }
-    ensures beginning { OnErr result (HandsOut (worded (option_map around words.entry) (prefix.now ++ name.now) text.now) (S.taken sink.old) (S.taken sink.new)) }
-    ensures counted { OnErr result (S.failures sink.new ≡ next_failure (S.failures sink.old)) }
-    ensures keeps { S.goes_to sink.old sink.new }
+// Adds the parts before a string, the string with a `\` before each `"` and `\`, and the end of its line.
+fn add_string_line(before: &[&[u8]], text: &[u8], page: &mut Vec<u8>) -> Result<(), AllocError>
+    ensures { OnOk result (page.new.items ≡ page.old.items ++ flat_map (λ part. part.now) before.now ++ escape text.now ++ codes "\"\n") }
 {
-    match words {
-        None => Ok(()),
-        Some(words) => put_parts(
-            &[words.before, prefix, name, words.middle, text, words.after],
-            sink,
-        ),
+    add_parts(before, page)?;
+    escape_into(text, page)?;
+    page.extend_from_slice(b"\"\n")
+}
+
+// Whether `0x` or `0X` stands first.
+fn has_hex_prefix(text: &[u8]) -> bool
+    ensures { result ≡ numbers.has_hex_prefix text.now }
+{
+    match text {
+        [b'0', b'x' | b'X', ..] => true,
+        _ => false,
     }
 }
 
-/// Hands out the symbol's line of a `.config`.
-pub fn put_config_line<S: Sink>(
-    alloc: Global,
-    prefix: &Prefix,
-    name: &[u8],
-    value: Value<'_>,
-    sink: &mut S,
-) -> Result<(), WriteFault>
-    ensures whole { OnOk result (S.taken sink.new ≡ extended (S.taken sink.old) (config_line (prefix.now ++ name.now) (known_by value.entry))) }
-    ensures quiet { OnOk result (S.failures sink.new ≡ S.failures sink.old) }
-    ensures beginning { OnErr result (HandsOut (config_line (prefix.now ++ name.now) (known_by value.entry)) (S.taken sink.old) (S.taken sink.new)) }
-    ensures counted { IfErr result (λ fault. S.failures sink.new ≡ counted_write fault (S.failures sink.old)) }
-    ensures keeps { S.goes_to sink.old sink.new }
+// What a header has before a hex.
+fn before_hex<'a>(text: &'a [u8]) -> &'a [u8]
+    ensures { result.now ++ text.now ≡ hex_text text.now }
 {
-    let text = config_shown(alloc, value)?;
-    put_words(config_words(value), prefix.as_bytes(), name, &text, sink)?;
-    Ok(())
+    if has_hex_prefix(text) { b"" } else { b"0x" }
 }
 
-/// Hands out the symbol's line of a header, where it has one.
-pub fn put_header_line<S: Sink>(
-    alloc: Global,
-    prefix: &Prefix,
-    name: &[u8],
-    value: Value<'_>,
-    sink: &mut S,
-) -> Result<(), WriteFault>
-    ensures whole { OnOk result (S.taken sink.new ≡ extended (S.taken sink.old) (header_line (prefix.now ++ name.now) (known_by value.entry))) }
-    ensures quiet { OnOk result (S.failures sink.new ≡ S.failures sink.old) }
-    ensures beginning { OnErr result (HandsOut (header_line (prefix.now ++ name.now) (known_by value.entry)) (S.taken sink.old) (S.taken sink.new)) }
-    ensures counted { IfErr result (λ fault. S.failures sink.new ≡ counted_write fault (S.failures sink.old)) }
-    ensures keeps { S.goes_to sink.old sink.new }
+/// Adds the symbol's line of a `.config`. Its only error is to be out of memory.
+pub fn add_config_line<'a>(
+    prefix: &'a Prefix,
+    name: &'a [u8],
+    value: Value<'a>,
+    page: &mut Vec<u8>,
+) -> Result<(), AllocError>
+    ensures { OnOk result (page.new.items ≡ page.old.items ++ config_line (prefix.now ++ name.now) (known_by value.entry)) }
 {
-    let text = header_shown(alloc, value)?;
-    put_words(header_words(value), prefix.as_bytes(), name, &text, sink)?;
-    Ok(())
+    let prefix = prefix.as_bytes();
+    match value {
+        Value::Truth(Tri::N) => add_parts(&[b"# ", prefix, name, b" is not set\n"], page),
+        Value::Truth(Tri::M) => add_parts(&[prefix, name, b"=m\n"], page),
+        Value::Truth(Tri::Y) => add_parts(&[prefix, name, b"=y\n"], page),
+        Value::Written(Kind::Str, text) => add_string_line(&[prefix, name, b"=\""], text, page),
+        Value::Written(Kind::Int, text) => add_parts(&[prefix, name, b"=", text, b"\n"], page),
+        Value::Written(Kind::Hex, text) => add_parts(&[prefix, name, b"=", text, b"\n"], page),
+        Value::Written(Kind::Undefined | Kind::Bool | Kind::Tristate, _) => Ok(()),
+    }
+}
+
+/// Adds the symbol's line of a header, where it has one. Its only error is to be out of memory.
+pub fn add_header_line<'a>(
+    prefix: &'a Prefix,
+    name: &'a [u8],
+    value: Value<'a>,
+    page: &mut Vec<u8>,
+) -> Result<(), AllocError>
+    ensures { OnOk result (page.new.items ≡ page.old.items ++ header_line (prefix.now ++ name.now) (known_by value.entry)) }
+{
+    let prefix = prefix.as_bytes();
+    match value {
+        Value::Truth(Tri::N) => Ok(()),
+        Value::Truth(Tri::M) => add_parts(&[b"#define ", prefix, name, b"_MODULE 1\n"], page),
+        Value::Truth(Tri::Y) => add_parts(&[b"#define ", prefix, name, b" 1\n"], page),
+        Value::Written(Kind::Str, text) => {
+            add_string_line(&[b"#define ", prefix, name, b" \""], text, page)
+        }
+        Value::Written(Kind::Int, text) => {
+            add_parts(&[b"#define ", prefix, name, b" ", text, b"\n"], page)
+        }
+        Value::Written(Kind::Hex, text) => add_parts(
+            &[
+                b"#define ",
+                prefix,
+                name,
+                b" ",
+                before_hex(text),
+                text,
+                b"\n",
+            ],
+            page,
+        ),
+        Value::Written(Kind::Undefined | Kind::Bool | Kind::Tristate, _) => Ok(()),
+    }
 }

@@ -5,7 +5,7 @@ use Rattle.kc_memory.specs.declared.memory.Slot.{Slot}
 use Rattle.kc_memory.specs.declared.memory.MemoryOutputs.{MemoryOutputs}
 
 abbrev pub place_of : Slot → Place
-place_of slot = record { is_begun = slot.is_begun; text = Some slot.bytes.items; failures = slot.failures }
+place_of slot = record { is_begun = slot.is_begun; is_ended = slot.is_ended; text = Some slot.bytes.items; failures = slot.failures }
 
 abbrev pub places_of : MemoryOutputs → Places
 places_of outputs = record { config = place_of outputs.config; header = place_of outputs.header; minimal = place_of outputs.minimal; notes = place_of outputs.notes }
@@ -13,6 +13,7 @@ places_of outputs = record { config = place_of outputs.config; header = place_of
 -- An output that took nothing and was asked nothing, that never fails, and has so much room; each write may take all.
 pub record IsNew (room : ℕ) (slot : Slot) : Type 0 where
   pub unbegun : slot.is_begun ≡ false
+  pub unended : slot.is_ended ≡ false
   pub empty : slot.bytes.items ≡ []
   pub well : slot.failures ≡ 0
   pub uncalled : slot.calls ≡ 0

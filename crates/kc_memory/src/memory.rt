@@ -1,6 +1,6 @@
 //! Devices in memory, which give and take pieces, and fail at a call of choice.
 ghost use Rattle.std.specs.Prelude.{◌≡◌, ◌<◌, ◌≤◌, ◌+◌, ◌-◌, ◌++◌, length, drop, take, Some, OnOk, OnErr, IfOk, Option, List, [], ℕ};
-ghost use Rattle.kc_conf.specs.Places.{at, grown, begun, failed};
+ghost use Rattle.kc_conf.specs.Places.{at, grown, begun, ended, failed};
 ghost use Rattle.kc_dot.specs.Sink.{next_failure};
 
 use kc_conf::{Input, Outputs, Which};
@@ -75,11 +75,13 @@ impl<'a> Input for MemoryInput<'a> {
 pub struct Slot {
     /// Whether it was begun.
     pub is_begun: bool,
+    /// Whether it was ended since then.
+    pub is_ended: bool,
     /// The bytes that it took since then.
     pub bytes: Vec<u8>,
     /// The calls that failed.
     pub failures: u64,
-    /// The calls so far, of `begin` and of `write`.
+    /// The calls so far, of `begin`, `write` and `end`.
     pub calls: u64,
     /// The call that fails, counted from 1; 0 for none.
     pub fail_at: u64,
@@ -98,6 +100,7 @@ impl Slot {
     {
         Ok(Slot {
             is_begun: false,
+            is_ended: false,
             bytes: Vec::with_capacity(alloc, reserved)?,
             failures: 0,
             calls: 0,
@@ -117,7 +120,21 @@ impl Slot {
             return Err(Fault);
         }
         self.is_begun = true;
+        self.is_ended = false;
         self.bytes.clear();
+        Ok(())
+    }
+
+    fn end(&mut self) -> Result<(), Fault>
+        ensures ok { OnOk result (place_of self.new ≡ ended (place_of self.old)) }
+        ensures err { OnErr result (place_of self.new ≡ failed (place_of self.old)) }
+    {
+        self.calls = self.calls.saturating_add(1);
+        if self.calls == self.fail_at {
+            self.failures = self.failures.saturating_add(1);
+            return Err(Fault);
+        }
+        self.is_ended = true;
         Ok(())
     }
 
@@ -206,6 +223,15 @@ impl Outputs for MemoryOutputs {
             Which::Header => self.header.write(bytes),
             Which::Minimal => self.minimal.write(bytes),
             Which::Notes => self.notes.write(bytes),
+        }
+    }
+
+    fn end(&mut self, which: Which) -> Result<(), Fault> {
+        match which {
+            Which::Config => self.config.end(),
+            Which::Header => self.header.end(),
+            Which::Minimal => self.minimal.end(),
+            Which::Notes => self.notes.end(),
         }
     }
 }

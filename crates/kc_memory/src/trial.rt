@@ -76,6 +76,7 @@ fn options(alloc: Global, asked: &Asked<'_>) -> Result<Options, Fail> {
         minimal: copy_of(alloc, asked.minimal)?,
         fragments: names,
         prefix,
+        must_exist: false,
     })
 }
 

@@ -1,6 +1,6 @@
 //! What each symbol needs.
 
-ghost use Rattle.std.specs.Prelude.{◌≡◌, ◌<◌, [], ◌∷◌, ◌++◌, ◌↔◌, length, OnOk, OnErr, IsTrue, All};
+ghost use Rattle.std.specs.Prelude.{◌≡◌, ◌<◌, [], ◌∷◌, ◌++◌, ◌↔◌, length, IfOk, OnOk, OnErr, IsTrue, All};
 ghost use Rattle.kc_order.specs.Needs.{needs_in, AreWithin};
 ghost use Rattle.kc_order.specs.Rows.{RowsBelow};
 
@@ -49,6 +49,16 @@ impl Needs {
             rows: Vec::new(alloc),
             row_of: Vec::new(alloc),
         }
+    }
+
+    /// The needs of no symbol yet, with room for so many rows, so that no list of them is copied as it grows. Fails only
+    /// when it is out of memory.
+    pub fn with_room(alloc: Global, count: usize) -> Result<Needs, AllocError>
+        ensures { IfOk result (λ n. n ≡ []) }
+    {
+        let rows = Vec::with_capacity(alloc, count)?;
+        let row_of = Vec::with_capacity(alloc, count)?;
+        Ok(Needs { rows, row_of })
     }
 
     /// How many symbols there are.

@@ -153,7 +153,7 @@ pub fn search_all(alloc: Global, rows: &[Vec<u32>], row_of: &[usize]) -> Result<
         marks: new_marks(alloc, row_of.len())?,
         left: need_counts(alloc, rows)?,
         path: Vec::new(alloc),
-        order: Vec::new(alloc),
+        order: Vec::with_capacity(alloc, row_of.len())?,
     };
     for root in 0..row_of.len() {
         visit(rows, row_of, &mut search, root as u32)?;

@@ -1,12 +1,12 @@
 -- A root file has an expansion: by the files that may still be opened, and the lines that are left.
-use Rattle.std.proofs.Common.{◌≡◌, ◌≢◌, ℕ, zero, suc, ◌+◌, ◌-◌, ◌<◌, ◌≤◌, Bool, true, false, cond, nat_le, List, [], ◌∷◌, ◌++◌, length, map, Option, Some, None, MatchOption, Result, Ok, Err, refl, sym, ap, ◌∙◌, subst, arith}
+use Rattle.std.proofs.Common.{◌≡◌, ℕ, zero, suc, ◌-◌, ◌<◌, ◌≤◌, Bool, true, false, cond, nat_le, List, [], ◌∷◌, length, map, Option, Some, None, MatchOption, Result, Ok, Err, refl, sym, ap, ◌∙◌, subst, arith}
 use Rattle.std.proofs.lemmas.Bool.{false≢true}
 use Rattle.std.proofs.lemmas.Bool.Decides.{nat_tests}
 use Rattle.std.proofs.lemmas.List.{length-append}
 use Rattle.std.specs.List.{list_any}
 use Rattle.kc_text.specs.declared.faults.TextFault.{TextFault}
 use Rattle.kc_text.specs.Lines.{Left, TakesLine, left, Next, Ended, Taken, TooLong, GoesOn}
-use Rattle.kc_text.specs.Tokens.{Piece, IsCut}
+use Rattle.kc_text.specs.Tokens.{Piece}
 use Rattle.kc_text.proofs.Joins.{one_next_line_law}
 use Rattle.kc_text.proofs.There.{one_cutting_law}
 use Rattle.kc_expr.specs.Names.{same_name}
@@ -14,9 +14,9 @@ use Rattle.kc_read.specs.declared.refusal.Code.TheVariants as code
 use Rattle.kc_read.specs.declared.statement.Opener.{Opener}
 use Rattle.kc_read.specs.Blocks.{last_of}
 use Rattle.kc_read.specs.Existing.{HasOneExpansion}
-use Rattle.kc_read.specs.Expansion.{Around, Log, Refused, Rest, NextLine, NextStatement, refused, bytes_cause, context_of, effect_cause, inside, is_help, is_source, lexemes, logged, nothing_read, opening, root_around, source_cause, sourcing_cause, text_cause, with_line, without_help, Expands, at_end, unclosed, too_long, no_tokens, blank, bad_line, bad_effect, statement, bad_source, refused_inside, source}
+use Rattle.kc_read.specs.Expansion.{Around, Log, Refused, Rest, NextLine, NextStatement, refused, bytes_cause, context_of, effect_cause, inside, is_help, is_source, lexemes, logged, nothing_read, opening, root_around, source_cause, sourcing_cause, text_cause, with_line, without_help, at_end, unclosed, too_long, no_tokens, blank, bad_line, bad_effect, statement, bad_source, refused_inside, source}
 use Rattle.kc_read.specs.Files.{Files}
-use Rattle.kc_read.specs.Lines.{Cause, cause, ReadsLine}
+use Rattle.kc_read.specs.Lines.{Cause, cause}
 use Rattle.kc_read.specs.Progress.{open_openers}
 use Rattle.kc_read.specs.Statements.{Placed, Written, SourceLine, ConfigLine, IfLine, EndIfLine, CommentLine, MenuLine, EndMenuLine, ChoiceLine, EndChoiceLine, MainMenuLine, TypeLine, PromptLine, DefaultLine, DefLine, DependsLine, VisibleLine, SelectLine, ImplyLine, RangeLine, HelpLine, ModulesLine, IgnoredLine}
 use Rattle.kc_read.proofs.BlockLemmas as blocks

@@ -110,7 +110,7 @@ value_line make ts = by (expression_there ts)
 text_line : (make : List ℕ → Written) (ts : List Lexeme) → IsThere (ReadsTextLine make ts)
 text_line make ts = after (text_of ts) (λ t r. r ≡ finish (make t) (drop 1 ts)) (λ t. there_it_is (finish (make t) (drop 1 ts)))
 
-source_line : (ts : List Lexeme) → IsThere (ReadsSource ts)
+pub source_line : (ts : List Lexeme) → IsThere (ReadsSource ts)
 source_line ts = after (text_of ts) (λ t. After (plain_text t) (λ u r. r ≡ finish (SourceLine u) (drop 1 ts)))
     (λ t. after (plain_text t) (λ u r. r ≡ finish (SourceLine u) (drop 1 ts)) (λ u. there_it_is (finish (SourceLine u) (drop 1 ts))))
 

@@ -1,16 +1,23 @@
 -- The files that an expansion asks for are named in those that it opened before.
-use Rattle.std.proofs.Common.{◌≡◌, ◌⊎◌, inl, inr, ℕ, suc, Bool, true, List, [], ◌∷◌, ◌++◌, drop, codes, Some, None, Result, Ok, Err, refl, sym, ap, ◌∙◌, subst, arith}
+use Rattle.std.proofs.Common.{◌≡◌, ◌⊎◌, inl, inr, ℕ, zero, suc, ◌<◌, ◌≤◌, Bool, true, cond, List, [], ◌∷◌, ◌++◌, length, drop, codes, Option, Some, None, Result, Ok, Err, refl, sym, ap, ◌∙◌, subst, arith}
 use Rattle.std.specs.List.{Contains}
 use Rattle.std.proofs.lemmas.Bool.{cases_Bool}
+use Rattle.kc_text.specs.declared.faults.TextFault.{TextFault}
 use Rattle.kc_text.specs.Lexemes.{Lexeme}
-use Rattle.kc_text.specs.Lines.{Left, left}
+use Rattle.kc_text.specs.Lines.{Left, TakesLine, left, Next, Ended, Taken, TooLong, GoesOn}
 use Rattle.kc_text.specs.Tokens.{Piece}
-use Rattle.kc_read.specs.Expansion.{Around, Log, Refused, Rest, NextLine, NextStatement, context_of, lexemes, at_end, unclosed, too_long, no_tokens, blank, bad_line, bad_effect, statement, bad_source, refused_inside, source}
+use Rattle.kc_text.proofs.Joins.{one_next_line_law}
+use Rattle.kc_text.proofs.There.{one_cutting_law}
+use Rattle.kc_read.specs.Expansion.{Around, Log, Refused, Rest, NextLine, NextStatement, context_of, is_help, lexemes, without_help, at_end, unclosed, too_long, no_tokens, blank, bad_line, bad_effect, statement, bad_source, refused_inside, source}
 use Rattle.kc_read.specs.Files.{Files}
 use Rattle.kc_read.specs.Lines.{Context, After, Cause, ReadsSource, begins_with, finish, plain_text, text_of}
-use Rattle.kc_read.specs.Openings.{asked, IsNamedIn, IsNamedByOne, AskedAreNamed, OneListOfNames}
+use Rattle.kc_read.specs.Openings.{asked, IsNamedIn, IsNamedByOne, AskedAreNamed, HasOneListOfNames}
+use Rattle.kc_read.specs.Sources.{Names}
 use Rattle.kc_read.specs.Statements.{Placed, Written, SourceLine}
-use Rattle.kc_read.proofs.SourceLines.{after_other, after_source, one_list}
+use Rattle.kc_read.proofs.LineThere.{source_line}
+use Rattle.kc_read.proofs.RestLemmas.{next_less}
+use Rattle.kc_read.proofs.SourceLines.{before_other, before_source, one_list}
+use Rattle.kc_read.proofs.SourceLines as lines
 use Rattle.kc_read.proofs.SourceWord.{source_begins, begins_source}
 
 abbrev begins : List Piece → Bool
@@ -32,6 +39,43 @@ reads_source ts s h =
     let (t, plain) = read_on (text_of ts) (λ t. After (plain_text t) (λ u r. r ≡ finish (SourceLine u) (drop 1 ts))) s h in
     let (u, e) = read_on (plain_text t) (λ u r. r ≡ finish (SourceLine u) (drop 1 ts)) s plain in
     (u, ends_as s (SourceLine u) (drop 1 ts) e)
+
+-- ---- The names of lines are there, by the lines that are left
+
+abbrev NamesThere : Left → Type 0
+NamesThere l = (names : List (List ℕ)) × Names l names
+
+module _ (l : Left) (on : (m : Left) → length m.lines < length l.lines → NamesThere m) where
+  source_names : (m : Left) (ts : List Piece) → NextLine l m ts None → begins ts ≡ true → (r : Result Written Cause) → ReadsSource (drop 1 (lexemes ts)) r → NamesThere l
+  source_names m ts next b (Err c) reads = ([], lines.bad_source l m ts c next b reads)
+  source_names m ts next b (Ok s) reads =
+      let (name, e) = reads_source (drop 1 (lexemes ts)) s reads in
+      let (names, d) = on m (next_less l m ts None next) in
+      (name ∷ names, before_source l m name names (ts, next, b, subst (λ x. ReadsSource (drop 1 (lexemes ts)) (Ok x)) e reads) d)
+
+  cut_names : (m : Left) (ts : List Piece) (out : Option TextFault) → NextLine l m ts out → NamesThere l
+  cut_names m ts (Some why) next = ([], lines.no_tokens l m ts why next)
+  cut_names m ts None next = elim (cases_Bool (begins ts)) [
+    | inl b ↦ let r = source_line (drop 1 (lexemes ts)) in source_names m ts next b r.0 r.1
+    | inr b ↦ let (names, d) = on m (next_less l m ts None next) in (names, before_other l m names (ts, next, b) d)
+  ]
+
+  taken_names : (m : Left) (text : List ℕ) → TakesLine l m text → NamesThere l
+  taken_names m text taken =
+      let c = one_cutting_law text in
+      cut_names (cond (is_help (lexemes c.0)) (without_help m) m) c.0 c.1.0 (record { middle = m; text = text; taken = taken; cut = c.1.1; left_after = refl })
+
+  next_names : (next : Next) → GoesOn l next → NamesThere l
+  next_names Ended g = ([], lines.at_end l g)
+  next_names (Taken m text) g = taken_names m text g
+  next_names TooLong g = ([], lines.too_long l g)
+
+names_within : (fuel : ℕ) (l : Left) → length l.lines ≤ fuel → NamesThere l
+names_within zero l le = let next = one_next_line_law l in next_names l (λ m less. absurd (omega arith)) next.0 next.1
+names_within (suc fuel) l le = let next = one_next_line_law l in next_names l (λ m less. names_within fuel m (omega arith)) next.0 next.1
+
+names_there : (l : Left) → NamesThere l
+names_there l = names_within (length l.lines) l (omega arith)
 
 -- ---- Lists
 
@@ -62,13 +106,12 @@ split_append (y ∷ xs) ys (z ∷ before) after x e =
 
 -- what the next line's file names after it, it names
 named_later : (l m : Left) (ts : List Piece) (name : List ℕ) → NextLine l m ts None → (begins ts ≡ true → (s : Written) × ReadsSource (drop 1 (lexemes ts)) (Ok s)) → IsNamedIn m name → IsNamedIn l name
-named_later l m ts name next reads h ns d = elim (cases_Bool (begins ts)) [
+named_later l m ts name next reads (names, d, has) = elim (cases_Bool (begins ts)) [
   | inl b ↦
       let (s, r) = reads b in
       let (k, e) = reads_source (drop 1 (lexemes ts)) s r in
-      let (rest, is, f) = after_source l m k ns (ts, next, b, subst (λ x. ReadsSource (drop 1 (lexemes ts)) (Ok x)) e r) d in
-      subst (λ x. Contains x name) (sym is) (later name k rest (h rest f))
-  | inr b ↦ h ns (after_other l m ns (ts, next, b) d)
+      (k ∷ names, before_source l m k names (ts, next, b, subst (λ x. ReadsSource (drop 1 (lexemes ts)) (Ok x)) e r) d, later name k names has)
+  | inr b ↦ (names, before_other l m names (ts, next, b) d, has)
 ]
 
 -- also after a statement
@@ -77,10 +120,10 @@ named_after l m c s name n h = named_later l m n.tokens name n.next (λ b. (s, b
 
 -- a `source` line's file is named
 named_here : (l m : Left) (c : Context) (name : List ℕ) → NextStatement l m c (Ok (SourceLine name)) → IsNamedIn l name
-named_here l m c name n ns d =
+named_here l m c name n =
     let b = source_begins c (lexemes n.tokens) name n.reads in
-    let (rest, is, f) = after_source l m name ns (n.tokens, n.next, b, begins_source c (lexemes n.tokens) (Ok (SourceLine name)) b n.reads) d in
-    subst (λ x. Contains x name) (sym is) (here name rest)
+    let (names, d) = names_there m in
+    (name ∷ names, before_source l m name names (n.tokens, n.next, b, begins_source c (lexemes n.tokens) (Ok (SourceLine name)) b n.reads) d, here name names)
 
 -- named along the rest of the file, or in a file that was opened
 abbrev IsNamed : Files → Left → List (List ℕ) → List ℕ → Type 0
@@ -88,7 +131,7 @@ IsNamed files l before name = IsNamedIn l name ⊎ IsNamedByOne files before nam
 
 -- one more file was opened before
 one_more : (files : Files) (before : List (List ℕ)) (name k : List ℕ) → IsNamedByOne files before name → IsNamedByOne files (k ∷ before) name
-one_more files before name k h = (h.0, h.1, later h.0 k before h.2, h.3, h.4)
+one_more files before name k (by, bytes, has, there, names) = (by, bytes, later by k before has, there, names)
 
 no_split : {B : Type 0} (before after : List (List ℕ)) (x : List ℕ) → [] ≡ before ++ x ∷ after → B
 no_split [] after x e = absurd cc
@@ -132,12 +175,14 @@ named {files} (source a l m own log more k bytes r n free there d f) (b ∷ befo
       | inl x ↦ inr (subst (λ y. IsNamedByOne files (y ∷ before) name) h (within files bytes before name k there (named d before x.0 name x.1)))
       | inr x ↦ elim (named f x.0 after name x.2) [
         | inl y ↦ inl (named_after l m (context_of a own log) (SourceLine k) name n y)
-        | inr y ↦ inr (y.0, y.1, subst (λ z. Contains (b ∷ z) y.0) (sym x.1) (later y.0 b (asked d ++ x.0) (later_all y.0 (asked d) x.0 y.2)), y.3, y.4)
+        | inr y ↦ let (by, text, has, there, names) = y in inr (by, text, subst (λ z. Contains (b ∷ z) by) (sym x.1) (later by b (asked d ++ x.0) (later_all by (asked d) x.0 has)), there, names)
       ]
     ]
 
 pub asked_are_named : AskedAreNamed
 asked_are_named files root bytes r there d before after name e = within files bytes before name root there (named d before after name e)
 
-pub one_list_of_names : OneListOfNames
-one_list_of_names = one_list
+pub has_one_list_of_names : HasOneListOfNames
+has_one_list_of_names l =
+    let (names, d) = names_there l in
+    (names, d, λ other e. one_list l names other d e)

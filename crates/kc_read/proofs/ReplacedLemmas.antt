@@ -2,7 +2,7 @@
 use Rattle.std.proofs.Common.{◌≡◌, ℕ, List, [], ◌∷◌, ◌++◌, Option, Some, None, Result, Ok, Err, refl, sym, ap, subst, ◌∙◌, append_assoc, append-nil}
 use Rattle.std.specs.Prelude.{MatchOption, false}
 use Rattle.kc_text.specs.Lines.{Left, left}
-use Rattle.kc_read.specs.Expansion.{Around, Log, Refused, Rest, Expands, NextLine, NextStatement, is_source, context_of, bytes_cause, refused, inside, opening, root_around, nothing_read, at_end, unclosed, too_long, no_tokens, blank, bad_line, bad_effect, statement, bad_source, refused_inside, source, logged}
+use Rattle.kc_read.specs.Expansion.{Around, Log, Refused, Rest, NextLine, NextStatement, is_source, context_of, bytes_cause, refused, opening, root_around, nothing_read, at_end, unclosed, too_long, no_tokens, blank, bad_line, bad_effect, statement, bad_source, refused_inside, source}
 use Rattle.kc_read.specs.Files.{Files}
 use Rattle.kc_read.specs.Lines.{Cause, Context}
 use Rattle.kc_read.specs.Replaced as r

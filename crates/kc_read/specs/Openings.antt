@@ -22,9 +22,9 @@ asked (bad_source a l m own log name c next why) = name ∷ []
 asked (refused_inside a l m own log name bytes e next free there d) = name ∷ asked d
 asked (source a l m own log more name bytes r next free there d f) = name ∷ asked d ++ asked f
 
--- whatever list of names these lines have, the name is among it
+-- these lines have a list of names, and it holds this one
 abbrev pub IsNamedIn : Left → List ℕ → Type 0
-IsNamedIn l name = (names : List (List ℕ)) → Names l names → Contains names name
+IsNamedIn l name = (names : List (List ℕ)) × Names l names × Contains names name
 
 -- one of these files names it
 abbrev pub IsNamedByOne : Files → List (List ℕ) → List ℕ → Type 0
@@ -37,6 +37,6 @@ AskedAreNamed =
     (d : Rest files (root_around root) (left bytes 1) [] (opening nothing_read bytes) r) (before after : List (List ℕ)) (name : List ℕ) →
     asked d ≡ before ++ name ∷ after → IsNamedByOne files (root ∷ before) name
 
--- lines have at most one list of names
-abbrev pub OneListOfNames : Type 0
-OneListOfNames = (l : Left) (names other : List (List ℕ)) → Names l names → Names l other → names ≡ other
+-- lines have one list of names, and no other
+abbrev pub HasOneListOfNames : Type 0
+HasOneListOfNames = (l : Left) → (names : List (List ℕ)) × Names l names × ((other : List (List ℕ)) → Names l other → names ≡ other)

@@ -1,5 +1,5 @@
 -- Trusted: The expanded list as one sentence: a file's own statements, with the list of its file in place of each `source` statement.
-use Rattle.std.specs.Prelude.{◌≡◌, ℕ, List, [], ◌∷◌, ◌++◌, false, Option, Some, None, Ok}
+use Rattle.std.specs.Prelude.{◌≡◌, ℕ, List, [], ◌∷◌, ◌++◌, false, Some, None, Ok}
 use Rattle.kc_text.specs.Lines.{Left, left}
 use Rattle.kc_read.specs.Expansion.{Log, Expands, NextLine, NextStatement, is_source}
 use Rattle.kc_read.specs.Files.{Files}

@@ -3,7 +3,7 @@
 ghost use Rattle.kc_read.specs.Existing.{HasOneExpansion};
 ghost use Rattle.kc_read.specs.Expansion.{OneExpansion};
 ghost use Rattle.kc_read.specs.Lines.{OneStatement};
-ghost use Rattle.kc_read.specs.Openings.{AskedAreNamed, OneListOfNames};
+ghost use Rattle.kc_read.specs.Openings.{AskedAreNamed, HasOneListOfNames};
 ghost use Rattle.kc_read.specs.Replaced.{ExpandedIsListOf};
 
 /// The law of statements: in each context the tokens of a line are one statement or are refused for one cause, and
@@ -29,8 +29,9 @@ pub fn expanded_is_list_of_root()
 {}
 
 /// The law of sources: each file that an expansion opens after the root, and one that it asks for in vain, is among
-/// what `sources_of` answers for a file that was opened before it. It does nothing.
+/// the names of a file that was opened before it; and the names of a file, which `sources_of` answers, are one list, which
+/// is there for any bytes. It does nothing.
 pub fn asked_files_are_named()
     ensures named { AskedAreNamed }
-    ensures one_list { OneListOfNames }
+    ensures one_list { HasOneListOfNames }
 {}

@@ -1,5 +1,5 @@
 -- The selection of one more choice, and the flags of one more symbol.
-use Rattle.std.proofs.Common.{◌≡◌, ℕ, ◌+◌, ◌<◌, ◌&&◌, not, Bool, Some, List, [], ◌∷◌, ◌++◌, map, length, Option, None, refl, sym, ◌∙◌, ap, arith}
+use Rattle.std.proofs.Common.{◌≡◌, ℕ, ◌+◌, ◌<◌, ◌&&◌, not, Bool, false, Some, List, [], ◌∷◌, ◌++◌, map, length, Option, None, refl, sym, ◌∙◌, ap, arith}
 use Rattle.std.specs.List.{range_with_len}
 use Rattle.std.proofs.lemmas.List.FromFn.{map-range_with_len_more}
 use Rattle.kc_expr.specs.declared.expression.SymId.{SymId}
@@ -10,13 +10,17 @@ use Rattle.kc_expr.specs.Names.{symbol}
 use Rattle.kc_expr.specs.Value.{Known}
 use Rattle.kc_tree.specs.TreeFacts.{SymbolFacts}
 use Rattle.kc_values.specs.Lookups.{facts, choice_at}
-use Rattle.kc_user.specs.Given.{Slot, In, Given}
-use Rattle.kc_values.specs.Solution.{symbol_count, slot_by, slot_of_facts, rhs}
+use Rattle.kc_order.specs.Solution.{Solves}
+use Rattle.std.specs.Option.{is_some}
+use Rattle.kc_user.specs.Given.{Slot, At, In, Given}
+use Rattle.kc_values.specs.Solution.{symbol_count, slot, slot_by, slot_of_facts, rhs, equations}
+use Rattle.kc_values.proofs.SameValue.{same_value_itself}
+use Rattle.kc_values.proofs.Uncounted.{uncounted}
 use Rattle.kc_values.specs.Differs.{same_value, selection, default_selection, differs, differs_at}
-use Rattle.kc_values.specs.Values.{selected, names_symbol, equation, by_choice}
+use Rattle.kc_values.specs.Values.{selected, names_symbol, equation, by_choice, by_kind, is_n, visibility}
 use Rattle.kc_values.specs.Written.{written}
 use Rattle.kc_values.specs.declared.table.Value.{Value}
-use Rattle.kc_solve.specs.Flags.{differs_by, is_written}
+use Rattle.kc_solve.specs.Flags.{differs_by, is_written, IsSolvedOwn}
 use Rattle.kc_solve.specs.Places.{known_in, valuation}
 use Rattle.kc_solve.proofs.WarningSteps.{tables_seen}
 
@@ -61,3 +65,26 @@ module _ (tree : TreeFacts) (values : List (Option Value)) (full : length values
 
   pub one_more_differs : ((d : ℕ) → f.choice ≡ Some d → d < length tree.choices) → (x : Bool) (old new : List Bool) → old ≡ map (differs tree U V) (range_with_len 0 i) → new ≡ old ++ x ∷ [] → x ≡ differs_by tree (known_in tree values) (symbol i) f f.choice chosen defaults → new ≡ map (differs tree U V) (range_with_len 0 (i + 1))
   one_more_differs below x old new e n h = one_more (differs tree U V) i x old new e n (h ∙ differs_is below)
+
+  solved_by : Solves (symbol_count tree) (equations tree U) V → i < symbol_count tree → (own : Option Given) → own ≡ U (At i) → (c : Option ℕ) → f.choice ≡ c → IsSolvedOwn tree (known_in tree values) (symbol i) f c own
+  solved_by solves l own given (Some c) e = tt
+  solved_by solves l own given None e =
+      let place : slot tree i ≡ At i = ap (slot_of_facts i) at ∙ ap (slot_by i) e in
+      solves i l
+      ∙ ap (λ p. rhs tree i (U p) V) place
+      ∙ ap (λ g. rhs tree i g V) (sym given)
+      ∙ ap (λ k. equation tree k (symbol i) (facts tree (symbol i)) own) (sym (tables_seen tree values full))
+      ∙ ap (λ o. equation tree (known_in tree values) (symbol i) o own) at
+      ∙ ap (λ o. by_choice tree (known_in tree values) (symbol i) f o own) e
+
+  -- the value of a symbol outside a choice is what its equation gives
+  pub solved_here : Solves (symbol_count tree) (equations tree U) V → i < symbol_count tree → (own : Option Given) → own ≡ U (At i) → IsSolvedOwn tree (known_in tree values) (symbol i) f f.choice own
+  solved_here solves l own given = solved_by solves l own given f.choice refl
+
+-- a symbol for which nothing counts that was given does not differ
+module _ (tree : TreeFacts) (known : SymId → Known) (s : SymId) (f : SymbolFacts) (own : Option Given) (chosen defaults : List (Option SymId)) (nothing : (is_some own && not (is_n (visibility tree known f))) ≡ false) where
+  pub does_not_differ : (c : Option ℕ) → c ≡ None → IsSolvedOwn tree known s f c own → false ≡ differs_by tree known s f c chosen defaults
+  does_not_differ (Some c) e solved = cc
+  does_not_differ None e solved =
+      let same : known s ≡ by_kind tree known s f f.kind None = solved ∙ uncounted tree known s f f.kind own nothing in
+      sym (ap (λ x. not (same_value (known s) x)) (sym same) ∙ ap not (same_value_itself (known s)))

@@ -1,23 +1,31 @@
-//! What each choice selects, which symbols differ and which are written, under the values of a full table.
+//! What each choice selects, and what is said of each symbol, under the values of a full table.
 
 ghost use Rattle.std.specs.Prelude.{◌≡◌, ◌<◌, false, length, map, slice_get, slice_index_or, Some, None, IfOk, IfSome};
 ghost use Rattle.std.specs.List.{range_with_len};
+ghost use Rattle.kc_order.specs.Solution.{Solves};
 ghost use Rattle.kc_solve.specs.Flags as flag;
+ghost use Rattle.kc_solve.specs.Flags.{IsSolvedOwn};
 ghost use Rattle.kc_solve.specs.Places.{known_in, valuation};
 ghost use Rattle.kc_user.specs.Places.{IsUserOf, place_at};
 ghost use Rattle.kc_tree.specs.Views.{facts_of};
 ghost use Rattle.kc_values.specs.Differs as spec;
-ghost use Rattle.kc_values.specs.Solution.{symbol_count};
+ghost use Rattle.kc_values.specs.Solution.{symbol_count, equations};
+ghost use Rattle.kc_values.specs.User.{place};
+ghost use Rattle.kc_values.specs.Values as value;
+ghost use Rattle.kc_values.specs.Warnings.{value_warnings};
 
 use crate::fill::symbol_facts;
-use kc_expr::expression::SymId;
+use kc_expr::expression::{SymId, Tri};
 use kc_tree::parts::{ChoiceId, Symbol};
 use kc_tree::tree::Tree;
 use kc_user::user::User;
-use kc_values::differs::{member_differs, own_differs};
+use kc_user::value::UserValue;
+use kc_values::differs::{can_count, member_differs, own_differs};
 use kc_values::members::selected_in;
 use kc_values::table::Table;
-use kc_values::written::written;
+use kc_values::truths::visibility;
+use kc_values::warnings::warnings_into;
+use kc_values::written::written as is_written;
 use std::alloc::{AllocError, Global};
 
 // How many choices a tree has.
@@ -79,18 +87,23 @@ pub(crate) fn at_symbol(flags: &[bool], id: SymId) -> bool
     id.0 < flags.len() && flags[id.0]
 }
 
-// Whether a symbol differs.
+// Whether a symbol differs. One for which nothing counts that was given does not: its value is what its equation gives
+// without it.
 fn symbol_differs(
     alloc: Global,
     table: &Table,
     id: SymId,
     symbol: &Symbol,
+    user: Option<&UserValue>,
+    shown: Tri,
     selections: &[Option<SymId>],
     defaults: &[Option<SymId>],
 ) -> Result<bool, AllocError>
     requires facts { slice_get table.now.tree.now.symbols id.0 ≡ Some (facts_of symbol.now) }
     requires selections { IfSome symbol.now.choice (λ c. c.0 < length selections.now) }
     requires defaults { IfSome symbol.now.choice (λ c. c.0 < length defaults.now) }
+    requires shown { shown ≡ value.visibility table.now.tree.now (known_in table.now.tree.now table.now.values.items) (facts_of symbol.now) }
+    requires solved { IsSolvedOwn table.now.tree.now (known_in table.now.tree.now table.now.values.items) id (facts_of symbol.now) (facts_of symbol.now).choice (place user) }
     ensures { IfOk result (λ b. b ≡ flag.differs_by table.now.tree.now (known_in table.now.tree.now table.now.values.items) id (facts_of symbol.now) (facts_of symbol.now).choice selections.now defaults.now) }
 {
     match symbol.choice {
@@ -99,46 +112,72 @@ fn symbol_differs(
             at_choice(defaults, choice),
             id,
         )),
-        None => own_differs(alloc, table.tree, id, symbol, table),
+        None => {
+            if can_count(user, shown) {
+                own_differs(alloc, table.tree, id, symbol, table)
+            } else {
+                Ok(false)
+            }
+        }
     }
 }
 
-/// Which symbols differ under the values of a full table and a user's places of that tree, with the selections under
-/// them: for each symbol, by number, whether its value is not what its equation gives without what was given for it; a
-/// member: whether it is selected and is not the default selection.
-pub fn differing(
+/// What the values of a full table say of each symbol, by number.
+#[derive(Drop)]
+pub struct Flags {
+    /// Whether it differs: its value is not what its equation gives without what was given for it; a member: it is selected
+    /// and is not the default selection.
+    pub differing: Vec<bool>,
+    /// Whether it has a line in the `.config`.
+    pub written: Vec<bool>,
+    /// The warnings of all symbols: whole lines without their end, in the order of the symbols.
+    pub warnings: Vec<Vec<u8>>,
+}
+
+/// What the values of a full table that solves say of the symbols under a user's places of that tree, with the selections
+/// under them. Each symbol is looked at once, and its visibility serves all that asks for it.
+pub fn flags_of(
     alloc: Global,
     table: &Table,
     user: &User,
     selections: &[Option<SymId>],
     defaults: &[Option<SymId>],
-) -> Result<Vec<bool>, AllocError>
+) -> Result<Flags, AllocError>
     requires full { length table.now.values.items ≡ symbol_count table.now.tree.now }
+    requires user { IsUserOf table.now.tree.now user.now }
+    requires solves { Solves (symbol_count table.now.tree.now) (equations table.now.tree.now (place_at user.now)) (valuation table.now.tree.now table.now.values.items) }
     requires selections { selections.now ≡ map (spec.selection table.now.tree.now (place_at user.now) (valuation table.now.tree.now table.now.values.items)) (range_with_len 0 (length table.now.tree.now.choices)) }
     requires defaults { defaults.now ≡ map (spec.default_selection table.now.tree.now (place_at user.now) (valuation table.now.tree.now table.now.values.items)) (range_with_len 0 (length table.now.tree.now.choices)) }
-    ensures { IfOk result (λ v. v.items ≡ map (spec.differs table.now.tree.now (place_at user.now) (valuation table.now.tree.now table.now.values.items)) (range_with_len 0 (symbol_count table.now.tree.now))) }
+    ensures differing { IfOk result (λ f. f.differing.items ≡ map (spec.differs table.now.tree.now (place_at user.now) (valuation table.now.tree.now table.now.values.items)) (range_with_len 0 (symbol_count table.now.tree.now))) }
+    ensures written { IfOk result (λ f. f.written.items ≡ map (flag.is_written table.now.tree.now (valuation table.now.tree.now table.now.values.items)) (range_with_len 0 (symbol_count table.now.tree.now))) }
+    ensures warnings { IfOk result (λ f. map (λ w. w.items) f.warnings.items ≡ value_warnings table.now.tree.now (place_at user.now) (valuation table.now.tree.now table.now.values.items)) }
 {
-    let _ = user;
     let count = table.tree.symbol_count();
-    let mut differ = Vec::with_capacity(alloc, count)?;
+    let mut differing = Vec::with_capacity(alloc, count)?;
+    let mut written = Vec::with_capacity(alloc, count)?;
+    let mut warnings = Vec::new(alloc);
     for i in 0..count {
         let id = SymId(i);
         let symbol = symbol_facts(table.tree, id);
-        differ.push(symbol_differs(alloc, table, id, symbol, selections, defaults)?)?;
+        let own = user.get(id);
+        let shown = visibility(table.tree, symbol, table);
+        let differs = symbol_differs(alloc, table, id, symbol, own, shown, selections, defaults)?;
+        differing.push(differs)?;
+        written.push(is_written(table.tree, symbol, shown, table))?;
+        warnings_into(
+            alloc,
+            table.tree,
+            id,
+            symbol,
+            shown,
+            own,
+            table,
+            &mut warnings,
+        )?;
     }
-    Ok(differ)
-}
-
-/// Which symbols are written under the values of a full table: for each symbol, by number, whether it has a line in the
-/// `.config`.
-pub fn written_symbols(alloc: Global, table: &Table) -> Result<Vec<bool>, AllocError>
-    requires full { length table.now.values.items ≡ symbol_count table.now.tree.now }
-    ensures { IfOk result (λ v. v.items ≡ map (flag.is_written table.now.tree.now (valuation table.now.tree.now table.now.values.items)) (range_with_len 0 (symbol_count table.now.tree.now))) }
-{
-    let count = table.tree.symbol_count();
-    let mut flags = Vec::with_capacity(alloc, count)?;
-    for i in 0..count {
-        flags.push(written(table.tree, SymId(i), table))?;
-    }
-    Ok(flags)
+    Ok(Flags {
+        differing,
+        written,
+        warnings,
+    })
 }

@@ -7,7 +7,6 @@ pub mod order;
 pub mod slow;
 pub mod solve;
 pub mod solved;
-mod warnings;
 
 pub use order::Order;
 pub use solved::Solved;

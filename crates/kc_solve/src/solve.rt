@@ -10,10 +10,9 @@ ghost use Rattle.kc_values.specs.Needs.{needs};
 ghost use Rattle.kc_values.specs.Solution.{symbol_count, equations};
 
 use crate::fill::fill;
-use crate::flags::{default_selections, differing, selections, written_symbols};
+use crate::flags::{Flags, default_selections, flags_of, selections};
 use crate::order::Order;
 use crate::solved::Solved;
-use crate::warnings::value_warnings;
 use kc_order::ordered_are_accepted;
 use kc_tree::tree::Tree;
 use kc_user::user::User;
@@ -65,9 +64,11 @@ pub fn solve<'a>(
     let table = full_table(alloc, tree, order, user)?;
     let selections = selections(alloc, &table, user)?;
     let default_selections = default_selections(alloc, &table, user)?;
-    let differing = differing(alloc, &table, user, &selections, &default_selections)?;
-    let written = written_symbols(alloc, &table)?;
-    let warnings = value_warnings(alloc, &table, user)?;
+    let Flags {
+        differing,
+        written,
+        warnings,
+    } = flags_of(alloc, &table, user, &selections, &default_selections)?;
     let solved = Solved {
         table,
         user,

@@ -78,16 +78,17 @@ fn symbol_line(
     let Some(symbol) = table.tree.facts(id) else {
         return Ok(());
     };
+    let shown = visibility(table.tree, symbol, table);
     let told = Told {
         name: name(table.tree, id),
         value: text_of(table, id),
-        visibility: visibility(table.tree, symbol, table),
-        is_written: written(table.tree, id, table),
+        visibility: shown,
+        is_written: written(table.tree, symbol, shown, table),
         differs: differs(alloc, table, user, id, symbol)?,
     };
     symbol_into(&told, out)?;
     let own = given(user, id);
-    warnings::warnings_into(alloc, table.tree, id, symbol, own, table, lines)
+    warnings::warnings_into(alloc, table.tree, id, symbol, shown, own, table, lines)
 }
 
 /// What the values in a table tell.

@@ -28,6 +28,16 @@ fn run_faultless(
     Ok(reads)
 }
 
+// Outputs that take a few bytes by each write, so that each text takes many.
+fn short_outputs(alloc: Global) -> Result<MemoryOutputs, Fail> {
+    let mut outputs = MemoryOutputs::new(alloc, ROOM)?;
+    outputs.config.piece = 16;
+    outputs.header.piece = 16;
+    outputs.minimal.piece = 5;
+    outputs.notes.piece = 7;
+    Ok(outputs)
+}
+
 // The outputs of the run in which no device fails, and how many reads it made.
 fn faultless(
     rt: &impl Abort,
@@ -35,7 +45,7 @@ fn faultless(
     files: &FileMap,
     turn: &Turn,
 ) -> Result<(MemoryOutputs, u64), Fail> {
-    let mut whole = MemoryOutputs::new(alloc, ROOM)?;
+    let mut whole = short_outputs(alloc)?;
     match run_faultless(rt, alloc, files, turn, &mut whole) {
         Ok(reads) => Ok((whole, reads)),
         Err(fail) => {
@@ -205,7 +215,7 @@ fn call_fails(
     which: Which,
     fail_at: u64,
 ) -> Result<(), Fail> {
-    let mut struck = MemoryOutputs::new(alloc, ROOM)?;
+    let mut struck = short_outputs(alloc)?;
     strike(&mut struck, which, fail_at);
     let input = MemoryInput::new(turn.settings, 6, 6);
     let ended = run_whole(alloc, files, input, &mut struck);

@@ -1,5 +1,5 @@
 -- Steps of the code, over plain values.
-use Rattle.std.proofs.Common.{◌≡◌, ℕ, ◌<◌, suc, List, ◌∷◌, ◌++◌, append_assoc, map, drop, get_or, length, drop-cons, Option, Some, not, cond, false, sym, ◌∙◌, ap, unwrap_or}
+use Rattle.std.proofs.Common.{◌≡◌, ℕ, ◌<◌, suc, List, ◌∷◌, ◌++◌, append_assoc, map, drop, get_or, length, drop-cons, Option, Some, not, cond, false, sym, ◌∙◌, ap}
 use Rattle.kc_expr.specs.declared.expression.SymId.{SymId}
 use Rattle.kc_expr.specs.declared.expression.Tri.{Tri}
 use Rattle.kc_expr.specs.declared.expression.Expr.{Expr}
@@ -11,7 +11,7 @@ use Rattle.kc_tree.specs.Views.{condition_of, default_view}
 use Rattle.kc_values.specs.declared.intervals.Interval.{Interval}
 use Rattle.std.specs.Prelude.{codes}
 use Rattle.kc_expr.specs.declared.expression.Kind.{Kind}
-use Rattle.kc_values.specs.Numbers.{if_inside, clamped, number_text}
+use Rattle.kc_values.specs.Numbers.{if_inside, number_text}
 use Rattle.kc_values.specs.Values as v
 use Rattle.kc_values.specs.Warnings as w
 use Rattle.kc_user.specs.Given.{Given}
@@ -32,21 +32,6 @@ module _ (tree : TreeFacts) (k : SymId → Known) where
   pub truth_joined : (f : SymbolFacts) (user : Option Given) (base sel all r : Tri) → base ≡ v.based user (v.visibility tree k f) (without_user f) → sel ≡ v.rev tree k f → all ≡ greater base sel → r ≡ v.raised tree k f.kind all → r ≡ v.truth_equation tree k f user
   truth_joined f user base sel all r e1 e2 e3 e4 =
       e4 ∙ ap (v.raised tree k f.kind) (e3 ∙ ap (λ x. greater x sel) e1 ∙ ap (greater (v.based user (v.visibility tree k f) (without_user f))) e2)
-
-  pub text_joined : (f : SymbolFacts) (user : Option Given) (vis : Tri) (given : Option (List ℕ)) (default chosen copy : List ℕ) → vis ≡ v.visibility tree k f → given ≡ v.typed user vis → default ≡ v.default_text k (v.first_open tree k f.defaults) → chosen ≡ unwrap_or given default → copy ≡ chosen → copy ≡ v.text_equation tree k f user
-  text_joined f user vis given default chosen copy e1 e2 e3 e4 e5 =
-      e5 ∙ e4 ∙ ap (λ d. unwrap_or given d) e3 ∙ ap (λ x. unwrap_or x (v.default_text k (v.first_open tree k f.defaults))) (e2 ∙ ap (v.typed user) e1)
-
-  pub number_joined : (f : SymbolFacts) (user : Option Given) (range : Option Interval) (vis : Tri) (given used : Option (List ℕ)) (default value : List ℕ) → range ≡ v.active_range tree k f → vis ≡ v.visibility tree k f → given ≡ v.typed user vis → used ≡ if_inside f.kind range given → default ≡ v.default_text k (v.first_open tree k f.defaults) → value ≡ unwrap_or used (clamped f.kind range default) → value ≡ v.number_equation tree k f user
-  number_joined f user range vis given used default value e1 e2 e3 e4 e5 e6 =
-      let r = v.active_range tree k f in
-      let used_is : used ≡ if_inside f.kind r (v.typed user (v.visibility tree k f)) =
-      e4 ∙ ap (λ x. if_inside f.kind x given) e1 ∙ ap (if_inside f.kind r) (e3 ∙ ap (v.typed user) e2)
-      in
-      let rest_is : clamped f.kind range default ≡ clamped f.kind r (v.default_text k (v.first_open tree k f.defaults)) =
-      ap (λ x. clamped f.kind x default) e1 ∙ ap (clamped f.kind r) e5
-      in
-      e6 ∙ ap (λ x. unwrap_or x (clamped f.kind range default)) used_is ∙ ap (unwrap_or (if_inside f.kind r (v.typed user (v.visibility tree k f)))) rest_is
 
   pub range_joined : (name : List ℕ) (f : SymbolFacts) (user : Option Given) (range : Option Interval) (vis : Tri) (given used default : Option (List ℕ)) (old mid new : List (List ℕ)) → range ≡ v.active_range tree k f → vis ≡ v.visibility tree k f → given ≡ v.typed user vis → used ≡ if_inside f.kind range given → default ≡ w.open_text tree k (v.first_open tree k f.defaults) → mid ≡ old ++ w.user_warnings f.kind name range given → new ≡ mid ++ w.default_warnings f.kind name range used default → new ≡ old ++ w.range_warnings tree k name f user
   range_joined name f user range vis given used default old mid new e1 e2 e3 e4 e5 e6 e7 =

@@ -2,6 +2,7 @@ pub mod Same
 pub mod OnlyNamed
 pub mod TreeNeeds
 pub mod SameValue
+pub mod Uncounted
 pub mod TruthLines
 pub mod Selection
 pub mod FixedLines

@@ -1,19 +1,23 @@
 //! Which symbols differ from what they would be without the user.
 
 ghost use Rattle.std.specs.Prelude.{◌≡◌, ◌&&◌, not, IfOk};
+ghost use Rattle.std.specs.Option.{is_some};
 ghost use Rattle.kc_tree.specs.Views.{facts_of};
 ghost use Rattle.kc_values.specs.Differs.{same_value};
 ghost use Rattle.kc_expr.specs.Value.{known_by};
+ghost use Rattle.kc_values.specs.User.{place};
 ghost use Rattle.kc_values.specs.Values as value;
 
+use crate::conditions::is_n;
 use crate::lookups::name;
 use crate::numbers::number_equation;
 use crate::texts::text_equation;
 use crate::truths::truth_equation;
-use kc_expr::expression::{Kind, SymId};
+use kc_expr::expression::{Kind, SymId, Tri};
 use kc_expr::values::Values;
 use kc_tree::parts::Symbol;
 use kc_tree::tree::Tree;
+use kc_user::value::UserValue;
 use std::alloc::{AllocError, Global};
 
 /// Whether the value of a symbol outside a choice is not what its equation gives, under the same values of all others,
@@ -45,6 +49,14 @@ pub fn own_differs<V: Values>(
         }
         Kind::Undefined => Ok(values.text(id) != name(tree, id)),
     }
+}
+
+/// Whether what the user gave for a symbol of this visibility can count: it is visible, and something was given. Where it
+/// can't, the equation gives the same value without it, so that the symbol does not differ (kconfiglib's `visibility`).
+pub fn can_count(user: Option<&UserValue>, shown: Tri) -> bool
+    ensures { result ≡ (is_some (place user.entry) && not (value.is_n shown)) }
+{
+    user.is_some() && !is_n(shown)
 }
 
 // Whether a selection is the symbol.

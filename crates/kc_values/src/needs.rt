@@ -318,7 +318,7 @@ pub fn tree_needs(alloc: Global, tree: &Tree) -> Result<Needs, AllocError>
     ensures { IfOk result (λ n. n ≡ spec.needs tree.now) }
 {
     let count = tree.symbol_count();
-    let mut needs = Needs::new(alloc);
+    let mut needs = Needs::with_room(alloc, count)?;
     let mut first = vec![in alloc; None; tree.choices().len()]?;
     let mut names = Vec::new(alloc);
     for i in 0..count {

@@ -10,8 +10,7 @@ ghost use Rattle.kc_values.specs.User.{place, text_at};
 
 use crate::conditions::{condition, is_n};
 use crate::intervals::Interval;
-use crate::texts::{default_text, typed};
-use crate::truths::visibility;
+use crate::texts::{default_text, typed_in};
 use kc_expr::expression::{Kind, Operand};
 use kc_expr::values::{Values, text};
 use kc_text::{read_hex, read_int};
@@ -137,25 +136,6 @@ pub fn clamped(
     Ok(copy)
 }
 
-// The user's text that counts, or the default's, clamped.
-fn used_or_clamped(
-    alloc: Global,
-    kind: Kind,
-    range: Option<Interval>,
-    used: Option<&[u8]>,
-    default: &[u8],
-) -> Result<Vec<u8>, AllocError>
-    requires { IfSome range IsSmall }
-    ensures { IfOk result (λ v. v.items ≡ unwrap_or (text_at used.entry) (digits.clamped kind range default.now)) }
-{
-    if let Some(bytes) = used {
-        let copy = Vec::from_slice(alloc, bytes)?;
-        return Ok(copy);
-    }
-    let value = clamped(alloc, kind, range, default)?;
-    Ok(value)
-}
-
 /// The value of an int or hex symbol outside a choice: the visible user text that is inside the active range, in exactly its
 /// text, else the first default's text, clamped (kconfiglib's `str_value`); without both it is empty (our own). Fails only when
 /// it is out of memory.
@@ -169,10 +149,12 @@ pub fn number_equation<V: Values>(
     ensures { IfOk result (λ v. v.items ≡ spec.number_equation tree.now (known_by (V.kind_of values.now) (V.tri_of values.now) (V.text_of values.now)) (facts_of symbol.now) (place user.entry)) }
 {
     let range = active_range(tree, symbol, values);
-    let shown = visibility(tree, symbol, values);
-    let given = typed(user, shown);
-    let used = if_inside(symbol.kind, range, given);
+    let given = typed_in(tree, symbol, user, values);
+    if let Some(bytes) = if_inside(symbol.kind, range, given) {
+        let copy = Vec::from_slice(alloc, bytes)?;
+        return Ok(copy);
+    }
     let default = default_text(tree, &symbol.defaults, values);
-    let value = used_or_clamped(alloc, symbol.kind, range, used, default)?;
+    let value = clamped(alloc, symbol.kind, range, default)?;
     Ok(value)
 }

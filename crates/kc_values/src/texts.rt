@@ -57,6 +57,21 @@ pub fn typed(user: Option<&UserValue>, visibility: Tri) -> Option<&[u8]>
     }
 }
 
+/// The same of a symbol, whose visibility is looked at only where the user gave a text (kconfiglib's `str_value`).
+pub fn typed_in<'a, V: Values>(
+    tree: &Tree,
+    symbol: &Symbol,
+    user: Option<&'a UserValue>,
+    values: &V,
+) -> Option<&'a [u8]>
+    ensures { text_at result ≡ spec.typed (place user.entry) (spec.visibility tree.now (known_by (V.kind_of values.now) (V.tri_of values.now) (V.text_of values.now)) (facts_of symbol.now)) }
+{
+    match user {
+        Some(UserValue::Text(_)) => typed(user, visibility(tree, symbol, values)),
+        _ => None,
+    }
+}
+
 /// The value of a string symbol outside a choice: the user's text where it is visible, else the text of the first default
 /// whose condition is not n, else nothing (kconfiglib's `str_value`). Fails only when it is out of memory.
 pub fn text_equation<V: Values>(
@@ -68,20 +83,11 @@ pub fn text_equation<V: Values>(
 ) -> Result<Vec<u8>, AllocError>
     ensures { IfOk result (λ v. v.items ≡ spec.text_equation tree.now (known_by (V.kind_of values.now) (V.tri_of values.now) (V.text_of values.now)) (facts_of symbol.now) (place user.entry)) }
 {
-    let shown = visibility(tree, symbol, values);
-    let given = typed(user, shown);
-    let default = default_text(tree, &symbol.defaults, values);
-    let chosen = or_default(given, default);
-    let copy = Vec::from_slice(alloc, chosen)?;
-    Ok(copy)
-}
-
-// The user's text, or the default's.
-fn or_default<'a>(given: Option<&'a [u8]>, default: &'a [u8]) -> &'a [u8]
-    ensures { result.now ≡ unwrap_or (text_at given.entry) default.now }
-{
-    match given {
-        Some(bytes) => bytes,
-        None => default,
+    if let Some(bytes) = typed_in(tree, symbol, user, values) {
+        let copy = Vec::from_slice(alloc, bytes)?;
+        return Ok(copy);
     }
+    let default = default_text(tree, &symbol.defaults, values);
+    let copy = Vec::from_slice(alloc, default)?;
+    Ok(copy)
 }

@@ -16,7 +16,7 @@ use crate::intervals::Interval;
 use crate::lookups::name;
 use crate::numbers::{active_range, clamped, if_inside, is_inside, number_text};
 use crate::texts::{single_text, typed};
-use crate::truths::{direct, reverse, visibility};
+use crate::truths::{direct, reverse};
 use kc_expr::expression::{Expr, Kind, SymId, Tri};
 use kc_expr::values::{Values, tri_text};
 use kc_tree::parts::{Cond, Symbol};
@@ -219,14 +219,15 @@ fn range_warnings<V: Values>(
     tree: &Tree,
     name: &[u8],
     symbol: &Symbol,
+    shown: Tri,
     user: Option<&UserValue>,
     values: &V,
     out: &mut Vec<Vec<u8>>,
 ) -> Result<(), AllocError>
+    requires { shown ≡ value.visibility tree.now (known_by (V.kind_of values.now) (V.tri_of values.now) (V.text_of values.now)) (facts_of symbol.now) }
     ensures { OnOk result (map (λ w. w.items) out.new.items ≡ map (λ w. w.items) out.old.items ++ spec.range_warnings tree.now (known_by (V.kind_of values.now) (V.tri_of values.now) (V.text_of values.now)) name.now (facts_of symbol.now) (place user.entry)) }
 {
     let range = active_range(tree, symbol, values);
-    let shown = visibility(tree, symbol, values);
     let given = typed(user, shown);
     let used = if_inside(symbol.kind, range, given);
     let default = open_text(tree, &symbol.defaults, values);
@@ -262,17 +263,19 @@ fn select_warnings<V: Values>(
 
 /// The warnings of one symbol under these values, behind those that are there: whole lines without their end. A bool or
 /// tristate that is selected above its direct dependency; of an int or hex a visible user value outside the active range,
-/// then a default that was clamped; of a choice's member none (our own lines). Fails only when it is out of memory; some lines
-/// may then be there.
+/// then a default that was clamped; of a choice's member none (our own lines). The caller owes the symbol's visibility, so
+/// that it is found once for all that asks for it. Fails only when it is out of memory; some lines may then be there.
 pub fn warnings_into<V: Values>(
     alloc: Global,
     tree: &Tree,
     id: SymId,
     symbol: &Symbol,
+    shown: Tri,
     user: Option<&UserValue>,
     values: &V,
     out: &mut Vec<Vec<u8>>,
 ) -> Result<(), AllocError>
+    requires { shown ≡ value.visibility tree.now (known_by (V.kind_of values.now) (V.tri_of values.now) (V.text_of values.now)) (facts_of symbol.now) }
     ensures { OnOk result (map (λ w. w.items) out.new.items ≡ map (λ w. w.items) out.old.items ++ spec.warnings_of tree.now (known_by (V.kind_of values.now) (V.tri_of values.now) (V.text_of values.now)) (lookup.name tree.now id) (Some (facts_of symbol.now)) (place user.entry)) }
 {
     if symbol.choice.is_some() {
@@ -284,7 +287,7 @@ pub fn warnings_into<V: Values>(
         Kind::Bool => select_warnings(alloc, tree, name, symbol, values, out),
         Kind::Tristate => select_warnings(alloc, tree, name, symbol, values, out),
         Kind::Str => Ok(()),
-        Kind::Int => range_warnings(alloc, tree, name, symbol, user, values, out),
-        Kind::Hex => range_warnings(alloc, tree, name, symbol, user, values, out),
+        Kind::Int => range_warnings(alloc, tree, name, symbol, shown, user, values, out),
+        Kind::Hex => range_warnings(alloc, tree, name, symbol, shown, user, values, out),
     }
 }

@@ -5,6 +5,7 @@ use Rattle.clap.specs.Faults.{is_simple_and_free}
 use Rattle.clap.specs.declared.parser.matches.ArgMatches.{ArgMatches}
 use Rattle.clap.proofs.WalkLemmas.{first_value-rows, raw_values-rows}
 use Rattle.clap.proofs.OnLiterals.{clap_on_literals}
+use Rattle.kc_words.specs.Fields.{is_given}
 use Rattle.kc_words.specs.Kconf.{kconf_app, with_options}
 
 pub ruleset found_rows = (first_value-rows, raw_values-rows)
@@ -41,3 +42,11 @@ root_is = refl
 fragments_are : all_of (codes "FRAGMENT") (matches_of kconf_app (codes "Kconfig" ∷ codes "a" ∷ codes "--root" ∷ codes "d" ∷ codes "--" ∷ codes "-b" ∷ [])) ≡ Some (codes "a" ∷ codes "-b" ∷ [])
 unfolding clap_on_literals kconf_app with_options
 fragments_are = refl
+
+exists : is_given (codes "must-exist") (matches_of kconf_app (codes "--must-exist" ∷ codes "Kconfig" ∷ [])) ≡ true
+unfolding clap_on_literals kconf_app with_options
+exists = refl
+
+absent : is_given (codes "must-exist") (matches_of kconf_app (codes "Kconfig" ∷ [])) ≡ false
+unfolding clap_on_literals kconf_app with_options
+absent = refl

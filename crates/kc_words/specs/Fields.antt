@@ -1,11 +1,15 @@
 -- Trusted: What the options hold.
-use Rattle.std.specs.Prelude.{◌≡◌, List, [], map, option_map, unwrap_or, string_bytes, codes}
+use Rattle.std.specs.Prelude.{◌≡◌, List, [], Bool, map, option_map, unwrap_or, string_bytes, codes, bytes_eq}
 use Rattle.clap.specs.Words.{Row, Text, all_of, first_of}
 use Rattle.kc_words.specs.declared.options.Options.{Options}
 
 -- the prefix that is asked for
 abbrev pub prefix_word : List Row → Text
 prefix_word rows = unwrap_or (first_of (codes "prefix") rows) (codes "CONFIG_")
+
+-- a flag stands among the words: its value is then `true`, and else `false`
+abbrev pub is_given : Text → List Row → Bool
+is_given id rows = bytes_eq (unwrap_or (first_of id rows) []) (codes "true")
 
 -- each field is the value of its argument among what the words gave, or what an absent argument means
 pub record Holds (rows : List Row) (options : Options) : Type 0 where
@@ -17,3 +21,4 @@ pub record Holds (rows : List Row) (options : Options) : Type 0 where
   pub minimal : option_map string_bytes options.minimal ≡ first_of (codes "savedefconfig") rows
   pub fragments : map string_bytes options.fragments.items ≡ unwrap_or (all_of (codes "FRAGMENT") rows) []
   pub prefix : options.prefix ≡ prefix_word rows
+  pub must_exist : options.must_exist ≡ is_given (codes "must-exist") rows

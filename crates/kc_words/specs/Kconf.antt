@@ -3,11 +3,15 @@ use Rattle.std.specs.Prelude.{List, Some, true, codes, map, string_bytes, String
 use Rattle.std.specs.declared.alloc.Global.{Global}
 use Rattle.clap.specs.Words.{App, Row, Rule, Text, matches_of, new_app, new_rule, with_rule}
 use Rattle.clap.specs.Simple.{on_top}
-use Rattle.clap.specs.declared.builder.action.ArgAction.TheVariants.{Append}
+use Rattle.clap.specs.declared.builder.action.ArgAction.TheVariants.{Append, SetTrue}
 
 -- --NAME VALUE
 abbrev pub option_rule : Text → Rule
 option_rule name = record (new_rule name) { long = Some name; value_names = 1 }
+
+-- --NAME
+abbrev pub flag_rule : Text → Rule
+flag_rule name = record (new_rule name) { long = Some name; action = Some SetTrue }
 
 -- the one word that has to be there
 abbrev pub kconfig_rule : Rule
@@ -21,16 +25,17 @@ fragment_rule = record (new_rule (codes "FRAGMENT")) { action = Some Append }
 abbrev pub bare_app : App
 bare_app = on_top (λ s. record s { no_binary_name = true; has_version = true }) (new_app (codes "kconf"))
 
--- [--root DIR] [--config FILE] [--out FILE] [--header FILE] [--savedefconfig FILE] [--prefix TEXT]
+-- [--root DIR] [--config FILE] [--out FILE] [--header FILE] [--savedefconfig FILE] [--prefix TEXT] [--must-exist]
 unfoldable pub with_options : App → App
 with_options app =
-    with_rule (with_rule (with_rule (with_rule (with_rule (with_rule app
+    with_rule (with_rule (with_rule (with_rule (with_rule (with_rule (with_rule app
     (option_rule (codes "root")))
     (option_rule (codes "config")))
     (option_rule (codes "out")))
     (option_rule (codes "header")))
     (option_rule (codes "savedefconfig")))
-    (option_rule (codes "prefix"))
+    (option_rule (codes "prefix")))
+    (flag_rule (codes "must-exist"))
 
 -- the options, and then KCONFIG [FRAGMENT ..]
 unfoldable pub kconf_app : App

@@ -2,7 +2,7 @@
 
 ghost use Rattle.std.specs.Prelude.{◌≡◌, IfOk};
 ghost use Rattle.clap.specs.Words.{app_of, with_rule};
-ghost use Rattle.kc_words.specs.Kconf.{bare_app, kconf_app, option_rule, kconfig_rule, fragment_rule, with_options};
+ghost use Rattle.kc_words.specs.Kconf.{bare_app, flag_rule, fragment_rule, kconf_app, kconfig_rule, option_rule, with_options};
 
 use clap::{Arg, ArgAction, Command};
 use std::alloc::{AllocError, Global};
@@ -60,6 +60,8 @@ const PREFIX: Said = Said {
     help: "What stands before each symbol's name [default: CONFIG_]",
 };
 
+const MUST_EXIST: &str = "Refuse to run where the file of --config does not exist";
+
 // Adds `--NAME VALUE`.
 fn with_option<'a>(
     alloc: Global,
@@ -74,6 +76,23 @@ fn with_option<'a>(
             .long(name)
             .value_name(said.value)
             .help(said.help),
+    )
+}
+
+// Adds `--NAME`.
+fn with_flag<'a>(
+    alloc: Global,
+    command: Command<'a>,
+    name: &'a str,
+    help: &'static str,
+) -> Result<Command<'a>, AllocError>
+    ensures { IfOk result (λ longer. app_of longer ≡ with_rule (app_of command.entry) (flag_rule name.entry.now)) }
+{
+    command.arg(
+        Arg::new(alloc, name)
+            .long(name)
+            .action(ArgAction::SetTrue)
+            .help(help),
     )
 }
 
@@ -120,7 +139,8 @@ fn with_options<'a>(alloc: Global, command: Command<'a>) -> Result<Command<'a>, 
     let command = with_option(alloc, command, "out", OUT)?;
     let command = with_option(alloc, command, "header", HEADER)?;
     let command = with_option(alloc, command, "savedefconfig", MINIMAL)?;
-    with_option(alloc, command, "prefix", PREFIX)
+    let command = with_option(alloc, command, "prefix", PREFIX)?;
+    with_flag(alloc, command, "must-exist", MUST_EXIST)
 }
 
 // The command line of the program.

@@ -3,7 +3,7 @@
 ghost use Rattle.std.specs.Prelude.{◌≡◌, [], IfOk, IfErr, map, option_map, string_bytes, unwrap_or, codes, true};
 ghost use Rattle.clap.specs.Words.{takes, rows_of, found_of, kind_of, first_of, all_of, fault_of};
 ghost use Rattle.kc_dot.specs.Prefixes.{is_prefix};
-ghost use Rattle.kc_words.specs.Fields.{Holds, prefix_word};
+ghost use Rattle.kc_words.specs.Fields.{Holds, is_given, prefix_word};
 ghost use Rattle.kc_words.specs.Kconf.{kconf_app, words_of, rows_for};
 ghost use Rattle.kc_words.specs.Refusals.{IsKindOf, IsRefused, IsNoPrefix};
 
@@ -33,6 +33,8 @@ pub struct Options {
     pub fragments: Vec<String>,
     /// What stands before each symbol's name.
     pub prefix: Prefix,
+    /// Whether the `.config` to read has to exist, as a fragment has to.
+    pub must_exist: bool,
 }
 
 // The value of the argument, or what stands for an absent one.
@@ -57,6 +59,14 @@ fn text_of(alloc: Global, matches: &ArgMatches<'_>, id: &str) -> Result<Option<S
         Some(text) => Ok(Some(String::from_str(alloc, text)?)),
         None => Ok(None),
     }
+}
+
+// Whether the flag stands among the words.
+#[tactic(auto, using(crate::proofs::RowLemmas::found_rows))]
+fn flag_of(matches: &ArgMatches<'_>, id: &str) -> bool
+    ensures { result ≡ is_given id.now (rows_of (found_of matches.now)) }
+{
+    matches.get_str(id).unwrap_or("") == "true"
 }
 
 // Copies of the texts.
@@ -108,6 +118,7 @@ fn read_options(alloc: Global, matches: &ArgMatches<'_>) -> Result<Options, Usag
     let fragments = texts_of(alloc, matches, "FRAGMENT")?;
     let prefix = text_or(alloc, matches, "prefix", "CONFIG_")?;
     let prefix = prefix_of(alloc, prefix.as_str())?;
+    let must_exist = flag_of(matches, "must-exist");
     Ok(Options {
         root,
         config,
@@ -117,6 +128,7 @@ fn read_options(alloc: Global, matches: &ArgMatches<'_>) -> Result<Options, Usag
         minimal,
         fragments,
         prefix,
+        must_exist,
     })
 }
 
@@ -136,12 +148,12 @@ fn usage_of(alloc: Global, error: &Error) -> Usage
 }
 
 /// Reads the words after the program's name, as the command line
-/// `[--root DIR] [--config FILE] [--out FILE] [--header FILE] [--savedefconfig FILE] [--prefix TEXT] KCONFIG [FRAGMENT ..]`,
+/// `[--root DIR] [--config FILE] [--out FILE] [--header FILE] [--savedefconfig FILE] [--prefix TEXT] [--must-exist] KCONFIG [FRAGMENT ..]`,
 /// `--help`, `-h`, `--version` or `-V`
 /// (our own; the reading of the words is that of Rust's `clap`, whose documentation has the rules).
 ///
 /// Each field is what the words hold, or for an absent option: root `.`, config `.config`, out the file of
-/// `--config`, prefix `CONFIG_`, header and minimal none.
+/// `--config`, prefix `CONFIG_`, header and minimal none, `--must-exist` false.
 /// The errors are those of `Usage`. They leave nothing behind.
 pub fn options_of(alloc: Global, words: &[String]) -> Result<Options, Usage>
     // Each field is what the words hold, or what an absent option means.

@@ -30,6 +30,9 @@ fn shown(rt: &HostRuntime, options: &Options) -> Result<String, Fail> {
         text.push('|')?;
         text.push_str(fragment.as_str())?;
     }
+    if options.must_exist {
+        text.push_str(" must-exist")?;
+    }
     Ok(text)
 }
 
@@ -65,6 +68,18 @@ fn each_option_has_its_value_or_what_stands_for_none(rt: HostRuntime) -> Result<
         ),
         ("--|--root|-x", ".|.config|.config|--root|-|-|CONFIG_|-x"),
         ("--config=|K", ".|||K|-|-|CONFIG_"),
+        (
+            "--must-exist|K",
+            ".|.config|.config|K|-|-|CONFIG_ must-exist",
+        ),
+        (
+            "K|a|--must-exist",
+            ".|.config|.config|K|-|-|CONFIG_|a must-exist",
+        ),
+        (
+            "--|--must-exist",
+            ".|.config|.config|--must-exist|-|-|CONFIG_",
+        ),
     ];
     for (row, want) in rows {
         assert_eq!(rt; given(&rt, row)?.as_str(), want);
@@ -94,6 +109,8 @@ fn other_words_are_bad_or_ask_for_help_or_the_version(rt: HostRuntime) -> Result
         ("K|--version", "kconf 0.9.0\n"),
         ("--version|--help", "kconf 0.9.0\n"),
         ("--version=1", "bad"),
+        ("--must-exist=1|K", "bad"),
+        ("--must-exist|--must-exist|K", "bad"),
     ];
     for (row, want) in rows {
         assert_eq!(rt; given(&rt, row)?.as_str(), want);

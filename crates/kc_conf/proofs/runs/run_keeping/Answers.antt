@@ -1,4 +1,5 @@
 -- A fault is reported after the run broke off.
+use Rattle.kc_read.specs.Files.{bytes_in}
 use Rattle.kc_conf.specs.Places.{Only-only}
 use Rattle.kc_conf.specs.declared.outputs.Which.TheVariants.{Notes}
 use Rattle.kc_conf.proofs.PlacesLemmas.{Reports-only}
@@ -7,7 +8,8 @@ use Rattle.kc_conf.proofs.runs.run_keeping.Goals as goal
 pub returns-in-Err-clause-fault : goal.returns-in-Err-clause-fault
 returns-in-Err-clause-fault g c = λ _.
     let (all, are, broken) = c.in-Err.ensures.err in
-    (c.in-Err.cause, all, are, c.in-Err.ensures.counted_inputs, λ outcome is. (g.O.Outputs.seen c.run_through.new.outputs, broken outcome is, c.report.ensures))
+    let (outcome, is, one) = c.exactly_one_outcome.ensures (bytes_in c.args.files.now) c.args.options.now all in
+    (c.in-Err.cause, all, are, c.in-Err.ensures.counted_inputs, (outcome, is, (g.O.Outputs.seen c.run_through.new.outputs, broken outcome is, c.report.ensures)))
 
 pub returns-in-Err-clause-refused_outputs : goal.returns-in-Err-clause-refused_outputs
 returns-in-Err-clause-refused_outputs g c = λ r refused.

@@ -14,7 +14,7 @@ loop-root-init c =
       sound = record {
         marks_len = ap length c.in_ok-new_marks.ensures ∙ length-replicate (length row_of) New;
         left_len = ap length c.in_ok-need_counts.ensures ∙ length-map rows vec_len;
-        keeps = rw (c.new.ensures.items, c.new-2.ensures.items) (starts (length row_of) (needs_of rows row_of) _ _
+        keeps = rw (c.new.ensures.items, c.in_ok-with_capacity.ensures.items) (starts (length row_of) (needs_of rows row_of) _ _
             (λ s b. rw c.in_ok-new_marks.ensures (get_or-replicate (length row_of) s New New b))
             (λ s b. rw c.in_ok-need_counts.ensures (counts_are rows (get_or row_of s 0)) ∙ ap length (sym (needs_are rows row_of s b))));
       };

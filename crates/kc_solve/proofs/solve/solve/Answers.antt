@@ -21,9 +21,9 @@ invariant_of-solved c =
       only = subst (λ (t : TreeFacts). IsOnlySolution (symbol_count t) (equations t U) (valuation t items)) e c.in_ok-table.ensures.only;
       chosen_are = c.in_ok-selections.ensures;
       defaults_are = c.in_ok-default_selections.ensures;
-      differing_are = c.in_ok-differing.ensures;
-      written_are = c.in_ok-written.ensures;
-      lines_are = c.in_ok-warnings.ensures;
+      differing_are = c.in_ok-differing.ensures.differing;
+      written_are = c.in_ok-differing.ensures.written;
+      lines_are = c.in_ok-differing.ensures.warnings;
     }
 
 pub returns-clause-only : goal.returns-clause-only

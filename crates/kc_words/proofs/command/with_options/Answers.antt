@@ -3,7 +3,7 @@ use Rattle.std.specs.declared.alloc.AllocError.{AllocError}
 use Rattle.std.proofs.lemmas.Result.{IfOk-weaker}
 use Rattle.clap.specs.Words.{App, Rule, app_of, with_rule}
 use Rattle.clap.specs.declared.builder.command.Command.{Command}
-use Rattle.kc_words.specs.Kconf.{option_rule, with_options}
+use Rattle.kc_words.specs.Kconf.{flag_rule, option_rule, with_options}
 use Rattle.kc_words.proofs.command.with_options.Goals as goal
 
 last_rule : (r : Result Command AllocError) (a b : App) (rule : Rule) → a ≡ b → IfOk r (λ longer. app_of longer ≡ with_rule a rule) → IfOk r (λ longer. app_of longer ≡ with_rule b rule)
@@ -16,4 +16,5 @@ returns c =
     let three = c.in_ok-command-3.ensures ∙ ap (λ a. with_rule a (option_rule (codes "out"))) two in
     let four = c.in_ok-command-4.ensures ∙ ap (λ a. with_rule a (option_rule (codes "header"))) three in
     let five = c.in_ok-command-5.ensures ∙ ap (λ a. with_rule a (option_rule (codes "savedefconfig"))) four in
-    last_rule c.with_option-6.result _ _ (option_rule (codes "prefix")) five c.with_option-6.ensures
+    let six = c.in_ok-command-6.ensures ∙ ap (λ a. with_rule a (option_rule (codes "prefix"))) five in
+    last_rule c.with_flag.result _ _ (flag_rule (codes "must-exist")) six c.with_flag.ensures

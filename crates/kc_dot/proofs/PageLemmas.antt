@@ -1,0 +1,52 @@
+-- A text that waits on a page, and is handed out page by page.
+use Rattle.std.proofs.Common.{◌≡◌, List, ℕ, [], ◌++◌, refl, sym, ap, ◌∙◌, append_assoc, append-nil, Option}
+use Rattle.kc_dot.specs.Pages.{HandsOn, Waits}
+use Rattle.kc_dot.specs.Sink.{extended, BreaksOff, HandsOut}
+use Rattle.kc_dot.proofs.PartLemmas.{BreaksOff-behind, HandsOut-behind}
+use Rattle.kc_dot.proofs.SinkLemmas.{extended-extended, extended-nothing}
+
+-- nothing was taken yet
+pub waits_from : (page rest next : List ℕ) (old : Option (List ℕ)) → rest ≡ next → Waits (page ++ rest) page next old old
+waits_from page rest next old is = ([], ap (λ t. page ++ t) is, extended-nothing old)
+
+-- the next part waits too
+pub waits_more : (text page grown part rest more : List ℕ) (old now : Option (List ℕ)) → rest ≡ part ++ more → grown ≡ page ++ part →
+    Waits text page rest old now → Waits text grown more old now
+waits_more text page grown part rest more old now next grows (front, is, taken) =
+    let e : page ++ rest ≡ grown ++ more = ap (λ t. page ++ t) next ∙ sym (append_assoc page part more) ∙ ap (λ t. t ++ more) (sym grows) in
+    (front, is ∙ ap (λ t. front ++ t) e, taken)
+
+-- a part of what waits is handed out
+pub waits_on : (text page kept rest : List ℕ) (old mid new : Option (List ℕ)) → Waits text page rest old mid → HandsOn page kept mid new → Waits text kept rest old new
+waits_on text page kept rest old mid new (front, is, taken) (more, split, now) =
+    let e : page ++ rest ≡ more ++ (kept ++ rest) = ap (λ t. t ++ rest) split ∙ append_assoc more kept rest in
+    (front ++ more, is ∙ ap (λ t. front ++ t) e ∙ sym (append_assoc front more (kept ++ rest)), now ∙ rw taken (extended-extended old front more))
+
+-- what was taken so far is a beginning of the text
+pub waits_stop : (text page rest : List ℕ) (old now : Option (List ℕ)) → Waits text page rest old now → HandsOut text old now
+waits_stop text page rest old now (front, is, taken) = (front, (page ++ rest, is), taken)
+
+pub waits_broke : (text page rest : List ℕ) (old mid new : Option (List ℕ)) → Waits text page rest old mid → HandsOut page mid new → HandsOut text old new
+waits_broke text page rest old mid new (front, is, taken) broke = rw is (HandsOut-behind front page rest old mid new taken broke)
+
+pub waits_breaks : (text page rest : List ℕ) (old mid new : Option (List ℕ)) → Waits text page rest old mid → BreaksOff page mid new → BreaksOff text old new
+waits_breaks text page rest old mid new (front, is, taken) broke = rw is (BreaksOff-behind front page rest old mid new taken broke)
+
+-- all was taken
+pub waits_all : (text page rest : List ℕ) (old mid new : Option (List ℕ)) → rest ≡ [] → Waits text page rest old mid → new ≡ extended mid page → new ≡ extended old text
+waits_all text page rest old mid new none (front, is, taken) now =
+    let e : page ++ rest ≡ page = ap (λ t. page ++ t) none ∙ append-nil page in
+    now ∙ rw taken (extended-extended old front page) ∙ ap (extended old) (sym (is ∙ ap (λ t. front ++ t) e))
+
+-- nothing of the text was taken
+pub HandsOut-nothing : (text : List ℕ) (taken : Option (List ℕ)) → HandsOut text taken taken
+HandsOut-nothing text taken = ([], (text, refl), extended-nothing taken)
+
+-- two texts were taken, and nothing waits
+pub hands_both : (first second waits : List ℕ) (old mid new : Option (List ℕ)) → mid ≡ extended old first → new ≡ extended mid second → waits ≡ [] → HandsOn (first ++ second) waits old new
+hands_both first second waits old mid new before after none =
+    (first ++ second, rw none (sym (append-nil (first ++ second))), after ∙ rw before (extended-extended old first second))
+
+-- nothing was taken, and all waits
+pub hands_none : (waited waits : List ℕ) (old : Option (List ℕ)) → waits ≡ waited → HandsOn waited waits old old
+hands_none waited waits old is = ([], sym is, extended-nothing old)

@@ -1,0 +1,11 @@
+-- For proofs: Text that waits for a sink.
+use Rattle.std.specs.Prelude.{◌≡◌, ℕ, List, ◌++◌, Option}
+use Rattle.kc_dot.specs.Sink.{extended}
+
+-- of what waited a front was taken, and the rest waits still
+abbrev pub HandsOn : List ℕ → List ℕ → Option (List ℕ) → Option (List ℕ) → Type 0
+HandsOn waited waits old new = (front : List ℕ) × (waited ≡ front ++ waits) × (new ≡ extended old front)
+
+-- of a text a front was taken, this waits behind it, and the rest is still to come
+abbrev pub Waits : List ℕ → List ℕ → List ℕ → Option (List ℕ) → Option (List ℕ) → Type 0
+Waits text waits rest old new = (front : List ℕ) × (text ≡ front ++ (waits ++ rest)) × (new ≡ extended old front)
