@@ -1,13 +1,11 @@
 -- Over files that expand alike, trees, refusals and outcomes are the same.
 use Rattle.std.proofs.Common.{◌≡◌, ◌≢◌, ℕ, List, Option, Result, refl, sym, ◌∙◌}
-use Rattle.kc_read.specs.Existing.{HasOneExpansion}
 use Rattle.kc_read.specs.Expansion.{Refused}
 use Rattle.kc_read.specs.Files.{Files}
 use Rattle.kc_tree.specs.TreeFacts.{TreeFacts}
 use Rattle.kc_tree.specs.Trees.{IsTreeOf}
 use Rattle.kc_load.specs.Expanding.{ExpandsAlike}
 use Rattle.kc_words.specs.declared.options.Options.{Options}
-use Rattle.kc_conf.specs.Existence.{OutcomeExists}
 use Rattle.kc_conf.specs.Faults.{CountsInputs, Faults, Finishes}
 use Rattle.kc_conf.specs.Given.{AreAllToCome}
 use Rattle.kc_conf.specs.Outcome.{IsAcceptedTree, IsOutcome, IsRefusedTree, Outcome, accepted_tree, looped, no_tree, refused_tree, root_of}
@@ -37,13 +35,13 @@ outcome_over files others options alike all outcome (refused_tree r x e) = refus
 outcome_over files others options alike all outcome (accepted_tree tree x y) = accepted_tree tree (accepted_over (root_of options) files others alike tree x) y
 
 -- what a run over the loaded files says, said of the folder's
-pub leaves_over : (files loaded : Files) (options : Options) (given : List (Option (List ℕ))) (counts counts_after : List ℕ) (status : Status) (old new : Places) → HasOneExpansion → OutcomeExists → ExpandsAlike (root_of options) files loaded →
+pub leaves_over : (files loaded : Files) (options : Options) (given : List (Option (List ℕ))) (counts counts_after : List ℕ) (status : Status) (old new : Places) → ExpandsAlike (root_of options) files loaded →
     (status ≢ Faulted → (all : List (List ℕ)) × AreAllToCome given all × ((outcome : Outcome) × IsOutcome loaded options all outcome × Finishes outcome status old new)) →
     (status ≢ Faulted → counts_after ≡ counts) →
-    (status ≡ Faulted → (cause : Cause) × (all : List (List ℕ)) × AreAllToCome given all × CountsInputs cause counts counts_after × ((outcome : Outcome) → IsOutcome loaded options all outcome → Faults options outcome cause old new)) →
+    (status ≡ Faulted → (cause : Cause) × (all : List (List ℕ)) × AreAllToCome given all × CountsInputs cause counts counts_after × ((outcome : Outcome) × IsOutcome loaded options all outcome × Faults options outcome cause old new)) →
     ((r : Refused) → IsRefusedTree loaded (root_of options) r → Only Notes old new) →
     Leaves files options given counts counts_after status old new
-leaves_over files loaded options given counts counts_after status old new expansion exists alike exactly quiet fault refused = by status refl
+leaves_over files loaded options given counts counts_after status old new alike exactly quiet fault refused = by status refl
   where
     whole : status ≢ Faulted → Leaves files options given counts counts_after status old new
     whole un =
@@ -61,15 +59,13 @@ leaves_over files loaded options given counts counts_after status old new expans
     struck : status ≡ Faulted → Leaves files options given counts counts_after status old new
     struck is =
         let x = fault is in
-        let e = expansion files (root_of options) in
-        let o = exists files options x.1 e.0 e.1 in
         record {
           all = x.1;
           to_come = x.2;
-          outcome = o.0;
-          is_outcome = o.1;
+          outcome = x.4.0;
+          is_outcome = outcome_over loaded files options (flipped (root_of options) files loaded alike) x.1 x.4.0 x.4.1;
           finished = λ un. absurd (un is);
-          broken = λ _. (x.0, x.3, x.4 o.0 (outcome_over files loaded options alike x.1 o.0 o.1));
+          broken = λ _. (x.0, x.3, x.4.2);
           refused = λ r h. refused r (refused_over (root_of options) files loaded alike r h);
         }
 

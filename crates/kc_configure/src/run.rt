@@ -8,10 +8,8 @@ ghost use Rattle.kc_load.specs.Loaded.{Loads};
 ghost use Rattle.kc_conf.specs.Outcome.{IsRefusedTree, root_of};
 ghost use Rattle.kc_configure.specs.Configured.{Keeps, Leaves};
 
-use kc_conf::laws::outcome_exists;
 use kc_conf::{FileMap, Input, Kept, Options, Outputs, Status, run_keeping};
 use kc_load::{Folder, LoadFault, load};
-use kc_read::laws::has_one_expansion;
 use std::alloc::Global;
 
 /// Loads the tree from the folder, reads the streams, and writes the files and the notes (our own; the values are those of
@@ -58,8 +56,11 @@ pub fn configure<F: Folder, I: Input, O: Outputs>(
     ensures quiet { OnOk result (F.failures folder.new ≡ F.failures folder.old) }
     ensures counted { IfErr result (λ fault. F.failures folder.new ≡ counted_load fault (F.failures folder.old)) }
 {
-    has_one_expansion();
-    outcome_exists();
-    *files = load(alloc, folder, options.root.as_str(), options.kconfig.as_str())?;
+    *files = load(
+        alloc,
+        folder,
+        options.root.as_str(),
+        options.kconfig.as_str(),
+    )?;
     Ok(run_keeping(alloc, files, options, inputs, outputs, kept))
 }

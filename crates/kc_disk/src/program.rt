@@ -6,8 +6,9 @@ use crate::folder::Disk;
 use crate::input::FileInput;
 use crate::outputs::FileOutputs;
 use crate::words::words;
-use kc_conf::{Status, run_keeping};
-use kc_load::{LoadFault, load};
+use kc_conf::{FileMap, Status};
+use kc_configure::configure;
+use kc_load::LoadFault;
 use kc_words::{Options, Usage, options_of};
 use std::alloc::{AllocError, Global};
 use std::mem;
@@ -74,17 +75,23 @@ fn inputs_of<'a>(
     Ok(inputs)
 }
 
-// Loads the tree, and runs over the files that the options name.
+// Runs from the folder on, over the files that the options name.
 fn run_files(rt: &HostRuntime, options: &Options) -> Result<Status, LoadFault> {
     let alloc = rt.alloc();
-    let root = options.root.as_str();
-    let kconfig = options.kconfig.as_str();
     let mut disk = Disk::new(rt)?;
-    let files = load(alloc, &mut disk, root, kconfig)?;
     let mut inputs = inputs_of(rt, options)?;
     let mut outputs = FileOutputs::new(alloc, rt, options)?;
+    let mut files = FileMap::new(alloc);
     let mut kept = None;
-    let status = run_keeping(alloc, &files, options, &mut inputs, &mut outputs, &mut kept);
+    let status = configure(
+        alloc,
+        &mut disk,
+        options,
+        &mut inputs,
+        &mut outputs,
+        &mut files,
+        &mut kept,
+    )?;
     // A program ends after this, and the system takes the memory of the files and of the tree back at once, which costs
     // less than to give back each piece: see `kconf_of`.
     mem::forget(files);

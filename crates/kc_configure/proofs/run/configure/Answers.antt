@@ -12,14 +12,17 @@ returns-clause-ran g c =
     let loaded = bytes_in c.in_ok-files.field-0 in
     let told = g.F.Folder.files c.args.folder.now in
     let e : Suffices told (string_bytes c.args.options.now.root) root loaded =
-          subst₂ (λ (dir first : List ℕ). Suffices told dir first loaded) c.as_str.ensures.value c.as_str-2.ensures.value c.in_ok-files.ensures.enough
+    subst₂ (λ (dir first : List ℕ). Suffices told dir first loaded) c.as_str.ensures.value c.as_str-2.ensures.value c.in_ok-files.ensures.enough
     in
     let files = e.0 in
-    let k = c.run_keeping.ensures in
-    (files, e.1, leaves_over files loaded c.args.options.now _ _ _ c.run_keeping.result _ _ c.has_one_expansion.ensures c.outcome_exists.ensures.outcome e.2 k.exactly k.quiet_inputs k.fault k.refused_outputs,
+    let k = c.run_keeping.ensures in (
+      files,
+      e.1,
+      leaves_over files loaded c.args.options.now _ _ _ c.run_keeping.result _ _ e.2 k.exactly k.quiet_inputs k.fault k.refused_outputs,
       λ r h. k.refused_inputs r (refused_over root files loaded e.2 r h),
       record {
         kept = λ un tree h. k.kept un tree (accepted_over root files loaded e.2 tree h);
         refused = λ r h. k.refused_kept r (refused_over root files loaded e.2 r h);
         either = λ tree h. k.either_kept tree (accepted_over root files loaded e.2 tree h);
-      })
+      },
+    )
