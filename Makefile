@@ -1,5 +1,5 @@
 # Thin: every target is one or two commands of the kit.
-.PHONY: build install example test wrong bench shapes real refused flatten-test docs clean
+.PHONY: build install example test wrong bench shapes real refused replaced trials flatten-test docs clean
 
 PREFIX ?= /usr/local
 
@@ -47,7 +47,16 @@ refused: build
 	cd crates/kc_call_turns && rt run > /dev/null
 	bench/refused.sh
 
-# Runs each example of docs/formats.md and the makefile of docs/make.md, and looks whether each link of the documents leads somewhere.
+# Looks at what --replace does to files: equal texts, links, modes, pipes, refusals, runs at once and runs that are killed.
+replaced: build
+	bench/replace.py
+
+# Tries the program as somebody new to it would: full disks, a closed standard error, folders that may not be written, many warnings.
+trials: build
+	bench/trials.py
+
+# Runs each example of docs/formats.md and the makefile of docs/make.md, and looks whether the documents have each option, one version,
+# and links that lead somewhere.
 docs: build
 	bench/docs.py crates/kconf/out/kconf
 

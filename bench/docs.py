@@ -2,8 +2,11 @@
 """Checks what the documents say of the built program: docs.py KCONF
 
 Every example of a diagnostic in docs/formats.md is run, and the line that comes must be the one
-that stands there. The makefile of docs/make.md is run over examples/firmware. Every link from a document to a file of the repository must lead somewhere, and
-the lines of README.md must fit into 100 columns.
+that stands there, and so must the rule for make. The makefiles of docs/make.md are run over
+examples/firmware, the first with each of its two rules. The version of the command must be the one of the program, the man page and the changelog, and
+each option of the help must stand in README.md, the man page and both completions. Every link from a
+document to a file of the repository must lead somewhere, and the lines of README.md must fit into 140
+columns.
 """
 
 import os
@@ -15,10 +18,11 @@ import tempfile
 
 TOP = os.path.dirname(os.path.dirname(os.path.abspath(__file__)))
 EXAMPLE = re.compile(
-    r"^\*\*([EK]\d+)\*\* `([^`]+)`(?: with the `\.config` lines? ([^\n]*))?\n\n```\n(.*?)```$",
+    r"^\*\*([EK]\d+)\*\* `([^`]+)`(?: (?:behind `([^`]+)` )?with `(--[a-z-]+)`)?"
+    r"(?: with the `\.config` lines? ([^\n]*))?\n\n```\n(.*?)```$",
     re.MULTILINE | re.DOTALL,
 )
-CODES = [f"E{n}" for n in range(1, 21)] + [f"K{n}" for n in range(1, 14)]
+CODES = [f"E{n}" for n in range(1, 22)] + [f"K{n}" for n in range(1, 15)]
 
 
 def read(name):
@@ -26,15 +30,15 @@ def read(name):
         return file.read()
 
 
-def diagnostics(kconf, tree, config):
-    """What a run over the tree says on standard error."""
+def diagnostics(kconf, tree, config, option):
+    """What a run over the tree, with this option if it is one, says on standard error."""
     with tempfile.TemporaryDirectory() as folder:
         with open(os.path.join(folder, "Kconfig"), "w", encoding="utf-8") as file:
             file.write(tree)
         if config:
             with open(os.path.join(folder, ".config"), "w", encoding="utf-8") as file:
                 file.write("".join(line + "\n" for line in config))
-        run = subprocess.run([kconf, "Kconfig"], cwd=folder, capture_output=True, text=True)
+        run = subprocess.run([kconf] + [option] * bool(option) + ["Kconfig"], cwd=folder, capture_output=True, text=True)
         return run.stderr
 
 
@@ -43,27 +47,27 @@ def examples(kconf):
     page = read("docs/formats.md")
     found = EXAMPLE.findall(page)
     complaints = []
-    for code, said, lines, tree in found:
+    for code, said, before, option, lines, tree in found:
         config = re.findall(r"`([^`]*)`", lines)
-        came = diagnostics(kconf, tree, config)
-        if came != said + "\n" or f" {code}: " not in said:
+        came = diagnostics(kconf, tree, config, option)
+        if came != "".join(line + "\n" for line in (before, said) if line) or f" {code}: " not in said:
             complaints.append(f"{code}: the page says {said!r}, the program {came!r}")
-    told = {code for code, _, _, _ in found}
+    told = {code for code, *_ in found}
     told |= {code for code, _ in re.findall(r"^\| (E\d+) \| .*error (\1): ", page, re.M)}
     complaints += [f"{code} has no example" for code in CODES if code not in told]
     return complaints, len(found)
 
 
 class Built:
-    """A copy of the example, with the makefile of docs/make.md and a program that the configuration goes into."""
+    """A copy of the example, with a makefile and a program that the configuration goes into."""
 
     PROGRAM = '#include <stdio.h>\nint main(void) { return printf("%d\\n", CONFIG_RELAYS) < 0; }\n'
 
-    def __init__(self, folder, kconf):
+    def __init__(self, folder, kconf, text):
         self.folder, self.kconf = folder, kconf
         shutil.copytree(os.path.join(TOP, "examples/firmware"), folder, dirs_exist_ok=True)
         shutil.copy(os.path.join(folder, "start.config"), os.path.join(folder, ".config"))
-        self.put("Makefile", re.search(r"^```make\n(.*?)^```$", read("docs/make.md"), re.M | re.S).group(1))
+        self.put("Makefile", text)
         self.put("main.c", self.PROGRAM)
 
     def put(self, name, text):
@@ -89,16 +93,35 @@ class Built:
         return run.returncode, "--header" in run.stdout, "-include" in run.stdout, run.stderr
 
 
-def makefile(kconf):
-    """Complaints about the makefile of docs/make.md."""
+def rule(kconf):
+    """Complaints about the rule for make that docs/formats.md shows."""
+    shown = re.search(r"writes\n\n((?: {4}.*\n|\n)*)", read("docs/formats.md").partition("## The rule for make")[2]).group(1)
+    with tempfile.TemporaryDirectory() as folder:
+        shutil.copytree(os.path.join(TOP, "examples/firmware"), folder, dirs_exist_ok=True)
+        subprocess.run([kconf, "--depfile", ".config.d", "Kconfig", "site.config"], cwd=folder, capture_output=True, check=True)
+        with open(os.path.join(folder, ".config.d"), encoding="utf-8") as file:
+            came = file.read()
+    return [] if came == re.sub("^ {4}", "", shown.rstrip("\n") + "\n", flags=re.M) else [f"docs/formats.md: the rule is {came!r}"]
+
+
+def makefiles():
+    """The makefiles of docs/make.md, each with what is its own."""
+    page = read("docs/make.md")
+    plain, listed = re.findall(r"^```make\n(.*?)^```$", page, re.M | re.S)
+    replacing = re.search(r"^```\n(configured:.*?)^```$", page, re.M | re.S).group(1)
+    return {"plain": plain, "--replace": plain[: plain.index("configured: ")] + replacing, "--depfile": listed}
+
+
+def makefile(kconf, name, text):
+    """Complaints about a makefile of docs/make.md."""
     complaints = []
 
     def expect(what, found, wanted):
         if found != wanted:
-            complaints.append(f"docs/make.md: {what}: {found}, not {wanted}")
+            complaints.append(f"docs/make.md {name}: {what}: {found}, not {wanted}")
 
     with tempfile.TemporaryDirectory() as folder:
-        it = Built(folder, kconf)
+        it = Built(folder, kconf, text)
         expect("the first make", it.make()[:3], (0, True, True))
         expect("the next make", it.make()[:3], (0, False, False))
         it.touch("Kconfig")
@@ -116,11 +139,47 @@ def makefile(kconf):
         expect("the files behind it", (it.get(".config"), it.get("autoconf.h")) == before, True)
         it.put("Kconfig", tree)
         expect("the tree is mended", it.make()[:3], (0, True, False))
-        it.put("Makefile", it.get("Makefile").replace("--header autoconf.h.new", "--header no/folder"))
+        it.put("board/Kconfig.other", "nonsense\n")
+        expect("a file that is not sourced", it.make()[:3], (0, name != "--depfile", False))
+        it.put("Kconfig", tree.replace('source "debug/Kconfig"\n', ""))
+        os.unlink(os.path.join(folder, "debug/Kconfig"))
+        expect("a file went away", it.make()[:2], (0, True))
+        expect("the next make", it.make()[:3], (0, False, False))
+        before = it.get(".config"), it.get("autoconf.h")
+        it.put("Makefile", re.sub(r"--header \S+", "--header no/folder", text))
         it.touch("Kconfig")
         status, *_, said = it.make()
         expect("a file cannot be made", (status, "Error 3" in said), (2, True))
         expect("the files behind that", (it.get(".config"), it.get("autoconf.h")) == before, True)
+    return complaints
+
+
+def versions(kconf):
+    """Complaints about the version where it stands beside the command."""
+    version = re.search(r'^const VERSION: &str = "(.*)";$', read("crates/kc_words/src/command.rt"), re.M).group(1)
+    said = subprocess.run([kconf, "--version"], capture_output=True, text=True).stdout.strip()
+    places = {
+        "kconf --version": said.removeprefix("kconf "),
+        "man/kconf.1": re.search(r'^\.TH KCONF 1 \S+ "kconf (\S+)"', read("man/kconf.1"), re.M).group(1),
+        "CHANGELOG.md": re.search(r"^## (\S+)", read("CHANGELOG.md"), re.M).group(1),
+    }
+    return [f"{place}: version {found}, not {version}" for place, found in places.items() if found != version]
+
+
+def options(kconf):
+    """Complaints about options of the help that a document or completion has not, or has and the help has not."""
+    said = subprocess.run([kconf, "--help"], capture_output=True, text=True).stdout
+    wanted = set(re.findall(r"^ +(?:-\w, )?(--[a-z-]+)", said, re.M))
+    pages = {
+        "README.md": "\n".join(line for line in read("README.md").split("\n") if line.startswith("| `--")),
+        "man/kconf.1": "\n".join(re.findall(r"^\.TP\n(.*)$", read("man/kconf.1").replace("\\-", "-"), re.M)),
+        "completions/kconf.bash": read("completions/kconf.bash"),
+        "completions/_kconf": read("completions/_kconf"),
+    }
+    complaints = []
+    for page, text in pages.items():
+        for name in sorted(wanted ^ set(re.findall(r"(?<![a-z-])--[a-z-]+", text))):
+            complaints.append(f"{page}: the help has {'' if name in wanted else 'no '}{name}")
     return complaints
 
 
@@ -140,10 +199,12 @@ def links():
 def main():
     kconf = os.path.abspath(sys.argv[1])
     wrong, runs = examples(kconf)
-    unmade = makefile(kconf)
+    unmade = rule(kconf) + versions(kconf) + options(kconf)
+    for name, text in makefiles().items():
+        unmade += makefile(kconf, name, text)
     broken, count = links()
-    wide = [n for n, line in enumerate(read("README.md").split("\n"), 1) if len(line) > 100]
-    complaints = wrong + unmade + broken + [f"README.md:{n}: over 100 columns" for n in wide]
+    wide = [n for n, line in enumerate(read("README.md").split("\n"), 1) if len(line) > 140]
+    complaints = wrong + unmade + broken + [f"README.md:{n}: over 140 columns" for n in wide]
     for complaint in complaints:
         print(complaint)
     print(f"{runs} examples, {count} links, {len(complaints)} complaints")

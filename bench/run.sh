@@ -10,8 +10,10 @@
 # names, as there): kconf on the flat file, and the tree's own conf on the flat file and on the tree. On the tree conf expands the
 # macros, for which it starts a compiler some hundred times; kconf-flatten has done that once for the flat file.
 #
-# Each command runs ten times. The table shows the run with the least processor time (user and system together), and of all runs
-# the least wall time and the greatest peak memory, as getrusage tells them. The machine should have nothing else to do.
+# The commands of a table run in turn, each ten times or as often as RUNS says, so that what else the machine does falls on all of
+# them. The table shows the run with the least processor time (user and system together), and of all runs the least wall time, the
+# greatest peak memory and the least number of page faults for which no disk was read (ru_minflt), as getrusage tells them. The
+# machine should have nothing else to do.
 set -eu
 here=$(cd "$(dirname "$0")" && pwd)
 kconf=$(realpath -m "${KCONF:-$here/../crates/kconf/out/kconf}")
@@ -20,33 +22,65 @@ runs=${RUNS:-10}
 python=/usr/bin/python3
 work=$(mktemp -d)
 trap 'rm -rf "$work"' EXIT
+mkdir "$work/table"
 if [ ! -x "$kconf" ]; then
     echo "there is no $kconf: make build makes it" >&2
     exit 1
 fi
 
-# Runs a command as often as asked in the folder of a tree and prints its line of the table: NAME COMMAND ..
+# Puts a command into the table, to be run in this folder: NAME [VARIABLE=VALUE ..] -- COMMAND ..
 measure() {
-    "$python" - "$runs" "$@" <<'EOF'
+    printf '%s\0' "$PWD" "$@" >"$work/table/$(printf '%03d' "$(find "$work/table" -type f | wc -l)")"
+}
+
+# Runs the commands of the table, prints it under this head, and begins another.
+table() {
+    "$python" - "$runs" "$work/table" "$1" <<'EOF'
 import os
+import pathlib
 import shutil
 import subprocess
 import sys
 import time
 
-runs, name, command = int(sys.argv[1]), sys.argv[2], sys.argv[3:]
-spent, walls, peaks = [], [], []
-for _ in range(runs):
-    shutil.copyfile("dot.config", ".config")
-    start = time.monotonic()
-    process = subprocess.Popen(command, cwd=os.environ.get("RUNS_IN"), stdin=subprocess.DEVNULL, stdout=subprocess.DEVNULL, stderr=subprocess.DEVNULL)
-    _, status, usage = os.wait4(process.pid, 0)
-    walls.append(time.monotonic() - start)
-    if status:
-        sys.exit(f"{name}: ended with status {os.waitstatus_to_exitcode(status)}")
-    spent.append(usage.ru_utime + usage.ru_stime)
-    peaks.append(usage.ru_maxrss)
-print(f"{name:<36} {min(spent):8.3f} s {min(walls):8.3f} s {max(peaks) / 1024:8.1f} MiB", flush=True)
+
+class Row:
+    """A command, and what was measured of it."""
+
+    def __init__(self, path):
+        self.folder, self.name, *words = path.read_text().split("\0")[:-1]
+        at = words.index("--")
+        self.told = dict(word.split("=", 1) for word in words[:at])
+        self.command = words[at + 1 :]
+        self.spent, self.walls, self.peaks, self.faults = [], [], [], []
+        path.unlink()
+
+    def run(self):
+        """Runs the command once more."""
+        shutil.copyfile(f"{self.folder}/dot.config", f"{self.folder}/.config")
+        start = time.monotonic()
+        process = subprocess.Popen(
+            self.command, cwd=self.told.get("RUNS_IN", self.folder), env={**os.environ, **self.told},
+            stdin=subprocess.DEVNULL, stdout=subprocess.DEVNULL, stderr=subprocess.DEVNULL)
+        _, status, usage = os.wait4(process.pid, 0)
+        self.walls.append(time.monotonic() - start)
+        if status:
+            sys.exit(f"{self.name}: ended with status {os.waitstatus_to_exitcode(status)}")
+        self.spent.append(usage.ru_utime + usage.ru_stime)
+        self.peaks.append(usage.ru_maxrss)
+        self.faults.append(usage.ru_minflt)
+
+    def __str__(self):
+        peak = max(self.peaks) / 1024
+        return f"{self.name:<36} {min(self.spent):8.3f} s {min(self.walls):8.3f} s {peak:8.1f} MiB {min(self.faults):11}"
+
+
+rows = [Row(path) for path in sorted(pathlib.Path(sys.argv[2]).iterdir())]
+for _ in range(int(sys.argv[1])):
+    for row in rows:
+        row.run()
+print(f"{sys.argv[3]:<36} {'processor':>10} {'wall':>10} {'peak memory':>12} {'page faults':>11}")
+print(*rows, sep="\n", flush=True)
 EOF
 }
 
@@ -56,16 +90,12 @@ make_tree() {
     cd "$work/$1"
 }
 
-heads() {
-    printf '%-36s %10s %10s %12s\n' "$1" processor wall 'peak memory'
-}
-
 our_run() {
-    measure "$1" "$kconf" --config dot.config --out .config --header kconf.h --savedefconfig kconf.min Kconfig
+    measure "$1" -- "$kconf" --config dot.config --out .config --header kconf.h --savedefconfig kconf.min Kconfig
 }
 
 library_run() {
-    measure 'kconfiglib, all three files' "$python" -c 'import kconfiglib
+    measure 'kconfiglib, all three files' -- "$python" -c 'import kconfiglib
 tree = kconfiglib.Kconfig("Kconfig", warn=False)
 tree.load_config("dot.config")
 tree.write_config("kconfiglib.config", save_old=False)
@@ -75,44 +105,44 @@ tree.write_autoconf("kconfiglib.h")'
 
 trees=${KCONF_TREES:-${TMPDIR:-/tmp}/kconf-trees}
 if [ -f "$trees/flat/linux-x86.Kconfig" ]; then
-    mkdir "$work/linux"
+    mkdir "$work/linux" "$work/library"
     cd "$work/linux"
     cp "$trees/flat/linux-x86.Kconfig" Kconfig
     cp "$trees/debian-configurations/config.amd64_none_amd64" dot.config
     touch auto.conf
     echo "Linux 6.1 for x86, $(wc -l <Kconfig) lines in one flat file, $(wc -l <dot.config) lines of .config; $runs runs each"
-    heads 'Linux 6.1'
     our_run 'kconf, all three files'
-    (
-        export KCONFIG_AUTOCONFIG=$work/linux/auto.conf
-        measure "its conf --olddefconfig" "$trees/conf/linux/conf" --olddefconfig Kconfig
-        measure "its conf --savedefconfig" "$trees/conf/linux/conf" --savedefconfig=conf.min Kconfig
-        export KCONFIG_CONFIG=$work/linux/.config
-        while IFS='=' read -r name value; do export "$name=$value"; done <"$trees/flat/linux-x86.settings"
-        RUNS_IN=$trees/trees/linux measure "the same on the tree, not flat" "$trees/conf/linux/conf" --olddefconfig Kconfig
-    )
+    auto=KCONFIG_AUTOCONFIG=$work/linux/auto.conf
+    measure 'its conf --olddefconfig' "$auto" -- "$trees/conf/linux/conf" --olddefconfig Kconfig
+    measure 'its conf --savedefconfig' "$auto" -- "$trees/conf/linux/conf" --savedefconfig=conf.min Kconfig
+    mapfile -t settings <"$trees/flat/linux-x86.settings"
+    measure 'the same on the tree, not flat' "$auto" "KCONFIG_CONFIG=$work/linux/.config" "RUNS_IN=$trees/trees/linux" "${settings[@]}" \
+        -- "$trees/conf/linux/conf" --olddefconfig Kconfig
     # kconfiglib knows the modules symbol by its older spelling alone.
-    sed -i 's/^\tmodules$/\toption modules/' Kconfig
+    cd "$work/library"
+    cp "$work/linux/dot.config" .
+    sed 's/^\tmodules$/\toption modules/' "$work/linux/Kconfig" >Kconfig
     if "$python" -c 'import kconfiglib' 2>/dev/null; then library_run; fi
+    table 'Linux 6.1'
     echo
 fi
 
 make_tree "$symbols"
 echo "$symbols symbols, $(cat Kconfig parts/* | wc -l) lines in $(cat Kconfig parts/* | grep -c '^source') sourced files, $(wc -l <dot.config) lines of .config; $runs runs each"
-heads 'one tree'
 our_run 'kconf, all three files'
 if command -v kconfig-conf >/dev/null; then
-    measure 'kconfig-conf --olddefconfig' kconfig-conf --olddefconfig Kconfig
-    measure 'kconfig-conf --savedefconfig' kconfig-conf --savedefconfig=conf.min Kconfig
+    measure 'kconfig-conf --olddefconfig' -- kconfig-conf --olddefconfig Kconfig
+    measure 'kconfig-conf --savedefconfig' -- kconfig-conf --savedefconfig=conf.min Kconfig
 fi
 if "$python" -c 'import kconfiglib' 2>/dev/null; then library_run; fi
+table 'one tree'
 
 echo
-heads 'growth'
 for size in 5000 10000 20000 40000; do
     make_tree "$size"
     our_run "kconf, $size symbols"
     if command -v kconfig-conf >/dev/null; then
-        measure "kconfig-conf, $size symbols" kconfig-conf --olddefconfig Kconfig
+        measure "kconfig-conf, $size symbols" -- kconfig-conf --olddefconfig Kconfig
     fi
 done
+table growth

@@ -4,8 +4,8 @@
 #
 # kconf is crates/kconf/out/kconf (make build), or the program that KCONF names. It fails where a doubling of a shape makes time or
 # memory more than 2.6 times as much, but for the shapes that are marked as not linear yet: of those the growth is shown alone.
-# Time is the least of ten runs. What takes less than 0.05 seconds or 16 MiB counts as so much, and a run may have 6 GiB. The machine
-# should have nothing else to do.
+# Time is the least of ten runs, and of thirty where it would be too much. What takes less than 0.05 seconds or 16 MiB counts as so
+# much, and a run may have 6 GiB. The machine should have nothing else to do.
 set -eu
 here=$(cd "$(dirname "$0")" && pwd)
 exec /usr/bin/python3 - "$(realpath -m "${KCONF:-$here/../crates/kconf/out/kconf}")" "$@" <<'EOF'
@@ -19,6 +19,7 @@ import time
 
 MOST = 2.6  # how much more a doubling may take
 TIMES = 10  # runs of each size
+AGAIN = 2  # so often they are done again where the time has grown too much
 SHORT, SMALL = 0.05, 16.0  # what takes less seconds or MiB counts as so much
 ROOM = 6 << 30  # the memory that one run may take
 
@@ -35,9 +36,9 @@ def loop_beside_a_chain(count):
 
 
 def loop_beside_wide_conditions(count):
-    """The same chain, where each prompt also asks for 100 names."""
-    names = [f"N_{i}" for i in range(100)]
-    asked = 'bool "p" if ' + " || ".join(names)
+    """The same chain, where each prompt also asks for 1,000 names. Its line has to have at most 8,191 bytes."""
+    names = [f"N{i:03}" for i in range(1000)]
+    asked = 'bool "p" if ' + "||".join(names)
     chain = [config(f"S_{i}", asked, f"default S_{i + 1}") for i in range(count)]
     return "".join(config(name, "bool") for name in names) + "".join(chain) + config(f"S_{count}", "def_bool y") + config("L", "def_bool L")
 
@@ -85,42 +86,94 @@ def menu_with(lines, inside):
     return 'menu "m"\n' + "".join(f"\t{line}\n" for line in lines) + "\n" + inside + "endmenu\n"
 
 
+def visible(depends):
+    """The same lines, which ask for what is to be seen."""
+    return [line.replace("depends on", "visible if") for line in depends]
+
+
+def symbols(count):
+    """So many symbols with prompts."""
+    return "".join(config(f"S_{i}", 'bool "s"') for i in range(count))
+
+
+def choices(count):
+    """So many choices of one member."""
+    return "".join('choice\n\tprompt "c"\n\n' + config(f"C_{i}", 'bool "m"') + "endchoice\n" for i in range(count))
+
+
+def comments(count):
+    """So many comments."""
+    return "".join(f'comment "c {i}"\n' for i in range(count))
+
+
+def definitions(count):
+    """So many definitions of one symbol."""
+    return config("A", 'bool "s"') * count
+
+
+def selects(count):
+    """So many symbols that select one symbol."""
+    return "".join(config(f"S_{i}", 'bool "s"', "select T") for i in range(count))
+
+
 def menu_round_symbols(count):
     """A menu with so many dependencies round as many symbols."""
     names, depends = dependencies(count)
-    return names + menu_with(depends, "".join(config(f"S_{i}", 'bool "s"') for i in range(count)))
+    return names + menu_with(depends, symbols(count))
+
+
+def menu_round_choices(count):
+    """The same round as many choices."""
+    names, depends = dependencies(count)
+    return names + menu_with(depends, choices(count))
+
+
+def menu_round_comments(count):
+    """The same round as many comments."""
+    names, depends = dependencies(count)
+    return names + menu_with(depends, comments(count))
+
+
+def menu_round_one_symbol(count):
+    """The same round as many definitions of one symbol."""
+    names, depends = dependencies(count)
+    return names + menu_with(depends, definitions(count))
+
+
+def menu_round_selects(count):
+    """The same round as many symbols that select one symbol."""
+    names, depends = dependencies(count)
+    return names + config("T", "bool") + menu_with(depends, selects(count))
 
 
 def hidden_menu_round_symbols(count):
     """A menu with so many conditions of visibility round as many symbols."""
     names, depends = dependencies(count)
-    visible = [line.replace("depends on", "visible if") for line in depends]
-    return names + menu_with(visible, "".join(config(f"S_{i}", 'bool "s"') for i in range(count)))
+    return names + menu_with(visible(depends), symbols(count))
 
 
-def menu_round_choices(count):
-    """A menu with so many dependencies round as many choices."""
+def hidden_menu_round_choices(count):
+    """The same round as many choices."""
     names, depends = dependencies(count)
-    choices = ['choice\n\tprompt "c"\n\n' + config(f"C_{i}", 'bool "m"') + "endchoice\n" for i in range(count)]
-    return names + menu_with(depends, "".join(choices))
+    return names + menu_with(visible(depends), choices(count))
 
 
-def menu_round_comments(count):
-    """A menu with so many dependencies round as many comments."""
+def hidden_menu_round_comments(count):
+    """The same round as many comments, which it does not hide."""
     names, depends = dependencies(count)
-    return names + menu_with(depends, "".join(f'comment "c {i}"\n' for i in range(count)))
+    return names + menu_with(visible(depends), comments(count))
 
 
-def menu_round_one_symbol(count):
-    """A menu with so many dependencies round as many definitions of one symbol."""
+def hidden_menu_round_one_symbol(count):
+    """The same round as many definitions of one symbol."""
     names, depends = dependencies(count)
-    return names + menu_with(depends, config("A", 'bool "s"') * count)
+    return names + menu_with(visible(depends), definitions(count))
 
 
-def menu_round_selects(count):
-    """A menu with so many dependencies round as many symbols that select one symbol."""
+def hidden_menu_round_selects(count):
+    """The same round as many symbols that select one symbol."""
     names, depends = dependencies(count)
-    return names + config("T", "bool") + menu_with(depends, "".join(config(f"S_{i}", 'bool "s"', "select T") for i in range(count)))
+    return names + config("T", "bool") + menu_with(visible(depends), selects(count))
 
 
 def unknown_names(count):
@@ -131,19 +184,23 @@ def unknown_names(count):
 # Each shape with its least size, and whether it is to grow with its size alone today.
 SHAPES = [
     (loop_beside_a_chain, 16000, True),
-    (loop_beside_wide_conditions, 4000, True),
+    (loop_beside_wide_conditions, 1000, True),
     (hidden_choice_defaults, 15000, True),
     (visible_strangers, 15000, True),
     (depends_and_defaults, 1000, False),
     (depends_and_ranges, 1000, False),
     (depends_and_selects, 1000, False),
     (menu_round_symbols, 1000, False),
-    (hidden_menu_round_symbols, 1000, False),
     (menu_round_choices, 1000, False),
     (menu_round_comments, 2000, False),
     (menu_round_one_symbol, 1000, False),
     (menu_round_selects, 1000, False),
-    (unknown_names, 100000, True),
+    (hidden_menu_round_symbols, 1000, False),
+    (hidden_menu_round_choices, 1000, False),
+    (hidden_menu_round_comments, 16000, True),
+    (hidden_menu_round_one_symbol, 1000, False),
+    (hidden_menu_round_selects, 1000, False),
+    (unknown_names, 500000, True),
 ]
 
 
@@ -179,6 +236,32 @@ def spent(program, folder):
     return min(times), max(peaks)
 
 
+def grown(rows):
+    """What takes too much more from one size to the next: the size, and how much more."""
+    found = []
+    for (count, seconds, peak), (_, more_seconds, more_peak) in zip(rows, rows[1:]):
+        if max(seconds, SHORT) * MOST < more_seconds:
+            found.append((count, f"time {more_seconds / max(seconds, SHORT):.1f}"))
+        if max(peak, SMALL) * MOST < more_peak:
+            found.append((count, f"memory {more_peak / max(peak, SMALL):.1f}"))
+    return found
+
+
+def measured(program, shape, least, times):
+    """A shape's three sizes, each with its time and its memory, by so many rounds of runs until nothing has grown too much."""
+    rows = [(least, 9e9, 0), (2 * least, 9e9, 0), (4 * least, 9e9, 0)]
+    with tempfile.TemporaryDirectory() as folder:
+        for count, _, _ in rows:
+            os.mkdir(f"{folder}/{count}")
+            write(shape, count, f"{folder}/{count}")
+        for _ in range(times):
+            found = [spent(program, f"{folder}/{count}") for count, _, _ in rows]
+            rows = [(count, min(old, new), max(peak, more)) for (count, old, peak), (new, more) in zip(rows, found)]
+            if not grown(rows):
+                break
+    return rows
+
+
 def main():
     program, wanted = sys.argv[1], sys.argv[2:]
     if not os.access(program, os.X_OK):
@@ -191,21 +274,11 @@ def main():
         name = shape.__name__
         if wanted and name not in wanted:
             continue
-        rows = []
-        for count in (least, 2 * least, 4 * least):
-            with tempfile.TemporaryDirectory() as folder:
-                write(shape, count, folder)
-                rows.append((count, *spent(program, folder)))
+        rows = measured(program, shape, least, 1 + AGAIN * linear)
         print(f"{name:<28}", *(f"{count:>7}: {seconds:7.3f} s {peak:7.1f} MiB" for count, seconds, peak in rows),
               "" if linear else "  not linear yet", flush=True)
-        for (count, seconds, peak), (_, more_seconds, more_peak) in zip(rows, rows[1:]):
-            grown = []
-            if max(seconds, SHORT) * MOST < more_seconds:
-                grown.append(f"time {more_seconds / max(seconds, SHORT):.1f}")
-            if max(peak, SMALL) * MOST < more_peak:
-                grown.append(f"memory {more_peak / max(peak, SMALL):.1f}")
-            if grown and linear:
-                failed.append(f"{name}: from {count} to {2 * count} it takes {' and '.join(grown)} times as much")
+        if linear:
+            failed += [f"{name}: from {count} to {2 * count} it takes {much} times as much" for count, much in grown(rows)]
     for line in failed:
         print(line)
     return 1 if failed else 0

@@ -5,7 +5,7 @@ _kconf() {
         --root)
             COMPREPLY=($(compgen -d -- "$word"))
             return ;;
-        --config | --out | --header | --savedefconfig)
+        --config | --out | --header | --savedefconfig | --depfile)
             COMPREPLY=($(compgen -f -- "$word"))
             return ;;
         --prefix)
@@ -14,7 +14,7 @@ _kconf() {
     esac
     if [[ $word == -* ]]; then
         COMPREPLY=($(compgen -W \
-            '--root --config --out --header --savedefconfig --prefix --must-exist --help --version' -- "$word"))
+            '--root --config --out --header --savedefconfig --depfile --prefix --must-exist --strict --warn-lost --replace --help --version' -- "$word"))
     else
         COMPREPLY=($(compgen -f -- "$word"))
     fi

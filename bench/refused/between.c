@@ -3,9 +3,11 @@
  *
  * KIND names the kind. REFUSED is the number of the call that is refused, counted from 1; with 0 none is. Where LASTING is
  * there, each later call of the kind for the same file is refused too. A refused call of the kinds "short read" and "short
- * write" moves one byte, one of the kinds "interrupted read" and "interrupted write" is told to be tried again.
+ * write" moves one byte, one of the kinds "interrupted read" and "interrupted write" is told to be tried again. BESIDES names a
+ * kind of which every call is refused, whatever KIND says.
  * When the program ends, the file that REPORT names gets one line: how many calls of the kind there were, and what the refused
- * one was for: '<' or '>' and the name of a file that was opened to read or to write, or ">&2" for standard error.
+ * one was for: '<' or '>' and the name of a file that was opened to read or to write, '>' and the place of a file that was to be
+ * moved, or ">&2" for standard error.
  */
 #define _GNU_SOURCE
 #include <dlfcn.h>
@@ -21,7 +23,7 @@
 
 #define FILES 64
 
-static const char *kind = "";
+static const char *kind = "", *besides = "";
 static long refused, calls;
 static int lasting;
 static char files[FILES][512] = {"<&0", ">&1", ">&2"};
@@ -35,12 +37,13 @@ __attribute__((constructor)) static void begin(void) {
     refused = getenv("REFUSED") ? atol(getenv("REFUSED")) : 0;
     lasting = getenv("LASTING") != NULL;
     kind = getenv("KIND") ? getenv("KIND") : "";
+    besides = getenv("BESIDES") ? getenv("BESIDES") : "";
 }
 
 __attribute__((destructor)) static void end(void) {
     const char *name = getenv("REPORT");
     FILE *file;
-    kind = "";
+    kind = besides = "";
     file = name ? fopen(name, "w") : NULL;
     if (file) {
         fprintf(file, "%ld %s\n", calls, struck);
@@ -50,6 +53,7 @@ __attribute__((destructor)) static void end(void) {
 
 /* Counts a call of this kind. The answer is whether it is refused. */
 static int is_refused(const char *name, const char *file) {
+    if (!strcmp(besides, name)) return 1;
     if (strcmp(kind, name)) return 0;
     calls += 1;
     if (calls == refused) snprintf(struck, sizeof struck, "%s", file);
@@ -104,7 +108,7 @@ int open64(const char *path, int flags, ...) {
 
 int statx(int folder, const char *path, int flags, unsigned mask, struct statx *told) {
     REAL("statx", int, int, const char *, int, unsigned, struct statx *);
-    if (is_refused("statx", *path ? path : file_of(folder))) return errno = EIO, -1;
+    if (is_refused("look", *path ? path : file_of(folder))) return errno = EIO, -1;
     return real(folder, path, flags, mask, told);
 }
 
@@ -143,4 +147,30 @@ int fdatasync(int file) {
     REAL("fdatasync", int, int);
     if (is_refused("sync", file_of(file))) return errno = EIO, -1;
     return real(file);
+}
+
+int fchmod(int file, mode_t mode) {
+    REAL("fchmod", int, int, mode_t);
+    if (is_refused("mode", file_of(file))) return errno = EIO, -1;
+    return real(file, mode);
+}
+
+ssize_t readlink(const char *path, char *target, size_t room) {
+    REAL("readlink", ssize_t, const char *, char *, size_t);
+    if (is_refused("link", path)) return errno = EIO, -1;
+    return real(path, target, room);
+}
+
+int rename(const char *path, const char *place) {
+    char file[512];
+    REAL("rename", int, const char *, const char *);
+    snprintf(file, sizeof file, ">%s", place);
+    if (is_refused("move", file)) return errno = EIO, -1;
+    return real(path, place);
+}
+
+int unlink(const char *path) {
+    REAL("unlink", int, const char *);
+    if (is_refused("removal", path)) return errno = EIO, -1;
+    return real(path);
 }

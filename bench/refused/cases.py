@@ -29,11 +29,17 @@ class Case:
     notes: str
     settings: str = None  # the .config, start.config; None: there is none
     fragments: dict = dataclasses.field(default_factory=dict)
-    outputs: dict = dataclasses.field(default_factory=dict)  # out.config, out.h and out.min, those that are asked for, in this order
+    outputs: dict = dataclasses.field(default_factory=dict)  # out.config, out.h, out.min and out.d, those that are asked for, in this order
     status: int = 0
     root: str = "."
     prefix: str = None
     flags: tuple = ()
+    before: dict = dataclasses.field(default_factory=dict)  # what outputs hold before the run where it is no other text; None: they are not there
+    links: dict = dataclasses.field(default_factory=dict)  # the outputs that are links, and what they lead to
+
+    def replaces(self):
+        """Whether files take their places at the end."""
+        return "--replace" in self.flags
 
     def words(self):
         """The words behind the program's name."""
@@ -42,6 +48,8 @@ class Case:
             said += ["--header", "out.h"]
         if "out.min" in self.outputs:
             said += ["--savedefconfig", "out.min"]
+        if "out.d" in self.outputs:
+            said += ["--depfile", "out.d"]
         if self.prefix is not None:
             said += ["--prefix", self.prefix]
         said += self.flags
@@ -53,6 +61,11 @@ class Case:
         if self.settings is not None:
             there["start.config"] = self.settings
         return there | self.fragments
+
+
+def rule_of(*files):
+    """The rule for make of out.config, which was made of these files; their names need no escape."""
+    return "out.config:" + "".join(f" \\\n {name}" for name in files) + "\n" + "".join(f"\n{name}:\n" for name in files)
 
 
 def outputs(config, header=None, minimal=None, title="Main menu"):
@@ -156,6 +169,22 @@ SMALL = [
         notes="",
     ),
     Case(
+        name="a rule for make",
+        tree={"Kconfig": 'source "b/Kconfig"\nsource "c"\nsource "c"\nconfig A\n\tbool "a"\n', "b/Kconfig": 'source "d"\n', "d": "", "c": ""},
+        root="tree",
+        fragments={"x.cfg": "CONFIG_A=y\n", "y.cfg": ""},
+        outputs=outputs("CONFIG_A=y\n", "#define CONFIG_A 1\n", "CONFIG_A=y\n")
+        | {"out.d": rule_of("tree/Kconfig", "tree/b/Kconfig", "tree/d", "tree/c", "x.cfg", "y.cfg")},
+        notes="",
+    ),
+    Case(
+        name="a rule for make of one file, and the .config alone",
+        tree={"Kconfig": TWO},
+        settings="CONFIG_Q=y\n",
+        outputs=outputs("CONFIG_A=y\n# CONFIG_B is not set\n") | {"out.d": rule_of("./Kconfig")},
+        notes="start.config:1: warning K7: unknown symbol Q\n",
+    ),
+    Case(
         name="another prefix",
         tree={"Kconfig": TWO},
         settings="BR2_B=y\nCONFIG_A=n\n",
@@ -188,6 +217,88 @@ SMALL = [
     ),
 ]
 
+LOST = """config A
+	bool "a"
+	default y
+config B
+	bool "b"
+	depends on A
+config S
+	string "s"
+	depends on A
+config N
+	int "n"
+	depends on A
+choice
+	prompt "ch"
+config X
+	bool "x"
+config Y
+	bool "y"
+endchoice
+"""
+
+OPTIONS = [
+    Case(
+        name="--strict, and a warning of a .config",
+        tree={"Kconfig": TWO},
+        settings="CONFIG_A=y\nCONFIG_Q=y\n# CONFIG_A is not set\n",
+        flags=("--strict",),
+        status=1,
+        notes="start.config:2: warning K7: unknown symbol Q\nstart.config:3: warning K10: A is set again\nerror E21: warnings are refused\n",
+    ),
+    Case(
+        name="--strict, and the warnings of a tree and of values",
+        tree={"Kconfig": RANGED + "config B\n"},
+        settings="CONFIG_N=3\n",
+        flags=("--strict",),
+        status=1,
+        notes="Kconfig:5: warning K3: B has no type\n"
+        "warning K12: user value 3 of N is outside 5 to 10\n"
+        "warning K13: default 20 of N is outside 5 to 10, 10 is used\n"
+        "error E21: warnings are refused\n",
+    ),
+    Case(
+        name="--strict, without a warning",
+        tree={"Kconfig": TWO},
+        settings="CONFIG_B=y\n",
+        flags=("--strict",),
+        outputs=outputs("CONFIG_A=y\nCONFIG_B=y\n", "#define CONFIG_A 1\n#define CONFIG_B 1\n", "CONFIG_B=y\n"),
+        notes="",
+    ),
+    Case(
+        name="--warn-lost",
+        tree={"Kconfig": LOST},
+        settings='CONFIG_A=n\nCONFIG_B=y\nCONFIG_S="q\\""\nCONFIG_N=5\nCONFIG_X=y\n',
+        fragments={"y.cfg": "CONFIG_Y=y\n"},
+        flags=("--warn-lost",),
+        outputs=outputs("# CONFIG_A is not set\n# CONFIG_X is not set\nCONFIG_Y=y\n", "#define CONFIG_Y 1\n", "# CONFIG_A is not set\nCONFIG_Y=y\n"),
+        notes="warning K14: B was given y and is n\n"
+        'warning K14: S was given "q\\"" and is ""\n'
+        "warning K14: N was given 5 and is \n"
+        "warning K14: X was given y and is n\n",
+    ),
+    Case(
+        name="--warn-lost, behind other warnings",
+        tree={"Kconfig": RANGED},
+        settings="CONFIG_N=3\nCONFIG_N=20\n",
+        flags=("--warn-lost",),
+        outputs=outputs("CONFIG_N=10\n", "#define CONFIG_N 10\n", ""),
+        notes="start.config:2: warning K10: N is set again\n"
+        "warning K12: user value 20 of N is outside 5 to 10\n"
+        "warning K13: default 20 of N is outside 5 to 10, 10 is used\n"
+        "warning K14: N was given 20 and is 10\n",
+    ),
+    Case(
+        name="--warn-lost and --strict",
+        tree={"Kconfig": TWO},
+        settings="CONFIG_A=n\nCONFIG_B=y\n",
+        flags=("--warn-lost", "--strict"),
+        status=1,
+        notes="warning K14: B was given y and is n\nerror E21: warnings are refused\n",
+    ),
+]
+
 
 def firmware():
     """The example, whose texts the gate compares too: this is the first of the stored runs of kconf_firmware."""
@@ -208,6 +319,36 @@ def firmware():
         "site.config:3: warning K10: RELAYS is set again\n"
         "warning K12: user value 7200 of SENSOR_PERIOD is outside 1 to 3600\n",
     )
+
+
+def replaced(case, name, flags=("--replace",), **changed):
+    """The same run, with the files taking their places at the end."""
+    return dataclasses.replace(case, name=name, flags=flags, **changed)
+
+
+def replacing():
+    """Runs with --replace: over other texts, over the same, over no file, through links, and runs that make none."""
+    some = {case.name: case for case in SMALL}
+    three = some["fragments"]
+    two = dataclasses.replace(some["a select, and no .config"], notes="", tree={"Kconfig": TWO}, outputs=outputs("CONFIG_A=y\n# CONFIG_B is not set\n", None, ""))
+    return [
+        replaced(three, "--replace, over other texts"),
+        replaced(three, "--replace, over the same texts", before=texts_of(three)),
+        replaced(three, "--replace, over no files", before=dict.fromkeys(three.outputs)),
+        replaced(three, "--replace, over each of these", before={"out.config": None, "out.h": texts_of(three)["out.h"]}),
+        replaced(two, "--replace, through links", links={"out.config": "there/real", "out.min": "there/least"}, before={"out.min": b""}),
+        replaced(some["a rule for make"], "--replace, and a rule for make", before={"out.min": None, "out.h": texts_of(some["a rule for make"])["out.h"]}),
+        replaced(some["a rule for make"], "--replace, and a rule for make that is there", before={"out.d": texts_of(some["a rule for make"])["out.d"]}),
+        replaced(wide(), "--replace, of a wide tree", before={"out.config": texts_of(wide())["out.config"]}),
+        replaced(some["a loop"], "--replace, and a loop"),
+        replaced(some["no .config where it has to exist"], "--replace, and no .config where it has to exist", flags=("--replace", "--must-exist")),
+        replaced(OPTIONS[0], "--replace, and a refused warning", flags=("--replace", "--strict")),
+    ]
+
+
+def texts_of(case):
+    """The text of each output."""
+    return {name: text.encode() for name, text in case.outputs.items()}
 
 
 def wide():
@@ -239,4 +380,4 @@ def wide():
 
 def cases():
     """All runs."""
-    return [*SMALL, firmware(), wide()]
+    return [*SMALL, *OPTIONS, firmware(), wide(), *replacing()]

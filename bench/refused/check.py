@@ -1,7 +1,8 @@
 """Refuses each call of the system in turn in runs of a program, and judges what each run leaves: check.py BETWEEN PROGRAM
 
 BETWEEN is the library that between.c gives, PROGRAM is kconf or what stands in for it. The runs are those of cases.py. Each
-output holds another text before a run, so that one that was begun is told from one that was not.
+output holds another text before a run, so that one that was begun is told from one that was not; with --replace it may also
+hold its text, or not be there.
 
 A run without a refused call has to end with its status, its notes and its outputs, to the byte. A run in which a call was
 refused ends with status 3. Its notes are then a beginning of the right ones, in whole lines, and the one error line: E20 for
@@ -9,8 +10,14 @@ memory, E18 with the name of the file that could not be read, E19 with the name 
 the notes themselves were refused, a beginning and nothing else. Of the outputs, each that was begun holds a beginning of its
 text, and nothing is begun before the notes and the outputs before it are whole. Behind a file that could not be read nothing is
 begun, and before an output that could not be written all is whole. What a program may get along without, it may also get along
-without, to the same end as if nothing had been refused: a growth, the size of a file, the closing of one. A call that was
-interrupted may be tried again, and where it is not it counts as refused. A call that moves one byte is no fault.
+without, to the same end as if nothing had been refused: a growth, the closing of a file. A call that was interrupted may be
+tried again, and where it is not it counts as refused. A call that moves one byte is no fault.
+
+With --replace a run that does not end with status 0 leaves every output as it was, the same file of the same time, and nothing
+beside it (no file *.kconf-*); only where a move is refused the outputs before that one are the new ones. A file that stands
+beside stays where its removal is refused as well. A fault of what is made beside X is E19 with the name X, and so is want of
+memory for the text of X. Where an output held its text the file stays, but where the look at it was refused, or a growth: then
+the run may replace it, and ends with status 0.
 
 Where standard error is closed the notes can't be written, so a run that has any ends with status 3 and begins nothing, and no
 word of the notes or of an error line stands in an output, whatever is refused besides.
@@ -20,49 +27,90 @@ The status is 1 where a run left anything else.
 
 import os
 import pathlib
+import re
 import shutil
 import subprocess
 import sys
 import tempfile
+import typing
 
 import cases
 
-# The kind of call; whether each later one for the same file is refused too; whether the run may go on; whether it has to.
+
+class Kind(typing.NamedTuple):
+    """A kind of call of which each is refused in turn; with `is_lasting` each later one for the same file too, and with
+    `besides` each call of that kind. Whether the run may go on, and whether it has to."""
+
+    name: str
+    is_lasting: bool = False
+    may_go_on: bool = False
+    has_to: bool = False
+    besides: str = ""
+
+    def __str__(self):
+        return self.name + (", and all later ones" if self.is_lasting else "") + (f", and each {self.besides}" if self.besides else "")
+
+
 KINDS = [
-    ("growth", False, True, False),
-    ("growth", True, True, False),
-    ("open", False, False, False),
-    ("statx", False, True, False),
-    ("read", False, False, False),
-    ("read", True, False, False),
-    ("write", False, False, False),
-    ("write", True, False, False),
-    ("interrupted read", False, True, False),
-    ("interrupted write", False, True, False),
-    ("close", False, True, False),
-    ("sync", False, True, False),
-    ("short read", False, True, True),
-    ("short write", False, True, True),
+    Kind("growth", may_go_on=True),
+    Kind("growth", is_lasting=True, may_go_on=True),
+    Kind("open"),
+    Kind("look", may_go_on=True),
+    Kind("read"),
+    Kind("read", is_lasting=True),
+    Kind("write"),
+    Kind("write", is_lasting=True),
+    Kind("interrupted read", may_go_on=True),
+    Kind("interrupted write", may_go_on=True),
+    Kind("close", may_go_on=True),
+    Kind("short read", may_go_on=True, has_to=True),
+    Kind("short write", may_go_on=True, has_to=True),
+]
+# Those of runs with --replace besides.
+REPLACING = [
+    Kind("link", may_go_on=True),
+    Kind("mode"),
+    Kind("sync"),
+    Kind("move"),
+    Kind("mode", besides="removal"),
+    Kind("write", besides="removal"),
+    Kind("sync", besides="removal"),
+    Kind("move", besides="removal"),
 ]
 # The kinds of calls that are refused once more with standard error closed.
 CLOSED = ["growth", "open", "read", "write"]
-# Without a call of these, nothing is looked at.
-NEEDED = ["growth", "open", "read", "write"]
-# What each output holds before a run.
+# What each output holds before a run, where the case says nothing else.
 BEFORE = b"from the run before\n"
 
 
-class Run:
-    """One run, and what it left. `struck` is what the refused call was for, as between.c tells it. Without `has_stderr`
-    standard error is closed."""
+def before(case):
+    """What each output holds before a run; None where it is not there."""
+    return {name: case.before.get(name, BEFORE) for name in case.outputs or ["out.config"]}
 
-    def __init__(self, work, between, program, case, kind, number, is_lasting, has_stderr=True):
-        for name in case.outputs or ["out.config"]:
-            (work / name).write_bytes(BEFORE)
+
+def needed(case):
+    """The kinds of which a run has to make a call: without one nothing is looked at."""
+    names = ["growth", "open", "read"] + ["write"] * (bool(case.notes) and not case.status)
+    if not case.replaces() or case.status:
+        return names + ["write"] * bool(case.outputs)
+    new = [name for name, text in cases.texts_of(case).items() if before(case)[name] != text]
+    made_over = [name for name in new if before(case)[name] is not None]
+    return names + ["look"] + ["write", "sync", "move"] * bool(new) + ["mode"] * bool(made_over) + ["link"] * bool(case.links)
+
+
+class Run:
+    """One run, and what it left. `struck` is what the refused call was for, as between.c tells it; `touched` are the outputs
+    that are other files than before or of another time, `beside` the files that stand beside one. Without `has_stderr` standard
+    error is closed."""
+
+    def __init__(self, work, between, program, case, kind, number, has_stderr=True):
+        self.work, self.case = work, case
+        self.lay()
+        marks = self.marks()
         report = work.parent / "report"
         report.unlink(missing_ok=True)
-        told = {"LD_PRELOAD": between, "KIND": kind, "REFUSED": str(number), "REPORT": str(report)}
-        if is_lasting:
+        told = {"LD_PRELOAD": between, "KIND": kind.name, "REFUSED": str(number), "REPORT": str(report), "BESIDES": kind.besides}
+        if kind.is_lasting:
             told["LASTING"] = "1"
         words = [program, *case.words()]
         close = None if has_stderr else lambda: os.close(2)
@@ -70,9 +118,33 @@ class Run:
         self.status = ran.returncode
         self.said = ran.stdout
         self.notes = ran.stderr
-        self.outputs = {name: (work / name).read_bytes() for name in case.outputs or ["out.config"]}
+        self.outputs = {name: (work / name).read_bytes() if (work / name).exists() else None for name in before(case)}
+        self.touched = [name for name, mark in self.marks().items() if mark != marks[name]]
+        self.beside = self.standing()
         count, _, self.struck = (report.read_text() if report.exists() else "0 ").rstrip("\n").partition(" ")
         self.calls = int(count)
+
+    def lay(self):
+        """Lays out what is there before the run."""
+        for name in self.standing():
+            (self.work / name).unlink()
+        for name, text in before(self.case).items():
+            place = self.work / self.case.links.get(name, name)
+            place.unlink(missing_ok=True)
+            if place != self.work / name and not (self.work / name).is_symlink():
+                place.parent.mkdir(exist_ok=True)
+                (self.work / name).symlink_to(self.case.links[name])
+            if text is not None:
+                place.write_bytes(text)
+
+    def standing(self):
+        """The files that stand beside a place."""
+        return [str(path.relative_to(self.work)) for path in self.work.rglob("*.kconf-*")]
+
+    def marks(self):
+        """What tells one file of an output from another, and when it was written last."""
+        found = {name: (self.work / name).stat() if (self.work / name).exists() else None for name in before(self.case)}
+        return {name: it and (it.st_ino, it.st_mtime_ns) for name, it in found.items()}
 
     def left(self):
         """All that is seen of the run from outside."""
@@ -81,26 +153,39 @@ class Run:
 
 def right(case):
     """What a run leaves in which no call was refused."""
-    texts = {name: text.encode() for name, text in case.outputs.items()}
-    return case.status, b"", case.notes.encode(), texts or {"out.config": BEFORE}
+    return case.status, b"", case.notes.encode(), cases.texts_of(case) or before(case)
 
 
-def error_line(case, kind, struck):
-    """The one error line, and whether it is an output that failed."""
+def output_of(case, struck):
+    """The output that a call was for, also where it was for what stands beside it; None where it was for none."""
+    path = re.sub(r"\.kconf-[0-9]+$", "", os.path.normpath(struck.lstrip("<>")))
+    path = {target: name for name, target in case.links.items()}.get(path, path)
+    return path if path in case.outputs else None
+
+
+def is_compared(case, struck):
+    """Whether the call was one that reads an output."""
+    return case.replaces() and struck.startswith("<") and output_of(case, struck) is not None
+
+
+def error_lines(case, kind, struck):
+    """The error lines, of which one has to come, each with whether it tells of an output."""
     if kind == "growth":
-        return "error E20: out of memory\n", False
+        kept = case.outputs if case.replaces() else {}
+        return [("error E20: out of memory\n", False)] + [(f"error E19: cannot write {name}\n", True) for name in kept]
+    output = output_of(case, struck)
+    if output and not struck.startswith("<"):
+        return [(f"error E19: cannot write {output}\n", True)]
     path = os.path.normpath(struck.lstrip("<>"))
-    if path in case.outputs and not struck.startswith("<"):
-        return f"error E19: cannot write {path}\n", True
     names = {os.path.normpath(f"{case.root}/{name}"): name for name in case.tree}
-    return f"error E18: cannot read {names.get(path, path)}\n", False
+    return [(f"error E18: cannot read {names.get(path, path)}\n", False)]
 
 
 def begun_in_order(case, outputs, are_notes_whole):
     """What is wrong with the outputs as a whole; None where nothing is."""
     is_whole = are_notes_whole
     for name, text in outputs.items():
-        if text == BEFORE:
+        if text == before(case)[name]:
             is_whole = False
             continue
         if not case.outputs.get(name, "").encode().startswith(text):
@@ -111,11 +196,35 @@ def begun_in_order(case, outputs, are_notes_whole):
     return None
 
 
-def judge_notes_refused(case, run):
+def judge_places(case, run, kind):
+    """What is wrong with the places of a run with --replace that did not end with status 0; None where nothing is."""
+    moved = list(case.outputs).index(output_of(case, run.struck)) if kind.name == "move" else 0
+    for at, (name, text) in enumerate(run.outputs.items()):
+        if at < moved and text != cases.texts_of(case)[name]:
+            return f"{name} was not moved"
+        if at >= moved and (text != before(case)[name] or name in run.touched):
+            return f"{name} is not as it was"
+    if run.beside and kind.besides != "removal":
+        return f"{run.beside} stands there"
+    return None
+
+
+def judge_whole(case, run, kind):
+    """What is wrong with the files of a run that ended as if no call had been refused; None where nothing is."""
+    if run.beside:
+        return f"{run.beside} stands there"
+    excused = run.outputs if kind.name == "growth" else [output_of(case, run.struck)]
+    for name in run.touched if case.replaces() else []:
+        if run.outputs[name] == before(case)[name] and name not in excused:
+            return f"{name} was touched"
+    return None
+
+
+def judge_notes_refused(case, run, kind):
     """What is wrong with a run in which a write of the notes was refused."""
     if not case.notes.encode().startswith(run.notes):
         return "the notes are no beginning of the right ones"
-    return begun_in_order(case, run.outputs, False)
+    return judge_places(case, run, kind) if case.replaces() else begun_in_order(case, run.outputs, False)
 
 
 def judge_output(case, run, path):
@@ -125,42 +234,52 @@ def judge_output(case, run, path):
         if run.outputs[name] != case.outputs[name].encode():
             return f"{name} is not whole"
     for name in names[names.index(path) + 1 :]:
-        if run.outputs[name] != BEFORE:
+        if run.outputs[name] != before(case)[name]:
             return f"{name} was begun"
     return None
 
 
-def judge(case, run, kind, may_go_on, has_to):
-    """What is wrong with a run in which a call was refused; None where nothing is."""
-    if may_go_on and run.left() == right(case):
-        return None
-    if has_to:
-        return "it did not go on"
-    if run.status != 3 or run.said:
-        return "it did not end with status 3, and nothing on standard output"
-    if run.struck == ">&2":
-        return judge_notes_refused(case, run)
-    line, is_output = error_line(case, kind, run.struck)
-    if not run.notes.endswith(line.encode()):
-        return f"its last note is not: {line.strip()}"
-    before = run.notes[: len(run.notes) - len(line.encode())]
-    lines = case.notes.encode().splitlines(keepends=True)
-    warnings = b"".join(lines if case.outputs else lines[:-1])
-    if not warnings.startswith(before) or (before and not before.endswith(b"\n")):
-        return "its notes before the error line are no beginning of the right ones"
-    if is_output and before != warnings:
-        return "its notes are not whole before an output"
-    wrong = begun_in_order(case, run.outputs, before == warnings)
-    if wrong or kind == "growth":
+def judge_outputs(case, run, kind, are_notes_whole, is_output):
+    """What is wrong with the outputs of a run that told a fault; None where nothing is."""
+    if case.replaces():
+        return judge_places(case, run, kind)
+    wrong = begun_in_order(case, run.outputs, are_notes_whole)
+    if wrong or kind.name == "growth":
         return wrong
     if is_output:
-        return judge_output(case, run, os.path.normpath(run.struck.lstrip("<>")))
-    if any(text != BEFORE for text in run.outputs.values()):
+        return judge_output(case, run, output_of(case, run.struck))
+    if any(text != before(case)[name] for name, text in run.outputs.items()):
         return "an output was begun behind a file that could not be read"
     return None
 
 
-def judge_closed(case, run, is_refused):
+def judge(case, run, kind):
+    """What is wrong with a run in which a call was refused; None where nothing is."""
+    compared = is_compared(case, run.struck)
+    if (kind.may_go_on or compared) and run.left() == right(case):
+        return judge_whole(case, run, kind)
+    if kind.has_to or compared:
+        return "it did not go on"
+    if run.status != 3 or run.said:
+        return "it did not end with status 3, and nothing on standard output"
+    if run.struck == ">&2":
+        return judge_notes_refused(case, run, kind)
+    lines = error_lines(case, kind.name, run.struck)
+    found = [(line, is_output) for line, is_output in lines if run.notes.endswith(line.encode())]
+    if not found:
+        return f"its last note is not: {lines[0][0].strip()}"
+    [(line, is_output)] = found
+    told = run.notes[: len(run.notes) - len(line.encode())]
+    lines = case.notes.encode().splitlines(keepends=True)
+    warnings = b"".join(lines if case.outputs else lines[:-1])
+    if not warnings.startswith(told) or (told and not told.endswith(b"\n")):
+        return "its notes before the error line are no beginning of the right ones"
+    if is_output and told != warnings:
+        return "its notes are not whole before an output"
+    return judge_outputs(case, run, kind, told == warnings, is_output)
+
+
+def judge_closed(case, run, kind, is_refused):
     """What is wrong with a run whose standard error was closed; None where nothing is."""
     if run.said or run.notes:
         return "it said something"
@@ -168,35 +287,43 @@ def judge_closed(case, run, is_refused):
         return "it did not end with status 3"
     if run.status == 3 and not (case.notes or is_refused):
         return "it did not go on"
+    if case.replaces():
+        return judge_places(case, run, kind) if run.status else judge_whole(case, run, kind)
     return begun_in_order(case, run.outputs, not case.notes)
 
 
 def check_closed(work, between, program, case, kind):
     """Refuses each call of a kind with standard error closed. The answer: how many runs there were, and what was wrong."""
-    count = Run(work, between, program, case, kind, 0, False, False).calls
+    count = Run(work, between, program, case, kind, 0, has_stderr=False).calls
     wrong = []
     for number in range(count + 1):
-        run = Run(work, between, program, case, kind, number, False, False)
-        why = judge_closed(case, run, number > 0)
+        run = Run(work, between, program, case, kind, number, has_stderr=False)
+        why = judge_closed(case, run, kind, number > 0)
         if why:
             wrong.append(f"{kind} {number}, standard error closed: {why}: status {run.status}, outputs {run.outputs}"[:400])
     return count + 1, wrong
 
 
-def check_kind(work, between, program, case, kind, is_lasting, may_go_on, has_to):
+def check_kind(work, between, program, case, kind):
     """Refuses each call of a kind. The answer: how many runs there were, how many went on, and what was wrong."""
-    start = Run(work, between, program, case, kind, 0, False)
+    start = Run(work, between, program, case, kind._replace(besides=""), 0)
     if start.left() != right(case):
         return 0, 0, [f"without a refused call: status {start.status}, notes {start.notes[-200:]!r}, or another text of an output"]
-    if start.calls == 0 and kind in NEEDED and not (kind == "write" and case.status):
-        return 0, 0, [f"no call of {kind}"]
-    went_on, wrong = 0, []
+    touched = judge_whole(case, start, kind)
+    if touched:
+        return 0, 0, [f"without a refused call: {touched}"]
+    if start.calls == 0 and kind.name in needed(case):
+        return 0, 0, [f"no call of {kind.name}"]
+    went_on, wrong, stayed = 0, [], 0
     for number in range(1, start.calls + 1):
-        run = Run(work, between, program, case, kind, number, is_lasting)
-        why = judge(case, run, kind, may_go_on, has_to)
+        run = Run(work, between, program, case, kind, number)
+        why = judge(case, run, kind)
         went_on += run.left() == right(case)
+        stayed += len(run.beside)
         if why:
             wrong.append(f"{kind} {number} {run.struck}: {why}: status {run.status}, notes {run.notes[-200:]!r}")
+    if kind.besides and {"move", kind.name} <= set(needed(case)) and not (stayed or wrong):
+        wrong.append(f"{kind}: no file stayed beside, so nothing was to be removed")
     return start.calls, went_on, wrong
 
 
@@ -209,19 +336,18 @@ def check(between, program, some, is_quiet=False):
             for name, text in case.inputs().items():
                 (work / name).parent.mkdir(parents=True, exist_ok=True)
                 (work / name).write_text(text)
-            for kind, is_lasting, may_go_on, has_to in KINDS:
-                runs, went_on, why = check_kind(work, between, program, case, kind, is_lasting, may_go_on, has_to)
-                before = counts.get((kind, is_lasting), (0, 0))
-                counts[kind, is_lasting] = before[0] + runs, before[1] + went_on
+            for kind in KINDS + REPLACING * case.replaces():
+                runs, went_on, why = check_kind(work, between, program, case, kind)
+                sums = counts.get(kind, (0, 0))
+                counts[kind] = sums[0] + runs, sums[1] + went_on
                 wrong += [f"{case.name}: {line}" for line in why]
-            for kind in CLOSED:
-                runs, why = check_closed(work, between, program, case, kind)
+            for name in CLOSED:
+                runs, why = check_closed(work, between, program, case, Kind(name))
                 closed += runs
                 wrong += [f"{case.name}: {line}" for line in why]
     if not is_quiet:
-        for (kind, is_lasting), (runs, went_on) in counts.items():
-            name = f"{kind}, and all later ones" if is_lasting else kind
-            print(f"{name}: {runs} runs, {went_on} of them went on to the right end")
+        for kind, (runs, went_on) in counts.items():
+            print(f"{kind}: {runs} runs, {went_on} of them went on to the right end")
         print(f"standard error closed: {closed} runs")
     return wrong
 

@@ -1,7 +1,7 @@
 /*
  * Stands in for kconf: reads the files of one run, and writes the stored notes and outputs of that run. `run.h`, which
- * stand_ins.py writes, has their names and texts. As it is it does all that the checker asks for. With one of these words
- * defined it does not, and the checker has to say so:
+ * stand_ins.py writes, has their names and texts, and REPLACES where files take their places at the end. As it is it does all that
+ * the checker asks for. With one of these words defined it does not, and the checker has to say so:
  *
  * ANY_TEXT   writes any text into each output, and answers 3 in silence
  * SILENT     writes the right texts, and answers 3 in silence
@@ -9,10 +9,19 @@
  * EARLY      begins each output before the one before it is whole
  * GOES_ON    writes the outputs behind one that could not be written too
  * BLIND      writes to descriptor 2 where standard error is closed, and so into a file that it opened
+ *
+ * and with REPLACES:
+ *
+ * IN_PLACE   writes each output where it lies, where its text is another
+ * ONE_BY_ONE moves each output to its place before the next one is made
+ * LEAVES     leaves beside the places what it made there before a fault
+ * TOUCHES    replaces a file of the same text too
  */
+#define _GNU_SOURCE
 #include <fcntl.h>
 #include <stdlib.h>
 #include <string.h>
+#include <sys/stat.h>
 #include <unistd.h>
 
 struct text { const char *name, *bytes; size_t count; };
@@ -63,8 +72,70 @@ static int take(const struct text *input) {
 
 static int make(const char *name) { return open(name, O_WRONLY | O_CREAT | O_TRUNC, 0666); }
 
+#ifdef REPLACES
+static int is_same(const struct text *output) {
+#ifndef TOUCHES
+    char bytes[4096];
+    struct statx told;
+    int file = statx(AT_FDCWD, output->name, 0, STATX_ALL, &told) ? -1 : open(output->name, O_RDONLY);
+    size_t at = 0;
+    ssize_t count = file < 0 ? -1 : 1;
+    while (count > 0 && (count = read(file, bytes, sizeof bytes)) > 0) {
+        if ((size_t)count > output->count - at || memcmp(bytes, output->bytes + at, count)) count = -1;
+        at += count;
+    }
+    if (file >= 0) close(file);
+    return !count && at == output->count;
+#else
+    return 0;
+#endif
+}
+
+#ifndef IN_PLACE
+static char beside[OUTPUTS][256];
+
+/* Makes an output beside its place, whole. */
+static int make_beside(size_t at) {
+    const struct text *output = &outputs[at];
+    char *name = strcat(strcpy(beside[at], output->name), ".kconf-0");
+    int file = open(name, O_WRONLY | O_CREAT | O_EXCL, 0666), has_failed;
+    if (file < 0) return beside[at][0] = 0, -1;
+    has_failed = fchmod(file, 0644) || put(file, output->bytes, output->count) || fsync(file);
+    close(file);
+    return has_failed ? -1 : 0;
+}
+
+static int move(size_t at) {
+    if (!beside[at][0] || rename(beside[at], outputs[at].name)) return -!!beside[at][0];
+    return beside[at][0] = 0;
+}
+
+static int fault_of(size_t at) {
+#ifndef LEAVES
+    for (size_t each = 0; each < OUTPUTS; each++)
+        if (beside[each][0]) unlink(beside[each]);
+#endif
+    return fault("E19: cannot write ", outputs[at].name);
+}
+
+static int replace(void) {
+    for (size_t at = 0; at < OUTPUTS; at++) {
+        if (!is_same(&outputs[at]) && make_beside(at)) return fault_of(at);
+#ifdef ONE_BY_ONE
+        if (move(at)) return fault_of(at);
+#endif
+    }
+    for (size_t at = 0; at < OUTPUTS; at++)
+        if (move(at)) return fault_of(at);
+    return 0;
+}
+#endif
+#endif
+
 int main(void) {
+#if !defined REPLACES || defined IN_PLACE
     int made[OUTPUTS], status = 0;
+#endif
 #ifdef BLIND
     has_stderr = 1;
 #else
@@ -73,8 +144,14 @@ int main(void) {
     for (size_t at = 0; at < INPUTS; at++)
         if (take(&inputs[at])) return 3;
     if (NOTES && (!has_stderr || put(2, notes, NOTES))) return 3;
+#if defined REPLACES && !defined IN_PLACE
+    return replace();
+#else
     for (size_t at = 0; at < OUTPUTS; at++) {
         const struct text *output = &outputs[at];
+#ifdef REPLACES
+        if (is_same(output)) continue;
+#endif
 #ifdef EARLY
         for (size_t each = 0; at == 0 && each < OUTPUTS; each++) made[each] = make(outputs[each].name);
 #else
@@ -92,4 +169,5 @@ int main(void) {
         close(made[at]);
     }
     return status;
+#endif
 }

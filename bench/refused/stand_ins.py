@@ -1,8 +1,8 @@
 """Shows that the checker tells right from wrong: stand_ins.py BETWEEN
 
 BETWEEN is the library that between.c gives. For some of the runs of cases.py stand_in.c is built as it is, which has to pass,
-and once for each of its faults, which has to fail at a run in which a call was refused; the fault ANY_TEXT already where none was,
-and BLIND, in a run that has no notes, where standard error is closed.
+and once for each of its faults, which has to fail: at a run in which a call was refused, ANY_TEXT and TOUCHES already where none was,
+BLIND, in a run that has no notes, where standard error is closed.
 
 The status is 1 where the checker judges one of them otherwise.
 """
@@ -17,7 +17,14 @@ import cases
 import check
 
 FAULTS = ["ANY_TEXT", "SILENT", "OTHER_NAME", "EARLY", "GOES_ON"]
-RUNS = [("fragments", FAULTS), ("the warnings of a tree, in a folder", FAULTS), ("a wide tree", FAULTS), ("modules", ["BLIND"])]
+REPLACING = ["IN_PLACE", "ONE_BY_ONE", "LEAVES", "TOUCHES", "SILENT"]
+RUNS = [
+    ("fragments", FAULTS),
+    ("the warnings of a tree, in a folder", FAULTS),
+    ("a wide tree", FAULTS),
+    ("modules", ["BLIND"]),
+    ("--replace, over each of these", REPLACING),
+]
 
 
 def quoted(text):
@@ -37,6 +44,8 @@ def header_of(case):
     inputs += [(name, name, 1) for name in (["start.config"] if case.settings is not None else []) + list(case.fragments)]
     outputs = [(name, text, len(text.encode())) for name, text in case.outputs.items()]
     counts = {"INPUTS": len(inputs), "OUTPUTS": len(outputs), "NOTES": len(case.notes.encode())}
+    if case.replaces():
+        counts["REPLACES"] = 1
     defined = [f"#define {word} {count}" for word, count in counts.items()]
     return "\n".join([*defined, rows("inputs", inputs), rows("outputs", outputs), f"static const char notes[] = {quoted(case.notes)};", ""])
 

@@ -4,6 +4,7 @@ use Rattle.std.specs.List.{Contains, range_with_len}
 use Rattle.std.proofs.lemmas.List.FromFn.{get_or-map-range_with_len, length-map-range_with_len}
 use Rattle.kc_expr.specs.Value.{Known, Written}
 use Rattle.kc_expr.specs.declared.expression.Kind.TheVariants.{Undefined}
+use Rattle.kc_make.specs.Opened.{OpenedAreThere}
 use Rattle.kc_read.specs.Expansion.{Expands, Log, Refused}
 use Rattle.kc_read.specs.Files.{Files}
 use Rattle.kc_tree.specs.TreeFacts.{TreeFacts}
@@ -23,7 +24,7 @@ use Rattle.kc_dot.specs.Streams.{StreamsLeavePlaces}
 use Rattle.kc_words.specs.declared.options.Options.{Options}
 use Rattle.kc_conf.specs.ErrorLines.{refusal_line, too_long_line}
 use Rattle.kc_conf.specs.Existence.{AcceptedHaveAnOutcome, AnswerExists, OutcomeExists, SolutionExists}
-use Rattle.kc_conf.specs.Outcome.{IsAcceptedTree, IsOutcome, IsOutcomeOfReading, IsRefusedTree, IsSolutionFor, Outcome, accepted_tree, lines_text, long_line, looped, names_of, no_tree, noted, outcome_of, read_of, refused, refused_tree, root_of, streams, whole}
+use Rattle.kc_conf.specs.Outcome.{IsAcceptedTree, IsLenientOutcome, IsOutcome, IsOutcomeOfReading, IsRefusedTree, IsSolutionFor, Outcome, accepted_tree, lines_text, long_line, looped, names_of, no_tree, noted, outcome_of, read_of, refused, refused_tree, root_of, streams, strictly, whole, with_rule}
 
 -- ---- a solution
 
@@ -84,7 +85,14 @@ module _ (either : order.AcceptedOrStuck) (named : order.StuckHaveALoop) (within
 
 -- ---- an outcome
 
-module _ (formed : TreesAreWellFormed) (leaves : StreamsLeavePlaces) (solved : SolutionExists) where
+-- with warnings refused and the rule for make written, where that is asked for
+ended : OpenedAreThere → (files : Files) (options : Options) (all : List (List ℕ)) (lenient : Outcome) → IsLenientOutcome files options all lenient →
+    (outcome : Outcome) × IsOutcome files options all outcome
+ended there files options all lenient is =
+    let (opened, are) = there files (root_of options) in
+    (with_rule options opened (strictly options.strict lenient), (lenient, opened, is, are, refl))
+
+module _ (opens : OpenedAreThere) (formed : TreesAreWellFormed) (leaves : StreamsLeavePlaces) (solved : SolutionExists) where
   of_stop : (files : Files) (options : Options) (all : List (List ℕ)) (tree : TreeFacts) → IsAcceptedTree files (root_of options) tree →
       (stopped : Option Stop) → (read_of options tree all).stopped ≡ stopped → (rest : Outcome) × IsOutcomeOfReading options tree (read_of options tree all) rest
   of_stop files options all tree accepted (Some stop) is = (noted (read_of options tree all).warned (refused (too_long_line stop)), long_line stop is refl)
@@ -96,10 +104,10 @@ module _ (formed : TreesAreWellFormed) (leaves : StreamsLeavePlaces) (solved : S
   pub accepted_outcome : AcceptedHaveAnOutcome
   accepted_outcome files options all tree accepted =
       let (rest, part) = of_stop files options all tree accepted (read_of options tree all).stopped refl in
-      (noted (lines_text tree.warnings) rest, accepted_tree tree accepted (rest, part, refl))
+      ended opens files options all (noted (lines_text tree.warnings) rest) (accepted_tree tree accepted (rest, part, refl))
 
   pub outcome_exists : AnswerExists → OutcomeExists
   outcome_exists answer files options all e expands = elim (answer files (root_of options) e expands) [
     | inl a ↦ accepted_outcome files options all a.0 a.1
-    | inr b ↦ (refused (refusal_line b.0), refused_tree b.0 b.1 refl)
+    | inr b ↦ ended opens files options all (refused (refusal_line b.0)) (refused_tree b.0 b.1 refl)
   ]

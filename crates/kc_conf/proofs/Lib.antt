@@ -1,9 +1,13 @@
 pub mod ExistenceLemmas
+pub mod HeardLemmas
 pub mod ListLemmas
+pub mod LostLemmas
 pub mod PlacesLemmas
 pub mod OutcomeLemmas
 pub mod Once
 pub mod ReadsLemmas
 pub mod RerunLemmas
+pub mod RuleLemmas
 pub mod RunLemmas
 pub mod StreamLemmas
+pub mod TellingLemmas

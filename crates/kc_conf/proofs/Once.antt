@@ -1,9 +1,10 @@
 -- A run has one outcome.
 use Rattle.std.proofs.Common.{◌≡◌, ℕ, ◌<◌, List, [], ◌++◌, length, Option, Some, None, Result, Ok, Err, true, false, sym, ap, subst, ◌∙◌, slice_index}
-use Rattle.kc_read.specs.Expansion.{Refused}
+use Rattle.kc_make.specs.Opened.{AreOpened, OpenedAreOne}
+use Rattle.kc_read.specs.Expansion.{Expands, Log, Refused}
 use Rattle.kc_read.specs.Files.{Files}
 use Rattle.kc_tree.specs.TreeFacts.{TreeFacts}
-use Rattle.kc_tree.specs.Trees.{IsTreeOf, OneTree}
+use Rattle.kc_tree.specs.Trees.{IsTreeOf, OneTree, tree_of_log}
 use Rattle.kc_user.specs.Places.{Places, place_at}
 use Rattle.kc_expr.specs.Value.{Written}
 use Rattle.kc_expr.specs.declared.expression.Kind.TheVariants.{Undefined}
@@ -18,7 +19,7 @@ use Rattle.kc_solve.specs.Solved.{Solution, value_of}
 use Rattle.kc_dot.specs.Reading.{Read}
 use Rattle.kc_words.specs.declared.options.Options.{Options}
 use Rattle.kc_conf.specs.ErrorLines.{refusal_line, too_long_line}
-use Rattle.kc_conf.specs.Outcome.{Outcome, OneAnswer, OneOutcome, noted, lines_text, refused, outcome_of, read_of, root_of, IsRefusedTree, no_tree, looped, IsAcceptedTree, IsSolutionFor, refused_tree, accepted_tree, IsOutcomeOfReading, long_line, whole}
+use Rattle.kc_conf.specs.Outcome.{Outcome, IsLenientOutcome, OneAnswer, OneOutcome, strictly, noted, lines_text, refused, outcome_of, read_of, root_of, IsRefusedTree, no_tree, looped, IsAcceptedTree, IsSolutionFor, refused_tree, accepted_tree, IsOutcomeOfReading, IsOutcomeOfTree, long_line, whole, with_rule}
 use Rattle.std.proofs.lemmas.List.{ext_get_or}
 
 -- ---- trees
@@ -103,13 +104,45 @@ one_rest options tree read a b (whole s none solves is) (long_line stop long is'
 one_rest options tree read a b (whole s none solves is) (whole t none' solves' is') =
     is ∙ ap (λ x. noted read.warned (outcome_of options tree x)) (one_solution tree read.places s t solves solves') ∙ sym is'
 
-pub one_outcome_law : OneAnswer → OneOutcome
-one_outcome_law law files options all a b (refused_tree r first is) (refused_tree s second is') =
+one_lenient : OneAnswer → (files : Files) (options : Options) (all : List (List ℕ)) (a b : Outcome) → IsLenientOutcome files options all a → IsLenientOutcome files options all b → a ≡ b
+one_lenient law files options all a b (refused_tree r first is) (refused_tree s second is') =
     is ∙ ap (λ x. refused (refusal_line x)) (law.one_refusal files (root_of options) r s first second) ∙ sym is'
-one_outcome_law law files options all a b (refused_tree r first is) (accepted_tree tree second rest) = absurd (law.not_both files (root_of options) r tree first second)
-one_outcome_law law files options all a b (accepted_tree tree first rest) (refused_tree r second is) = absurd (law.not_both files (root_of options) r tree second first)
-one_outcome_law law files options all a b (accepted_tree tree first (rest, part, is)) (accepted_tree other second (more, part', is')) =
+one_lenient law files options all a b (refused_tree r first is) (accepted_tree tree second rest) = absurd (law.not_both files (root_of options) r tree first second)
+one_lenient law files options all a b (accepted_tree tree first rest) (refused_tree r second is) = absurd (law.not_both files (root_of options) r tree second first)
+one_lenient law files options all a b (accepted_tree tree first (rest, part, is)) (accepted_tree other second (more, part', is')) =
     let same : other ≡ tree = law.one_accepted files (root_of options) other tree second first in
     let part'' : IsOutcomeOfReading options tree (read_of options tree all) more = subst (λ t. IsOutcomeOfReading options t (read_of options t all) more) same part' in
     is ∙ ap (noted (lines_text tree.warnings)) (one_rest options tree (read_of options tree all) rest more part part'')
     ∙ ap (λ (t : TreeFacts). noted (lines_text t.warnings) more) (sym same) ∙ sym is'
+
+-- the outcome of a tree is one
+pub one_of_tree : (options : Options) (tree : TreeFacts) (all : List (List ℕ)) (a b : Outcome) → IsOutcomeOfTree options tree all a → IsOutcomeOfTree options tree all b → a ≡ b
+one_of_tree options tree all a b (rest, part, is) (more, part', is') =
+    is ∙ ap (noted (lines_text tree.warnings)) (one_rest options tree (read_of options tree all) rest more part part') ∙ sym is'
+
+-- an accepted tree is that of an expansion that is accepted
+expansion_of : (files : Files) (root : List ℕ) (tree : TreeFacts) → IsAcceptedTree files root tree → (log : Log) × Expands files root (Ok log)
+expansion_of files root tree accepted = by accepted.built.0 accepted.built.1 accepted.built.2
+  where
+    by : (e : Result Log Refused) → Expands files root e → Ok tree ≡ tree_of_log e → (log : Log) × Expands files root (Ok log)
+    by (Ok log) expands is = (log, expands)
+    by (Err r) expands is = absurd (let clash : Ok tree ≡ Err r = is in cc)
+
+-- so the files that it opens are one list
+pub one_opened : OpenedAreOne → (files : Files) (root : List ℕ) (tree : TreeFacts) (opened others : List (List ℕ)) → IsAcceptedTree files root tree → AreOpened files root opened → AreOpened files root others → opened ≡ others
+one_opened law files root tree opened others accepted are are' =
+    let (log, expands) = expansion_of files root tree accepted in law files root log opened others expands are are'
+
+pub one_outcome_law : OneAnswer → OpenedAreOne → OneOutcome
+one_outcome_law law one files options all a b (lenient, opened, first, are, is) (other, others, second, are', is') = by first
+  where
+    same : lenient ≡ other
+    same = one_lenient law files options all lenient other first second
+
+    by : IsLenientOutcome files options all lenient → a ≡ b
+    by (refused_tree r why was) =
+        is ∙ ap (λ o. with_rule options opened (strictly options.strict o)) was
+        ∙ ap (λ o. with_rule options others (strictly options.strict o)) (sym was ∙ same) ∙ sym is'
+    by (accepted_tree tree accepted part) =
+        is ∙ ap (λ l. with_rule options l (strictly options.strict lenient)) (one_opened one files (root_of options) tree opened others accepted are are')
+        ∙ ap (λ o. with_rule options others (strictly options.strict o)) same ∙ sym is'

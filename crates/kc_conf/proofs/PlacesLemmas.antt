@@ -12,7 +12,7 @@ use Rattle.kc_conf.specs.Reads.{counted_notes}
 use Rattle.kc_conf.specs.declared.cause.Cause.{Cause}
 use Rattle.kc_conf.specs.declared.cause.Cause.TheVariants.{Read, Write, Memory}
 use Rattle.kc_conf.specs.declared.outputs.Which.{Which}
-use Rattle.kc_conf.specs.declared.outputs.Which.TheVariants.{Config, Header, Minimal, Notes}
+use Rattle.kc_conf.specs.declared.outputs.Which.TheVariants.{Config, Header, Minimal, Depfile, Notes}
 
 pub grown-grown : (place : Place) (a b : List ℕ) → grown (grown place a) b ≡ grown place (a ++ b)
 grown-grown place a b = ap (λ t. let p : Place = record place { text = t } in p) (extended-extended place.text a b)
@@ -62,6 +62,7 @@ marked-only (Write Notes) old new text strikes only grew counts = Only-text Note
 marked-only (Write Config) old new text strikes only grew counts = absurd (let e : Config ≡ Notes = strikes in cc)
 marked-only (Write Header) old new text strikes only grew counts = absurd (let e : Header ≡ Notes = strikes in cc)
 marked-only (Write Minimal) old new text strikes only grew counts = absurd (let e : Minimal ≡ Notes = strikes in cc)
+marked-only (Write Depfile) old new text strikes only grew counts = absurd (let e : Depfile ≡ Notes = strikes in cc)
 
 -- an error line changes the notes alone
 NotesLine-only : (line : List ℕ) (old new : Places) → NotesLine line old new → Only Notes old new
@@ -74,4 +75,5 @@ Reports-only options Memory old new line = NotesLine-only (error_line options Me
 Reports-only options (Write Config) old new line = NotesLine-only (error_line options (Write Config)) old new line
 Reports-only options (Write Header) old new line = NotesLine-only (error_line options (Write Header)) old new line
 Reports-only options (Write Minimal) old new line = NotesLine-only (error_line options (Write Minimal)) old new line
+Reports-only options (Write Depfile) old new line = NotesLine-only (error_line options (Write Depfile)) old new line
 Reports-only options (Write Notes) old new same = rw same (Only-same Notes old)

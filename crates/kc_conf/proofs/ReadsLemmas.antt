@@ -79,7 +79,7 @@ module _ (tree : TreeFacts) (prefix : List ℕ) where
     Goes-append : (a b : List ℕ) (old mid new : Spot) (before middle after : Places) (w v : List ℕ) →
         Goes tree prefix name a old mid before middle w → Goes tree prefix name b mid new middle after v → Goes tree prefix name (a ++ b) old new before after (w ++ v)
     Goes-append a b old mid new before middle after w v first second rest more =
-        rw append_assoc (first (b ++ rest) more ∙ ap (told w) (second rest more) ∙ told-told w v (reading tree prefix after (to_come tree prefix name new rest more)))
+        rw append_assoc (first (b ++ rest) more ∙ ap (told w) (second rest more) ∙ told-told w v (reading tree prefix after (to_come name new rest more)))
 
     pub TakenSoFar-nothing : (given : Option (List ℕ)) (spot : Spot) (places : Places) (text : Option (List ℕ)) → TakenSoFar tree prefix name given given spot spot places places text text
     TakenSoFar-nothing given spot places text = ([], [], preceded-nothing given, extended-nothing text, λ rest more. refl)
@@ -113,20 +113,20 @@ module _ (tree : TreeFacts) (prefix : List ℕ) where
           AreToCome-all given rest (bytes ++ piece) (two given mid rest bytes piece first second),
           extended-three text text_mid text_after warned refuses.warned grew handed,
           λ more.
-              let inner : reading tree prefix places (to_come tree prefix name spot (piece ++ left_of rest) more) ≡ ended_with after refuses.warned (Some (record { stream = name; number = number })) =
-              ap (λ p. reading tree prefix places (to_come tree prefix name spot (p ++ left_of rest) more)) refuses.split
-              ∙ ap (λ p. reading tree prefix places (to_come tree prefix name spot p more)) (append_assoc refuses.done refuses.left (left_of rest))
+              let inner : reading tree prefix places (to_come name spot (piece ++ left_of rest) more) ≡ ended_with after refuses.warned (Some (record { stream = name; number = number })) =
+              ap (λ p. reading tree prefix places (to_come name spot (p ++ left_of rest) more)) refuses.split
+              ∙ ap (λ p. reading tree prefix places (to_come name spot p more)) (append_assoc refuses.done refuses.left (left_of rest))
               ∙ refuses.goes (refuses.left ++ left_of rest) more
               ∙ ap (told refuses.warned) (stops (left_of rest) more)
               ∙ ap (λ w. ended_with after w (Some (record { stream = name; number = new.number }))) (append-nil refuses.warned)
               ∙ ap (λ n. ended_with after refuses.warned (Some (record { stream = name; number = n }))) (sym is_number) in
-              ap (λ p. reading tree prefix before (to_come tree prefix name old p more)) (append_assoc bytes piece (left_of rest))
+              ap (λ p. reading tree prefix before (to_come name old p more)) (append_assoc bytes piece (left_of rest))
               ∙ goes (piece ++ left_of rest) more ∙ ap (told warned) inner,
         )
 
     -- it broke off in this piece
     pub BreaksPieces-piece : (fault : DotFault) (given mid rest : Option (List ℕ)) (piece : List ℕ) (old spot new : Spot) (before places after : Places) (text text_mid text_after : Option (List ℕ)) →
-        ((left : List ℕ) (front : List ℕ) → Because tree prefix name fault left new after front → (rest : List ℕ) (more : List Line) → BeginsWith (reading tree prefix after (to_come tree prefix name new (left ++ rest) more)).warned front) →
+        ((left : List ℕ) (front : List ℕ) → Because tree prefix name fault left new after front → (rest : List ℕ) (more : List Line) → BeginsWith (reading tree prefix after (to_come name new (left ++ rest) more)).warned front) →
         TakenSoFar tree prefix name given mid old spot before places text text_mid → mid ≡ preceded piece rest →
         Refuses tree prefix name fault piece spot new places after text_mid text_after →
         BreaksPieces tree prefix name given old before text text_after
@@ -136,21 +136,21 @@ module _ (tree : TreeFacts) (prefix : List ℕ) where
       AreToCome-all given rest (bytes ++ piece) (two given mid rest bytes piece first second),
       extended-three text text_mid text_after warned (refuses.warned ++ refuses.front) grew refuses.handed,
       λ more.
-          let inner : reading tree prefix places (to_come tree prefix name spot (piece ++ left_of rest) more) ≡ told refuses.warned (reading tree prefix after (to_come tree prefix name new (refuses.left ++ left_of rest) more)) =
-          ap (λ p. reading tree prefix places (to_come tree prefix name spot (p ++ left_of rest) more)) refuses.split
-          ∙ ap (λ p. reading tree prefix places (to_come tree prefix name spot p more)) (append_assoc refuses.done refuses.left (left_of rest))
+          let inner : reading tree prefix places (to_come name spot (piece ++ left_of rest) more) ≡ told refuses.warned (reading tree prefix after (to_come name new (refuses.left ++ left_of rest) more)) =
+          ap (λ p. reading tree prefix places (to_come name spot (p ++ left_of rest) more)) refuses.split
+          ∙ ap (λ p. reading tree prefix places (to_come name spot p more)) (append_assoc refuses.done refuses.left (left_of rest))
           ∙ refuses.goes (refuses.left ++ left_of rest) more in
-          let outer : reading tree prefix before (to_come tree prefix name old ((bytes ++ piece) ++ left_of rest) more) ≡ told warned (reading tree prefix places (to_come tree prefix name spot (piece ++ left_of rest) more)) =
-          ap (λ p. reading tree prefix before (to_come tree prefix name old p more)) (append_assoc bytes piece (left_of rest)) ∙ goes (piece ++ left_of rest) more in
+          let outer : reading tree prefix before (to_come name old ((bytes ++ piece) ++ left_of rest) more) ≡ told warned (reading tree prefix places (to_come name spot (piece ++ left_of rest) more)) =
+          ap (λ p. reading tree prefix before (to_come name old p more)) (append_assoc bytes piece (left_of rest)) ∙ goes (piece ++ left_of rest) more in
           BeginsWith-told warned (refuses.warned ++ refuses.front) _ _ outer
           (BeginsWith-told refuses.warned refuses.front _ _ inner (begins refuses.left refuses.front refuses.because (left_of rest) more)),
     )
 
-    pub begins_at_sink : (new : Spot) (after : Places) (left front : List ℕ) → Because tree prefix name Sink left new after front → (rest : List ℕ) (more : List Line) → BeginsWith (reading tree prefix after (to_come tree prefix name new (left ++ rest) more)).warned front
+    pub begins_at_sink : (new : Spot) (after : Places) (left front : List ℕ) → Because tree prefix name Sink left new after front → (rest : List ℕ) (more : List Line) → BeginsWith (reading tree prefix after (to_come name new (left ++ rest) more)).warned front
     begins_at_sink new after left front because = begins_at_break tree prefix name left new after front because
 
-    pub begins_at_memory : (new : Spot) (after : Places) (left front : List ℕ) → Because tree prefix name Memory left new after front → (rest : List ℕ) (more : List Line) → BeginsWith (reading tree prefix after (to_come tree prefix name new (left ++ rest) more)).warned front
-    begins_at_memory new after left front because rest more = (_, ap (λ f. f ++ (reading tree prefix after (to_come tree prefix name new (left ++ rest) more)).warned) (sym because))
+    pub begins_at_memory : (new : Spot) (after : Places) (left front : List ℕ) → Because tree prefix name Memory left new after front → (rest : List ℕ) (more : List Line) → BeginsWith (reading tree prefix after (to_come name new (left ++ rest) more)).warned front
+    begins_at_memory new after left front because rest more = (_, ap (λ f. f ++ (reading tree prefix after (to_come name new (left ++ rest) more)).warned) (sym because))
 
     -- it broke off before the next piece
     pub BreaksPieces-so_far : (given rest : Option (List ℕ)) (old new : Spot) (before after : Places) (text text_after : Option (List ℕ)) →

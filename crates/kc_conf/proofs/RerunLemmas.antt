@@ -12,7 +12,7 @@ use Rattle.kc_user.specs.Places.{ArePlaces, Places, no_places, place_at}
 use Rattle.kc_order.specs.Solution.{Solves}
 use Rattle.kc_values.specs.Solution.{equations, symbol_count}
 use Rattle.kc_solve.specs.Solved.{Solution, value_of}
-use Rattle.kc_dot.specs.Laws.{ConfigSettles, IsSolutionOf, MinimalHasNothingToSpare, MinimalRestores}
+use Rattle.kc_dot.specs.Laws.{ConfigSettles, HasShortLines, IsSolutionOf, MinimalHasNothingToSpare, MinimalRestores, WrittenTextsAreShort}
 use Rattle.kc_dot.specs.Reading.{Read, Stream, reading_of}
 use Rattle.kc_dot.specs.Reread.{IsOneSolution, read_alone, told_by}
 use Rattle.kc_dot.specs.SolutionTold.{told_of}
@@ -21,8 +21,10 @@ use Rattle.kc_dot.specs.Texts.{config_heading, config_text, entries_text, entry_
 use Rattle.kc_dot.specs.Prefixes.{is_prefix}
 use Rattle.kc_dot.proofs.SolutionLemmas.{solution_of}
 use Rattle.kc_words.specs.declared.options.Options.{Options}
-use Rattle.kc_conf.specs.Outcome.{IsAcceptedTree, IsOutcome, IsOutcomeOfReading, IsRefusedTree, IsSolutionFor, OneAnswer, Outcome, accepted_tree, lines_text, long_line, names_of, noted, outcome_of, read_of, refused, refused_tree, root_of, streams, text_if, whole}
-use Rattle.kc_conf.specs.Reruns.{AreAlone, ConfigIsReadAgain, IsWhole, MinimalIsReadAgain, MinimalIsRunAgain, WrittenAreWhole}
+use Rattle.kc_conf.specs.Outcome.{IsAcceptedTree, IsLenientOutcome, IsOutcome, IsOutcomeOfReading, IsRefusedTree, IsSolutionFor, OneAnswer, Outcome, accepted_tree, lines_text, long_line, names_of, noted, outcome_of, read_of, refused, refused_tree, root_of, streams, strictly, text_if, whole, with_rule}
+use Rattle.kc_conf.proofs.OutcomeLemmas.{strictly-config, strictly-minimal, strictly-off}
+use Rattle.kc_conf.proofs.RuleLemmas.{rule-config, rule-minimal}
+use Rattle.kc_conf.specs.Reruns.{AreAlone, ConfigIsReadAgain, IsWhole, MinimalIsReadAgain, MinimalIsRunAgain, TextsHaveShortLines, WrittenAreWhole}
 
 -- ---- what is written is of a whole run
 
@@ -38,11 +40,19 @@ rest_whole files options all tree rest outcome text accepted (long_line stop sto
 rest_whole files options all tree rest outcome text accepted (whole solution none solves is) from there =
     (tree, solution, record { accepted = accepted; read_whole = none; solution_is = solves }, from ∙ ap (noted (lines_text tree.warnings)) is)
 
-pub written_whole : WrittenAreWhole
-written_whole files options all outcome text (refused_tree r why is) there =
+lenient_whole : (files : Files) (options : Options) (all : List (List ℕ)) (outcome : Outcome) (text : List ℕ) → IsLenientOutcome files options all outcome → outcome.config ≡ Some text → Values files options all outcome
+lenient_whole files options all outcome text (refused_tree r why is) there =
     absurd (let e : None ≡ Some text = sym (ap (λ (o : Outcome). o.config) is) ∙ there in cc)
-written_whole files options all outcome text (accepted_tree tree accepted (rest, part, is)) there =
+lenient_whole files options all outcome text (accepted_tree tree accepted (rest, part, is)) there =
     rest_whole files options all tree rest outcome text accepted part is there
+
+pub written_whole : WrittenAreWhole
+written_whole files options all outcome text (lenient, opened, is_lenient, are, is) there =
+    let part : Outcome = strictly options.strict lenient in
+    let has : part.config ≡ Some text = sym (rule-config options opened part) ∙ sym (ap (λ (o : Outcome). o.config) is) ∙ there in
+    let same : part ≡ lenient = strictly-config options.strict lenient part text refl has in
+    let (tree, solution, is_whole, values) = lenient_whole files options all lenient text is_lenient (sym (ap (λ (o : Outcome). o.config) same) ∙ has) in
+    (tree, solution, is_whole, (opened, are, is ∙ ap (with_rule options opened) (same ∙ values)))
 
 -- ---- the texts read again
 
@@ -65,6 +75,11 @@ minimal_read_again formed leaves restores spare files options all tree solution 
 pub config_read_again : TreesAreWellFormed → StreamsLeavePlaces → ConfigSettles → ConfigIsReadAgain
 config_read_again formed leaves settles files options all tree solution is_pre is =
     settles tree options.prefix solution.places (value_of solution) is_pre (whole_solution formed leaves files options all tree solution is)
+
+pub texts_short : TreesAreWellFormed → StreamsLeavePlaces → WrittenTextsAreShort → TextsHaveShortLines
+texts_short formed leaves short files options all tree solution is_pre is =
+    subst (λ (f : TreeFacts). let t = told_by f (place_at solution.places) (value_of solution) in HasShortLines (config_text tree options.prefix t) × HasShortLines (minimal_text tree options.prefix t))
+    (sym is.solution_is.tree_is) (short tree options.prefix solution.places (value_of solution) is_pre (whole_solution formed leaves files options all tree solution is))
 
 -- ---- a run on the minimal file alone
 
@@ -108,7 +123,7 @@ text_if_is : {T : Type 0} → (o : Option T) (text found : List ℕ) → text_if
 text_if_is None text found e = cc
 text_if_is (Some x) text found e = cc
 
-minimal_whole : (files : Files) (options : Options) (all : List (List ℕ)) (outcome : Outcome) (text : List ℕ) → IsOutcome files options all outcome → outcome.minimal ≡ Some text → Values files options all outcome
+minimal_whole : (files : Files) (options : Options) (all : List (List ℕ)) (outcome : Outcome) (text : List ℕ) → IsLenientOutcome files options all outcome → outcome.minimal ≡ Some text → Values files options all outcome
 minimal_whole files options all outcome text (refused_tree r why is) there =
     absurd (let e : None ≡ Some text = sym (ap (λ (o : Outcome). o.minimal) is) ∙ there in cc)
 minimal_whole files options all outcome text (accepted_tree tree accepted (rest, part, from)) there = by part
@@ -163,7 +178,7 @@ module _ (answer : OneAnswer) (again : MinimalIsReadAgain) (files : Files) (opti
         ∙ ap (λ p. Some (config_text tree p (told_of other))) same.prefix
         ∙ ap Some (config_same tree options.prefix other solution for.tree_is is.solution_is.tree_is values)
 
-    of_outcome : (later : Outcome) → IsOutcome files alone (text ∷ []) later → later.config ≡ Some (config_text tree options.prefix (told_of solution))
+    of_outcome : (later : Outcome) → IsLenientOutcome files alone (text ∷ []) later → later.config ≡ Some (config_text tree options.prefix (told_of solution))
     of_outcome later (refused_tree r why was) =
         absurd (answer.not_both files (root_of options) r tree (subst (λ root. IsRefusedTree files root r) same.root why) is.accepted)
     of_outcome later (accepted_tree other accepted (rest, part, was)) =
@@ -172,8 +187,13 @@ module _ (answer : OneAnswer) (again : MinimalIsReadAgain) (files : Files) (opti
         ap (λ (o : Outcome). o.config) was ∙ of_reading rest part'
 
 pub minimal_run_again : OneAnswer → MinimalIsReadAgain → MinimalIsRunAgain
-minimal_run_again answer again files options alone all outcome later text is_pre same first there second =
-    let (tree, solution, is, from) = minimal_whole files options all outcome text first there in
-    let text_is : minimal_text tree options.prefix (told_of solution) ≡ text = text_if_is options.minimal _ text (sym (ap (λ (o : Outcome). o.minimal) from) ∙ there) in
-    of_outcome answer again files options alone all text is_pre same tree solution is text_is later second
-    ∙ sym (ap (λ (o : Outcome). o.config) from)
+minimal_run_again answer again files options alone all outcome later text is_pre same lets_pass (lenient, opened, is_lenient, are, is_outcome) there (later_lenient, others, second, are_too, was) =
+    let part : Outcome = strictly options.strict lenient in
+    let has : part.minimal ≡ Some text = sym (rule-minimal options opened part) ∙ sym (ap (λ (o : Outcome). o.minimal) is_outcome) ∙ there in
+    let unchanged : part ≡ lenient = strictly-minimal options.strict lenient part text refl has in
+    let has_too : lenient.minimal ≡ Some text = sym (ap (λ (o : Outcome). o.minimal) unchanged) ∙ has in
+    let (tree, solution, is, from) = minimal_whole files options all lenient text is_lenient has_too in
+    let text_is : minimal_text tree options.prefix (told_of solution) ≡ text = text_if_is options.minimal _ text (sym (ap (λ (o : Outcome). o.minimal) from) ∙ has_too) in
+    ap (λ (o : Outcome). o.config) was ∙ rule-config alone others (strictly alone.strict later_lenient) ∙ ap (λ (o : Outcome). o.config) (strictly-off alone.strict later_lenient lets_pass)
+    ∙ of_outcome answer again files options alone all text is_pre same tree solution is text_is later_lenient second
+    ∙ sym (ap (λ (o : Outcome). o.config) is_outcome ∙ rule-config options opened part ∙ ap (λ (o : Outcome). o.config) (unchanged ∙ from))

@@ -3,14 +3,17 @@ use Rattle.std.specs.Prelude.{ℕ, List, ◌++◌, Option, None, Some, codes, de
 use Rattle.kc_read.specs.Expansion.{Refused}
 use Rattle.kc_read.specs.declared.refusal.Code.{Code}
 use Rattle.kc_read.specs.declared.refusal.Code.TheVariants as code
+use Rattle.kc_text.specs.Limits.{longest_line}
+use Rattle.kc_read.specs.Limits.{most_lines, most_symbols}
+use Rattle.kc_dot.specs.Limits.{longest_config_line}
 use Rattle.kc_dot.specs.Reading.{Stop}
 
 -- what an error line says of a refusal, before the word, the name or the loop that it is about
 abbrev pub words_before : Code → List ℕ
 words_before code.NoFile = codes "E1: no file "
 words_before code.InclusionLoop = codes "E2: file "
-words_before code.TooManyLines = codes "E3: more than 1000000 lines"
-words_before code.LineTooLong = codes "E4: line longer than 8191 bytes"
+words_before code.TooManyLines = codes "E3: more than " ++ decimal most_lines ++ codes " lines"
+words_before code.LineTooLong = codes "E4: line longer than " ++ decimal longest_line ++ codes " bytes"
 words_before code.BadToken = codes "E5: bad token"
 words_before code.Macro = codes "E6: macro"
 words_before code.LeftOut = codes "E7: "
@@ -22,7 +25,7 @@ words_before code.TooDeep = codes "E12: too deep"
 words_before code.ChoiceMember = codes "E13: choice member "
 words_before code.BadDefault = codes "E14: bad default of "
 words_before code.Loop = codes "E15: dependency loop: "
-words_before code.TooManySymbols = codes "E16: more than 65535 symbols"
+words_before code.TooManySymbols = codes "E16: more than " ++ decimal most_symbols ++ codes " symbols"
 words_before code.Memory = codes "E20: out of memory"
 
 -- and behind it
@@ -57,6 +60,10 @@ error_if_at (Some place) text = error_at place.0 place.1 text
 abbrev pub refusal_line : Refused → List ℕ
 refusal_line r = error_if_at r.place (words_before r.code ++ r.detail ++ words_behind r.code)
 
+-- the error line behind the warnings that are refused
+abbrev pub strict_line : List ℕ
+strict_line = codes "error E21: warnings are refused\n"
+
 -- the error line of a line of a stream that is too long
 abbrev pub too_long_line : Stop → List ℕ
-too_long_line stop = error_at stop.stream stop.number (codes "E17: line longer than 65535 bytes\n")
+too_long_line stop = error_at stop.stream stop.number (codes "E17: line longer than " ++ decimal longest_config_line ++ codes " bytes\n")

@@ -8,7 +8,7 @@ use Rattle.kc_words.specs.declared.options.Options.{Options}
 use Rattle.kc_conf.specs.Outcome.{Outcome, names_of}
 use Rattle.kc_conf.specs.Places.{Places, at, with_place, failed, written, begun_with, made_if, Broke}
 use Rattle.kc_conf.specs.declared.outputs.Which.{Which}
-use Rattle.kc_conf.specs.declared.outputs.Which.TheVariants.{Config, Header, Minimal, Notes}
+use Rattle.kc_conf.specs.declared.outputs.Which.TheVariants.{Config, Header, Minimal, Depfile, Notes}
 use Rattle.kc_conf.specs.declared.options.Status.{Status}
 use Rattle.kc_conf.specs.declared.cause.Cause.{Cause}
 use Rattle.kc_conf.specs.declared.cause.Cause.TheVariants.{Read, Write, Memory}
@@ -21,10 +21,11 @@ files_before Notes outcome places = places
 files_before Config outcome places = places
 files_before Header outcome places = made_if Config outcome.config places
 files_before Minimal outcome places = made_if Header outcome.header (made_if Config outcome.config places)
+files_before Depfile outcome places = made_if Minimal outcome.minimal (made_if Header outcome.header (made_if Config outcome.config places))
 
--- the three files, whole where they are wanted
+-- the four files, whole where they are wanted
 abbrev pub files_made : Outcome → Places → Places
-files_made outcome places = made_if Minimal outcome.minimal (files_before Minimal outcome places)
+files_made outcome places = made_if Depfile outcome.depfile (files_before Depfile outcome places)
 
 -- the outputs when a file's turn has come: the notes and the files before it are whole
 abbrev pub up_to : Which → Outcome → Places → Places
@@ -46,6 +47,7 @@ file_text outcome Notes = None
 file_text outcome Config = outcome.config
 file_text outcome Header = outcome.header
 file_text outcome Minimal = outcome.minimal
+file_text outcome Depfile = outcome.depfile
 
 -- one failure more, at the output that failed
 abbrev pub marked : Cause → Places → Places
@@ -90,6 +92,7 @@ abbrev pub name_of : Options → Which → List ℕ
 name_of options Config = string_bytes options.out
 name_of options Header = option_map_or string_bytes options.header []
 name_of options Minimal = option_map_or string_bytes options.minimal []
+name_of options Depfile = option_map_or string_bytes options.depfile []
 name_of options Notes = []
 
 -- the name of a stream
@@ -113,6 +116,7 @@ Reports options Memory old new = NotesLine (error_line options Memory) old new
 Reports options (Write Config) old new = NotesLine (error_line options (Write Config)) old new
 Reports options (Write Header) old new = NotesLine (error_line options (Write Header)) old new
 Reports options (Write Minimal) old new = NotesLine (error_line options (Write Minimal)) old new
+Reports options (Write Depfile) old new = NotesLine (error_line options (Write Depfile)) old new
 Reports options (Write Notes) old new = new ≡ old
 
 -- broke off, and then reported

@@ -2,8 +2,12 @@ pub mod Places
 pub mod Given
 pub mod ErrorLines
 pub mod Existence
+pub mod Lost
+pub mod LostView
 pub mod Outcome
 pub mod Kept
 pub mod Reads
 pub mod Reruns
+pub mod Rules
 pub mod Faults
+pub mod Heard

@@ -1,5 +1,5 @@
 -- Trusted: What a run is to leave.
-use Rattle.std.specs.Prelude.{◌≡◌, ℕ, List, [], ◌∷◌, ◌++◌, map, flat_map, Option, None, Some, Ok, Err, codes, string_bytes}
+use Rattle.std.specs.Prelude.{◌≡◌, ℕ, Bool, true, false, ◌&&◌, if◌then◌else◌, List, [], ◌∷◌, ◌++◌, map, flat_map, Option, None, Some, Ok, Err, codes, string_bytes}
 use Rattle.kc_read.specs.Expansion.{Refused}
 use Rattle.kc_read.specs.Files.{Files}
 use Rattle.kc_tree.specs.TreeFacts.{TreeFacts}
@@ -12,15 +12,19 @@ use Rattle.kc_dot.specs.Reading.{Read, Stop, Stream, reading_of}
 use Rattle.kc_dot.specs.SolutionTold.{told_of}
 use Rattle.kc_dot.specs.Texts.{config_text, header_text, minimal_text}
 use Rattle.kc_words.specs.declared.options.Options.{Options}
-use Rattle.kc_conf.specs.ErrorLines.{refusal_line, too_long_line}
+use Rattle.kc_make.specs.Opened.{AreOpened, made_of}
+use Rattle.kc_make.specs.Rules.{rule_text}
+use Rattle.kc_conf.specs.ErrorLines.{refusal_line, strict_line, too_long_line}
+use Rattle.kc_conf.specs.Lost.{lost_lines}
 use Rattle.kc_conf.specs.declared.options.Status.{Status}
-use Rattle.kc_conf.specs.declared.options.Status.TheVariants.{Done, Refused as IsRefused}
+use Rattle.kc_conf.specs.declared.options.Status.TheVariants.{Done, Refused as IsRefused, Usage, Faulted}
 
 -- The texts that a run is to leave: none for an output that is not begun. The notes are what the run adds.
 pub record Outcome : Type 0 where
   pub config : Option (List ℕ)
   pub header : Option (List ℕ)
   pub minimal : Option (List ℕ)
+  pub depfile : Option (List ℕ)
   pub notes : List ℕ
   pub status : Status
 
@@ -34,7 +38,7 @@ lines_text lines = flat_map (λ line. line ++ codes "\n") lines
 
 -- a refusal begins nothing
 abbrev pub refused : List ℕ → Outcome
-refused line = record { config = None; header = None; minimal = None; notes = line; status = IsRefused }
+refused line = record { config = None; header = None; minimal = None; depfile = None; notes = line; status = IsRefused }
 
 -- ---- the tree
 
@@ -81,13 +85,18 @@ abbrev pub text_if : {T : Type 0} → Option T → List ℕ → Option (List ℕ
 text_if None text = None
 text_if (Some name) text = Some text
 
--- The files of a solution: the values' warnings are noted before.
+-- the lines of the values that were given and are not the symbols', where they are asked for
+abbrev pub lost_told : Options → Solution → List (List ℕ)
+lost_told options solution = if options.warn_lost then lost_lines solution else []
+
+-- The files of a solution: the values' warnings are noted before, and then the values that are lost.
 abbrev pub outcome_of : Options → TreeFacts → Solution → Outcome
 outcome_of options tree solution = record {
   config = Some (config_text tree options.prefix (told_of solution));
   header = text_if options.header (header_text tree options.prefix (told_of solution));
   minimal = text_if options.minimal (minimal_text tree options.prefix (told_of solution));
-  notes = lines_text (warnings solution);
+  depfile = None;
+  notes = lines_text (warnings solution) ++ lines_text (lost_told options solution);
   status = Done;
 }
 
@@ -105,10 +114,42 @@ abbrev pub IsOutcomeOfTree : Options → TreeFacts → List (List ℕ) → Outco
 IsOutcomeOfTree options tree all outcome =
     (rest : Outcome) × IsOutcomeOfReading options tree (read_of options tree all) rest × (outcome ≡ noted (lines_text tree.warnings) rest)
 
+-- What a run is to leave that lets warnings pass and writes no rule for make, for files, options and the bytes of the streams.
+pub data IsLenientOutcome (files : Files) (options : Options) (all : List (List ℕ)) (outcome : Outcome) : Type 0 where
+  refused_tree : (r : Refused) → IsRefusedTree files (root_of options) r → outcome ≡ refused (refusal_line r) → IsLenientOutcome files options all outcome
+  accepted_tree : (tree : TreeFacts) → IsAcceptedTree files (root_of options) tree → IsOutcomeOfTree options tree all outcome → IsLenientOutcome files options all outcome
+
+abbrev pub is_done : Status → Bool
+is_done Done = true
+is_done IsRefused = false
+is_done Usage = false
+is_done Faulted = false
+
+-- something is told
+abbrev pub is_told : List ℕ → Bool
+is_told [] = false
+is_told (b ∷ text) = true
+
+-- Under --strict, what would write files and has notes begins nothing: these are warnings, and one line refuses them.
+abbrev pub strictly : Bool → Outcome → Outcome
+strictly strict outcome =
+    if is_done outcome.status && (strict && is_told outcome.notes) then refused (outcome.notes ++ strict_line) else outcome
+
+-- the rule for make: what the file of --out is made of, where the tree opens these files
+abbrev pub depfile_text : Options → List (List ℕ) → List ℕ
+depfile_text options opened =
+    rule_text (string_bytes options.out) (made_of (string_bytes options.root) opened (map string_bytes options.fragments.items))
+
+-- what writes files writes that rule too, where it is wanted
+abbrev pub with_rule : Options → List (List ℕ) → Outcome → Outcome
+with_rule options opened outcome =
+    if is_done outcome.status then record outcome { depfile = text_if options.depfile (depfile_text options opened) } else outcome
+
 -- What a run is to leave, for files, options and the bytes of the streams.
-pub data IsOutcome (files : Files) (options : Options) (all : List (List ℕ)) (outcome : Outcome) : Type 0 where
-  refused_tree : (r : Refused) → IsRefusedTree files (root_of options) r → outcome ≡ refused (refusal_line r) → IsOutcome files options all outcome
-  accepted_tree : (tree : TreeFacts) → IsAcceptedTree files (root_of options) tree → IsOutcomeOfTree options tree all outcome → IsOutcome files options all outcome
+abbrev pub IsOutcome : Files → Options → List (List ℕ) → Outcome → Type 0
+IsOutcome files options all outcome =
+    (lenient : Outcome) × (opened : List (List ℕ)) × IsLenientOutcome files options all lenient × AreOpened files (root_of options) opened
+    × (outcome ≡ with_rule options opened (strictly options.strict lenient))
 
 -- there is at most one
 abbrev pub OneOutcome : Type 0

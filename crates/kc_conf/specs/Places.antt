@@ -1,9 +1,9 @@
--- Trusted: What is known of the four outputs.
+-- Trusted: What is known of the five outputs.
 use Rattle.std.specs.Prelude.{◌≡◌, ℕ, Bool, true, false, List, [], Option, None, Some, refl}
 use Rattle.std.specs.Option.{option_map}
 use Rattle.kc_dot.specs.Sink.{extended, next_failure, BeginsWith}
 use Rattle.kc_conf.specs.declared.outputs.Which.{Which}
-use Rattle.kc_conf.specs.declared.outputs.Which.TheVariants.{Config, Header, Minimal, Notes}
+use Rattle.kc_conf.specs.declared.outputs.Which.TheVariants.{Config, Header, Minimal, Depfile, Notes}
 
 -- one output: whether it was begun, whether its end was told since, its bytes or nothing told, and how often it has failed
 pub record Place : Type 0 where
@@ -12,16 +12,20 @@ pub record Place : Type 0 where
   pub text : Option (List ℕ)
   pub failures : ℕ
 
+-- the five, and the names that their files are made under
 pub record Places : Type 0 where
   pub config : Place
   pub header : Place
   pub minimal : Place
+  pub depfile : Place
   pub notes : Place
+  pub names : Which → List ℕ
 
 abbrev pub at : Places → Which → Place
 at places Config = places.config
 at places Header = places.header
 at places Minimal = places.minimal
+at places Depfile = places.depfile
 at places Notes = places.notes
 
 -- the places with this one at that output, and the others as they were
@@ -29,6 +33,7 @@ abbrev pub with_place : Places → Which → Place → Places
 with_place places Config place = record places { config = place }
 with_place places Header place = record places { header = place }
 with_place places Minimal place = record places { minimal = place }
+with_place places Depfile place = record places { depfile = place }
 with_place places Notes place = record places { notes = place }
 
 -- made empty
@@ -76,10 +81,12 @@ pub Only-same : (which : Which) (places : Places) → Only which places places
 Only-same Config places = refl
 Only-same Header places = refl
 Only-same Minimal places = refl
+Only-same Depfile places = refl
 Only-same Notes places = refl
 
 pub Only-only : (which : Which) (old mid new : Places) → Only which old mid → Only which mid new → Only which old new
 Only-only Config old mid new first second = rw first at second
 Only-only Header old mid new first second = rw first at second
 Only-only Minimal old mid new first second = rw first at second
+Only-only Depfile old mid new first second = rw first at second
 Only-only Notes old mid new first second = rw first at second

@@ -1,16 +1,34 @@
 -- For proofs: What reading the streams does.
-use Rattle.std.specs.Prelude.{◌≡◌, ℕ, List, ◌++◌, Option, Some, None}
+use Rattle.std.specs.Prelude.{◌≡◌, ℕ, Bool, true, ◌&&◌, ◌||◌, if◌then◌else◌, List, [], ◌++◌, Option, Some, None}
 use Rattle.kc_tree.specs.TreeFacts.{TreeFacts}
 use Rattle.kc_user.specs.Places.{Places as UserPlaces}
+use Rattle.kc_solve.specs.Solved.{Solution}
 use Rattle.kc_dot.specs.Feeding.{Spot, Goes, to_come}
 use Rattle.kc_dot.specs.Reading.{Line, Read, Stop, lines_from, lines_of, reading, told}
 use Rattle.kc_dot.specs.Sink.{BeginsWith, extended, next_failure}
 use Rattle.kc_conf.specs.Given.{preceded, AreToCome, AreAllToCome}
-use Rattle.kc_conf.specs.Outcome.{streams}
+use Rattle.kc_conf.specs.ErrorLines.{strict_line}
+use Rattle.kc_conf.specs.Faults.{marked}
+use Rattle.kc_conf.specs.Outcome.{Outcome, is_done, is_told, lines_text, lost_told, outcome_of, refused, streams}
+use Rattle.kc_conf.specs.Places.{Places, written}
+use Rattle.kc_words.specs.declared.options.Options.{Options}
 use Rattle.kc_conf.specs.declared.cause.Cause.{Cause}
 use Rattle.kc_conf.specs.declared.cause.Cause.TheVariants as cause
 use Rattle.kc_conf.specs.declared.outputs.Which.TheVariants.{Notes}
 use Rattle.kc_conf.specs.declared.reading.LongLine.{LongLine}
+
+-- `strictly`, where a part of the run is left to come, and whether anything was told before it
+abbrev pub strictly_after : Bool → Bool → Outcome → Outcome
+strictly_after strict before part =
+    if is_done part.status && (strict && (before || is_told part.notes)) then refused (part.notes ++ strict_line) else part
+
+-- without its notes
+abbrev pub silent : Outcome → Outcome
+silent outcome = record outcome { notes = [] }
+
+-- the files of a solution behind its warnings: the values that are lost are noted before
+abbrev pub behind_warnings : Options → TreeFacts → Solution → Outcome
+behind_warnings options tree solution = record (outcome_of options tree solution) { notes = lines_text (lost_told options solution) }
 
 -- the stream and the number of a line that is too long
 abbrev pub stop_of : LongLine → Stop
@@ -62,7 +80,7 @@ module _ (tree : TreeFacts) (prefix : List ℕ) where
     abbrev pub Takes : Option ℕ → List ℕ → Spot → Spot → UserPlaces → UserPlaces → List ℕ → Type 0
     Takes None bytes old new before after warned = Goes tree prefix name bytes old new before after warned
     Takes (Some number) bytes old new before after warned =
-        (more : List Line) → reading tree prefix before (to_come tree prefix name old bytes more)
+        (more : List Line) → reading tree prefix before (to_come name old bytes more)
         ≡ ended_with after warned (Some (record { stream = name; number = number }))
 
     -- the input gave these bytes, and the reader took them
@@ -74,7 +92,7 @@ module _ (tree : TreeFacts) (prefix : List ℕ) where
     abbrev pub BreaksPieces : Option (List ℕ) → Spot → UserPlaces → Option (List ℕ) → Option (List ℕ) → Type 0
     BreaksPieces given old before text text_after =
         (bytes front : List ℕ) × AreToCome given bytes × (text_after ≡ extended text front)
-        × ((more : List Line) → BeginsWith (reading tree prefix before (to_come tree prefix name old bytes more)).warned front)
+        × ((more : List Line) → BeginsWith (reading tree prefix before (to_come name old bytes more)).warned front)
 
     -- the lines of the stream were read, to their end or to one that is too long
     abbrev pub ReadsTo : Option ℕ → List Line → UserPlaces → UserPlaces → List ℕ → Type 0
@@ -96,6 +114,19 @@ module _ (tree : TreeFacts) (prefix : List ℕ) where
   ReadsStreams names stopped given before after text text_after =
       (all : List (List ℕ)) × (warned : List ℕ) × AreAllToCome given all × (text_after ≡ extended text warned)
       × (reading tree prefix before (lines_of (streams names all)) ≡ ended_with after warned stopped)
+
+  -- the same, with the warnings in the notes; under --strict it is known whether there is any
+  abbrev pub TellsStreams : Bool → List (List ℕ) → Option Stop → Bool → List (Option (List ℕ)) → UserPlaces → UserPlaces → Places → Places → Type 0
+  TellsStreams strict names stopped is_warned given before after old new =
+      (all : List (List ℕ)) × (warned : List ℕ) × AreAllToCome given all × (new ≡ written Notes warned old)
+      × (reading tree prefix before (lines_of (streams names all)) ≡ ended_with after warned stopped)
+      × (strict ≡ true → is_warned ≡ is_told warned)
+
+  -- and broke off for this cause
+  abbrev pub BreaksTelling : List (List ℕ) → Cause → List (Option (List ℕ)) → UserPlaces → Places → Places → Type 0
+  BreaksTelling names cause given before old new =
+      (all : List (List ℕ)) × (front : List ℕ) × AreAllToCome given all × (new ≡ marked cause (written Notes front old))
+      × BeginsWith (reading tree prefix before (lines_of (streams names all))).warned front
 
   -- the streams broke off, with a beginning of their warnings told
   abbrev pub BreaksStreams : List (List ℕ) → List (Option (List ℕ)) → UserPlaces → Option (List ℕ) → Option (List ℕ) → Type 0

@@ -1,10 +1,12 @@
 //! What holds of the outcomes of runs, stated as the contracts of functions that do nothing.
 ghost use Rattle.kc_conf.specs.Existence.{AcceptedHaveAnOutcome, AnswerExists, ExactlyOneOutcome, OutcomeExists, SolutionExists};
-ghost use Rattle.kc_conf.specs.Reruns.{ConfigIsReadAgain, MinimalIsReadAgain, MinimalIsRunAgain, WrittenAreWhole};
+ghost use Rattle.kc_conf.specs.Heard.{NothingIsLost};
+ghost use Rattle.kc_conf.specs.Reruns.{ConfigIsReadAgain, MinimalIsReadAgain, MinimalIsRunAgain, TextsHaveShortLines, WrittenAreWhole};
 
 use crate::runs::{one_answer, one_outcome};
-use kc_dot::laws::{config_settles, minimal_gives_back};
+use kc_dot::laws::{config_settles, minimal_gives_back, written_texts_are_short};
 use kc_dot::place_laws::reading_leaves_allowed_places;
+use kc_make::laws::opened_are_one_list;
 use kc_order::stuck_have_a_loop;
 use kc_read::laws::has_one_expansion;
 use kc_tree::laws::trees_are_well_formed;
@@ -16,22 +18,35 @@ pub fn written_are_whole()
     ensures { WrittenAreWhole }
 {}
 
+/// With `warn_lost`, where files are written: each line of the streams that is warned of stands in the notes with its
+/// warning, and what any other gives a symbol with a prompt is the symbol's value; or the notes tell that it is not; or a
+/// later line gives that symbol a value, and the notes tell that it is set again. (What says nothing is not told: comments,
+/// empty lines, and `# NAME is not set` of a string, int or hex. Our own.)
+pub fn nothing_is_lost()
+    ensures { NothingIsLost }
+{
+    written_are_whole();
+}
+
 /// For every file map, options and streams whose run refuses nothing, the minimal file and the `.config` read again, each
 /// alone and from empty places: the minimal file gives the values back, and with any nonempty set of its lines left out it
 /// does not; the `.config` does exactly where no visible tristate symbol outside a choice stands above both its visibility
-/// and its reverse dependency, under the premises of `config_settles` of kc_dot. (Our own.)
+/// and its reverse dependency, under the premises of `config_settles` of kc_dot. No line of the two is too long to be read again, under
+/// no premise. (Our own.)
 pub fn texts_are_read_again()
     ensures minimal { MinimalIsReadAgain }
     ensures config { ConfigIsReadAgain }
+    ensures short { TextsHaveShortLines }
 {
     trees_are_well_formed();
     reading_leaves_allowed_places();
     minimal_gives_back();
     config_settles();
+    written_texts_are_short();
 }
 
-/// A run on the minimal file alone, with the same files, root file and prefix, writes the `.config` that was written with
-/// that file. (Our own.)
+/// A run on the minimal file alone, with the same files, root file and prefix, which lets warnings pass, writes the
+/// `.config` that was written with that file. (Our own.)
 pub fn minimal_is_run_again()
     ensures { MinimalIsRunAgain }
 {
@@ -47,6 +62,7 @@ pub fn outcome_exists()
     ensures accepted { AcceptedHaveAnOutcome }
     ensures outcome { OutcomeExists }
 {
+    opened_are_one_list();
     accepted_have_one_solution();
     equations_read_needs();
     needs_are_defined();

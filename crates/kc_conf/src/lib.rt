@@ -4,11 +4,13 @@
 mod cause;
 mod input;
 pub mod laws;
+mod lost;
 mod notes;
 mod options;
 mod outputs;
 mod reading;
 mod runs;
+mod telling;
 mod writing;
 
 pub use cause::Cause;

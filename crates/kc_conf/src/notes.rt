@@ -1,7 +1,7 @@
 //! What a run writes to the notes.
 ghost use Rattle.std.specs.Prelude.{◌≡◌, ◌++◌, codes, OnOk, OnErr, flat_map, map as map_list};
 ghost use Rattle.kc_read.specs.Steps.{refusal_view};
-ghost use Rattle.kc_conf.specs.ErrorLines.{error_at, refusal_line, too_long_line, words_before, words_behind};
+ghost use Rattle.kc_conf.specs.ErrorLines.{error_at, refusal_line, strict_line, too_long_line, words_before, words_behind};
 ghost use Rattle.kc_conf.specs.Faults.{NotesLine, Reports};
 ghost use Rattle.kc_conf.specs.Outcome.{lines_text};
 ghost use Rattle.kc_conf.specs.Places.{written, Broke};
@@ -151,6 +151,22 @@ pub fn note_too_long<O: Outputs>(outputs: &mut O, long: &LongLine<'_>) -> Result
         b"",
         b"\n",
     )
+}
+
+// Writes the text to the notes.
+pub fn note_text<O: Outputs>(outputs: &mut O, text: &[u8]) -> Result<(), Fault>
+    ensures ok { OnOk result (O.seen outputs.new ≡ written Which.Notes text.now (O.seen outputs.old)) }
+    ensures err { OnErr result (Broke Which.Notes text.now (O.seen outputs.old) (O.seen outputs.new)) }
+{
+    note_parts(outputs, &[text])
+}
+
+// Writes the error line behind the warnings that are refused.
+pub fn note_strict<O: Outputs>(outputs: &mut O) -> Result<(), Fault>
+    ensures ok { OnOk result (O.seen outputs.new ≡ written Which.Notes strict_line (O.seen outputs.old)) }
+    ensures err { OnErr result (Broke Which.Notes strict_line (O.seen outputs.old) (O.seen outputs.new)) }
+{
+    note_text(outputs, b"error E21: warnings are refused\n")
 }
 
 // Writes an error line, or as much of it as the notes take.

@@ -11,7 +11,7 @@ use kc_words::Options;
 pub enum Status {
     /// The files are written.
     Done,
-    /// The tree or a line of a stream is refused, and nothing was begun.
+    /// The tree, a line of a stream or a warning is refused, and nothing was begun.
     Refused,
     /// The command line is bad. `run` never answers it.
     Usage,
@@ -30,6 +30,10 @@ pub fn name_of(options: &Options, which: Which) -> &[u8]
             None => b"",
         },
         Which::Minimal => match &options.minimal {
+            Some(name) => name.as_bytes(),
+            None => b"",
+        },
+        Which::Depfile => match &options.depfile {
             Some(name) => name.as_bytes(),
             None => b"",
         },

@@ -13,13 +13,15 @@ pub enum Which {
     Config,
     Header,
     Minimal,
+    Depfile,
     Notes,
 }
 
 /// The outputs of a run (our own).
 ///
-/// Outputs over memory tell their bytes; those over files tell nothing. Each output counts its failures in a `u64` that
-/// stays at its greatest value. No call changes another output.
+/// Outputs over memory tell their bytes; those over files what their maker tells. Each output counts its failures in a
+/// `u64` that stays at its greatest value. No call changes another output, or the name that an output's file is made
+/// under.
 pub trait Outputs {
     /// What is known of each output.
     ghost seen: { Self → Places };

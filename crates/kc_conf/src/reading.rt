@@ -5,16 +5,15 @@ ghost use Rattle.kc_user.specs.Places.{IsUserOf};
 ghost use Rattle.kc_dot.specs.Feeding.{Feeds, Refuses, Finishes, FailsToEnd, fed, first_spot, counted_fault};
 ghost use Rattle.kc_conf.specs.Faults.{CountsInputs, StrikesNotes};
 ghost use Rattle.kc_conf.specs.Outcome.{names_of};
-ghost use Rattle.kc_conf.specs.Places.{Only};
 ghost use Rattle.kc_conf.specs.Reads.{stop_of, counted_input, counted_notes, IsOfStream, TakesPieces, BreaksPieces, ReadsStream, BreaksStream, ReadsStreams, BreaksStreams};
 
 use crate::cause::Cause;
 use crate::input::Input;
 use crate::options::stream_name;
-use crate::outputs::{OutputSink, Outputs, Which};
-use kc_dot::Fault;
+use crate::outputs::Which;
 use kc_dot::fault::DotFault;
 use kc_dot::reader::DotReader;
+use kc_dot::{Fault, Sink};
 use kc_tree::tree::Tree;
 use kc_user::user::User;
 use kc_words::Options;
@@ -29,65 +28,63 @@ pub struct LongLine<'a> {
     pub number: u64,
 }
 
-// Feeds one piece, with the warnings on the notes.
-fn feed_piece<O: Outputs>(
+// Feeds one piece, with the warnings in the sink.
+fn feed_piece<S: Sink>(
     reader: &mut DotReader<'_>,
     piece: &[u8],
     user: &mut User,
-    outputs: &mut O,
+    sink: &mut S,
 ) -> Result<(), DotFault>
     requires user { IsUserOf reader.old.tree user.old }
     requires fresh { reader.old.refusal ≡ None }
-    ensures ok { OnOk result (Feeds reader.old.tree reader.old.prefix reader.old.name piece.now reader.old.spot reader.new.spot user.old user.new (O.seen outputs.old).notes.text (O.seen outputs.new).notes.text) }
+    ensures ok { OnOk result (Feeds reader.old.tree reader.old.prefix reader.old.name piece.now reader.old.spot reader.new.spot user.old user.new (S.taken sink.old) (S.taken sink.new)) }
     ensures stands { OnOk result (reader.new ≡ record reader.old { spot = reader.new.spot }) }
-    ensures refused { IfErr result (λ fault. Refuses reader.old.tree reader.old.prefix reader.old.name fault piece.now reader.old.spot reader.new.spot user.old user.new (O.seen outputs.old).notes.text (O.seen outputs.new).notes.text) }
-    ensures quiet { OnOk result ((O.seen outputs.new).notes.failures ≡ (O.seen outputs.old).notes.failures) }
-    ensures counted { IfErr result (λ fault. (O.seen outputs.new).notes.failures ≡ counted_fault fault (O.seen outputs.old).notes.failures) }
-    ensures only { Only Which.Notes (O.seen outputs.old) (O.seen outputs.new) }
+    ensures refused { IfErr result (λ fault. Refuses reader.old.tree reader.old.prefix reader.old.name fault piece.now reader.old.spot reader.new.spot user.old user.new (S.taken sink.old) (S.taken sink.new)) }
+    ensures quiet { OnOk result (S.failures sink.new ≡ S.failures sink.old) }
+    ensures counted { IfErr result (λ fault. S.failures sink.new ≡ counted_fault fault (S.failures sink.old)) }
+    ensures keeps { S.goes_to sink.old sink.new }
     ensures user { IsUserOf reader.old.tree user.new }
 {
-    let mut sink = OutputSink::new(outputs, Which::Notes);
-    reader.feed(piece, user, &mut sink)
+    reader.feed(piece, user, sink)
 }
 
-// Ends the stream, with its last line's warning on the notes.
-fn finish_notes<O: Outputs>(
+// Ends the stream, with its last line's warning in the sink.
+fn finish_stream<S: Sink>(
     reader: &mut DotReader<'_>,
     user: &mut User,
-    outputs: &mut O,
+    sink: &mut S,
 ) -> Result<(), DotFault>
     requires user { IsUserOf reader.old.tree user.old }
     requires fresh { reader.old.refusal ≡ None }
-    ensures ok { OnOk result (Finishes reader.old.tree reader.old.prefix reader.old.name reader.old.spot user.old user.new (O.seen outputs.old).notes.text (O.seen outputs.new).notes.text) }
-    ensures failed { IfErr result (λ fault. FailsToEnd reader.old.tree reader.old.prefix reader.old.name fault reader.old.spot user.old (O.seen outputs.old).notes.text (O.seen outputs.new).notes.text) }
-    ensures quiet { OnOk result ((O.seen outputs.new).notes.failures ≡ (O.seen outputs.old).notes.failures) }
-    ensures counted { IfErr result (λ fault. (O.seen outputs.new).notes.failures ≡ counted_fault fault (O.seen outputs.old).notes.failures) }
-    ensures only { Only Which.Notes (O.seen outputs.old) (O.seen outputs.new) }
+    ensures ok { OnOk result (Finishes reader.old.tree reader.old.prefix reader.old.name reader.old.spot user.old user.new (S.taken sink.old) (S.taken sink.new)) }
+    ensures failed { IfErr result (λ fault. FailsToEnd reader.old.tree reader.old.prefix reader.old.name fault reader.old.spot user.old (S.taken sink.old) (S.taken sink.new)) }
+    ensures quiet { OnOk result (S.failures sink.new ≡ S.failures sink.old) }
+    ensures counted { IfErr result (λ fault. S.failures sink.new ≡ counted_fault fault (S.failures sink.old)) }
+    ensures keeps { S.goes_to sink.old sink.new }
     ensures user { IsUserOf reader.old.tree user.new }
 {
-    let mut sink = OutputSink::new(outputs, Which::Notes);
-    reader.finish(user, &mut sink)
+    reader.finish(user, sink)
 }
 
 // Reads an input to its end, or to a line that is too long and whose number is answered.
-fn read_pieces<I: Input, O: Outputs>(
+fn read_pieces<I: Input, S: Sink>(
     reader: &mut DotReader<'_>,
     at: usize,
     input: &mut I,
     user: &mut User,
-    outputs: &mut O,
+    sink: &mut S,
 ) -> Result<Option<u64>, Cause>
     requires user { IsUserOf reader.old.tree user.old }
     requires fresh { reader.old.refusal ≡ None }
-    ensures ok { IfOk result (λ long. TakesPieces reader.old.tree reader.old.prefix reader.old.name long (I.remaining input.old) reader.old.spot reader.new.spot user.old user.new (O.seen outputs.old).notes.text (O.seen outputs.new).notes.text) }
+    ensures ok { IfOk result (λ long. TakesPieces reader.old.tree reader.old.prefix reader.old.name long (I.remaining input.old) reader.old.spot reader.new.spot user.old user.new (S.taken sink.old) (S.taken sink.new)) }
     ensures stands { IfOk result (λ long. long ≡ None → reader.new ≡ record reader.old { spot = reader.new.spot }) }
-    ensures err { OnErr result (BreaksPieces reader.old.tree reader.old.prefix reader.old.name (I.remaining input.old) reader.old.spot user.old (O.seen outputs.old).notes.text (O.seen outputs.new).notes.text) }
+    ensures err { OnErr result (BreaksPieces reader.old.tree reader.old.prefix reader.old.name (I.remaining input.old) reader.old.spot user.old (S.taken sink.old) (S.taken sink.new)) }
     ensures cause { IfErr result (IsOfStream at) }
-    ensures quiet { OnOk result ((O.seen outputs.new).notes.failures ≡ (O.seen outputs.old).notes.failures) }
-    ensures counted { IfErr result (λ cause. (O.seen outputs.new).notes.failures ≡ counted_notes cause (O.seen outputs.old).notes.failures) }
+    ensures quiet { OnOk result (S.failures sink.new ≡ S.failures sink.old) }
+    ensures counted { IfErr result (λ cause. S.failures sink.new ≡ counted_notes cause (S.failures sink.old)) }
     ensures quiet_input { OnOk result (I.failures input.new ≡ I.failures input.old) }
     ensures counted_input { IfErr result (λ cause. I.failures input.new ≡ counted_input cause (I.failures input.old)) }
-    ensures only { Only Which.Notes (O.seen outputs.old) (O.seen outputs.new) }
+    ensures keeps { S.goes_to sink.old sink.new }
     ensures user { IsUserOf reader.old.tree user.new }
 {
     let mut buffer = [0u8; PIECE];
@@ -99,7 +96,7 @@ fn read_pieces<I: Input, O: Outputs>(
         if count == 0 {
             return Ok(None);
         }
-        match feed_piece(reader, &buffer[..count], user, outputs) {
+        match feed_piece(reader, &buffer[..count], user, sink) {
             Ok(()) => {}
             Err(DotFault::ConfigLineTooLong(number)) => return Ok(Some(number)),
             Err(DotFault::Sink) => return Err(Cause::Write(Which::Notes)),
@@ -109,32 +106,32 @@ fn read_pieces<I: Input, O: Outputs>(
 }
 
 // Reads a stream to the end of its last line, or to a line that is too long and whose number is answered.
-fn read_stream<I: Input, O: Outputs>(
+fn read_stream<I: Input, S: Sink>(
     reader: &mut DotReader<'_>,
     at: usize,
     input: &mut I,
     user: &mut User,
-    outputs: &mut O,
+    sink: &mut S,
 ) -> Result<Option<u64>, Cause>
     requires user { IsUserOf reader.old.tree user.old }
     requires fresh { reader.old.refusal ≡ None }
     requires begins { reader.old.spot ≡ first_spot }
-    ensures ok { IfOk result (λ long. ReadsStream reader.old.tree reader.old.prefix reader.old.name long (I.remaining input.old) user.old user.new (O.seen outputs.old).notes.text (O.seen outputs.new).notes.text) }
-    ensures err { OnErr result (BreaksStream reader.old.tree reader.old.prefix reader.old.name (I.remaining input.old) user.old (O.seen outputs.old).notes.text (O.seen outputs.new).notes.text) }
+    ensures ok { IfOk result (λ long. ReadsStream reader.old.tree reader.old.prefix reader.old.name long (I.remaining input.old) user.old user.new (S.taken sink.old) (S.taken sink.new)) }
+    ensures err { OnErr result (BreaksStream reader.old.tree reader.old.prefix reader.old.name (I.remaining input.old) user.old (S.taken sink.old) (S.taken sink.new)) }
     ensures cause { IfErr result (IsOfStream at) }
-    ensures quiet { OnOk result ((O.seen outputs.new).notes.failures ≡ (O.seen outputs.old).notes.failures) }
-    ensures counted { IfErr result (λ cause. (O.seen outputs.new).notes.failures ≡ counted_notes cause (O.seen outputs.old).notes.failures) }
+    ensures quiet { OnOk result (S.failures sink.new ≡ S.failures sink.old) }
+    ensures counted { IfErr result (λ cause. S.failures sink.new ≡ counted_notes cause (S.failures sink.old)) }
     ensures quiet_input { OnOk result (I.failures input.new ≡ I.failures input.old) }
     ensures counted_input { IfErr result (λ cause. I.failures input.new ≡ counted_input cause (I.failures input.old)) }
-    ensures only { Only Which.Notes (O.seen outputs.old) (O.seen outputs.new) }
+    ensures keeps { S.goes_to sink.old sink.new }
     ensures user { IsUserOf reader.old.tree user.new }
 {
-    match read_pieces(reader, at, input, user, outputs) {
+    match read_pieces(reader, at, input, user, sink) {
         Ok(Some(number)) => return Ok(Some(number)),
         Ok(None) => {}
         Err(cause) => return Err(cause),
     }
-    match finish_notes(reader, user, outputs) {
+    match finish_stream(reader, user, sink) {
         Ok(()) => Ok(None),
         Err(DotFault::ConfigLineTooLong(number)) => Ok(Some(number)),
         Err(DotFault::Sink) => Err(Cause::Write(Which::Notes)),
@@ -144,30 +141,30 @@ fn read_stream<I: Input, O: Outputs>(
 
 // Reads the streams one after another, each with a reader of its own, to the end of the last or to a line that is too
 // long.
-pub fn read_streams<'a, I: Input, O: Outputs>(
+pub fn read_streams<'a, I: Input, S: Sink>(
     alloc: Global,
     options: &'a Options,
     tree: &Tree,
     inputs: &mut [I],
     user: &mut User,
-    outputs: &mut O,
+    sink: &mut S,
 ) -> Result<Option<LongLine<'a>>, Cause>
     requires inputs { length inputs.old ≡ length options.now.fragments.items + 1 }
     requires user { IsUserOf tree.now user.old }
-    ensures ok { IfOk result (λ long. ReadsStreams tree.now options.now.prefix (names_of options.now) (option_map stop_of long) (map I.remaining inputs.old) user.old user.new (O.seen outputs.old).notes.text (O.seen outputs.new).notes.text) }
-    ensures err { OnErr result (BreaksStreams tree.now options.now.prefix (names_of options.now) (map I.remaining inputs.old) user.old (O.seen outputs.old).notes.text (O.seen outputs.new).notes.text) }
-    ensures quiet { OnOk result ((O.seen outputs.new).notes.failures ≡ (O.seen outputs.old).notes.failures) }
+    ensures ok { IfOk result (λ long. ReadsStreams tree.now options.now.prefix (names_of options.now) (option_map stop_of long) (map I.remaining inputs.old) user.old user.new (S.taken sink.old) (S.taken sink.new)) }
+    ensures err { OnErr result (BreaksStreams tree.now options.now.prefix (names_of options.now) (map I.remaining inputs.old) user.old (S.taken sink.old) (S.taken sink.new)) }
+    ensures quiet { OnOk result (S.failures sink.new ≡ S.failures sink.old) }
     ensures cause { IfErr result StrikesNotes }
-    ensures counted { IfErr result (λ cause. (O.seen outputs.new).notes.failures ≡ counted_notes cause (O.seen outputs.old).notes.failures) }
+    ensures counted { IfErr result (λ cause. S.failures sink.new ≡ counted_notes cause (S.failures sink.old)) }
     ensures quiet_inputs { OnOk result (map I.failures inputs.new ≡ map I.failures inputs.old) }
     ensures counted_inputs { IfErr result (λ cause. CountsInputs cause (map I.failures inputs.old) (map I.failures inputs.new)) }
-    ensures only { Only Which.Notes (O.seen outputs.old) (O.seen outputs.new) }
+    ensures keeps { S.goes_to sink.old sink.new }
     ensures user { IsUserOf tree.now user.new }
 {
     for at in 0..inputs.len() {
         let name = stream_name(options, at);
         let mut reader = DotReader::new(alloc, tree, &options.prefix, name);
-        match read_stream(&mut reader, at, &mut inputs[at], user, outputs) {
+        match read_stream(&mut reader, at, &mut inputs[at], user, sink) {
             Ok(None) => {}
             Ok(Some(number)) => {
                 return Ok(Some(LongLine {

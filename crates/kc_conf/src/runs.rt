@@ -1,36 +1,42 @@
 //! The run over devices.
-ghost use Rattle.std.specs.Prelude.{◌≡◌, ◌≢◌, ◌+◌, ◌⊎◌, List, ℕ, length, map, OnOk, IfErr, IfOk};
+ghost use Rattle.std.specs.Prelude.{◌≡◌, ◌≢◌, ◌+◌, ◌||◌, ◌⊎◌, List, ℕ, length, map, OnOk, IfErr, IfOk};
 ghost use Rattle.kc_read.specs.Expansion.{Refused};
 ghost use Rattle.kc_read.specs.Files.{bytes_in};
 ghost use Rattle.kc_read.specs.Steps.{refusal_view};
 ghost use Rattle.kc_read.specs.declared.refusal.Code.TheVariants.{Memory};
+ghost use Rattle.kc_make.specs.Opened.{AreOpened};
 ghost use Rattle.kc_user.specs.Places.{IsUserOf};
 ghost use Rattle.kc_tree.specs.TreeFacts.{TreeFacts};
 ghost use Rattle.kc_values.specs.Needs.{needs};
 ghost use Rattle.kc_solve.specs.Solved.{Solution};
-ghost use Rattle.kc_conf.specs.ErrorLines.{refusal_line, too_long_line};
+ghost use Rattle.kc_conf.specs.ErrorLines.{refusal_line, strict_line, too_long_line};
 ghost use Rattle.kc_conf.specs.Faults.{Finishes, Broken, IsOfOutputs, CountsInputs, Faults};
 ghost use Rattle.kc_conf.specs.Given.{AreAllToCome};
 ghost use Rattle.kc_conf.specs.Kept.{Holds};
-ghost use Rattle.kc_conf.specs.Outcome.{Outcome, outcome_of, refused, root_of, read_of, IsAcceptedTree, IsRefusedTree, IsSolutionFor, IsOutcome, IsOutcomeOfReading, IsOutcomeOfTree, OneAnswer, OneOutcome};
+ghost use Rattle.kc_conf.specs.Outcome.{Outcome, is_told, lines_text, outcome_of, refused, strictly, with_rule, root_of, read_of, IsAcceptedTree, IsRefusedTree, IsSolutionFor, IsOutcome, IsOutcomeOfReading, IsOutcomeOfTree, OneAnswer, OneOutcome};
 ghost use Rattle.kc_conf.specs.Places.{Only};
-ghost use Rattle.kc_conf.specs.Reads.{stop_of};
+ghost use Rattle.kc_conf.specs.Rules.{BreaksInRule, EndsWithRule};
+ghost use Rattle.kc_conf.specs.Reads.{behind_warnings, silent, stop_of, strictly_after};
 ghost use Rattle.kc_conf.specs.declared.cause.Cause.{Cause};
 
 use crate::cause::Cause;
 use crate::input::Input;
 use crate::laws::exactly_one_outcome;
-use crate::notes::{note_lines, note_refusal, note_too_long, report};
+use crate::lost::lost_told;
+use crate::notes::{note_lines, note_refusal, note_strict, note_too_long, report};
 use crate::options::Status;
 use crate::outputs::{Outputs, Which};
-use crate::reading::{LongLine, read_streams};
-use crate::writing::make_files;
+use crate::reading::LongLine;
+use crate::telling::tell_streams;
+use crate::writing::{make_depfile, make_files};
 use kc_dot::Fault;
+use kc_make::laws::opened_are_one_list;
 use kc_order::one_named_loop;
 use kc_read::file_map::FileMap;
 use kc_read::refusal::{Code, Refusal};
 use kc_solve::order::Order;
 use kc_solve::solve::solve;
+use kc_solve::solved::Solved;
 use kc_tree::laws::one_tree;
 use kc_tree::tree::Tree;
 use kc_user::user::User;
@@ -86,21 +92,93 @@ fn refuse_line<O: Outputs>(outputs: &mut O, long: &LongLine<'_>) -> Result<Statu
     }
 }
 
-// Solves the tree for the user's places, and writes the values' warnings and the files.
+// Refuses the warnings.
+fn refuse_warnings<O: Outputs>(outputs: &mut O) -> Result<Status, Cause>
+    ensures ok { IfOk result (λ status. Finishes (refused strict_line) status (O.seen outputs.old) (O.seen outputs.new)) }
+    ensures err { IfErr result (λ cause. Broken (refused strict_line) cause (O.seen outputs.old) (O.seen outputs.new)) }
+    ensures cause { IfErr result IsOfOutputs }
+{
+    match note_strict(outputs) {
+        Ok(()) => Ok(Status::Refused),
+        Err(Fault) => Err(Cause::Write(Which::Notes)),
+    }
+}
+
+// Writes the files, or refuses the warnings that were told.
+fn make_or_refuse<O: Outputs>(
+    alloc: Global,
+    options: &Options,
+    tree: &Tree,
+    solved: &Solved<'_>,
+    is_warned: bool,
+    outputs: &mut O,
+) -> Result<Status, Cause>
+    requires { solved.now.tree ≡ tree.now }
+    ensures ok { IfOk result (λ status. Finishes (strictly_after options.now.strict is_warned (silent (outcome_of options.now tree.now solved.now))) status (O.seen outputs.old) (O.seen outputs.new)) }
+    ensures err { IfErr result (λ cause. Broken (strictly_after options.now.strict is_warned (silent (outcome_of options.now tree.now solved.now))) cause (O.seen outputs.old) (O.seen outputs.new)) }
+    ensures cause { IfErr result IsOfOutputs }
+{
+    if options.strict && is_warned {
+        return refuse_warnings(outputs);
+    }
+    make_files(alloc, options, tree, solved, outputs)?;
+    Ok(Status::Done)
+}
+
+// Whether anything was told before, or is told by these lines.
+#[tactic(auto, using(crate::proofs::TellingLemmas::told_by_lines))]
+fn is_told_by(before: bool, lines: &[Vec<u8>]) -> bool
+    ensures { result ≡ (before || is_told (lines_text (map (λ line. line.items) lines.now))) }
+{
+    before || !lines.is_empty()
+}
+
+// Whether anything was told before, or later.
+fn is_either(before: bool, later: bool) -> bool
+    ensures { result ≡ (before || later) }
+{
+    before || later
+}
+
+// Writes the lines of the values that are lost, where they are asked for, and the files.
+fn run_lost<O: Outputs>(
+    alloc: Global,
+    options: &Options,
+    tree: &Tree,
+    solved: &Solved<'_>,
+    is_warned: bool,
+    outputs: &mut O,
+) -> Result<Status, Cause>
+    requires { solved.now.tree ≡ tree.now }
+    ensures ok { IfOk result (λ status. Finishes (strictly_after options.now.strict is_warned (behind_warnings options.now tree.now solved.now)) status (O.seen outputs.old) (O.seen outputs.new)) }
+    ensures err { IfErr result (λ cause. Broken (strictly_after options.now.strict is_warned (behind_warnings options.now tree.now solved.now)) cause (O.seen outputs.old) (O.seen outputs.new)) }
+    ensures cause { IfErr result IsOfOutputs }
+{
+    let lost = lost_told(alloc, options, solved)?;
+    let lines = lost.as_slice();
+    if let Err(Fault) = note_lines(outputs, lines) {
+        return Err(Cause::Write(Which::Notes));
+    }
+    let is_warned = is_told_by(is_warned, lines);
+    make_or_refuse(alloc, options, tree, solved, is_warned, outputs)
+}
+
+// Solves the tree for the user's places, and writes the values' warnings and what follows them.
 fn run_solved<O: Outputs>(
     alloc: Global,
     options: &Options,
     tree: &Tree,
     order: &Order,
     user: &User,
+    is_warned: bool,
     outputs: &mut O,
 ) -> Result<Status, Cause>
     requires order { order.now ≡ needs tree.now }
     requires user { IsUserOf tree.now user.now }
     ensures ok { IfOk result (λ status. (solution : Solution) × IsSolutionFor tree.now user.now solution
-        × Finishes (outcome_of options.now tree.now solution) status (O.seen outputs.old) (O.seen outputs.new)) }
+        × Finishes (strictly_after options.now.strict is_warned (outcome_of options.now tree.now solution)) status (O.seen outputs.old) (O.seen outputs.new)) }
     ensures err { IfErr result (λ cause. (solution : Solution) → IsSolutionFor tree.now user.now solution
-        → Broken (outcome_of options.now tree.now solution) cause (O.seen outputs.old) (O.seen outputs.new)) }
+        → Broken (strictly_after options.now.strict is_warned (outcome_of options.now tree.now solution)) cause (O.seen outputs.old) (O.seen outputs.new)) }
     ensures cause { IfErr result IsOfOutputs }
 {
     let solved = solve(alloc, tree, order, user)?;
@@ -108,8 +186,8 @@ fn run_solved<O: Outputs>(
     if let Err(Fault) = note_lines(outputs, solved.value_warnings()) {
         return Err(Cause::Write(Which::Notes));
     }
-    make_files(alloc, options, tree, &solved, outputs)?;
-    Ok(Status::Done)
+    let is_warned = is_told_by(is_warned, solved.value_warnings());
+    run_lost(alloc, options, tree, &solved, is_warned, outputs)
 }
 
 // Reads the streams, and writes what follows from them.
@@ -118,25 +196,32 @@ fn run_read<I: Input, O: Outputs>(
     options: &Options,
     tree: &Tree,
     order: &Order,
+    is_warned: bool,
     inputs: &mut [I],
     outputs: &mut O,
 ) -> Result<Status, Cause>
     requires order { order.now ≡ needs tree.now }
     requires inputs { length inputs.old ≡ length options.now.fragments.items + 1 }
     ensures ok { IfOk result (λ status. (all : List (List ℕ)) × AreAllToCome (map I.remaining inputs.old) all
-        × ((outcome : Outcome) × IsOutcomeOfReading options.now tree.now (read_of options.now tree.now all) outcome
-        × Finishes outcome status (O.seen outputs.old) (O.seen outputs.new))) }
+        × ((part : Outcome) × IsOutcomeOfReading options.now tree.now (read_of options.now tree.now all) part
+        × Finishes (strictly_after options.now.strict is_warned part) status (O.seen outputs.old) (O.seen outputs.new))) }
     ensures err { IfErr result (λ cause. (all : List (List ℕ)) × AreAllToCome (map I.remaining inputs.old) all
-        × ((outcome : Outcome) → IsOutcomeOfReading options.now tree.now (read_of options.now tree.now all) outcome
-        → Broken outcome cause (O.seen outputs.old) (O.seen outputs.new))) }
+        × ((part : Outcome) → IsOutcomeOfReading options.now tree.now (read_of options.now tree.now all) part
+        → Broken (strictly_after options.now.strict is_warned part) cause (O.seen outputs.old) (O.seen outputs.new))) }
     ensures quiet_inputs { OnOk result (map I.failures inputs.new ≡ map I.failures inputs.old) }
     ensures counted_inputs { IfErr result (λ cause. CountsInputs cause (map I.failures inputs.old) (map I.failures inputs.new)) }
 {
     let mut user = User::new(alloc, tree)?;
-    match read_streams(alloc, options, tree, inputs, &mut user, outputs) {
-        Ok(None) => run_solved(alloc, options, tree, order, &user, outputs),
-        Ok(Some(long)) => refuse_line(outputs, &long),
-        Err(cause) => Err(cause),
+    let streamed = match tell_streams(alloc, options, tree, inputs, &mut user, outputs) {
+        Ok(streamed) => streamed,
+        Err(cause) => return Err(cause),
+    };
+    match streamed.long {
+        None => {
+            let is_warned = is_either(is_warned, streamed.is_warned);
+            run_solved(alloc, options, tree, order, &user, is_warned, outputs)
+        }
+        Some(long) => refuse_line(outputs, &long),
     }
 }
 
@@ -152,18 +237,69 @@ fn run_tree<I: Input, O: Outputs>(
     requires order { order.now ≡ needs tree.now }
     requires inputs { length inputs.old ≡ length options.now.fragments.items + 1 }
     ensures ok { IfOk result (λ status. (all : List (List ℕ)) × AreAllToCome (map I.remaining inputs.old) all
-        × ((outcome : Outcome) × IsOutcomeOfTree options.now tree.now all outcome
-        × Finishes outcome status (O.seen outputs.old) (O.seen outputs.new))) }
+        × ((part : Outcome) × IsOutcomeOfTree options.now tree.now all part
+        × Finishes (strictly options.now.strict part) status (O.seen outputs.old) (O.seen outputs.new))) }
     ensures err { IfErr result (λ cause. (all : List (List ℕ)) × AreAllToCome (map I.remaining inputs.old) all
-        × ((outcome : Outcome) → IsOutcomeOfTree options.now tree.now all outcome
-        → Broken outcome cause (O.seen outputs.old) (O.seen outputs.new))) }
+        × ((part : Outcome) → IsOutcomeOfTree options.now tree.now all part
+        → Broken (strictly options.now.strict part) cause (O.seen outputs.old) (O.seen outputs.new))) }
     ensures quiet_inputs { OnOk result (map I.failures inputs.new ≡ map I.failures inputs.old) }
     ensures counted_inputs { IfErr result (λ cause. CountsInputs cause (map I.failures inputs.old) (map I.failures inputs.new)) }
 {
     if let Err(Fault) = note_lines(outputs, tree.parse_warnings()) {
         return Err(Cause::Write(Which::Notes));
     }
-    run_read(alloc, options, tree, order, inputs, outputs)
+    let is_warned = is_told_by(false, tree.parse_warnings());
+    run_read(alloc, options, tree, order, is_warned, inputs, outputs)
+}
+
+// Writes the rule for make behind the files, where the run wrote them.
+fn end_run<O: Outputs>(
+    alloc: Global,
+    files: &FileMap,
+    options: &Options,
+    status: Status,
+    outputs: &mut O,
+) -> Result<Status, Cause>
+    ensures ok { IfOk result (λ ended. (opened : List (List ℕ)) × AreOpened (bytes_in files.now) (root_of options.now) opened × EndsWithRule options.now opened status ended (O.seen outputs.old) (O.seen outputs.new)) }
+    ensures err { IfErr result (λ cause. (opened : List (List ℕ)) × AreOpened (bytes_in files.now) (root_of options.now) opened × BreaksInRule options.now opened status cause (O.seen outputs.old) (O.seen outputs.new)) }
+    ensures cause { IfErr result IsOfOutputs }
+{
+    opened_are_one_list();
+    if status != Status::Done {
+        return Ok(status);
+    }
+    make_depfile(alloc, files, options, outputs)?;
+    Ok(Status::Done)
+}
+
+// Runs over an accepted tree: its warnings, what follows from the streams, and the rule for make.
+fn run_accepted<I: Input, O: Outputs>(
+    alloc: Global,
+    files: &FileMap,
+    options: &Options,
+    tree: &Tree,
+    order: &Order,
+    inputs: &mut [I],
+    outputs: &mut O,
+) -> Result<Status, Cause>
+    requires order { order.now ≡ needs tree.now }
+    requires inputs { length inputs.old ≡ length options.now.fragments.items + 1 }
+    requires accepted { IsAcceptedTree (bytes_in files.now) (root_of options.now) tree.now }
+    ensures ok { IfOk result (λ status. (all : List (List ℕ)) × AreAllToCome (map I.remaining inputs.old) all
+        × ((outcome : Outcome) × IsOutcome (bytes_in files.now) options.now all outcome
+        × Finishes outcome status (O.seen outputs.old) (O.seen outputs.new))) }
+    ensures err { IfErr result (λ cause. (all : List (List ℕ)) × AreAllToCome (map I.remaining inputs.old) all
+        × ((outcome : Outcome) → IsOutcome (bytes_in files.now) options.now all outcome
+        → Broken outcome cause (O.seen outputs.old) (O.seen outputs.new))) }
+    ensures quiet_inputs { OnOk result (map I.failures inputs.new ≡ map I.failures inputs.old) }
+    ensures counted_inputs { IfErr result (λ cause. CountsInputs cause (map I.failures inputs.old) (map I.failures inputs.new)) }
+{
+    one_answer();
+    opened_are_one_list();
+    match run_tree(alloc, options, tree, order, inputs, outputs) {
+        Ok(status) => end_run(alloc, files, options, status, outputs),
+        Err(cause) => Err(cause),
+    }
 }
 
 // From the tree to the files.
@@ -191,9 +327,10 @@ fn run_through<I: Input, O: Outputs>(
     ensures either_kept { (tree : TreeFacts) → IsAcceptedTree (bytes_in files.now) (root_of options.now) tree → (kept.new ≡ kept.old) ⊎ Holds tree kept.new }
 {
     one_answer();
+    opened_are_one_list();
     match accepted(alloc, files, options.kconfig.as_bytes()) {
         Ok((tree, order)) => {
-            let ended = run_tree(alloc, options, &tree, &order, inputs, outputs);
+            let ended = run_accepted(alloc, files, options, &tree, &order, inputs, outputs);
             *kept = Some(Kept { tree, order });
             ended
         }
@@ -210,7 +347,8 @@ fn run_through<I: Input, O: Outputs>(
 /// The caller owes one input for the `.config` and one for each fragment, in order. `Done` and `Refused` are answered
 /// only where every output is exactly what the definition of the outcome says and no device failed; the values are then
 /// the one solution of the tree's equations. A refused tree (E1 to E16) reads no byte and begins nothing, nor does a line
-/// of more than 65,535 bytes (E17) begin anything. `Faulted` means that an input failed (E18), an output failed (E19) or
+/// of more than 65,535 bytes (E17) begin anything; nor, where `options.strict` refuses them, does any warning (E21): those
+/// of the streams are then told once all streams are read. `Faulted` means that an input failed (E18), an output failed (E19) or
 /// no memory was to be had (E20): everything before is whole, the output that was struck is as it was handed in or holds a
 /// beginning of its text, and one error line follows on the notes unless the notes are what failed. `Usage` is never
 /// answered.
@@ -296,4 +434,5 @@ pub fn one_outcome()
     ensures { OneOutcome }
 {
     one_answer();
+    opened_are_one_list();
 }

@@ -1,22 +1,27 @@
 //! The files of a solution.
-ghost use Rattle.std.specs.Prelude.{◌≡◌, Some, OnOk, IfErr};
+ghost use Rattle.std.specs.Prelude.{◌≡◌, List, ℕ, Some, map, string_bytes, OnOk, IfErr, IfOk};
 ghost use Rattle.kc_dot.specs.SolutionTold.{told_of};
 ghost use Rattle.kc_dot.specs.Texts.{config_text, header_text, minimal_text};
+ghost use Rattle.kc_make.specs.Opened.{AreOpened};
+ghost use Rattle.kc_read.specs.Files.{bytes_in};
 ghost use Rattle.kc_solve.specs.Solved.{Solution};
 ghost use Rattle.kc_conf.specs.Faults.{files_made, BreaksFile, BreaksFiles, IsOfOutputs, marked, write_cause};
-ghost use Rattle.kc_conf.specs.Outcome.{outcome_of, text_if};
+ghost use Rattle.kc_conf.specs.Outcome.{depfile_text, outcome_of, root_of, text_if};
 ghost use Rattle.kc_conf.specs.Places.{at, ended, made_if, with_place};
 
 use crate::cause::Cause;
-use crate::outputs::{OutputSink, Outputs, Which};
+use crate::outputs::{OutputSink, Outputs, Which, put_to};
 use kc_dot::Fault;
 use kc_dot::config::write_config;
 use kc_dot::fault::WriteFault;
 use kc_dot::header::{write_header, write_minimal};
+use kc_make::laws::opened_are_one_list;
+use kc_make::{add_rule, made_of};
+use kc_read::file_map::FileMap;
 use kc_solve::solved::Solved;
 use kc_tree::tree::Tree;
 use kc_words::Options;
-use std::alloc::Global;
+use std::alloc::{AllocError, Global};
 
 // What ends a run where writing that output failed so.
 fn cause_of(fault: WriteFault, which: Which) -> Cause
@@ -127,4 +132,58 @@ pub fn make_files<O: Outputs>(
     make_config(alloc, options, tree, solved, outputs)?;
     make_header(alloc, options, tree, solved, outputs)?;
     make_minimal(alloc, options, tree, solved, outputs)
+}
+
+// The rule for make of these files.
+fn rule_for(alloc: Global, options: &Options, files: &FileMap) -> Result<Vec<u8>, AllocError>
+    ensures { IfOk result (λ text. (opened : List (List ℕ)) × AreOpened (bytes_in files.now) (root_of options.now) opened × (text.items ≡ depfile_text options.now opened)) }
+{
+    let names = made_of(
+        alloc,
+        files,
+        options.root.as_str(),
+        options.kconfig.as_bytes(),
+        options.fragments.as_slice(),
+    )?;
+    let mut text = Vec::new(alloc);
+    add_rule(options.out.as_bytes(), &names, &mut text)?;
+    Ok(text)
+}
+
+// Begins Depfile, writes this text and ends it.
+fn put_depfile<O: Outputs>(text: &[u8], outputs: &mut O) -> Result<(), Cause>
+    ensures ok { OnOk result (O.seen outputs.new ≡ made_if Which.Depfile (Some text.now) (O.seen outputs.old)) }
+    ensures err { IfErr result (λ cause. BreaksFile Which.Depfile (Some text.now) cause (O.seen outputs.old) (O.seen outputs.new)) }
+    ensures cause { IfErr result IsOfOutputs }
+{
+    if let Err(Fault) = outputs.begin(Which::Depfile) {
+        return Err(Cause::Write(Which::Depfile));
+    }
+    if let Err(Fault) = put_to(outputs, Which::Depfile, &[text]) {
+        return Err(Cause::Write(Which::Depfile));
+    }
+    end(Which::Depfile, outputs)
+}
+
+// Writes the rule for make of these files, where it is wanted.
+pub fn make_depfile<O: Outputs>(
+    alloc: Global,
+    files: &FileMap,
+    options: &Options,
+    outputs: &mut O,
+) -> Result<(), Cause>
+    ensures ok { OnOk result ((opened : List (List ℕ)) × AreOpened (bytes_in files.now) (root_of options.now) opened
+        × (O.seen outputs.new ≡ made_if Which.Depfile (text_if options.now.depfile (depfile_text options.now opened)) (O.seen outputs.old))) }
+    ensures err { IfErr result (λ cause. (opened : List (List ℕ)) × AreOpened (bytes_in files.now) (root_of options.now) opened
+        × BreaksFile Which.Depfile (text_if options.now.depfile (depfile_text options.now opened)) cause (O.seen outputs.old) (O.seen outputs.new)) }
+    ensures cause { IfErr result IsOfOutputs }
+{
+    opened_are_one_list();
+    if options.depfile.is_none() {
+        return Ok(());
+    }
+    let Ok(text) = rule_for(alloc, options, files) else {
+        return Err(Cause::Memory);
+    };
+    put_depfile(&text, outputs)
 }

@@ -19,11 +19,11 @@ use std::alloc::Global;
 /// that is no UTF-8 has none. The caller owes one input for the `.config` and one for each fragment, in order.
 ///
 /// For these files, the options and the bytes of the streams there is exactly one outcome: the tree's refusal (E1 to E16), a
-/// line's (E17), or the files and notes of the tree's one solution. `Done` and `Refused` are answered only where the outputs
+/// line's (E17), that of warnings (E21), or the files and notes of the tree's one solution. `Done` and `Refused` are answered only where the outputs
 /// are the outcome's; `Faulted` as `run_keeping` of kc_conf answers it.
 ///
-/// An error is a fault of loading: E18 where the folder's device failed at a file whose turn it was, E20 where memory was
-/// refused. Nothing was read from an input then, no output was begun or written, and `files` and `kept` are as they were.
+/// An error is a fault of loading: E18 where the folder's device failed at a file whose turn it was and at whose path it may
+/// fail, E20 where memory was refused. Nothing was read from an input then, no output was begun or written, and `files` and `kept` are as they were.
 /// Else `files` is what was read of the folder, and `kept` what `run_keeping` keeps. A program that ends anyway may forget
 /// both.
 pub fn configure<F: Folder, I: Input, O: Outputs>(
@@ -44,15 +44,16 @@ pub fn configure<F: Folder, I: Input, O: Outputs>(
         × Keeps tree_files options.now status kept.old kept.new) }
     // What was read of the folder is handed out.
     ensures loaded { OnOk result (Loads (F.files folder.old) (string_bytes options.now.root) (root_of options.now) (bytes_in files.new)) }
-    // A file that could not be read is one whose turn it was.
-    ensures fault { IfErr result (IsLoadFault (F.files folder.old) (string_bytes options.now.root) (root_of options.now)) }
+    // A file that could not be read is one whose turn it was, and at whose path the folder may fail.
+    ensures fault { IfErr result (IsLoadFault (F.files folder.old) (F.failing folder.old) (string_bytes options.now.root) (root_of options.now)) }
     // After a fault of loading all is as it was.
     ensures untouched_inputs { OnErr result (inputs.new ≡ inputs.old) }
     ensures untouched_outputs { OnErr result (outputs.new ≡ outputs.old) }
     ensures untouched_files { OnErr result (files.new ≡ files.old) }
     ensures untouched_kept { OnErr result (kept.new ≡ kept.old) }
-    // The folder's files stay, and a failure of it is counted only where it ended the loading.
+    // The folder's files stay, and the paths at which it may fail; a failure of it is counted only where it ended the loading.
     ensures stays { F.files folder.new ≡ F.files folder.old }
+    ensures failing_stays { F.failing folder.new ≡ F.failing folder.old }
     ensures quiet { OnOk result (F.failures folder.new ≡ F.failures folder.old) }
     ensures counted { IfErr result (λ fault. F.failures folder.new ≡ counted_load fault (F.failures folder.old)) }
 {

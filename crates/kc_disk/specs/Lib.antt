@@ -1,2 +1,15 @@
+pub mod Answering
 pub mod Devices
-pub mod Written
+pub mod Drafted
+pub mod Lines
+pub mod Makers
+pub mod Moved
+pub mod Openers
+pub mod Placing
+pub mod Program
+pub mod Reached
+pub mod Replacing
+pub mod Stages
+pub mod Standing
+pub mod Stopping
+pub mod Texts

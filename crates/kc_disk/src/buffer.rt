@@ -1,11 +1,12 @@
 //! Bytes on their way to a file.
-ghost use Rattle.std.specs.Prelude.{◌≡◌, ◌<◌, ◌≤◌, [], length, take, IfOk, OnOk, OnErr};
-ghost use Rattle.std.specs.Io.KnownBytes.{Appends, Keeps, append_known};
-ghost use Rattle.kc_disk.specs.Written.{WritesFront};
+ghost use Rattle.std.specs.Prelude.{◌≡◌, ◌<◌, ◌≤◌, ◌-◌, ◌++◌, List, ℕ, [], length, take, drop, option_map, IfOk, OnOk, OnErr};
+ghost use Rattle.kc_disk.specs.Makers.{IsOpen, Tells, Told, appended};
+ghost use Rattle.kc_disk.specs.Moved.{Moves};
 
+use crate::maker::Maker;
+use kc_conf::Which;
 use kc_dot::Fault;
 use std::alloc::{AllocError, Global};
-use std::io::Write;
 
 /// How many bytes wait at most.
 const CAPACITY: usize = 65_536;
@@ -19,20 +20,21 @@ pub(crate) struct Buffer {
     bytes: Vec<u8>,
 }
 
-// Writes all bytes, or on `Fault` a beginning of them.
-fn write_whole<W: Write>(bytes: &[u8], file: &mut W) -> Result<(), Fault>
-    ensures ok { OnOk result (Appends (W.contents file.old) (W.contents file.new) bytes.now) }
-    ensures err { OnErr result (WritesFront bytes.now (W.contents file.old) (W.contents file.new)) }
+/// Writes the bytes until all are written or a write fails or takes none, and answers how many were written.
+pub(crate) fn write_front<M: Maker>(bytes: &[u8], which: Which, maker: &mut M) -> usize
+    requires { Tells (M.told maker.old) (IsOpen which) }
+    ensures within { result ≤ length bytes.now }
+    ensures told { M.told maker.new ≡ option_map (appended which (take result bytes.now)) (M.told maker.old) }
 {
     let mut at = 0;
     while at < bytes.len() {
-        match file.write(&bytes[at..]) {
+        match maker.write(which, &bytes[at..]) {
             Ok(count) if count > 0 => at += count,
-            Ok(_) => return Err(Fault),
-            Err(_) => return Err(Fault),
+            Ok(_) => return at,
+            Err(_) => return at,
         }
     }
-    Ok(())
+    at
 }
 
 impl Buffer {
@@ -51,33 +53,55 @@ impl Buffer {
         self.bytes.clear();
     }
 
-    /// Writes what waits. On `Fault` a beginning of it may be written, and all of it is let go.
-    pub(crate) fn flush<W: Write>(&mut self, file: &mut W) -> Result<(), Fault>
-        ensures empty { self.new.bytes.items ≡ [] }
-        ensures ok { OnOk result (Keeps (append_known (W.contents file.old) self.old.bytes.items) (append_known (W.contents file.new) self.new.bytes.items)) }
-        ensures err { OnErr result (WritesFront self.old.bytes.items (W.contents file.old) (W.contents file.new)) }
+    /// Writes what waits. On `Fault` a beginning of it is written, and the rest waits on.
+    pub(crate) fn flush<M: Maker>(&mut self, which: Which, maker: &mut M) -> Result<(), Fault>
+        requires { Tells (M.told maker.old) (IsOpen which) }
+        ensures moves { Moves which self.old.bytes.items self.new.bytes.items (M.told maker.old) (M.told maker.new) }
+        ensures whole { OnOk result (self.new.bytes.items ≡ []) }
     {
-        let written = write_whole(&self.bytes, file);
-        self.bytes.clear();
-        written
+        let count = write_front(&self.bytes, which, maker);
+        if count == self.bytes.len() {
+            self.bytes.clear();
+            return Ok(());
+        }
+        let rest = self.bytes.len() - count;
+        self.bytes.rotate_left(count);
+        self.bytes.truncate(rest);
+        Err(Fault)
     }
 
     /// Takes a beginning of the bytes, and answers how many it took. What waits is written first where there is no room.
-    /// On `Fault` a beginning of it may be written.
-    pub(crate) fn take<W: Write>(&mut self, bytes: &[u8], file: &mut W) -> Result<usize, Fault>
-        requires { 0 < length bytes.now }
+    /// On `Fault` none is taken, and a beginning of what waits may be written.
+    pub(crate) fn take<M: Maker>(
+        &mut self,
+        bytes: &[u8],
+        which: Which,
+        maker: &mut M,
+    ) -> Result<usize, Fault>
+        requires is_open { Tells (M.told maker.old) (IsOpen which) }
+        requires some { 0 < length bytes.now }
         ensures some { IfOk result (λ count. 0 < count) }
         ensures within { IfOk result (λ count. count ≤ length bytes.now) }
-        ensures ok { IfOk result (λ count. Appends (append_known (W.contents file.old) self.old.bytes.items) (append_known (W.contents file.new) self.new.bytes.items) (take count bytes.now)) }
-        ensures err { OnErr result (WritesFront self.old.bytes.items (W.contents file.old) (W.contents file.new)) }
+        ensures ok { IfOk result (λ count. (rest : List ℕ) × Moves which self.old.bytes.items rest (M.told maker.old) (M.told maker.new) × (self.new.bytes.items ≡ rest ++ take count bytes.now)) }
+        ensures err { OnErr result (Moves which self.old.bytes.items self.new.bytes.items (M.told maker.old) (M.told maker.new)) }
     {
         if self.bytes.len() >= CAPACITY {
-            self.flush(file)?;
+            self.flush(which, maker)?;
         }
         let count = bytes.len().min(CAPACITY - self.bytes.len());
         match self.bytes.extend_from_slice(&bytes[..count]) {
             Ok(()) => Ok(count),
             Err(_) => Err(Fault),
         }
+    }
+
+    /// Lets go of the last `count` bytes, or of all where fewer wait, and answers how many of them had gone before.
+    pub(crate) fn give_back(&mut self, count: usize) -> usize
+        ensures items { self.new.bytes.items ≡ take (length self.old.bytes.items - count) self.old.bytes.items }
+        ensures gone { result ≡ count - length self.old.bytes.items }
+    {
+        let length = self.bytes.len();
+        self.bytes.truncate(length.saturating_sub(count));
+        count.saturating_sub(length)
     }
 }

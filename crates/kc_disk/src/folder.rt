@@ -1,5 +1,5 @@
 //! The files of a tree on a disk.
-ghost use Rattle.std.specs.Prelude.{◌≡◌, None, IfOk};
+ghost use Rattle.std.specs.Prelude.{◌≡◌, true, None, IfOk};
 
 use kc_load::{Folder, FolderFault};
 use std::alloc::AllocError;
@@ -55,6 +55,8 @@ fn read_whole(rt: &HostRuntime, path: &str, buffer: &mut [u8]) -> io::Result<Vec
 
 impl<'a> Folder for Disk<'a> {
     ghost files = { λ _. None };
+
+    ghost failing = { λ _ _. true };
 
     ghost failures = { λ s. s.failures };
 

@@ -1,105 +1,112 @@
 //! Files that are read a piece at a time.
-ghost use Rattle.std.specs.Prelude.{◌≡◌, ◌-◌, ◌≤◌, length, IfOk, None};
+ghost use Rattle.std.specs.Prelude.{◌≡◌, ◌≢◌, ◌<◌, ◌-◌, ◌≤◌, length, take, IfOk, OnOk, OnErr};
+ghost use Rattle.kc_conf.specs.Given.{preceded, IsAtEnd};
 ghost use Rattle.kc_disk.specs.Devices.{most_reads};
+ghost use Rattle.kc_disk.specs.Openers.{IsThere};
+ghost use Rattle.kc_disk.specs.Stages.{Settled, left};
 
+use crate::opener::{OpenFault, Opener};
 use kc_conf::Input;
 use kc_dot::Fault;
-use std::fs::File;
-use std::io::{ErrorKind, Read};
 
 /// How many reads that give bytes there may be: a file that gives more has no end.
 const MOST_READS: u64 = 1 << 63;
 
-// How far the reading is.
+/// How far the reading of a file is.
 #[derive(Drop)]
-enum Stage {
+pub(crate) enum Stage<F> {
     Unopened,
-    Open(File),
+    Open(F),
     Ended,
 }
 
 /// A file that is opened at its first read.
 ///
-/// A read is a fault where the file cannot be opened, but for a `.config` that does not exist and need not, which is
-/// empty; where the system's read fails or is interrupted; and after 2^63 reads that gave bytes.
+/// A read is a fault where the file cannot be opened, but for one that does not exist and need not, which is empty; where
+/// the opener's read fails; and after 2^63 reads that gave bytes.
 #[derive(Drop)]
-pub(crate) struct FileInput<'a> {
-    rt: &'a HostRuntime,
+pub(crate) struct FileInput<'a, P: Opener> {
+    opener: &'a P,
     name: &'a str,
     may_be_missing: bool,
-    stage: Stage,
+    stage: Stage<P::File>,
     reads: u64,
     failures: u64,
+    ghost settled: { Settled (P.files opener.now) name.now may_be_missing stage },
 }
 
-impl<'a> FileInput<'a> {
-    /// The `.config`: empty where there is no such file.
-    pub(crate) fn config(rt: &'a HostRuntime, name: &'a str) -> FileInput<'a>
-        ensures { result.failures ≡ 0 }
-    {
-        FileInput {
-            rt,
-            name,
-            may_be_missing: true,
-            stage: Stage::Unopened,
-            reads: 0,
-            failures: 0,
-        }
-    }
-
-    /// A file that has to be there.
-    pub(crate) fn existing(rt: &'a HostRuntime, name: &'a str) -> FileInput<'a>
-        ensures { result.failures ≡ 0 }
-    {
-        FileInput {
-            rt,
-            name,
-            may_be_missing: false,
-            stage: Stage::Unopened,
-            reads: 0,
-            failures: 0,
-        }
-    }
-
-    // Opens the file before the first read.
-    fn open(&mut self) -> Result<(), Fault>
-        ensures reads { self.new.reads ≡ self.old.reads }
-        ensures failures { self.new.failures ≡ self.old.failures }
-    {
-        if let Stage::Unopened = self.stage {
-            self.stage = match File::open(self.rt, self.name) {
-                Ok(file) => Stage::Open(file),
-                Err(error) if self.may_be_missing && error.kind() == ErrorKind::NotFound =>
-                    Stage::Ended,
-                Err(_) => return Err(Fault),
-            };
-        }
-        Ok(())
-    }
-
-    // Reads the next bytes. None into a buffer with room is the end, and the file is closed.
-    fn next(&mut self, buffer: &mut [u8]) -> Result<usize, Fault>
-        ensures within { IfOk result (λ count. count ≤ length buffer.old) }
-        ensures reads { self.new.reads ≡ self.old.reads }
-        ensures failures { self.new.failures ≡ self.old.failures }
-    {
-        self.open()?;
-        let Stage::Open(file) = &mut self.stage else {
-            return Ok(0);
+// Opens the file before the first read. One that does not exist and need not is at its end.
+fn open<P: Opener>(
+    opener: &P,
+    name: &str,
+    may_be_missing: bool,
+    stage: &mut Stage<P::File>,
+) -> Result<(), Fault>
+    requires { Settled (P.files opener.now) name.now may_be_missing stage.old }
+    ensures left { left P.rest (P.files opener.now) name.now stage.new ≡ left P.rest (P.files opener.now) name.now stage.old }
+    ensures there { OnOk result (IsThere (P.files opener.now) name.now may_be_missing) }
+    ensures opened { OnOk result (stage.new ≢ Stage.Unopened) }
+    ensures err { OnErr result (stage.new ≡ stage.old) }
+{
+    if let Stage::Unopened = stage {
+        *stage = match opener.open(name) {
+            Ok(file) => Stage::Open(file),
+            Err(OpenFault::Missing) if may_be_missing => Stage::Ended,
+            Err(_) => return Err(Fault),
         };
-        match file.read(buffer) {
-            Ok(0) if !buffer.is_empty() => {
-                self.stage = Stage::Ended;
-                Ok(0)
-            }
-            Ok(count) => Ok(count),
-            Err(_) => Err(Fault),
+    }
+    Ok(())
+}
+
+// Reads the next bytes. None into a buffer with room is the end, and the file is closed.
+fn next<P: Opener>(
+    opener: &P,
+    name: &str,
+    may_be_missing: bool,
+    stage: &mut Stage<P::File>,
+    buffer: &mut [u8],
+) -> Result<usize, Fault>
+    requires { Settled (P.files opener.now) name.now may_be_missing stage.old }
+    ensures settled { Settled (P.files opener.now) name.now may_be_missing stage.new }
+    ensures there { OnOk result (IsThere (P.files opener.now) name.now may_be_missing) }
+    ensures within { IfOk result (λ count. count ≤ length buffer.old) }
+    ensures given { IfOk result (λ count. left P.rest (P.files opener.now) name.now stage.old ≡ preceded (take count buffer.new) (left P.rest (P.files opener.now) name.now stage.new)) }
+    ensures end { IfOk result (λ count. count ≡ 0 → 0 < length buffer.old → IsAtEnd (left P.rest (P.files opener.now) name.now stage.new)) }
+    ensures err { OnErr result (left P.rest (P.files opener.now) name.now stage.new ≡ left P.rest (P.files opener.now) name.now stage.old) }
+{
+    open(opener, name, may_be_missing, stage)?;
+    let Stage::Open(file) = stage else {
+        return Ok(0);
+    };
+    let count = opener.read(file, buffer)?;
+    if count == 0 && !buffer.is_empty() {
+        *stage = Stage::Ended;
+    }
+    Ok(count)
+}
+
+impl<'a, P: Opener> FileInput<'a, P> {
+    /// The file of this name, which nothing was read from. One that may be missing is empty where there is none.
+    pub(crate) fn new(opener: &'a P, name: &'a str, may_be_missing: bool) -> FileInput<'a, P>
+        ensures opener { result.opener.now ≡ opener.now }
+        ensures name { result.name.now ≡ name.now }
+        ensures missing { result.may_be_missing ≡ may_be_missing }
+        ensures unread { result.stage ≡ Stage.Unopened }
+        ensures quiet { result.failures ≡ 0 }
+    {
+        FileInput {
+            opener,
+            name,
+            may_be_missing,
+            stage: Stage::Unopened,
+            reads: 0,
+            failures: 0,
         }
     }
 }
 
-impl<'a> Input for FileInput<'a> {
-    ghost remaining = { λ _. None };
+impl<'a, P: Opener> Input for FileInput<'a, P> {
+    ghost remaining = { λ s. left P.rest (P.files s.opener.now) s.name.now s.stage };
 
     ghost failures = { λ s. s.failures };
 
@@ -107,7 +114,13 @@ impl<'a> Input for FileInput<'a> {
 
     fn read(&mut self, buffer: &mut [u8]) -> Result<usize, Fault> {
         if self.reads < MOST_READS
-            && let Ok(count) = self.next(buffer)
+            && let Ok(count) = next(
+                self.opener,
+                self.name,
+                self.may_be_missing,
+                &mut self.stage,
+                buffer,
+            )
         {
             if count > 0 {
                 self.reads += 1;

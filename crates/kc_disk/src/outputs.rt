@@ -1,174 +1,200 @@
 //! The files of a run, and standard error for its notes.
-ghost use Rattle.std.specs.Prelude.{◌≡◌, ◌<◌, ◌≤◌, length, IfOk};
-ghost use Rattle.kc_disk.specs.Devices.{places_of};
+ghost use Rattle.std.specs.Prelude.{◌≡◌, [], ◌≢◌, ◌<◌, ◌≤◌, ◌++◌, length, take, IfOk, OnOk, OnErr, List, ℕ, Some, None, false};
+ghost use Rattle.kc_conf.specs.Faults.{name_of};
+ghost use Rattle.kc_conf.specs.Places.{at, begun, ended, failed, grown, with_place};
+ghost use Rattle.kc_disk.specs.Lines.{ends_line};
+ghost use Rattle.kc_disk.specs.Makers.{Tells, none_made};
+ghost use Rattle.kc_disk.specs.Reached.{Reached, unused};
+ghost use Rattle.kc_disk.specs.Standing.{Stand, places_of, record_at, record_ended, with_record};
 
 use crate::buffer::Buffer;
+use crate::maker::Maker;
 use crate::records::Records;
 use kc_conf::{Outputs, Which};
 use kc_dot::Fault;
 use kc_words::Options;
-use std::alloc::{AllocError, Global};
-use std::fs::File;
-use std::os::fd::AsFd;
 
-// What the system answers where a descriptor is not open.
-const NOT_OPEN: i32 = 9;
-
-// The file that is being written.
-#[derive(Drop)]
-struct Open {
-    which: Which,
-    file: File,
-}
-
-/// Config, Header and Minimal are files that are made at their begin and closed at their end; the notes are standard error.
+/// Config, Header, Minimal and Depfile are files that are made at their begin and closed at their end; the notes are standard error.
 ///
 /// The bytes of a file wait in one buffer until then, so a file's fault is seen at its end at the latest. A file is begun
-/// only where the one before was ended.
+/// only where the one before was ended; after a fault it takes no more, and no other is begun.
 ///
 /// A line of the notes waits until its line feed has come and goes out in one write, so that lines of several processes
-/// on one log do not mix. A line of more than 65,536 bytes goes out in pieces. Where standard error was closed when the
-/// outputs were made, the notes fail: its descriptor may be that of a file that was opened since.
+/// on one log do not mix. A line of more than 65,536 bytes goes out in pieces.
 #[derive(Drop)]
-pub(crate) struct FileOutputs<'a> {
-    rt: &'a HostRuntime,
+pub(crate) struct FileOutputs<'a, M: Maker + Drop> {
+    maker: M,
     options: &'a Options,
     buffer: Buffer,
-    open: Option<Open>,
+    current: Option<Which>,
+    is_broken: bool,
     line: Buffer,
-    has_notes: bool,
     records: Records,
-}
-
-// Whether standard error is open.
-fn has_stderr(rt: &HostRuntime) -> bool {
-    match rt.stderr().as_fd().try_clone_to_owned() {
-        Ok(_) => true,
-        Err(error) => error.raw_os_error() != Some(NOT_OPEN),
-    }
+    ghost line_waits: { records.notes.failures ≡ 0 → ends_line line.bytes.items ≡ false },
+    ghost stand: { Tells (M.told maker) (Stand options.now current records) },
 }
 
 // The name of an output, as the options have it.
-fn name_of(options: &Options, which: Which) -> &str {
+fn name_of(options: &Options, which: Which) -> &str
+    ensures { result.now ≡ name_of options.now which }
+{
     match which {
         Which::Config => options.out.as_str(),
-        Which::Header => options.header.as_ref().map_or("", |name| name.as_str()),
-        Which::Minimal => options.minimal.as_ref().map_or("", |name| name.as_str()),
+        Which::Header => match &options.header {
+            Some(name) => name.as_str(),
+            None => "",
+        },
+        Which::Minimal => match &options.minimal {
+            Some(name) => name.as_str(),
+            None => "",
+        },
+        Which::Depfile => match &options.depfile {
+            Some(name) => name.as_str(),
+            None => "",
+        },
         Which::Notes => "",
     }
 }
 
-impl<'a> FileOutputs<'a> {
-    /// Outputs of which none was begun or has failed. They are made before any other file is open.
+impl<'a, M: Maker + Drop> FileOutputs<'a, M> {
+    /// Outputs of which none was begun or has failed, over a maker that has made nothing. The caller owes two empty buffers.
     pub(crate) fn new(
-        alloc: Global,
-        rt: &'a HostRuntime,
+        maker: M,
         options: &'a Options,
-    ) -> Result<FileOutputs<'a>, AllocError> {
-        Ok(FileOutputs {
-            rt,
+        buffer: Buffer,
+        line: Buffer,
+    ) -> FileOutputs<'a, M>
+        requires maker { Tells (M.told maker) (λ t. t ≡ none_made) }
+        requires buffer { buffer.bytes.items ≡ [] }
+        requires line { line.bytes.items ≡ [] }
+        ensures options { result.options.now ≡ options.now }
+        ensures maker { M.told result.maker ≡ M.told maker }
+        ensures unused { places_of result.options.now (M.told result.maker) result.current result.buffer.bytes.items result.line.bytes.items result.records ≡ unused options.now (M.told maker) }
+    {
+        FileOutputs {
+            maker,
             options,
-            buffer: Buffer::new(alloc)?,
-            open: None,
-            line: Buffer::new(alloc)?,
-            has_notes: has_stderr(rt),
+            buffer,
+            current: None,
+            is_broken: false,
+            line,
             records: Records::new(),
-        })
-    }
-
-    // Writes what waits for the open file, and closes it.
-    fn close(&mut self) -> Result<(), Fault>
-        ensures { self.new.records ≡ self.old.records }
-    {
-        match self.open.take() {
-            Some(mut open) => self.buffer.flush(&mut open.file),
-            None => Err(Fault),
         }
     }
 
-    // Makes this file, where none is open.
-    fn open(&mut self, which: Which) -> Result<(), Fault>
-        ensures { self.new.records ≡ self.old.records }
+    // Takes a beginning of the bytes for the file that is open. After a fault it takes no more.
+    fn write_file(&mut self, which: Which, bytes: &[u8]) -> Result<usize, Fault>
+        requires file { which ≢ Which.Notes }
+        requires some { 0 < length bytes.now }
+        ensures some { IfOk result (λ count. 0 < count) }
+        ensures within { IfOk result (λ count. count ≤ length bytes.now) }
+        ensures ok { IfOk result (λ count. places_of self.new.options.now (M.told self.new.maker) self.new.current self.new.buffer.bytes.items self.new.line.bytes.items self.new.records ≡ with_place (places_of self.old.options.now (M.told self.old.maker) self.old.current self.old.buffer.bytes.items self.old.line.bytes.items self.old.records) which (grown (at (places_of self.old.options.now (M.told self.old.maker) self.old.current self.old.buffer.bytes.items self.old.line.bytes.items self.old.records) which) (take count bytes.now))) }
+        ensures err { OnErr result (places_of self.new.options.now (M.told self.new.maker) self.new.current self.new.buffer.bytes.items self.new.line.bytes.items self.new.records ≡ places_of self.old.options.now (M.told self.old.maker) self.old.current self.old.buffer.bytes.items self.old.line.bytes.items self.old.records) }
     {
-        if self.open.is_some() {
+        let current = self.current;
+        match current {
+            Some(current) if current == which && !self.is_broken => {}
+            _ => return Err(Fault),
+        }
+        match self.buffer.take(bytes, which, &mut self.maker) {
+            Ok(count) => Ok(count),
+            Err(Fault) => {
+                self.is_broken = true;
+                Err(Fault)
+            }
+        }
+    }
+
+    // Writes what waits for the file that is open, and closes it. After a fault it takes no more.
+    fn close(&mut self, which: Which) -> Result<(), Fault>
+        requires { which ≢ Which.Notes }
+        ensures ok { OnOk result (places_of self.new.options.now (M.told self.new.maker) self.new.current self.new.buffer.bytes.items self.new.line.bytes.items (with_record self.new.records which (record_ended (record_at self.new.records which))) ≡ with_place (places_of self.old.options.now (M.told self.old.maker) self.old.current self.old.buffer.bytes.items self.old.line.bytes.items self.old.records) which (ended (at (places_of self.old.options.now (M.told self.old.maker) self.old.current self.old.buffer.bytes.items self.old.line.bytes.items self.old.records) which))) }
+        ensures none { OnOk result (self.new.current ≡ None) }
+        ensures records { self.new.records ≡ self.old.records }
+        ensures err { OnErr result (places_of self.new.options.now (M.told self.new.maker) self.new.current self.new.buffer.bytes.items self.new.line.bytes.items self.new.records ≡ places_of self.old.options.now (M.told self.old.maker) self.old.current self.old.buffer.bytes.items self.old.line.bytes.items self.old.records) }
+    {
+        let current = self.current;
+        match current {
+            Some(current) if current == which && !self.is_broken => {}
+            _ => return Err(Fault),
+        }
+        if self.buffer.flush(which, &mut self.maker).is_err() {
+            self.is_broken = true;
             return Err(Fault);
         }
-        let Ok(file) = File::create(self.rt, name_of(self.options, which)) else {
+        if self.maker.close(which).is_err() {
+            self.is_broken = true;
             return Err(Fault);
-        };
-        self.open = Some(Open { which, file });
+        }
+        self.current = None;
         Ok(())
     }
 
-    // Takes a beginning of the bytes for the open file. After a fault the file is closed, and nothing waits for it.
-    fn write_file(&mut self, which: Which, bytes: &[u8]) -> Result<usize, Fault>
-        requires { 0 < length bytes.now }
-        ensures some { IfOk result (λ count. 0 < count) }
-        ensures within { IfOk result (λ count. count ≤ length bytes.now) }
-        ensures records { self.new.records ≡ self.old.records }
-    {
-        match &mut self.open {
-            Some(open) if open.which == which => {
-                if let Ok(count) = self.buffer.take(bytes, &mut open.file) {
-                    return Ok(count);
-                }
-            }
-            _ => return Err(Fault),
-        }
-        self.open = None;
-        self.buffer.clear();
-        Err(Fault)
-    }
-
-    // Takes a beginning of the bytes for standard error, and writes the line that ends with them. An interrupted or empty
-    // write is a fault.
+    // Takes a beginning of the bytes for the notes, and writes what waits of them where that ends a line. Of bytes that were
+    // refused those are taken that standard error took.
     fn note(&mut self, bytes: &[u8]) -> Result<usize, Fault>
         requires { 0 < length bytes.now }
         ensures some { IfOk result (λ count. 0 < count) }
         ensures within { IfOk result (λ count. count ≤ length bytes.now) }
-        ensures records { self.new.records ≡ self.old.records }
+        ensures ok { IfOk result (λ count. places_of self.new.options.now (M.told self.new.maker) self.new.current self.new.buffer.bytes.items self.new.line.bytes.items self.new.records ≡ with_place (places_of self.old.options.now (M.told self.old.maker) self.old.current self.old.buffer.bytes.items self.old.line.bytes.items self.old.records) Which.Notes (grown (at (places_of self.old.options.now (M.told self.old.maker) self.old.current self.old.buffer.bytes.items self.old.line.bytes.items self.old.records) Which.Notes) (take count bytes.now))) }
+        ensures err { OnErr result (places_of self.new.options.now (M.told self.new.maker) self.new.current self.new.buffer.bytes.items self.new.line.bytes.items self.new.records ≡ with_place (places_of self.old.options.now (M.told self.old.maker) self.old.current self.old.buffer.bytes.items self.old.line.bytes.items self.old.records) Which.Notes (failed (at (places_of self.old.options.now (M.told self.old.maker) self.old.current self.old.buffer.bytes.items self.old.line.bytes.items self.old.records) Which.Notes))) }
     {
-        if !self.has_notes {
-            return Err(Fault);
+        let Ok(count) = self.line.take(bytes, Which::Notes, &mut self.maker) else {
+            return Err(self.records.fail(Which::Notes));
+        };
+        if !bytes[..count].ends_with(b"\n") {
+            return Ok(count);
         }
-        let mut stderr = self.rt.stderr();
-        let count = self.line.take(bytes, &mut stderr)?;
-        if bytes[..count].ends_with(b"\n") {
-            self.line.flush(&mut stderr)?;
+        if self.line.flush(Which::Notes, &mut self.maker).is_ok() {
+            return Ok(count);
         }
-        Ok(count)
+        match self.line.give_back(count) {
+            0 => Err(self.records.fail(Which::Notes)),
+            taken => Ok(taken),
+        }
     }
 
-    /// Writes what still waits for a file that was not ended, as much of it as the file takes.
-    pub(crate) fn finish(&mut self) {
-        let _ = self.close();
+    /// The maker, which tells what reached the files. What still waits is let go.
+    pub(crate) fn into_maker(self) -> M
+        ensures same { M.told result ≡ M.told self.entry.maker }
+        ensures reached { Tells (M.told result) (Reached (places_of self.entry.options.now (M.told self.entry.maker) self.entry.current self.entry.buffer.bytes.items self.entry.line.bytes.items self.entry.records)) }
+    {
+        self.maker
     }
 }
 
-impl<'a> Outputs for FileOutputs<'a> {
-    ghost seen = { λ s. places_of s.records };
+impl<'a, M: Maker + Drop> Outputs for FileOutputs<'a, M> {
+    ghost seen = { λ s. places_of s.options.now (M.told s.maker) s.current s.buffer.bytes.items s.line.bytes.items s.records };
 
     fn begin(&mut self, which: Which) -> Result<(), Fault> {
-        if which == Which::Notes || self.open(which).is_err() {
-            return Err(self.records.fail(which));
+        match self.current {
+            None if which != Which::Notes => {}
+            _ => return Err(self.records.fail(which)),
         }
-        self.records.begin(which);
-        Ok(())
+        match self.maker.create(which, name_of(self.options, which)) {
+            Ok(()) => {
+                self.buffer.clear();
+                self.current = Some(which);
+                self.is_broken = false;
+                self.records.begin(which);
+                Ok(())
+            }
+            Err(Fault) => Err(self.records.fail(which)),
+        }
     }
 
     fn write(&mut self, which: Which, bytes: &[u8]) -> Result<usize, Fault> {
-        let taken = match which {
-            Which::Notes => self.note(bytes),
-            Which::Config | Which::Header | Which::Minimal => self.write_file(which, bytes),
-        };
-        match taken {
+        if which == Which::Notes {
+            return self.note(bytes);
+        }
+        match self.write_file(which, bytes) {
             Ok(count) => Ok(count),
             Err(Fault) => Err(self.records.fail(which)),
         }
     }
 
     fn end(&mut self, which: Which) -> Result<(), Fault> {
-        if self.close().is_err() {
+        if which == Which::Notes || self.close(which).is_err() {
             return Err(self.records.fail(which));
         }
         self.records.end(which);

@@ -1,43 +1,36 @@
 //! The work of the program.
-ghost use Rattle.std.specs.Prelude.{◌≡◌, ◌+◌, length, vec_len, flat_map, IfOk};
+ghost use Rattle.std.specs.Prelude.{◌≡◌, None};
+ghost use Rattle.kc_conf.specs.declared.outputs.Which.TheVariants.{Notes};
 ghost use Rattle.kc_disk.specs.Devices.{exit_status};
+ghost use Rattle.kc_disk.specs.Answering.{Answers};
+ghost use Rattle.kc_disk.specs.Openers.{source, untold};
+ghost use Rattle.kc_disk.specs.Makers.{IsOpen, Tells, none_made};
+ghost use Rattle.kc_disk.specs.Placing.{IsClear, Shows};
+ghost use Rattle.kc_disk.specs.Program.{Complains, usage_status};
+ghost use Rattle.kc_disk.specs.Replacing.{EndsBy};
 
 use crate::folder::Disk;
-use crate::input::FileInput;
-use crate::outputs::FileOutputs;
+use crate::maker::Maker;
+use crate::mover::Mover;
+use crate::opener::Opener;
+use crate::over::run_over;
+use crate::replace::run_replacing;
+use crate::shelf::Shelf;
+use crate::system::{System, SystemFiles};
+use crate::tell::complain;
 use crate::words::words;
-use kc_conf::{FileMap, Status};
-use kc_configure::configure;
-use kc_load::LoadFault;
-use kc_words::{Options, Usage, options_of};
-use std::alloc::{AllocError, Global};
+use kc_conf::{FileMap, Kept, Options, Status};
+use kc_load::Folder;
+use kc_words::{Usage, options_of};
+use std::alloc::Global;
 use std::mem;
 
-// The parts, one behind another.
-fn joined(alloc: Global, parts: &[&[u8]]) -> Result<Vec<u8>, AllocError>
-    ensures { IfOk result (λ line. line.items ≡ flat_map (λ part. part.now) parts.now) }
+// Prints what the words ask for, to standard output, or tells what is wrong with them. A fault in it changes no status.
+fn print_usage<M: Maker>(rt: &HostRuntime, maker: &mut M, usage: &Usage) -> Status
+    requires { Tells (M.told maker.old) (IsOpen Notes) }
+    ensures status { result ≡ usage_status usage.now }
+    ensures tells { Complains usage.now (M.told maker.old) (M.told maker.new) }
 {
-    let mut line = Vec::new(alloc);
-    for part in parts {
-        line.extend_from_slice(part)?;
-    }
-    Ok(line)
-}
-
-// Writes a line to standard error in one write, or part by part where there is no memory for it. A fault in it changes
-// nothing.
-fn complain(rt: &HostRuntime, parts: &[&[u8]]) {
-    if let Ok(line) = joined(rt.alloc(), parts) {
-        let _ = rt.stderr().write_all(&line);
-        return;
-    }
-    for part in parts {
-        let _ = rt.stderr().write_all(part);
-    }
-}
-
-// Prints what the words ask for or what is wrong with them. A fault in it changes no status.
-fn print_usage(rt: &HostRuntime, usage: &Usage) -> Status {
     let text = usage.text().as_bytes();
     match usage {
         Usage::Help(_) | Usage::Version(_) => {
@@ -45,89 +38,110 @@ fn print_usage(rt: &HostRuntime, usage: &Usage) -> Status {
             Status::Done
         }
         Usage::Bad(_) => {
-            complain(rt, &[text]);
+            complain(rt.alloc(), maker, &[text]);
             Status::Usage
         }
         Usage::Memory => {
-            complain(rt, &[text]);
+            complain(rt.alloc(), maker, &[text]);
             Status::Faulted
         }
     }
 }
 
-// The `.config`, which may be missing where `--must-exist` was not given, and then the fragments.
-fn inputs_of<'a>(
-    rt: &'a HostRuntime,
-    options: &'a Options,
-) -> Result<Vec<FileInput<'a>>, AllocError>
-    ensures { IfOk result (λ inputs. length inputs.items ≡ length options.now.fragments.items + 1) }
+// Runs with these options: the files are written as they are made, or take their places at the end.
+fn run_by<F: Folder, P: Opener, M: Maker + Drop, V: Mover>(
+    alloc: Global,
+    folder: &mut F,
+    opener: &P,
+    options: &Options,
+    maker: M,
+    mover: &mut V,
+    files: &mut FileMap,
+    kept: &mut Option<Kept>,
+) -> (Status, M)
+    requires maker { Tells (M.told maker) (λ t. t ≡ none_made) }
+    requires clear { Shows (V.told mover.old) IsClear }
+    ensures { EndsBy options.now.replace (source (F.files folder.old) (F.failing folder.old)) (P.files opener.now) options.now result.0 (M.told maker) (M.told result.1) (V.told mover.old) (V.told mover.new) }
 {
-    let mut inputs = Vec::new(rt.alloc());
-    let config = options.config.as_str();
-    inputs.push(if options.must_exist {
-        FileInput::existing(rt, config)
+    if options.replace {
+        run_replacing(alloc, folder, opener, options, maker, mover, files, kept)
     } else {
-        FileInput::config(rt, config)
-    })?;
-    for fragment in &options.fragments {
-        inputs.push(FileInput::existing(rt, fragment.as_str()))?;
+        run_over(alloc, folder, opener, options, maker, files, kept)
     }
-    Ok(inputs)
 }
 
-// Runs from the folder on, over the files that the options name.
-fn run_files(rt: &HostRuntime, options: &Options) -> Result<Status, LoadFault> {
-    let alloc = rt.alloc();
-    let mut disk = Disk::new(rt)?;
-    let mut inputs = inputs_of(rt, options)?;
-    let mut outputs = FileOutputs::new(alloc, rt, options)?;
-    let mut files = FileMap::new(alloc);
-    let mut kept = None;
-    let status = configure(
-        alloc,
-        &mut disk,
-        options,
-        &mut inputs,
-        &mut outputs,
-        &mut files,
-        &mut kept,
-    )?;
-    // A program ends after this, and the system takes the memory of the files and of the tree back at once, which costs
-    // less than to give back each piece: see `kconf_of`.
-    mem::forget(files);
-    mem::forget(kept);
-    outputs.finish();
-    Ok(status)
+/// Runs `kconf` with these words after the program's name over devices: what the words ask for, over the folder's files, the
+/// streams that the opener holds and the files that the maker makes, or with `--replace` the mover, and hands the maker back
+/// (our own).
+///
+/// The caller owes a maker that has made nothing, and a mover beside whose places nothing stands. The help and the version go to standard output. A bad command line is told
+/// on the maker's standard error, and so is a file of the tree that cannot be read (E18) and being out of memory before the
+/// run (E20), each in one line; no file is made then.
+pub fn kconf_over<F: Folder, P: Opener, M: Maker + Drop, V: Mover>(
+    rt: &HostRuntime,
+    words: &[String],
+    folder: &mut F,
+    opener: &P,
+    mut maker: M,
+    mover: &mut V,
+    files: &mut FileMap,
+    kept: &mut Option<Kept>,
+) -> (Status, M)
+    requires maker { Tells (M.told maker) (λ t. t ≡ none_made) }
+    requires clear { Shows (V.told mover.old) IsClear }
+    ensures { Answers (source (F.files folder.old) (F.failing folder.old)) (P.files opener.now) words.now result.0 (M.told maker) (M.told result.1) (V.told mover.old) (V.told mover.new) }
+{
+    match options_of(rt.alloc(), words) {
+        Ok(options) => run_by(
+            rt.alloc(),
+            folder,
+            opener,
+            &options,
+            maker,
+            mover,
+            files,
+            kept,
+        ),
+        Err(usage) => {
+            let status = print_usage(rt, &mut maker, &usage);
+            (status, maker)
+        }
+    }
 }
 
 /// Runs `kconf` with these words after the program's name: loads the tree, reads the `.config` and the fragments, and
 /// writes the files and the notes (our own).
 ///
-/// The help goes to standard output and a bad command line is told on standard error. A file of the tree that cannot be
-/// read is E18, out of memory E20; each is one line on standard error, and no file is begun then.
+/// It is `kconf_over` over the disk, which tells nothing, and the same holds of it.
 ///
 /// It is made for a program that ends afterwards: the memory of the tree and of its files is left to the end of the
 /// process, so each call of a process that goes on keeps that much.
-pub fn kconf_of(rt: &HostRuntime, words: &[String]) -> Status {
-    let options = match options_of(rt.alloc(), words) {
-        Ok(options) => options,
-        Err(usage) => return print_usage(rt, &usage),
+pub fn kconf_of(rt: &HostRuntime, words: &[String]) -> Status
+    ensures { Answers untold None words.now result None None None None }
+{
+    let mut system = System::new(rt);
+    let Ok(mut disk) = Disk::new(rt) else {
+        return print_usage(rt, &mut system, &Usage::Memory);
     };
-    match run_files(rt, &options) {
-        Ok(status) => status,
-        Err(LoadFault::CannotRead(name)) => {
-            complain(rt, &[b"error E18: cannot read ", &name, b"\n"]);
-            Status::Faulted
-        }
-        Err(LoadFault::Memory) => print_usage(rt, &Usage::Memory),
-    }
+    let opener = SystemFiles::new(rt);
+    let mut shelf = Shelf::new(rt);
+    let mut files = FileMap::new(rt.alloc());
+    let mut kept = None;
+    let (status, _system) = kconf_over(
+        rt, words, &mut disk, &opener, system, &mut shelf, &mut files, &mut kept,
+    );
+    // A program ends after this, and the system takes the memory of the files and of the tree back at once, which costs
+    // less than to give back each piece.
+    mem::forget(files);
+    mem::forget(kept);
+    status
 }
 
-/// Runs `kconf` with the words that the process was started with.
+/// Runs `kconf` with the words that the process was started with. A word that is not UTF-8 is a bad command line.
 pub fn kconf(rt: &HostRuntime) -> Status {
     match words(rt) {
         Ok(words) => kconf_of(rt, &words),
-        Err(usage) => print_usage(rt, &usage),
+        Err(usage) => print_usage(rt, &mut System::new(rt), &usage),
     }
 }
 

@@ -1,7 +1,5 @@
 //! Which outputs were begun and ended, and how often each has failed.
 ghost use Rattle.std.specs.Prelude.{◌≡◌};
-ghost use Rattle.kc_conf.specs.Places.{at, begun, ended, failed, with_place};
-ghost use Rattle.kc_disk.specs.Devices.{fresh, place_of, places_of};
 
 use kc_conf::Which;
 use kc_dot::Fault;
@@ -15,8 +13,10 @@ pub(crate) struct Record {
 }
 
 impl Record {
+    ghost use Rattle.kc_disk.specs.Standing.{fresh, record_begun, record_ended, record_failed};
+
     fn new() -> Record
-        ensures { place_of result ≡ fresh }
+        ensures { result ≡ fresh }
     {
         Record {
             is_begun: false,
@@ -26,20 +26,20 @@ impl Record {
     }
 
     fn begin(&mut self)
-        ensures { place_of self.new ≡ begun (place_of self.old) }
+        ensures { self.new ≡ record_begun self.old }
     {
         self.is_begun = true;
         self.is_ended = false;
     }
 
     fn end(&mut self)
-        ensures { place_of self.new ≡ ended (place_of self.old) }
+        ensures { self.new ≡ record_ended self.old }
     {
         self.is_ended = true;
     }
 
     fn fail(&mut self)
-        ensures { place_of self.new ≡ failed (place_of self.old) }
+        ensures { self.new ≡ record_failed self.old }
     {
         self.failures = self.failures.saturating_add(1);
     }
@@ -51,54 +51,61 @@ pub(crate) struct Records {
     config: Record,
     header: Record,
     minimal: Record,
+    depfile: Record,
     notes: Record,
 }
 
 impl Records {
+    ghost use Rattle.kc_disk.specs.Standing.{fresh, record_at, record_begun, record_ended, record_failed, with_record};
+
     /// Records of outputs of which none was begun or has failed.
     pub(crate) fn new() -> Records
-        ensures { places_of result ≡ record { config = fresh; header = fresh; minimal = fresh; notes = fresh } }
+        ensures { result ≡ record { config = fresh; header = fresh; minimal = fresh; depfile = fresh; notes = fresh } }
     {
         Records {
             config: Record::new(),
             header: Record::new(),
             minimal: Record::new(),
+            depfile: Record::new(),
             notes: Record::new(),
         }
     }
 
     /// An output is begun.
     pub(crate) fn begin(&mut self, which: Which)
-        ensures { places_of self.new ≡ with_place (places_of self.old) which (begun (at (places_of self.old) which)) }
+        ensures { self.new ≡ with_record self.old which (record_begun (record_at self.old which)) }
     {
         match which {
             Which::Config => self.config.begin(),
             Which::Header => self.header.begin(),
             Which::Minimal => self.minimal.begin(),
+            Which::Depfile => self.depfile.begin(),
             Which::Notes => self.notes.begin(),
         }
     }
 
     /// An output is ended.
     pub(crate) fn end(&mut self, which: Which)
-        ensures { places_of self.new ≡ with_place (places_of self.old) which (ended (at (places_of self.old) which)) }
+        ensures { self.new ≡ with_record self.old which (record_ended (record_at self.old which)) }
     {
         match which {
             Which::Config => self.config.end(),
             Which::Header => self.header.end(),
             Which::Minimal => self.minimal.end(),
+            Which::Depfile => self.depfile.end(),
             Which::Notes => self.notes.end(),
         }
     }
 
     /// One failure more of an output is counted.
     pub(crate) fn fail(&mut self, which: Which) -> Fault
-        ensures { places_of self.new ≡ with_place (places_of self.old) which (failed (at (places_of self.old) which)) }
+        ensures { self.new ≡ with_record self.old which (record_failed (record_at self.old which)) }
     {
         match which {
             Which::Config => self.config.fail(),
             Which::Header => self.header.fail(),
             Which::Minimal => self.minimal.fail(),
+            Which::Depfile => self.depfile.fail(),
             Which::Notes => self.notes.fail(),
         }
         Fault

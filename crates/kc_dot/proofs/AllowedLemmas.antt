@@ -9,6 +9,7 @@ use Rattle.std.proofs.lemmas.Bool.{ne_eqb, eqb-true, eqb-false, and_from, cases_
 use Rattle.std.proofs.lemmas.List.{length-append}
 use Rattle.std.proofs.lemmas.List.Elements.{All-cons, All-nil, All-take, All-drop}
 use Rattle.std.proofs.lemmas.List.Folds.{list_any_none}
+use Rattle.kc_text.specs.Lines.{is_line_feed}
 use Rattle.kc_text.specs.Escapes.{escape, unescape}
 use Rattle.kc_text.specs.Lexemes.{is_blank}
 use Rattle.kc_text.specs.Numbers.{int_of, hex_of}
@@ -19,7 +20,7 @@ use Rattle.kc_expr.specs.declared.expression.Kind.{Kind}
 use Rattle.kc_expr.specs.declared.expression.Kind.TheVariants as kind
 use Rattle.kc_tree.specs.TreeFacts.{TreeFacts, SymbolFacts}
 use Rattle.kc_user.specs.Given.{Given, Chosen, Typed}
-use Rattle.kc_user.specs.Places.{allowed, allowed_by, allowed_for, is_line_feed, fits_quoted}
+use Rattle.kc_user.specs.Places.{allowed, allowed_by, allowed_for, fits_quoted}
 use Rattle.std.specs.Prelude.{slice_get}
 use Rattle.kc_dot.specs.ConfigLine.{Said, Nothing, Unset, Set, Malformed, says, text_says, not_unset, unset_name, unset_or, is_comment, set_or_malformed, set_parts, behind, sides, is_equals, trimmed}
 use Rattle.kc_dot.specs.Effects.{Effect, Silent, Warns, Assigns, effect_of, set_effect, unset_effect, set_by_kind, unset_by_kind, assigned_or, kind_in, kind_of, symbol_named}

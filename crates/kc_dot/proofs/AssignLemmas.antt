@@ -7,6 +7,7 @@ use Rattle.std.proofs.lemmas.List.{length-append}
 use Rattle.std.proofs.lemmas.List.Elements.{All-append, All-cons}
 use Rattle.std.proofs.lemmas.Option.{slice_get_within}
 use Rattle.std.specs.Prelude.{not}
+use Rattle.kc_text.specs.Lines.{is_line_feed}
 use Rattle.kc_text.specs.Escapes.{escape}
 use Rattle.kc_text.specs.Numbers.{int_of, hex_of}
 use Rattle.kc_expr.specs.declared.expression.SymId.{SymId}
@@ -16,13 +17,13 @@ use Rattle.kc_expr.specs.declared.expression.Kind.{Kind}
 use Rattle.kc_expr.specs.declared.expression.Kind.TheVariants as kind
 use Rattle.kc_tree.specs.TreeFacts.{TreeFacts, SymbolFacts, IsWellFormed}
 use Rattle.kc_user.specs.Given.{Given, Chosen, Typed, Member}
-use Rattle.kc_user.specs.Places.{allowed, allowed_by, allowed_for, allowed_truth, allowed_text, is_line_feed}
+use Rattle.kc_user.specs.Places.{allowed, allowed_by, allowed_for, allowed_truth, allowed_text}
 use Rattle.kc_dot.specs.Effects.{Assigns, name_of, set_by_kind, assigned_or}
 use Rattle.kc_dot.specs.HasNames.{HasNames}
 use Rattle.kc_dot.specs.Laws.{AllowedAreAssigned}
 use Rattle.kc_dot.specs.Plain.{EndsPlainly}
 use Rattle.kc_dot.specs.Prefixes.{is_prefix}
-use Rattle.kc_dot.specs.Reading.{Line, line, is_lf, is_within, effect}
+use Rattle.kc_dot.specs.Reading.{Line, line, is_within, effect}
 use Rattle.kc_dot.proofs.LineLemmas.{HasNoLf, is_within-line}
 use Rattle.kc_dot.proofs.RoundTripLemmas.{string_read_again}
 use Rattle.kc_dot.proofs.ShapeLemmas.{no_line_feed}
@@ -55,7 +56,7 @@ module _ (name : List ℕ) (s : SymId) where
 
   string_sets : (text : List ℕ) → length (escape text) + 2 ≤ 65000 → HasNoLf text → Sets kind.Str (Typed text) (34 ∷ escape text ++ 34 ∷ [])
   string_sets text fits none = record {
-    none = All-append (λ b. is_lf b ≡ false) (34 ∷ escape text) (34 ∷ []) (All-cons (λ b. is_lf b ≡ false) 34 (escape text) refl (escape_no_lf text none)) (no_lf_check (34 ∷ []) refl);
+    none = All-append (λ b. is_line_feed b ≡ false) (34 ∷ escape text) (34 ∷ []) (All-cons (λ b. is_line_feed b ≡ false) 34 (escape text) refl (escape_no_lf text none)) (no_lf_check (34 ∷ []) refl);
     plain = plain_quote text;
     short = omega (arith, fits, length-append (34 ∷ escape text) (34 ∷ []));
     means = ap (assigned_or name s) (string_read_again text fits);

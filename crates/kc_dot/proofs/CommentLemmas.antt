@@ -11,12 +11,14 @@ use Rattle.std.proofs.lemmas.List.{reverse-append, length-reverse, length-append
 use Rattle.std.proofs.lemmas.List.Elements.{All-append}
 use Rattle.std.proofs.lemmas.List.Folds.{list_any_at}
 use Rattle.std.proofs.lemmas.Slice.Eq.{bytes_eq-Decides}
+use Rattle.kc_text.specs.Lines.{is_line_feed}
 use Rattle.kc_text.specs.Lexemes.{is_blank}
 use Rattle.kc_tree.specs.TreeFacts.{TreeFacts}
 use Rattle.kc_dot.specs.ConfigLine.{Said, Nothing, Unset, trimmed, behind, ahead_of, is_plain, plain, unset_name, unset_or, says, text_says}
 use Rattle.kc_dot.specs.Effects.{effect_of}
-use Rattle.kc_dot.specs.Prefixes.{is_prefix, is_name_byte}
-use Rattle.kc_dot.specs.Reading.{Assignment, assignment_of, is_lf}
+use Rattle.kc_expr.specs.Names.{is_name_byte}
+use Rattle.kc_dot.specs.Prefixes.{is_prefix}
+use Rattle.kc_dot.specs.Reading.{Assignment, assignment_of}
 use Rattle.kc_dot.specs.Plain.{IsNoUnset, title_line}
 use Rattle.kc_dot.proofs.LineLemmas.{HasNoLf}
 use Rattle.kc_dot.proofs.RoundTripLemmas.{prefix_bytes, name_no_blank}

@@ -6,12 +6,13 @@ use Rattle.std.specs.Str.Lines.{strip_carriage_return}
 use Rattle.std.proofs.lemmas.List.{length-append}
 use Rattle.std.proofs.lemmas.List.Elements.{All-append}
 use Rattle.std.proofs.lemmas.Option.{slice_get-get_or}
+use Rattle.kc_text.specs.Lines.{is_line_feed}
 use Rattle.kc_expr.specs.declared.expression.SymId.{SymId}
 use Rattle.kc_tree.specs.TreeFacts.{TreeFacts, Shown, SymbolShown, MenuShown, EndShown, CommentShown, IsLineText, OfTitles}
 use Rattle.kc_dot.specs.ConfigLine.{says}
 use Rattle.kc_dot.specs.Effects.{effect_of}
 use Rattle.kc_dot.specs.Prefixes.{is_prefix}
-use Rattle.kc_dot.specs.Reading.{Assignment, assignment_of, is_lf}
+use Rattle.kc_dot.specs.Reading.{Assignment, assignment_of}
 use Rattle.kc_dot.specs.Plain.{IsNoUnset, HasPlainTitles, title_line}
 use Rattle.kc_dot.specs.Texts.{config_heading, config_text, title_lines, end_line, title_if, end_if, gap, shown_title, ends_after, symbol_config, entry_text, entries_text}
 use Rattle.kc_dot.specs.Told.{Told, is_shown}
@@ -35,13 +36,13 @@ module _ (tree : TreeFacts) (prefix stream : List ℕ) (is_pre : is_prefix prefi
   title_quiet : (text : List ℕ) → IsLineText text → IsNoUnset prefix (title_line text) → Gives tree prefix stream (title_line text ++ 10 ∷ []) []
   title_quiet text line plain =
       let within = line.within in
-      quiet (title_line text) (All-append (λ b. is_lf b ≡ false) (codes "# ") text (no_lf_check (codes "# ") refl) line.one_line) (omega (arith, within, length-append (codes "# ") text)) (silent_plain tree prefix (32 ∷ text) plain)
+      quiet (title_line text) (All-append (λ b. is_line_feed b ≡ false) (codes "# ") text (no_lf_check (codes "# ") refl) line.one_line) (omega (arith, within, length-append (codes "# ") text)) (silent_plain tree prefix (32 ∷ text) plain)
 
   end_quiet : (text : List ℕ) → IsLineText text → Gives tree prefix stream (end_line text) []
   end_quiet text line =
       let within = line.within in
       let body : List ℕ = codes "# end of " ++ text in
-      quiet body (All-append (λ b. is_lf b ≡ false) (codes "# end of ") text (no_lf_check (codes "# end of ") refl) line.one_line) (omega (arith, within, length-append (codes "# end of ") text))
+      quiet body (All-append (λ b. is_line_feed b ≡ false) (codes "# end of ") text (no_lf_check (codes "# end of ") refl) line.one_line) (omega (arith, within, length-append (codes "# end of ") text))
       (silent tree prefix (codes " end of " ++ text) (λ name e. end_unsets_nothing prefix text name is_pre e))
 
   -- two texts without assignments

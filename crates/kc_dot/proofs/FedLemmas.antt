@@ -1,17 +1,19 @@
 -- Where a reader stands after some bytes.
-use Rattle.std.proofs.Common.{◌≡◌, ℕ, ◌+◌, ◌-◌, ◌^◌, ◌<◌, ◌≤◌, List, [], ◌∷◌, ◌++◌, Bool, true, false, length, take, drop, get_or, refl, sym, ap, ◌∙◌, arith, min, append_assoc, append-nil, length-append, count_by, cond, zero, suc, inl, inr}
+use Rattle.std.proofs.Common.{◌≡◌, ℕ, ◌+◌, ◌-◌, ◌<◌, ◌≤◌, List, [], ◌∷◌, ◌++◌, Bool, true, false, length, take, drop, refl, sym, ap, ◌∙◌, arith, min, append_assoc, append-nil, length-append, count_by, cond, zero, suc, inl, inr}
 use Rattle.std.specs.Prelude.{not, ◌==◌}
 use Rattle.std.specs.List.{after_last, suffix_len}
 use Rattle.std.proofs.lemmas.Bool.{not_from_true, not_from_false, cases_Bool, eqb-true, eqb-false}
 use Rattle.std.proofs.lemmas.List.{reverse-append, drop-append-le, drop_all, take_all}
-use Rattle.std.proofs.lemmas.List.Elements.{All-get_or, All-append, All-from_get_or}
+use Rattle.std.proofs.lemmas.List.Elements.{All-get_or, All-from_get_or}
 use Rattle.std.proofs.lemmas.List.Sums.{suffix_len_is, suffix_len-le-length, sum_by-append}
+use Rattle.kc_text.specs.Limits.{last_count}
+use Rattle.kc_text.specs.Lines.{is_line_feed}
 use Rattle.kc_dot.specs.Feeding.{Spot, IsOpen, fed, number_after}
-use Rattle.kc_dot.specs.Reading.{is_lf, next_number}
+use Rattle.kc_dot.specs.Reading.{next_number}
 use Rattle.kc_dot.proofs.LineLemmas.{HasNoLf}
 
 abbrev other : ℕ → Bool
-other b = not (is_lf b)
+other b = not (is_line_feed b)
 
 suffix_push : (bytes : List ℕ) (b : ℕ) → suffix_len other (bytes ++ b ∷ []) ≡ cond (other b) (1 + suffix_len other bytes) 0
 suffix_push bytes b = rw reverse-append refl
@@ -20,7 +22,7 @@ length_push : (bytes : List ℕ) (b : ℕ) → length (bytes ++ b ∷ []) ≡ le
 length_push bytes b = length-append bytes (b ∷ [])
 
 -- another byte waits behind the others
-pub after_last-other : (bytes : List ℕ) (b : ℕ) → is_lf b ≡ false → after_last is_lf (bytes ++ b ∷ []) ≡ after_last is_lf bytes ++ b ∷ []
+pub after_last-other : (bytes : List ℕ) (b : ℕ) → is_line_feed b ≡ false → after_last is_line_feed (bytes ++ b ∷ []) ≡ after_last is_line_feed bytes ++ b ∷ []
 after_last-other bytes b is =
     let s : suffix_len other (bytes ++ b ∷ []) ≡ 1 + suffix_len other bytes = suffix_push bytes b ∙ rw (not_from_false _ is) refl in
     let le : suffix_len other bytes ≤ length bytes = suffix_len-le-length other bytes in
@@ -29,55 +31,55 @@ after_last-other bytes b is =
     rw (s, k) (drop-append-le (length bytes - suffix_len other bytes) bytes (b ∷ []) within)
 
 -- nothing waits behind an LF
-pub after_last-lf : (bytes : List ℕ) (b : ℕ) → is_lf b ≡ true → after_last is_lf (bytes ++ b ∷ []) ≡ []
+pub after_last-lf : (bytes : List ℕ) (b : ℕ) → is_line_feed b ≡ true → after_last is_line_feed (bytes ++ b ∷ []) ≡ []
 after_last-lf bytes b is =
     let s : suffix_len other (bytes ++ b ∷ []) ≡ 0 = suffix_push bytes b ∙ rw (not_from_true _ is) refl in
     rw s (drop_all (length (bytes ++ b ∷ []) - 0) (bytes ++ b ∷ []) (omega arith))
 
 -- without an LF all wait
-pub after_last-none : (bytes : List ℕ) → HasNoLf bytes → after_last is_lf bytes ≡ bytes
+pub after_last-none : (bytes : List ℕ) → HasNoLf bytes → after_last is_line_feed bytes ≡ bytes
 after_last-none bytes one =
     let s : suffix_len other bytes ≡ length bytes - 0 =
-    suffix_len_is other bytes 0 0 (omega arith) (λ k low lt. not_from_false _ (All-get_or (λ b. is_lf b ≡ false) bytes k 0 lt one)) (λ (h : 0 < 0). absurd (omega arith)) in
+    suffix_len_is other bytes 0 0 (omega arith) (λ k low lt. not_from_false _ (All-get_or (λ b. is_line_feed b ≡ false) bytes k 0 lt one)) (λ (h : 0 < 0). absurd (omega arith)) in
     let k : length bytes - (length bytes - 0) ≡ 0 = omega arith in
     rw (s, k) refl
 
-number-other : (n b : ℕ) → n < 2 ^ 64 → is_lf b ≡ false → number_after n (b ∷ []) ≡ n
+number-other : (n b : ℕ) → n ≤ last_count → is_line_feed b ≡ false → number_after n (b ∷ []) ≡ n
 number-other n b small is =
     let e : n + 0 ≡ n = omega arith in
-    let m : min n (2 ^ 64 - 1) ≡ n = omega arith in
+    let m : min n last_count ≡ n = omega arith in
     rw (is, e, m) refl
 
-number-lf : (n b : ℕ) → is_lf b ≡ true → number_after n (b ∷ []) ≡ next_number n
+number-lf : (n b : ℕ) → is_line_feed b ≡ true → number_after n (b ∷ []) ≡ next_number n
 number-lf n b is = rw is refl
 
 number-append : (n : ℕ) (a b : List ℕ) → number_after n (a ++ b) ≡ number_after (number_after n a) b
 number-append n a b =
-    let c : count_by is_lf (a ++ b) ≡ count_by is_lf a + count_by is_lf b = sum_by-append (λ x. cond (is_lf x) 1 0) a b in
+    let c : count_by is_line_feed (a ++ b) ≡ count_by is_line_feed a + count_by is_line_feed b = sum_by-append (λ x. cond (is_line_feed x) 1 0) a b in
     rw c (omega arith)
 
-pub fed-other : (b : ℕ) (old : Spot) → IsOpen old → is_lf b ≡ false → let new : Spot = record { number = old.number; pending = old.pending ++ b ∷ [] } in new ≡ fed (b ∷ []) old
+pub fed-other : (b : ℕ) (old : Spot) → IsOpen old → is_line_feed b ≡ false → let new : Spot = record { number = old.number; pending = old.pending ++ b ∷ [] } in new ≡ fed (b ∷ []) old
 fed-other b old opened is =
     rw (number-other old.number b opened.numbered is, after_last-other old.pending b is, after_last-none old.pending opened.one_line) refl
 
-pub fed-lf : (b : ℕ) (old : Spot) → is_lf b ≡ true → let new : Spot = record { number = next_number old.number; pending = [] } in new ≡ fed (b ∷ []) old
+pub fed-lf : (b : ℕ) (old : Spot) → is_line_feed b ≡ true → let new : Spot = record { number = next_number old.number; pending = [] } in new ≡ fed (b ∷ []) old
 fed-lf b old is = rw (number-lf old.number b is, after_last-lf old.pending b is) refl
 
 -- bytes without an LF wait behind what waits
-after_last-others : (bytes more : List ℕ) → HasNoLf more → after_last is_lf (bytes ++ more) ≡ after_last is_lf bytes ++ more
-after_last-others bytes [] one = ap (after_last is_lf) (append-nil bytes) ∙ sym (append-nil (after_last is_lf bytes))
+after_last-others : (bytes more : List ℕ) → HasNoLf more → after_last is_line_feed (bytes ++ more) ≡ after_last is_line_feed bytes ++ more
+after_last-others bytes [] one = ap (after_last is_line_feed) (append-nil bytes) ∙ sym (append-nil (after_last is_line_feed bytes))
 after_last-others bytes (b ∷ more) one =
-    let is : is_lf b ≡ false = All-get_or (λ x. is_lf x ≡ false) (b ∷ more) 0 b (omega arith) one in
-    let rest : HasNoLf more = All-from_get_or (λ x. is_lf x ≡ false) more b (λ i lt. All-get_or (λ x. is_lf x ≡ false) (b ∷ more) (suc i) b (omega arith) one) in
+    let is : is_line_feed b ≡ false = All-get_or (λ x. is_line_feed x ≡ false) (b ∷ more) 0 b (omega arith) one in
+    let rest : HasNoLf more = All-from_get_or (λ x. is_line_feed x ≡ false) more b (λ i lt. All-get_or (λ x. is_line_feed x ≡ false) (b ∷ more) (suc i) b (omega arith) one) in
     let e = after_last-others (bytes ++ b ∷ []) more rest in
     let f = after_last-other bytes b is in
-    ap (after_last is_lf) (sym (append_assoc bytes (b ∷ []) more)) ∙ e ∙ ap (λ t. t ++ more) f ∙ append_assoc (after_last is_lf bytes) (b ∷ []) more
+    ap (after_last is_line_feed) (sym (append_assoc bytes (b ∷ []) more)) ∙ e ∙ ap (λ t. t ++ more) f ∙ append_assoc (after_last is_line_feed bytes) (b ∷ []) more
 
-count-others : (more : List ℕ) → HasNoLf more → count_by is_lf more ≡ 0
+count-others : (more : List ℕ) → HasNoLf more → count_by is_line_feed more ≡ 0
 count-others [] one = refl
 count-others (b ∷ more) one =
-    let is : is_lf b ≡ false = All-get_or (λ x. is_lf x ≡ false) (b ∷ more) 0 b (omega arith) one in
-    let rest : HasNoLf more = All-from_get_or (λ x. is_lf x ≡ false) more b (λ i lt. All-get_or (λ x. is_lf x ≡ false) (b ∷ more) (suc i) b (omega arith) one) in
+    let is : is_line_feed b ≡ false = All-get_or (λ x. is_line_feed x ≡ false) (b ∷ more) 0 b (omega arith) one in
+    let rest : HasNoLf more = All-from_get_or (λ x. is_line_feed x ≡ false) more b (λ i lt. All-get_or (λ x. is_line_feed x ≡ false) (b ∷ more) (suc i) b (omega arith) one) in
     rw is (count-others more rest)
 
 -- several bytes that are no LF wait for the end of their line
@@ -85,12 +87,12 @@ pub fed-others : (a more : List ℕ) (old mid : Spot) → IsOpen mid → HasNoLf
     let new : Spot = record { number = mid.number; pending = mid.pending ++ more } in new ≡ fed (a ++ more) old
 fed-others a more old mid opened one is =
     let n : mid.number ≡ number_after old.number (a ++ more) =
-    ap (λ (s : Spot). s.number) is ∙ let c : count_by is_lf (a ++ more) ≡ count_by is_lf a + count_by is_lf more = sum_by-append (λ x. cond (is_lf x) 1 0) a more in
+    ap (λ (s : Spot). s.number) is ∙ let c : count_by is_line_feed (a ++ more) ≡ count_by is_line_feed a + count_by is_line_feed more = sum_by-append (λ x. cond (is_line_feed x) 1 0) a more in
     let z = count-others more one in
-    let same : count_by is_lf (a ++ more) ≡ count_by is_lf a = omega arith in
+    let same : count_by is_line_feed (a ++ more) ≡ count_by is_line_feed a = omega arith in
     rw same refl in
-    let p : mid.pending ++ more ≡ after_last is_lf (old.pending ++ (a ++ more)) =
-    ap (λ (s : Spot). s.pending ++ more) is ∙ sym (after_last-others (old.pending ++ a) more one) ∙ ap (after_last is_lf) (append_assoc old.pending a more) in
+    let p : mid.pending ++ more ≡ after_last is_line_feed (old.pending ++ (a ++ more)) =
+    ap (λ (s : Spot). s.pending ++ more) is ∙ sym (after_last-others (old.pending ++ a) more one) ∙ ap (after_last is_line_feed) (append_assoc old.pending a more) in
     rw (n, p) refl
 
 -- the first bytes are the first of them, and the first that follow
@@ -102,18 +104,18 @@ take_on (suc at) n (b ∷ bytes) = let e : suc at + n ≡ suc (at + n) = omega a
 -- nothing was fed
 pub fed-nothing : (old : Spot) → IsOpen old → old ≡ fed [] old
 fed-nothing old opened =
-    let n : min (old.number + 0) (2 ^ 64 - 1) ≡ old.number = let small = opened.numbered in omega arith in
+    let n : min (old.number + 0) last_count ≡ old.number = let small = opened.numbered in omega arith in
     rw (n, append-nil, after_last-none old.pending opened.one_line) refl
 
 -- one byte more
 pub fed-append : (a : List ℕ) (b : ℕ) (old mid : Spot) → IsOpen mid → mid ≡ fed a old → fed (b ∷ []) mid ≡ fed (a ++ b ∷ []) old
-fed-append a b old mid opened is = elim (cases_Bool (is_lf b)) [
+fed-append a b old mid opened is = elim (cases_Bool (is_line_feed b)) [
   | inl e ↦
-      let p : after_last is_lf (mid.pending ++ b ∷ []) ≡ after_last is_lf (old.pending ++ (a ++ b ∷ [])) =
+      let p : after_last is_line_feed (mid.pending ++ b ∷ []) ≡ after_last is_line_feed (old.pending ++ (a ++ b ∷ [])) =
       after_last-lf mid.pending b e ∙ sym (rw (← append_assoc) (after_last-lf (old.pending ++ a) b e)) in
       both p
   | inr e ↦
-      let p : after_last is_lf (mid.pending ++ b ∷ []) ≡ after_last is_lf (old.pending ++ (a ++ b ∷ [])) =
+      let p : after_last is_line_feed (mid.pending ++ b ∷ []) ≡ after_last is_line_feed (old.pending ++ (a ++ b ∷ [])) =
       after_last-other mid.pending b e ∙ ap (λ t. t ++ b ∷ []) (after_last-none mid.pending opened.one_line ∙ ap (λ (s : Spot). s.pending) is)
       ∙ sym (rw (← append_assoc) (after_last-other (old.pending ++ a) b e)) in
       both p
@@ -122,30 +124,8 @@ fed-append a b old mid opened is = elim (cases_Bool (is_lf b)) [
     n : number_after mid.number (b ∷ []) ≡ number_after old.number (a ++ b ∷ [])
     n = ap (λ (s : Spot). number_after s.number (b ∷ [])) is ∙ sym (number-append old.number a (b ∷ []))
 
-    both : after_last is_lf (mid.pending ++ b ∷ []) ≡ after_last is_lf (old.pending ++ (a ++ b ∷ [])) → fed (b ∷ []) mid ≡ fed (a ++ b ∷ []) old
+    both : after_last is_line_feed (mid.pending ++ b ∷ []) ≡ after_last is_line_feed (old.pending ++ (a ++ b ∷ [])) → fed (b ∷ []) mid ≡ fed (a ++ b ∷ []) old
     both p = rw (n, p) refl
-
--- the bytes of one line that is not too long wait
-pub IsOpen-other : (b : ℕ) (old : Spot) → IsOpen old → is_lf b ≡ false → length old.pending < 65535 → IsOpen (record { number = old.number; pending = old.pending ++ b ∷ [] })
-IsOpen-other b old opened is short = record {
-  numbered = opened.numbered;
-  within = omega (arith, length_push old.pending b);
-  one_line = All-append (λ x. is_lf x ≡ false) old.pending (b ∷ []) opened.one_line (All-from_get_or (λ x. is_lf x ≡ false) (b ∷ []) b (λ i lt. first i lt));
-}
-  where
-    first : (i : ℕ) → i < length (b ∷ []) → is_lf (get_or (b ∷ []) i b) ≡ false
-    first zero lt = is
-    first (suc i) lt = absurd (omega arith)
-
-pub IsOpen-nothing : (n : ℕ) → n < 2 ^ 64 → IsOpen (record { number = n; pending = [] })
-IsOpen-nothing n small = record {
-  numbered = small;
-  within = omega arith;
-  one_line = λ k d lt. absurd (omega arith);
-}
-
-pub next_number-small : (n : ℕ) → next_number n < 2 ^ 64
-next_number-small n = omega arith
 
 no_length : (bytes : List ℕ) → length bytes ≡ 0 → bytes ≡ []
 no_length [] none = refl

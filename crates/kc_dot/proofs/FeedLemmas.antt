@@ -3,13 +3,14 @@ use Rattle.std.proofs.Common.{◌≡◌, ℕ, ◌<◌, ◌≤◌, List, [], ◌�
 use Rattle.std.specs.Prelude.{◌==◌}
 use Rattle.std.proofs.lemmas.Bool.{eqb-true, ne_eqb}
 use Rattle.std.proofs.lemmas.List.{take-append-drop}
+use Rattle.kc_text.specs.Lines.{is_line_feed}
 use Rattle.kc_tree.specs.TreeFacts.{TreeFacts}
 use Rattle.kc_user.specs.Places.{Places}
 use Rattle.kc_dot.specs.declared.fault.DotFault.{DotFault}
 use Rattle.kc_dot.specs.declared.fault.DotFault.TheVariants.{ConfigLineTooLong, Sink, Memory}
 use Rattle.kc_dot.specs.Feeding.{Spot, IsOpen, fed, to_come, BreaksAt, Goes, Feeds, Because, StopsAt, Refuses, Finishes, FailsToEnd}
 use Rattle.kc_dot.specs.LineSteps.{FailsIn}
-use Rattle.kc_dot.specs.Reading.{Line, line, is_lf, is_within, next_number, lines_from, reading, told, places_after, warning}
+use Rattle.kc_dot.specs.Reading.{Line, line, is_within, next_number, lines_from, reading, told, places_after, warning}
 use Rattle.kc_dot.specs.Sink.{extended, BeginsWith, GoesBeyond}
 use Rattle.kc_dot.proofs.LineLemmas.{HasNoLf, lines_from-lf, lines_from-last, is_within-line}
 use Rattle.kc_dot.proofs.LongLineLemmas.{Stops-long, Stops-longer}
@@ -24,7 +25,7 @@ module _ (tree : TreeFacts) (prefix name : List ℕ) where
   pub Goes-append : (a b : List ℕ) (old mid new : Spot) (before middle after : Places) (w v : List ℕ) →
       Goes tree prefix name a old mid before middle w → Goes tree prefix name b mid new middle after v → Goes tree prefix name (a ++ b) old new before after (w ++ v)
   Goes-append a b old mid new before middle after w v first second rest more =
-      rw append_assoc (first (b ++ rest) more ∙ ap (told w) (second rest more) ∙ told-told w v (reading tree prefix after (to_come tree prefix name new rest more)))
+      rw append_assoc (first (b ++ rest) more ∙ ap (told w) (second rest more) ∙ told-told w v (reading tree prefix after (to_come name new rest more)))
 
   pub Feeds-nothing : (spot : Spot) (places : Places) (taken : Option (List ℕ)) → Feeds tree prefix name [] spot spot places places taken taken
   Feeds-nothing spot places taken = ([], extended-nothing taken, Goes-nothing spot places)
@@ -40,7 +41,7 @@ module _ (tree : TreeFacts) (prefix name : List ℕ) where
   Feeds-byte b old places taken = ([], extended-nothing taken, λ rest more. rw append_assoc refl)
 
   -- an LF ends the line
-  pub Goes-lf : (b : ℕ) (old : Spot) (before : Places) → IsOpen old → is_lf b ≡ true →
+  pub Goes-lf : (b : ℕ) (old : Spot) (before : Places) → IsOpen old → is_line_feed b ≡ true →
       let l = line name old.number old.pending true in
       Goes tree prefix name (b ∷ []) old (record { number = next_number old.number; pending = [] }) before (places_after tree prefix before (l ∷ [])) (warning tree prefix before l)
   Goes-lf b old before open' lf rest more =
@@ -49,7 +50,7 @@ module _ (tree : TreeFacts) (prefix name : List ℕ) where
       rw e (reading_within tree prefix before l (lines_from name (next_number old.number) rest ++ more) (is_within-line name old.number old.pending true open'.within))
 
   -- the warning of the next line broke off
-  pub Because-lf : (b : ℕ) (old : Spot) (places : Places) (front : List ℕ) → IsOpen old → is_lf b ≡ true →
+  pub Because-lf : (b : ℕ) (old : Spot) (places : Places) (front : List ℕ) → IsOpen old → is_line_feed b ≡ true →
       GoesBeyond (warning tree prefix places (line name old.number old.pending true)) front → Because tree prefix name Sink (b ∷ []) old places front
   Because-lf b old places front open' lf begun =
       let same : old.pending ≡ old.pending ++ [] = sym (append-nil old.pending) in
@@ -65,7 +66,7 @@ module _ (tree : TreeFacts) (prefix name : List ℕ) where
 
   -- whatever follows, what was handed out begins the warnings of the lines from there on
   pub begins_at_break : (left : List ℕ) (spot : Spot) (places : Places) (front : List ℕ) → BreaksAt tree prefix name left spot places front →
-      (rest : List ℕ) (more : List Line) → BeginsWith (reading tree prefix places (to_come tree prefix name spot (left ++ rest) more)).warned front
+      (rest : List ℕ) (more : List Line) → BeginsWith (reading tree prefix places (to_come name spot (left ++ rest) more)).warned front
   begins_at_break left spot places front breaks rest more =
       let bytes = spot.pending ++ breaks.text in
       let l = line name spot.number bytes true in
@@ -77,18 +78,18 @@ module _ (tree : TreeFacts) (prefix name : List ℕ) where
       ∙ sym (append_assoc spot.pending breaks.text (10 ∷ (breaks.later ++ rest))) in
       let cut : lines_from name spot.number (spot.pending ++ (left ++ rest)) ≡ l ∷ lines_from name (next_number spot.number) (breaks.later ++ rest) =
       ap (lines_from name spot.number) split ∙ lines_from-lf name spot.number bytes 10 (breaks.later ++ rest) breaks.one_line refl in
-      let read : reading tree prefix places (to_come tree prefix name spot (left ++ rest) more) ≡ told (warning tree prefix places l) after =
+      let read : reading tree prefix places (to_come name spot (left ++ rest) more) ≡ told (warning tree prefix places l) after =
       ap (λ ls. reading tree prefix places (ls ++ more)) cut ∙ reading_within tree prefix places l later (is_within-line name spot.number bytes true breaks.within) in
       rw read ((b ∷ beyond) ++ after.warned, rw begun (append_assoc front (b ∷ beyond) after.warned))
 
-  pub StopsAt-lf : (fault : DotFault) (b : ℕ) (old : Spot) (places : Places) (taken taken_after : Option (List ℕ)) → IsOpen old → is_lf b ≡ true →
+  pub StopsAt-lf : (fault : DotFault) (b : ℕ) (old : Spot) (places : Places) (taken taken_after : Option (List ℕ)) → IsOpen old → is_line_feed b ≡ true →
       FailsIn (warning tree prefix places (line name old.number old.pending true)) fault taken taken_after → StopsAt tree prefix name fault (b ∷ []) old places taken taken_after
   StopsAt-lf (ConfigLineTooLong n) b old places taken taken_after open' lf never = absurd never
   StopsAt-lf Sink b old places taken taken_after open' lf (front, begins, handed) = (front, handed, Because-lf b old places front open' lf begins)
   StopsAt-lf Memory b old places taken taken_after open' lf same = ([], same ∙ extended-nothing taken, refl)
 
   -- the 65,536th byte of a line
-  pub StopsAt-long : (b : ℕ) (old : Spot) (places : Places) (taken : Option (List ℕ)) → IsOpen old → is_lf b ≡ false → 65535 ≤ length old.pending →
+  pub StopsAt-long : (b : ℕ) (old : Spot) (places : Places) (taken : Option (List ℕ)) → IsOpen old → is_line_feed b ≡ false → 65535 ≤ length old.pending →
       StopsAt tree prefix name (ConfigLineTooLong old.number) (b ∷ []) old places taken taken
   StopsAt-long b old places taken open' other long =
       let within = open'.within in
@@ -131,7 +132,7 @@ module _ (tree : TreeFacts) (prefix name : List ℕ) where
       }
 
   -- an LF's warning was handed out
-  pub Feeds-lf : (b : ℕ) (old new : Spot) (before after : Places) (taken taken_after : Option (List ℕ)) → IsOpen old → is_lf b ≡ true →
+  pub Feeds-lf : (b : ℕ) (old new : Spot) (before after : Places) (taken taken_after : Option (List ℕ)) → IsOpen old → is_line_feed b ≡ true →
       after ≡ places_after tree prefix before (line name old.number old.pending true ∷ []) →
       taken_after ≡ extended taken (warning tree prefix before (line name old.number old.pending true)) →
       new ≡ record { number = next_number old.number; pending = [] } →

@@ -3,39 +3,40 @@ use Rattle.std.proofs.Common.{◌≡◌, ℕ, ◌≤◌, List, [], ◌∷◌, �
 use Rattle.std.specs.List.{All, slice_split, onto_first, cons_option}
 use Rattle.std.proofs.lemmas.Bool.{cases_Bool, le-leb}
 use Rattle.std.proofs.lemmas.List.Splits.{slice_split_at, slice_split_none, slice_split-cons_no, slice_split-cons_yes}
+use Rattle.kc_text.specs.Lines.{is_line_feed}
 use Rattle.kc_tree.specs.TreeFacts.{TreeFacts}
 use Rattle.kc_user.specs.Places.{Places}
 use Rattle.kc_dot.specs.ConfigLine.{says}
 use Rattle.kc_dot.specs.Effects.{Effect, Silent, Warns, Assigns, effect_of}
 use Rattle.kc_dot.specs.LineSteps.{places_by}
-use Rattle.kc_dot.specs.Reading.{Line, line, is_lf, is_within, next_number, last_line, lines_from, text_of, effect, assignment_of, places_given, places_after, warning, warning_words, trouble_of}
+use Rattle.kc_dot.specs.Reading.{Line, line, is_within, next_number, last_line, lines_from, text_of, effect, assignment_of, places_given, places_after, warning, warning_words, trouble_of}
 use Rattle.kc_dot.proofs.PlaceLemmas.{places_given-nothing}
 
 -- there is a first part
-pub split_form : (bytes : List ℕ) → (part : List ℕ) × (parts : List (List ℕ)) × (slice_split is_lf bytes ≡ part ∷ parts)
+pub split_form : (bytes : List ℕ) → (part : List ℕ) × (parts : List (List ℕ)) × (slice_split is_line_feed bytes ≡ part ∷ parts)
 split_form [] = ([], [], refl)
-split_form (b ∷ bytes) = elim (cases_Bool (is_lf b)) [
-  | inl e ↦ ([], slice_split is_lf bytes, slice_split-cons_yes is_lf b bytes e)
+split_form (b ∷ bytes) = elim (cases_Bool (is_line_feed b)) [
+  | inl e ↦ ([], slice_split is_line_feed bytes, slice_split-cons_yes is_line_feed b bytes e)
   | inr e ↦
       let (part, parts, is) = split_form bytes in
-      (b ∷ part, parts, slice_split-cons_no is_lf b bytes e ∙ ap (onto_first b) is)
+      (b ∷ part, parts, slice_split-cons_no is_line_feed b bytes e ∙ ap (onto_first b) is)
 ]
 
 abbrev pub HasNoLf : List ℕ → Type 0
-HasNoLf bytes = All (λ b. is_lf b ≡ false) bytes
+HasNoLf bytes = All (λ b. is_line_feed b ≡ false) bytes
 
 -- an LF ends the line, and the next line follows
-pub lines_from-lf : (stream : List ℕ) (n : ℕ) (bytes : List ℕ) (b : ℕ) (rest : List ℕ) → HasNoLf bytes → is_lf b ≡ true →
+pub lines_from-lf : (stream : List ℕ) (n : ℕ) (bytes : List ℕ) (b : ℕ) (rest : List ℕ) → HasNoLf bytes → is_line_feed b ≡ true →
     lines_from stream n (bytes ++ b ∷ rest) ≡ line stream n bytes true ∷ lines_from stream (next_number n) rest
 unfolding lines_from
 lines_from-lf stream n bytes b rest one ends =
     let (part, parts, is) = split_form rest in
-    rw (slice_split_at is_lf bytes b rest one ends, is) refl
+    rw (slice_split_at is_line_feed bytes b rest one ends, is) refl
 
 -- without one the bytes are the last line
 pub lines_from-last : (stream : List ℕ) (n : ℕ) (bytes : List ℕ) → HasNoLf bytes → lines_from stream n bytes ≡ last_line stream n bytes
 unfolding lines_from
-lines_from-last stream n bytes one = rw (slice_split_none is_lf bytes one) refl
+lines_from-last stream n bytes one = rw (slice_split_none is_line_feed bytes one) refl
 
 -- What one line does.
 after_effect : (tree : TreeFacts) (places : Places) (e : Effect) → places_given tree places (cons_option (assignment_of e) []) ≡ places_by tree places e

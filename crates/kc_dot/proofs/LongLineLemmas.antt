@@ -5,18 +5,19 @@ use Rattle.std.specs.List.{slice_split, onto_first}
 use Rattle.std.proofs.lemmas.Bool.{ne_eqb}
 use Rattle.std.proofs.lemmas.Bool.Decides.{nat_tests}
 use Rattle.std.proofs.lemmas.List.Splits.{slice_split-cons_no}
+use Rattle.kc_text.specs.Lines.{is_line_feed}
 use Rattle.kc_tree.specs.TreeFacts.{TreeFacts}
 use Rattle.kc_user.specs.Places.{Places}
 use Rattle.kc_dot.specs.Feeding.{Spot, IsOpen, Stops}
-use Rattle.kc_dot.specs.Reading.{Line, line, is_lf, is_within, lines_from, lines_of_parts, reading, stop_at}
+use Rattle.kc_dot.specs.Reading.{Line, line, is_within, lines_from, lines_of_parts, reading, stop_at}
 use Rattle.kc_dot.proofs.LineLemmas.{HasNoLf, split_form}
 use Rattle.kc_dot.proofs.ReadingLemmas.{reading_long}
 
 -- bytes without an LF stand before the first part
-split_behind : (bytes rest part : List ℕ) (parts : List (List ℕ)) → HasNoLf bytes → slice_split is_lf rest ≡ part ∷ parts → slice_split is_lf (bytes ++ rest) ≡ (bytes ++ part) ∷ parts
+split_behind : (bytes rest part : List ℕ) (parts : List (List ℕ)) → HasNoLf bytes → slice_split is_line_feed rest ≡ part ∷ parts → slice_split is_line_feed (bytes ++ rest) ≡ (bytes ++ part) ∷ parts
 split_behind [] rest part parts one is = is
 split_behind (b ∷ bytes) rest part parts one is =
-    slice_split-cons_no is_lf b (bytes ++ rest) (one 0 b (omega arith)) ∙ ap (onto_first b) (split_behind bytes rest part parts (λ k d lt. one (suc k) d (omega (arith, lt))) is)
+    slice_split-cons_no is_line_feed b (bytes ++ rest) (one 0 b (omega arith)) ∙ ap (onto_first b) (split_behind bytes rest part parts (λ k d lt. one (suc k) d (omega (arith, lt))) is)
 
 -- the first line of these parts is the first part
 first_line : (stream : List ℕ) (n : ℕ) (part : List ℕ) (parts : List (List ℕ)) → 0 < length part → (ended : Bool) × (lines : List Line) × (lines_of_parts stream n (part ∷ parts) ≡ line stream n part ended ∷ lines)
@@ -24,17 +25,17 @@ first_line stream n part [] some = let e : (length part == 0) ≡ false = ne_eqb
 first_line stream n part (next ∷ parts) some = (true, lines_of_parts stream _ (next ∷ parts), refl)
 
 -- bytes without an LF, and then another byte than an LF, begin the first line
-begins_line : (stream : List ℕ) (n : ℕ) (bytes : List ℕ) (b : ℕ) (rest : List ℕ) → HasNoLf bytes → is_lf b ≡ false →
+begins_line : (stream : List ℕ) (n : ℕ) (bytes : List ℕ) (b : ℕ) (rest : List ℕ) → HasNoLf bytes → is_line_feed b ≡ false →
     (part : List ℕ) × (ended : Bool) × (lines : List Line) × (lines_from stream n (bytes ++ b ∷ rest) ≡ line stream n (bytes ++ b ∷ part) ended ∷ lines)
 unfolding lines_from
 begins_line stream n bytes b rest one other =
     let (part, parts, is) = split_form rest in
-    let whole : slice_split is_lf (bytes ++ b ∷ rest) ≡ (bytes ++ b ∷ part) ∷ parts = split_behind bytes (b ∷ rest) (b ∷ part) parts one (slice_split-cons_no is_lf b rest other ∙ ap (onto_first b) is) in
+    let whole : slice_split is_line_feed (bytes ++ b ∷ rest) ≡ (bytes ++ b ∷ part) ∷ parts = split_behind bytes (b ∷ rest) (b ∷ part) parts one (slice_split-cons_no is_line_feed b rest other ∙ ap (onto_first b) is) in
     let (ended, lines, first) = first_line stream n (bytes ++ b ∷ part) parts (omega (arith, length-append bytes (b ∷ part))) in
     (part, ended, lines, ap (lines_of_parts stream n) whole ∙ first)
 
 -- the 65,536th byte of a line stops the reading there
-pub Stops-long : (tree : TreeFacts) (prefix name : List ℕ) (b : ℕ) (spot : Spot) (places : Places) → IsOpen spot → is_lf b ≡ false → 65535 ≤ length spot.pending → Stops tree prefix name (b ∷ []) spot places
+pub Stops-long : (tree : TreeFacts) (prefix name : List ℕ) (b : ℕ) (spot : Spot) (places : Places) → IsOpen spot → is_line_feed b ≡ false → 65535 ≤ length spot.pending → Stops tree prefix name (b ∷ []) spot places
 Stops-long tree prefix name b spot places opened other long rest more =
     let (part, ended, lines, is) = begins_line name spot.number spot.pending b rest opened.one_line other in
     let l = line name spot.number (spot.pending ++ b ∷ part) ended in

@@ -1,9 +1,8 @@
 -- The minimal file gives the values back, and none of its lines can go.
-use Rattle.std.proofs.Common.{◌≡◌, ℕ, ◌+◌, ◌<◌, List, [], ◌∷◌, ◌++◌, Bool, true, false, length, cond, refl, sym, ap, ◌∙◌, subst, inl, inr, Option, Some, None, append-nil}
-use Rattle.std.specs.Prelude.{◌&&◌, not}
+use Rattle.std.proofs.Common.{◌≡◌, ℕ, ◌<◌, List, Bool, true, false, cond, refl, sym, ap, ◌∙◌, subst, inl, inr, Option, Some, None, append-nil}
+use Rattle.std.specs.Prelude.{not}
 use Rattle.std.proofs.lemmas.Bool.{and_parts}
 use Rattle.kc_expr.specs.declared.expression.SymId.{SymId}
-use Rattle.kc_expr.specs.Names.{symbol}
 use Rattle.kc_expr.specs.Value.{Known}
 use Rattle.kc_order.specs.Minimal.{kept, Restores, NothingCanGo}
 use Rattle.kc_order.specs.Solution.{Solves}
@@ -13,21 +12,21 @@ use Rattle.kc_user.specs.Places.{Places, place_at, no_places}
 use Rattle.kc_values.specs.Differs.{differs, default_selection, line_of, AllowedPlaces}
 use Rattle.kc_values.specs.Laws.{MembersAreTheirs, MembersAreBools, DifferingAreAllowed}
 use Rattle.kc_values.specs.Solution.{symbol_count, slot, rhs, equations}
-use Rattle.kc_values.specs.Values.{names_symbol}
+use Rattle.kc_tree.specs.Facts.{is_symbol_of}
 use Rattle.kc_values.proofs.FixedLines.{slot_cases, named, Sel, differs-member}
 use Rattle.kc_dot.specs.Prefixes.{is_prefix}
 use Rattle.kc_dot.specs.Reading.{Read, lines_from, reading, places_given}
 use Rattle.kc_dot.specs.Reread.{told_by, kept_lines, read_alone, IsOneSolution, HasOtherSolution}
 use Rattle.kc_dot.specs.HasNames.{HasNames}
 use Rattle.kc_dot.specs.Texts.{minimal_text}
-use Rattle.kc_dot.proofs.GivesLemmas.{Gives, gives_whole}
+use Rattle.kc_dot.proofs.GivesLemmas.{gives_whole}
 use Rattle.kc_dot.proofs.MinimalTextLemmas.{keeps_differing, tells_differing, stays, stays_member, all_given, minimal_gives, left_at}
 
 -- a text read alone
 pub read_alone_is : (tree : TreeFacts) (prefix name text : List ℕ) → read_alone tree prefix name text ≡ reading tree prefix (no_places tree) (lines_from name 1 text)
 read_alone_is tree prefix name text = ap (reading tree prefix (no_places tree)) (append-nil (lines_from name 1 text))
 
-module _ (tree : TreeFacts) (user : Slot → Option Given) (V : ℕ → Known) (formed : IsWellFormed tree) (theirs : MembersAreTheirs tree) (bools : MembersAreBools tree) (named_all : HasNames tree) (allowed_at : AllowedPlaces tree user V) (law : DifferingAreAllowed) (solves : Solves (symbol_count tree) (equations tree user) V) (prefix : List ℕ) (is_pre : is_prefix prefix ≡ true) where
+module _ (tree : TreeFacts) (user : Slot → Option Given) (V : ℕ → Known) (formed : IsWellFormed tree) (theirs : MembersAreTheirs tree) (bools : MembersAreBools tree) (named_all : HasNames tree) (allowed_at : AllowedPlaces tree user) (law : DifferingAreAllowed) (solves : Solves (symbol_count tree) (equations tree user) V) (prefix : List ℕ) (is_pre : is_prefix prefix ≡ true) where
   abbrev Keep : Slot → Bool
   Keep = keeps_differing tree user V theirs solves
 
@@ -79,7 +78,7 @@ module _ (tree : TreeFacts) (user : Slot → Option Given) (V : ℕ → Known) (
   gone keep s lt other away = elim (slot_cases tree s.0) [
     | inl at ↦ ap (Stays keep) at ∙ away
     | inr (c, at) ↦
-        let both = and_parts (names_symbol (Sel tree user V solves c) s) (not (names_symbol (default_selection tree user V c) s)) (sym (differs-member tree user V solves s.0 c at) ∙ other) in
+        let both = and_parts (is_symbol_of s (Sel tree user V solves c)) (not (is_symbol_of s (default_selection tree V c))) (sym (differs-member tree user V solves s.0 c at) ∙ other) in
         ap (Stays keep) at ∙ ap (stays_member tree user V formed theirs bools named_all allowed_at law solves prefix is_pre keep) (named (Sel tree user V solves c) s both.0) ∙ away
   ]
 

@@ -1,28 +1,26 @@
 -- What reading the minimal file, or some of its lines, leaves in empty places.
-use Rattle.std.proofs.Common.{◌≡◌, ℕ, ◌+◌, ◌<◌, ◌≤◌, List, [], ◌∷◌, ◌++◌, Bool, true, false, not, length, map, get_or, cond, refl, sym, ap, ◌∙◌, subst, arith, inl, inr, ◌⊎◌, Option, Some, None}
+use Rattle.std.proofs.Common.{◌≡◌, ℕ, ◌<◌, List, [], ◌∷◌, ◌++◌, Bool, true, false, not, length, get_or, cond, refl, sym, ap, ◌∙◌, subst, arith, inl, inr, Option, Some, None}
 use Rattle.std.specs.Prelude.{◌&&◌, slice_get, nat_lt}
 use Rattle.std.specs.List.{Contains, flat_map, cons_option}
 use Rattle.std.specs.Option.{option_map, option_and_then}
-use Rattle.std.proofs.lemmas.Bool.{cases_Bool, and_parts, and_from, lt-ltb, ltb-true, true≢false}
+use Rattle.std.proofs.lemmas.Bool.{cases_Bool, and_parts, lt-ltb, ltb-true, true≢false}
 use Rattle.std.proofs.lemmas.Option.{slice_get-get_or, slice_get_within}
 use Rattle.std.proofs.lemmas.List.FromFn.{length-map-range_with_len, get_or-map-range_with_len}
 use Rattle.kc_expr.specs.declared.expression.SymId.{SymId}
-use Rattle.kc_expr.specs.declared.expression.Tri.TheVariants.{N, M, Y}
-use Rattle.kc_expr.specs.declared.expression.Kind.{Kind}
-use Rattle.kc_expr.specs.declared.expression.Kind.TheVariants as kind
+use Rattle.kc_expr.specs.declared.expression.Tri.TheVariants.{N, Y}
 use Rattle.kc_expr.specs.Names.{symbol}
-use Rattle.kc_expr.specs.Value.{Known, Truth, Written}
+use Rattle.kc_expr.specs.Value.{Known, Truth}
 use Rattle.kc_order.specs.Minimal.{kept}
 use Rattle.kc_order.specs.Solution.{Solves}
-use Rattle.kc_tree.specs.TreeFacts.{TreeFacts, SymbolFacts, ChoiceFacts, IsWellFormed}
-use Rattle.kc_user.specs.Given.{Given, Chosen, Typed, Member, Slot, At, In}
-use Rattle.kc_user.specs.Places.{Places, place_at, no_places, allowed, allowed_by, allowed_for}
-use Rattle.kc_values.specs.Differs.{given_of, differs, selection, default_selection, line_of, TellsDiffering, AllowedPlaces}
+use Rattle.kc_tree.specs.TreeFacts.{TreeFacts, SymbolFacts, IsWellFormed}
+use Rattle.kc_user.specs.Given.{Given, Member, Slot, At, In}
+use Rattle.kc_user.specs.Places.{place_at, no_places, allowed, allowed_by, allowed_for}
+use Rattle.kc_values.specs.Differs.{given_of, differs, default_selection, line_of, TellsDiffering, AllowedPlaces}
 use Rattle.kc_values.specs.Laws.{MembersAreTheirs, MembersAreBools, DifferingAreAllowed}
 use Rattle.kc_values.specs.Lookups.{facts, choice_at}
 use Rattle.kc_values.specs.Solution as sol
 use Rattle.kc_values.specs.Solution.{symbol_count, seen, slot, rhs, equations}
-use Rattle.kc_values.specs.Values.{names_symbol}
+use Rattle.kc_tree.specs.Facts.{is_symbol_of}
 use Rattle.kc_values.proofs.FixedLines.{slot_cases, slot_of_member, names_itself, named, Sel, member_now, differs-member}
 use Rattle.kc_values.proofs.Selection.{selected_member}
 use Rattle.kc_dot.specs.Effects.{name_of}
@@ -30,13 +28,12 @@ use Rattle.kc_dot.specs.Prefixes.{is_prefix}
 use Rattle.kc_dot.specs.Reading.{Assignment, choice_of, is_yes, places_given}
 use Rattle.kc_dot.specs.Reread.{told_by, kept_lines}
 use Rattle.kc_dot.specs.HasNames.{HasNames}
-use Rattle.kc_dot.specs.Texts.{symbols_of, symbol_config, minimal_if}
+use Rattle.kc_dot.specs.Texts.{symbols_of, symbol_config}
 use Rattle.kc_dot.specs.SymbolLines.{config_line}
-use Rattle.kc_dot.specs.Told.{Told}
 use Rattle.kc_dot.proofs.FilledLemmas.{Holds, IsCandidate, filled_symbol, filled_member, filled_none, in_flat_map, to_flat_map, contains_here, contains_cases, no_element}
 use Rattle.kc_dot.proofs.GivesLemmas.{Gives, gives_all, gives_nothing}
 use Rattle.kc_dot.proofs.ShapeLemmas.{value_shape, allowed_fits, untyped_not}
-use Rattle.kc_dot.proofs.SymbolLineLemmas.{IsOf, FitsLine, symbol_gives, own}
+use Rattle.kc_dot.proofs.SymbolLineLemmas.{IsOf, symbol_gives, own}
 
 -- Symbols by number.
 pub there : {X : Type 0} (xs : List X) (i : ℕ) → i < length xs → (x : X) × (slice_get xs i ≡ Some x)
@@ -93,14 +90,14 @@ module _ (tree : TreeFacts) (user : Slot → Option Given) (V : ℕ → Known) (
   pub yes_selected : (x : SymId) (c : ℕ) → x.0 < length tree.symbols → choice_of tree x ≡ Some c → is_yes (given_of (V x.0)) ≡ true → Selected c ≡ Some x
   yes_selected x c lt is yes_now =
       let now = member_now tree user V solves x.0 c lt (slot_by_choice tree x c is) in
-      named (Selected c) x (yes_if (names_symbol (Selected c) x) (sym (ap (λ k. is_yes (given_of k)) now) ∙ yes_now))
+      named (Selected c) x (yes_if (is_symbol_of x (Selected c)) (sym (ap (λ k. is_yes (given_of k)) now) ∙ yes_now))
 
   pub selected_yes : (x : SymId) (c : ℕ) → Selected c ≡ Some x → (x.0 < length tree.symbols) × (slot tree x.0 ≡ In c) × (is_yes (given_of (V x.0)) ≡ true)
   selected_yes x c sel =
       let at = selected_member tree (seen tree V) (choice_at tree c) (user (In c)) x sel in
       let mine = theirs c at.0 x at.1 at.2 in
       let place = slot_of_member tree x mine.1.0 c mine.1.1 mine.1.2 in
-      let now = member_now tree user V solves x.0 c mine.0 place ∙ ap (λ r. Truth (cond (names_symbol r x) Y N)) sel ∙ ap (λ b. Truth (cond b Y N)) (names_itself x) in
+      let now = member_now tree user V solves x.0 c mine.0 place ∙ ap (λ r. Truth (cond (is_symbol_of x r) Y N)) sel ∙ ap (λ b. Truth (cond b Y N)) (names_itself x) in
       (mine.0, place, ap (λ k. is_yes (given_of k)) now)
 
   -- the places of the symbols that differ
@@ -131,7 +128,7 @@ module _ (tree : TreeFacts) (user : Slot → Option Given) (V : ℕ → Known) (
 
   member_told : (i c : ℕ) → slot tree i ≡ In c → differs tree user V i ≡ true → differing_member (Selected c) ≡ true
   member_told i c place e =
-      let both = and_parts (names_symbol (Selected c) (symbol i)) (not (names_symbol (default_selection tree user V c) (symbol i))) (sym (differs-member tree user V solves i c place) ∙ e) in
+      let both = and_parts (is_symbol_of (symbol i) (Selected c)) (not (is_symbol_of (symbol i) (default_selection tree V c))) (sym (differs-member tree user V solves i c place) ∙ e) in
       ap differing_member (named (Selected c) (symbol i) both.0) ∙ e
 
   pub tells_differing : TellsDiffering tree user V keeps_differing
@@ -151,7 +148,7 @@ module _ (tree : TreeFacts) (user : Slot → Option Given) (V : ℕ → Known) (
       ]
 
 -- Reading the lines of the symbols that differ and that a test keeps.
-module _ (tree : TreeFacts) (user : Slot → Option Given) (V : ℕ → Known) (formed : IsWellFormed tree) (theirs : MembersAreTheirs tree) (bools : MembersAreBools tree) (named_all : HasNames tree) (allowed_at : AllowedPlaces tree user V) (law : DifferingAreAllowed) (solves : Solves (symbol_count tree) (equations tree user) V) (prefix : List ℕ) (is_pre : is_prefix prefix ≡ true) (keep : SymId → Bool) where
+module _ (tree : TreeFacts) (user : Slot → Option Given) (V : ℕ → Known) (formed : IsWellFormed tree) (theirs : MembersAreTheirs tree) (bools : MembersAreBools tree) (named_all : HasNames tree) (allowed_at : AllowedPlaces tree user) (law : DifferingAreAllowed) (solves : Solves (symbol_count tree) (equations tree user) V) (prefix : List ℕ) (is_pre : is_prefix prefix ≡ true) (keep : SymId → Bool) where
   abbrev pub value_of_symbol : SymId → Given
   value_of_symbol s = given_of (V s.0)
 

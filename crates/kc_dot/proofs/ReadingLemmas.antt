@@ -31,11 +31,11 @@ module _ (tree : TreeFacts) (prefix : List ℕ) where
       reading tree prefix places (l ∷ lines) ≡ told (warning tree prefix places l) (reading tree prefix (places_after tree prefix places (l ∷ [])) lines)
   unfolding reading warnings
   reading_within places l lines short =
-      let front : counted tree prefix (l ∷ lines) ≡ l ∷ counted tree prefix lines = take_while-cons is_within l lines ∙ rw short refl in
-      let after : places_after tree prefix places (l ∷ counted tree prefix lines) ≡ places_after tree prefix (places_after tree prefix places (l ∷ [])) (counted tree prefix lines) =
-      places_after-append places (l ∷ []) (counted tree prefix lines) in
-      let told_later : warnings tree prefix places (l ∷ []) (counted tree prefix lines) ≡ warnings tree prefix (places_after tree prefix places (l ∷ [])) [] (counted tree prefix lines) =
-      warnings-before places (l ∷ []) [] (counted tree prefix lines) in
+      let front : counted (l ∷ lines) ≡ l ∷ counted lines = take_while-cons is_within l lines ∙ rw short refl in
+      let after : places_after tree prefix places (l ∷ counted lines) ≡ places_after tree prefix (places_after tree prefix places (l ∷ [])) (counted lines) =
+      places_after-append places (l ∷ []) (counted lines) in
+      let told_later : warnings tree prefix places (l ∷ []) (counted lines) ≡ warnings tree prefix (places_after tree prefix places (l ∷ [])) [] (counted lines) =
+      warnings-before places (l ∷ []) [] (counted lines) in
       let before : places_after tree prefix places [] ≡ places = places_after-nothing places in
       rw (front, after, told_later, before, short) refl
 
@@ -44,7 +44,7 @@ module _ (tree : TreeFacts) (prefix : List ℕ) where
       reading tree prefix places (l ∷ lines) ≡ record { places = places; warned = []; stopped = Some (stop_at l) }
   unfolding reading warnings
   reading_long places l lines long =
-      let front : counted tree prefix (l ∷ lines) ≡ [] = take_while-cons is_within l lines ∙ rw long refl in
+      let front : counted (l ∷ lines) ≡ [] = take_while-cons is_within l lines ∙ rw long refl in
       let before : places_after tree prefix places [] ≡ places = places_after-nothing places in
       rw (front, before, long) refl
 

@@ -20,7 +20,8 @@ use Rattle.kc_text.specs.Lexemes.{is_blank}
 use Rattle.kc_text.proofs.Unescaping.{unescape_law}
 use Rattle.kc_dot.specs.ConfigLine.{trimmed, behind, ahead_of, plain, unset_name, is_equals, sides, set_parts, is_comment}
 use Rattle.kc_dot.specs.LineValue.{inside, with_front}
-use Rattle.kc_dot.specs.Prefixes.{is_prefix, is_name_byte}
+use Rattle.kc_expr.specs.Names.{is_name_byte}
+use Rattle.kc_dot.specs.Prefixes.{is_prefix}
 use Rattle.kc_dot.specs.RoundTrip.{IsName, IsShortText, UnsetLineReadAgain, SetLineReadAgain, StringReadAgain}
 
 same_bytes : (bytes : List ℕ) → bytes_eq bytes bytes ≡ true

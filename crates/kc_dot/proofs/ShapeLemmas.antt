@@ -4,6 +4,7 @@ use Rattle.std.specs.Prelude.{◌&&◌, is_some, nat_le, slice_get}
 use Rattle.std.specs.List.{list_any}
 use Rattle.std.proofs.lemmas.Bool.{leb-true, and_parts, not-true, true≢false}
 use Rattle.std.proofs.lemmas.List.Folds.{list_any_at}
+use Rattle.kc_text.specs.Lines.{is_line_feed}
 use Rattle.kc_text.specs.Escapes.{escape}
 use Rattle.kc_text.specs.Numbers.{int_of, hex_of}
 use Rattle.kc_expr.specs.declared.expression.SymId.{SymId}
@@ -14,7 +15,7 @@ use Rattle.kc_expr.specs.Names.{symbol}
 use Rattle.kc_expr.specs.Value.{Known, Truth, Written}
 use Rattle.kc_tree.specs.TreeFacts.{TreeFacts, SymbolFacts}
 use Rattle.kc_user.specs.Given.{Given, Chosen, Typed, Member}
-use Rattle.kc_user.specs.Places.{allowed_by, is_line_feed}
+use Rattle.kc_user.specs.Places.{allowed_by}
 use Rattle.kc_values.specs.Differs.{given_of}
 use Rattle.kc_values.specs.Laws.{MembersAreBools}
 use Rattle.kc_values.specs.Lookups.{facts}

@@ -6,6 +6,7 @@ use Rattle.std.proofs.lemmas.Bool.{lt-ltb}
 use Rattle.std.proofs.lemmas.List.{length-append}
 use Rattle.std.proofs.lemmas.List.Elements.{All-append, All-cons, All-nil}
 use Rattle.std.proofs.lemmas.Option.{slice_get-get_or}
+use Rattle.kc_text.specs.Lines.{is_line_feed}
 use Rattle.kc_text.specs.Escapes.{escape}
 use Rattle.kc_expr.specs.declared.expression.SymId.{SymId}
 use Rattle.kc_expr.specs.declared.expression.Tri.TheVariants.{N, M, Y}
@@ -19,7 +20,7 @@ use Rattle.kc_dot.specs.HasNames.{HasNames}
 use Rattle.kc_dot.specs.Laws.{HasShortLines}
 use Rattle.kc_dot.specs.Plain.{title_line}
 use Rattle.kc_dot.specs.Prefixes.{is_prefix}
-use Rattle.kc_dot.specs.Reading.{Line, line, is_lf, is_within, next_number, lines_from}
+use Rattle.kc_dot.specs.Reading.{Line, line, is_within, next_number, lines_from}
 use Rattle.kc_dot.specs.Reread.{told_by}
 use Rattle.kc_dot.specs.SymbolLines.{config_line}
 use Rattle.kc_dot.specs.Texts.{config_heading, config_text, title_lines, end_line, end_if, gap, shown_title, ends_after, symbol_config, symbols_of, entry_text, entries_text, minimal_if, minimal_text}
@@ -79,21 +80,21 @@ module _ (stream : List ℕ) where
   -- A symbol's line.
   module _ (name : List ℕ) (none : HasNoLf name) (few : length name ≤ 319) where
     behind : (words : List ℕ) → HasNoLf words → HasNoLf (name ++ words)
-    behind words solid = All-append (λ b. is_lf b ≡ false) name words none solid
+    behind words solid = All-append (λ b. is_line_feed b ≡ false) name words none solid
 
     number_short : (text : List ℕ) → HasNoLf text → length (escape text) ≤ 65000 → Short (name ++ codes "=" ++ text ++ codes "\n")
     number_short text solid fits =
         let front : List ℕ = name ++ codes "=" in
         let longer = escape_longer text in
-        short_line (front ++ text) (name ++ codes "=" ++ text ++ codes "\n") refl (All-append (λ b. is_lf b ≡ false) front text (behind (codes "=") (no_lf_check (codes "=") refl)) solid)
+        short_line (front ++ text) (name ++ codes "=" ++ text ++ codes "\n") refl (All-append (λ b. is_line_feed b ≡ false) front text (behind (codes "=") (no_lf_check (codes "=") refl)) solid)
         (omega (arith, few, fits, longer, length-append name (codes "="), length-append front text))
 
     known_short : (k : Known) → fits_known k ≡ true → Short (config_line name k)
     known_short (Truth N) e =
         let front : List ℕ = codes "# " ++ name in
         let body : List ℕ = front ++ codes " is not set" in
-        let front_none : HasNoLf front = All-append (λ b. is_lf b ≡ false) (codes "# ") name (no_lf_check (codes "# ") refl) none in
-        short_line body (config_line name (Truth N)) (sym (append_assoc front (codes " is not set") (10 ∷ []))) (All-append (λ b. is_lf b ≡ false) front (codes " is not set") front_none (no_lf_check (codes " is not set") refl))
+        let front_none : HasNoLf front = All-append (λ b. is_line_feed b ≡ false) (codes "# ") name (no_lf_check (codes "# ") refl) none in
+        short_line body (config_line name (Truth N)) (sym (append_assoc front (codes " is not set") (10 ∷ []))) (All-append (λ b. is_line_feed b ≡ false) front (codes " is not set") front_none (no_lf_check (codes " is not set") refl))
         (omega (arith, few, length-append (codes "# ") name, length-append front (codes " is not set")))
     known_short (Truth M) e =
         short_line (name ++ codes "=m") (config_line name (Truth M)) (sym (append_assoc name (codes "=m") (10 ∷ []))) (behind (codes "=m") (no_lf_check (codes "=m") refl)) (omega (arith, few, length-append name (codes "=m")))
@@ -106,8 +107,8 @@ module _ (stream : List ℕ) where
         let (solid, fits) = fits_parts text e in
         let open_ : List ℕ = name ++ codes "=\"" in
         let front : List ℕ = open_ ++ escape text in
-        let front_none : HasNoLf front = All-append (λ b. is_lf b ≡ false) open_ (escape text) (behind (codes "=\"") (no_lf_check (codes "=\"") refl)) (escape_no_lf text solid) in
-        short_line (front ++ codes "\"") (config_line name (Written kind.Str text)) (sym (append_assoc front (codes "\"") (10 ∷ []))) (All-append (λ b. is_lf b ≡ false) front (codes "\"") front_none (no_lf_check (codes "\"") refl))
+        let front_none : HasNoLf front = All-append (λ b. is_line_feed b ≡ false) open_ (escape text) (behind (codes "=\"") (no_lf_check (codes "=\"") refl)) (escape_no_lf text solid) in
+        short_line (front ++ codes "\"") (config_line name (Written kind.Str text)) (sym (append_assoc front (codes "\"") (10 ∷ []))) (All-append (λ b. is_line_feed b ≡ false) front (codes "\"") front_none (no_lf_check (codes "\"") refl))
         (omega (arith, few, fits, length-append name (codes "=\""), length-append open_ (escape text), length-append front (codes "\"")))
     known_short (Written kind.Int text) e = number_short text (fits_parts text e).0 (fits_parts text e).1
     known_short (Written kind.Hex text) e = number_short text (fits_parts text e).0 (fits_parts text e).1
@@ -122,7 +123,7 @@ module _ (stream : List ℕ) where
   worded_short : (words text : List ℕ) → HasNoLf words → length words ≤ 1000 → IsLineText text → Short ((words ++ text) ++ 10 ∷ [])
   worded_short words text solid few line =
       let within = line.within in
-      short_line (words ++ text) ((words ++ text) ++ 10 ∷ []) refl (All-append (λ b. is_lf b ≡ false) words text solid line.one_line) (omega (arith, few, within, length-append words text))
+      short_line (words ++ text) ((words ++ text) ++ 10 ∷ []) refl (All-append (λ b. is_line_feed b ≡ false) words text solid line.one_line) (omega (arith, few, within, length-append words text))
 
   title_short : (text : List ℕ) → IsLineText text → Short (title_line text ++ 10 ∷ [])
   title_short text line = worded_short (codes "# ") text (no_lf_check (codes "# ") refl) (omega arith) line

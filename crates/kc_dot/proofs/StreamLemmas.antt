@@ -8,6 +8,7 @@ use Rattle.std.proofs.lemmas.List.{get_or-replicate, length-append, length-repli
 use Rattle.std.proofs.lemmas.List.Elements.{All-append, All-cons, All-nil}
 use Rattle.std.proofs.lemmas.List.Sums.{suffix_len-le-length, prefix_len_passes, take_while-cons}
 use Rattle.std.specs.Str.Lines.{strip_carriage_return}
+use Rattle.kc_text.specs.Lines.{is_line_feed}
 use Rattle.kc_expr.specs.declared.expression.SymId.{SymId}
 use Rattle.kc_tree.specs.TreeFacts.{TreeFacts, SymbolFacts, IsWellFormed}
 use Rattle.kc_user.specs.Given.{Given}
@@ -19,7 +20,7 @@ use Rattle.kc_dot.specs.Effects.{Effect, Silent, Warns, Assigns, effect_of}
 use Rattle.kc_dot.specs.Feeding.{Spot, fed, ended, first_spot, Goes, Ends}
 use Rattle.kc_dot.specs.LineSteps.{with_member}
 use Rattle.kc_dot.specs.ReaderState.{ReaderState}
-use Rattle.kc_dot.specs.Reading.{Assignment, Line, Read, Stream, assignment_of, assignments, choice_of, counted, effect, is_lf, is_within, is_yes, last_line, line, lines_from, lines_of, lines_of_parts, next_number, places_given, reading, text_of, told}
+use Rattle.kc_dot.specs.Reading.{Assignment, Line, Read, Stream, assignment_of, assignments, choice_of, counted, effect, is_within, is_yes, last_line, line, lines_from, lines_of, lines_of_parts, next_number, places_given, reading, text_of, told}
 use Rattle.kc_dot.specs.Streams.{Pieces, stream_of, feeds, calls_after, RefusalsKeepPlaces, StreamsAreRead, StreamsLeavePlaces, ReadingKeepsPlaces}
 use Rattle.kc_dot.proofs.AllowedLemmas.{assigned_allowed, strip_no_lf}
 use Rattle.kc_dot.proofs.CallLemmas.{calls_join}
@@ -29,7 +30,7 @@ use Rattle.kc_dot.proofs.ReadingLemmas.{reading-nothing, reading_long}
 
 -- The lines that the calls feed are those of the streams.
 no_lines : (name : List ℕ) (n : ℕ) → lines_from name n [] ≡ []
-no_lines name n = lines_from-last name n [] (All-nil (λ b. is_lf b ≡ false))
+no_lines name n = lines_from-last name n [] (All-nil (λ b. is_line_feed b ≡ false))
 
 rest_of_feeds : (pieces : List (List ℕ)) (calls : List Call) → rest_of (feeds pieces ++ calls) ≡ concat pieces ++ rest_of calls
 rest_of_feeds [] calls = refl
@@ -131,30 +132,30 @@ module _ (tree : TreeFacts) (prefix : List ℕ) (formed : IsWellFormed tree) (se
   lines_allowed [] none = tt
   lines_allowed (l ∷ lines) none = effect_allowed l none.0 (effect_of tree (says prefix (text_of l))) refl (assignments tree prefix lines) (lines_allowed lines none.1)
 
-  counted_lines : (lines : List Line) → AllByRecursion OneLine lines → AllByRecursion OneLine (counted tree prefix lines)
+  counted_lines : (lines : List Line) → AllByRecursion OneLine lines → AllByRecursion OneLine (counted lines)
   counted_lines [] none = tt
   counted_lines (l ∷ lines) none = rw (take_while-cons is_within l lines) (by (is_within l) (counted_lines lines none.1))
     where
-      by : (b : Bool) → AllByRecursion OneLine (counted tree prefix lines) → AllByRecursion OneLine (cond b (l ∷ counted tree prefix lines) [])
+      by : (b : Bool) → AllByRecursion OneLine (counted lines) → AllByRecursion OneLine (cond b (l ∷ counted lines) [])
       by true rest = (none.0, rest)
       by false rest = tt
 
   reading_keeps : (lines : List Line) (places : Places) → AllByRecursion OneLine lines → ArePlaces tree places → ArePlaces tree (reading tree prefix places lines).places
   unfolding reading
-  reading_keeps lines places none old = all_keep (assignments tree prefix (counted tree prefix lines)) places (lines_allowed (counted tree prefix lines) (counted_lines lines none)) old
+  reading_keeps lines places none old = all_keep (assignments tree prefix (counted lines)) places (lines_allowed (counted lines) (counted_lines lines none)) old
 
 -- The lines of a stream hold no line feed.
-parts_no_lf : (bytes : List ℕ) → AllByRecursion HasNoLf (slice_split is_lf bytes)
-parts_no_lf [] = (All-nil (λ b. is_lf b ≡ false), tt)
-parts_no_lf (b ∷ bytes) = by (is_lf b) refl (parts_no_lf bytes)
+parts_no_lf : (bytes : List ℕ) → AllByRecursion HasNoLf (slice_split is_line_feed bytes)
+parts_no_lf [] = (All-nil (λ b. is_line_feed b ≡ false), tt)
+parts_no_lf (b ∷ bytes) = by (is_line_feed b) refl (parts_no_lf bytes)
   where
-    onto : is_lf b ≡ false → (parts : List (List ℕ)) → AllByRecursion HasNoLf parts → AllByRecursion HasNoLf (onto_first b parts)
-    onto other [] ok = (All-cons (λ x. is_lf x ≡ false) b [] other (All-nil (λ x. is_lf x ≡ false)), tt)
-    onto other (part ∷ parts) ok = (All-cons (λ x. is_lf x ≡ false) b part other ok.0, ok.1)
+    onto : is_line_feed b ≡ false → (parts : List (List ℕ)) → AllByRecursion HasNoLf parts → AllByRecursion HasNoLf (onto_first b parts)
+    onto other [] ok = (All-cons (λ x. is_line_feed x ≡ false) b [] other (All-nil (λ x. is_line_feed x ≡ false)), tt)
+    onto other (part ∷ parts) ok = (All-cons (λ x. is_line_feed x ≡ false) b part other ok.0, ok.1)
 
-    by : (c : Bool) → is_lf b ≡ c → AllByRecursion HasNoLf (slice_split is_lf bytes) → AllByRecursion HasNoLf (cond c ([] ∷ slice_split is_lf bytes) (onto_first b (slice_split is_lf bytes)))
-    by true is ok = (All-nil (λ x. is_lf x ≡ false), ok)
-    by false is ok = onto is (slice_split is_lf bytes) ok
+    by : (c : Bool) → is_line_feed b ≡ c → AllByRecursion HasNoLf (slice_split is_line_feed bytes) → AllByRecursion HasNoLf (cond c ([] ∷ slice_split is_line_feed bytes) (onto_first b (slice_split is_line_feed bytes)))
+    by true is ok = (All-nil (λ x. is_line_feed x ≡ false), ok)
+    by false is ok = onto is (slice_split is_line_feed bytes) ok
 
 last_line_no_lf : (stream : List ℕ) (n : ℕ) (bytes : List ℕ) → HasNoLf bytes → AllByRecursion (λ (l : Line). HasNoLf l.bytes) (last_line stream n bytes)
 last_line_no_lf stream n bytes none = by (length bytes == 0)
@@ -170,7 +171,7 @@ part_lines stream n (part ∷ next ∷ parts) ok = (ok.0, part_lines stream (nex
 
 pub stream_lines : (stream : List ℕ) (n : ℕ) (bytes : List ℕ) → AllByRecursion (λ (l : Line). HasNoLf l.bytes) (lines_from stream n bytes)
 unfolding lines_from
-stream_lines stream n bytes = part_lines stream n (slice_split is_lf bytes) (parts_no_lf bytes)
+stream_lines stream n bytes = part_lines stream n (slice_split is_line_feed bytes) (parts_no_lf bytes)
 
 all_lines-append : (ls ms : List Line) → AllByRecursion (λ (l : Line). HasNoLf l.bytes) ls → AllByRecursion (λ (l : Line). HasNoLf l.bytes) ms → AllByRecursion (λ (l : Line). HasNoLf l.bytes) (ls ++ ms)
 all_lines-append [] ms a b = b
@@ -181,9 +182,9 @@ streams_lines [] = tt
 streams_lines (s ∷ streams) = all_lines-append (lines_from s.name 1 s.bytes) (lines_of streams) (stream_lines s.name 1 s.bytes) (streams_lines streams)
 
 -- what waits behind the last line feed holds none
-pub waiting_no_lf : (bytes : List ℕ) → HasNoLf (after_last is_lf bytes)
+pub waiting_no_lf : (bytes : List ℕ) → HasNoLf (after_last is_line_feed bytes)
 waiting_no_lf bytes k d lt =
-    let p : ℕ → Bool = λ b. not (is_lf b) in
+    let p : ℕ → Bool = λ b. not (is_line_feed b) in
     let s : suffix_len p bytes ≤ length bytes = suffix_len-le-length p bytes in
     let n : ℕ = length bytes - suffix_len p bytes in
     let long : length (drop n bytes) ≡ length bytes - n = length-drop n bytes in
@@ -192,7 +193,7 @@ waiting_no_lf bytes k d lt =
     let back : length (reverse bytes) - 1 - j ≡ n + k = omega (arith, lt, long, s, length-reverse bytes) in
     let at : get_or (reverse bytes) j d ≡ get_or bytes (n + k) d = get_or-reverse bytes j d (omega (arith, lt, long, s)) ∙ ap (λ m. get_or bytes m d) (omega (arith, lt, long, s)) in
     let passes : p (get_or (reverse bytes) j d) ≡ true = prefix_len_passes p (reverse bytes) j d within in
-    not-true (is_lf (get_or (drop n bytes) k d)) (ap p (get_or-drop n bytes k d ∙ sym at) ∙ passes)
+    not-true (is_line_feed (get_or (drop n bytes) k d)) (ap p (get_or-drop n bytes k d ∙ sym at) ∙ passes)
 
 -- A call leaves places that hold what is allowed.
 module _ (setting : SettingKeepsPlaces) (selecting : SelectingKeepsPlaces) where
@@ -209,7 +210,7 @@ module _ (setting : SettingKeepsPlaces) (selecting : SelectingKeepsPlaces) where
   long_line tree prefix name spot after n far none =
       let bytes : List ℕ = spot.pending ++ replicate n 120 in
       let size : length bytes ≡ length spot.pending + n = length-append spot.pending (replicate n 120) ∙ ap (λ k. length spot.pending + k) (length-replicate n 120) in
-      let one : HasNoLf bytes = All-append (λ b. is_lf b ≡ false) spot.pending (replicate n 120) none (λ k d lt. ap is_lf (get_or-replicate n k 120 d (subst (λ m. k < m) (length-replicate n 120) lt))) in
+      let one : HasNoLf bytes = All-append (λ b. is_line_feed b ≡ false) spot.pending (replicate n 120) none (λ k d lt. ap is_line_feed (get_or-replicate n k 120 d (subst (λ m. k < m) (length-replicate n 120) lt))) in
       let some : (length bytes == 0) ≡ false = ne_eqb (length bytes) 0 (λ e. absurd (omega arith)) in
       let lines : lines_from name spot.number bytes ++ [] ≡ line name spot.number bytes false ∷ [] = append-nil (lines_from name spot.number bytes) ∙ lines_from-last name spot.number bytes one ∙ ap (λ b. cond b [] (line name spot.number bytes false ∷ [])) some in
       let long : is_within (line name spot.number bytes false) ≡ false = lt-leb (length bytes) 65535 (omega arith) in

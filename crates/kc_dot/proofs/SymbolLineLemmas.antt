@@ -12,6 +12,7 @@ use Rattle.std.proofs.lemmas.List.Elements.{All-append, All-cons}
 use Rattle.std.proofs.lemmas.List.Folds.{list_any_none}
 use Rattle.std.proofs.lemmas.List.Sums.{AllPass-from_list_all, position_or_len_is}
 use Rattle.std.proofs.lemmas.Slice.Eq.{bytes_eq-Decides}
+use Rattle.kc_text.specs.Lines.{is_line_feed}
 use Rattle.kc_text.specs.Escapes.{escape}
 use Rattle.kc_text.specs.Numbers.{int_of, hex_of}
 use Rattle.kc_expr.specs.declared.expression.SymId.{SymId}
@@ -23,13 +24,14 @@ use Rattle.kc_expr.specs.Names.{same_name}
 use Rattle.kc_expr.specs.Value.{Known, Truth, Written}
 use Rattle.kc_tree.specs.TreeFacts.{TreeFacts, SymbolFacts, IsWellFormed}
 use Rattle.kc_user.specs.Given.{Given, Chosen, Typed}
-use Rattle.kc_user.specs.Places.{allowed, allowed_by, allowed_for, fits_quoted, is_line_feed}
+use Rattle.kc_user.specs.Places.{allowed, allowed_by, allowed_for, fits_quoted}
 use Rattle.kc_values.specs.Differs.{given_of}
 use Rattle.kc_dot.specs.ConfigLine.{Set, Unset, says, trimmed}
 use Rattle.kc_dot.specs.Effects.{effect_of, set_by_kind, unset_by_kind, assigned_or, symbol_named, name_of}
 use Rattle.kc_dot.specs.LineValue.{line_value, number_value}
-use Rattle.kc_dot.specs.Prefixes.{is_prefix, is_name_byte}
-use Rattle.kc_dot.specs.Reading.{Assignment, assignment_of, is_lf}
+use Rattle.kc_expr.specs.Names.{is_name_byte}
+use Rattle.kc_dot.specs.Prefixes.{is_prefix}
+use Rattle.kc_dot.specs.Reading.{Assignment, assignment_of}
 use Rattle.kc_dot.specs.Plain.{is_end_byte, EndsPlainly}
 use Rattle.kc_dot.specs.HasNames.{HasNames}
 use Rattle.kc_dot.specs.RoundTrip.{IsShortText}
@@ -114,8 +116,8 @@ FitsLine (Written kind.Str text) = HasNoLf text × (length (escape text) ≤ 650
 FitsLine (Written kind.Int text) = HasNoLf text × (length text ≤ 65000) × EndsPlainly text
 FitsLine (Written kind.Hex text) = HasNoLf text × (length text ≤ 65000) × EndsPlainly text
 
-pub no_lf_check : (xs : List ℕ) → list_all (λ b. not (is_lf b)) xs ≡ true → HasNoLf xs
-no_lf_check xs all = λ k d lt. not-true _ (AllPass-from_list_all (λ b. not (is_lf b)) xs all k d lt)
+pub no_lf_check : (xs : List ℕ) → list_all (λ b. not (is_line_feed b)) xs ≡ true → HasNoLf xs
+no_lf_check xs all = λ k d lt. not-true _ (AllPass-from_list_all (λ b. not (is_line_feed b)) xs all k d lt)
 
 pub last_byte : (xs ys : List ℕ) (a b : ℕ) → xs ++ a ∷ [] ≡ ys ++ b ∷ [] → a ≡ b
 last_byte [] [] a b e = cc
@@ -173,11 +175,11 @@ module _ (tree : TreeFacts) (prefix stream : List ℕ) (is_pre : is_prefix prefi
   assigned_if false known = refl
 
   pub set_no_lf : (value : List ℕ) → HasNoLf value → HasNoLf (full ++ 61 ∷ value)
-  set_no_lf value none = All-append (λ b. is_lf b ≡ false) full (61 ∷ value) full_no_lf (All-cons (λ b. is_lf b ≡ false) 61 value refl none)
+  set_no_lf value none = All-append (λ b. is_line_feed b ≡ false) full (61 ∷ value) full_no_lf (All-cons (λ b. is_line_feed b ≡ false) 61 value refl none)
 
   unset_no_lf : HasNoLf ((codes "# " ++ full) ++ codes " is not set")
   unset_no_lf =
-      All-append (λ b. is_lf b ≡ false) (codes "# " ++ full) (codes " is not set") (All-append (λ b. is_lf b ≡ false) (codes "# ") full (no_lf_check (codes "# ") refl) full_no_lf) (no_lf_check (codes " is not set") refl)
+      All-append (λ b. is_line_feed b ≡ false) (codes "# " ++ full) (codes " is not set") (All-append (λ b. is_line_feed b ≡ false) (codes "# ") full (no_lf_check (codes "# ") refl) full_no_lf) (no_lf_check (codes " is not set") refl)
 
   pub short_prefix : length prefix ≤ 64
   short_prefix =
@@ -257,7 +259,7 @@ module _ (tree : TreeFacts) (prefix stream : List ℕ) (is_pre : is_prefix prefi
   str_gives kd text is str (none, short) =
       let k : f.kind ≡ kind.Str = sym is ∙ str in
       let line_is : config_line full (Written kind.Str text) ≡ (full ++ 61 ∷ (34 ∷ escape text ++ 34 ∷ [])) ++ 10 ∷ [] = simp append_assoc in
-      let no_lf : HasNoLf (34 ∷ escape text ++ 34 ∷ []) = All-append (λ b. is_lf b ≡ false) (34 ∷ escape text) (34 ∷ []) (All-cons (λ b. is_lf b ≡ false) 34 (escape text) refl (escape_no_lf text none)) (no_lf_check (34 ∷ []) refl) in
+      let no_lf : HasNoLf (34 ∷ escape text ++ 34 ∷ []) = All-append (λ b. is_line_feed b ≡ false) (34 ∷ escape text) (34 ∷ []) (All-cons (λ b. is_line_feed b ≡ false) 34 (escape text) refl (escape_no_lf text none)) (no_lf_check (34 ∷ []) refl) in
       gives_set (Written kind.Str text) (34 ∷ escape text ++ 34 ∷ []) no_lf (plain_quote text) short line_is
       (rw (allowed_is, k, quoted_value text none) (assigned_if (fits_quoted text) (Written kind.Str text)))
 

@@ -11,7 +11,7 @@ use Rattle.kc_expr.specs.Value.{Known}
 use Rattle.kc_tree.specs.TreeFacts.{TreeFacts, Shown, SymbolShown, MenuShown, EndShown, CommentShown, IsWellFormed, IsEntrySound}
 use Rattle.kc_tree.specs.Views.{shown_of}
 use Rattle.kc_tree.specs.declared.parts.Entry.{Entry}
-use Rattle.kc_dot.specs.Asking.{MayAsk}
+use Rattle.kc_dot.specs.Named.{HasName}
 use Rattle.kc_dot.specs.Effects.{name_of}
 use Rattle.kc_dot.specs.SymbolLines.{config_line, header_line}
 use Rattle.kc_dot.specs.Texts.{symbols_of, header_if, minimal_if, gap, entry_text, ends_after, entries_text}
@@ -74,19 +74,19 @@ module _ (tree : TreeFacts) (prefix : List ℕ) (told : Told) where
   pub entries_end : (entries : List Entry) (i : ℕ) (after_end : Bool) → length entries ≤ i → entries_text tree prefix told after_end (map shown_of (drop i entries)) ≡ []
   entries_end entries i after_end end = rw (drop_all i entries end) refl
 
--- a symbol among the entries is defined, so that it has a name and is known
-module _ (tree : TreeFacts) (knows : SymId → Type 0) (formed : IsWellFormed tree) (known : (s : SymId) → s.0 < length tree.symbols → knows s) where
-  may_ask_shown : (i : ℕ) (shown : Shown) → IsEntrySound tree i shown → MayAsk tree knows shown
-  may_ask_shown i (SymbolShown s) defined =
+-- a symbol among the entries is defined, so that it has a name
+module _ (tree : TreeFacts) (formed : IsWellFormed tree) where
+  shown_has_name : (i : ℕ) (shown : Shown) → IsEntrySound tree i shown → HasName tree shown
+  shown_has_name i (SymbolShown s) defined =
       let named : length tree.symbols ≤ length tree.names = formed.names_known in
       let there : s.0 < length tree.symbols = defined in
-      (omega arith, known s defined)
-  may_ask_shown i (MenuShown text when) sound = tt
-  may_ask_shown i (EndShown menu) sound = tt
-  may_ask_shown i (CommentShown text when) sound = tt
+      omega arith
+  shown_has_name i (MenuShown text when) sound = tt
+  shown_has_name i (EndShown menu) sound = tt
+  shown_has_name i (CommentShown text when) sound = tt
 
-  pub may_ask : (entries : List Entry) (i : ℕ) (entry : Entry) → map shown_of entries ≡ tree.entries → i < length entries → entry ≡ get_or entries i entry → MayAsk tree knows (shown_of entry)
-  may_ask entries i entry are lt is =
+  pub entry_has_name : (entries : List Entry) (i : ℕ) (entry : Entry) → map shown_of entries ≡ tree.entries → i < length entries → entry ≡ get_or entries i entry → HasName tree (shown_of entry)
+  entry_has_name entries i entry are lt is =
       let here : slice_get entries i ≡ Some entry = slice_get_read entries (length entries) i entry refl lt is in
       let found : slice_get tree.entries i ≡ Some (shown_of entry) = rw (← are, slice_get-map, here) refl in
-      may_ask_shown i (shown_of entry) (formed.entries_sound i (shown_of entry) found)
+      shown_has_name i (shown_of entry) (formed.entries_sound i (shown_of entry) found)

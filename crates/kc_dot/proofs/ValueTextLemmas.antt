@@ -9,6 +9,7 @@ use Rattle.std.proofs.lemmas.List.Elements.{All-cons, All-nil}
 use Rattle.std.proofs.lemmas.List.Folds.{list_any_at, list_any_none}
 use Rattle.std.proofs.lemmas.List.FromFn.{length-map-range_with_len}
 use Rattle.std.proofs.lemmas.Option.{slice_get-get_or}
+use Rattle.kc_text.specs.Lines.{is_line_feed}
 use Rattle.kc_text.specs.Escapes.{escape}
 use Rattle.kc_text.specs.Numbers.{int_of, hex_of}
 use Rattle.kc_expr.specs.declared.expression.SymId.{SymId}
@@ -24,7 +25,7 @@ use Rattle.kc_order.specs.Solution.{Solves}
 use Rattle.kc_tree.specs.TreeFacts.{TreeFacts, SymbolFacts, Guarded, HasLineTexts, IsLineForm, IsLineText}
 use Rattle.kc_user.specs.Given.{Given, Chosen, Typed, Member, Slot, At}
 use Rattle.kc_user.specs.Places.{allowed_by, allowed_for, allowed_text}
-use Rattle.kc_values.specs.declared.intervals.Interval.{Interval}
+use Rattle.kc_values.specs.declared.numbers.Interval.{Interval}
 use Rattle.kc_values.specs.Differs.{AllowedPlaces}
 use Rattle.kc_values.specs.Laws.{IsAccepted, EquationsReadNeeds, NeedsAreDefined}
 use Rattle.kc_values.specs.Lookups.{facts, name, is_defined}
@@ -36,7 +37,6 @@ use Rattle.kc_values.specs.Values as v
 use Rattle.kc_values.specs.Values.{is_n}
 use Rattle.kc_values.specs.Written.{written}
 use Rattle.kc_values.proofs.Selection.{found}
-use Rattle.kc_dot.specs.Reading.{is_lf}
 use Rattle.kc_dot.specs.Plain.{IsPlainNumber, HasPlainNumbers}
 use Rattle.kc_dot.proofs.LineLemmas.{HasNoLf}
 use Rattle.kc_dot.proofs.ShapeLemmas.{no_line_feed}
@@ -45,18 +45,18 @@ use Rattle.kc_dot.proofs.TextBytes.{number_byte, byte_not, int_bytes, hex_bytes}
 
 -- The test: no line feed, and at most 65,000 bytes once escaped.
 abbrev pub fits_text : List ℕ → Bool
-fits_text t = nat_le (length (escape t)) 65000 && not (list_any is_lf t)
+fits_text t = nat_le (length (escape t)) 65000 && not (list_any is_line_feed t)
 
 abbrev pub fits_known : Known → Bool
 fits_known (Truth t) = true
 fits_known (Written k t) = fits_text t
 
 fits_from : (t : List ℕ) → length (escape t) ≤ 65000 → HasNoLf t → fits_text t ≡ true
-fits_from t short none = and_from (nat_le (length (escape t)) 65000) (not (list_any is_lf t)) (le-leb (length (escape t)) 65000 short) (ap not (list_any_none is_lf t none))
+fits_from t short none = and_from (nat_le (length (escape t)) 65000) (not (list_any is_line_feed t)) (le-leb (length (escape t)) 65000 short) (ap not (list_any_none is_line_feed t none))
 
 pub fits_parts : (t : List ℕ) → fits_text t ≡ true → HasNoLf t × (length (escape t) ≤ 65000)
 fits_parts t e =
-    let (short, none) = and_parts (nat_le (length (escape t)) 65000) (not (list_any is_lf t)) e in
+    let (short, none) = and_parts (nat_le (length (escape t)) 65000) (not (list_any is_line_feed t)) e in
     (no_line_feed t (not-true _ none), leb-true (length (escape t)) 65000 short)
 
 -- Bytes that need no `\` and end no line.
@@ -179,7 +179,7 @@ allowed_fits_text kind.Undefined t ok = absurd (true≢false (sym ok))
 allowed_fits_text kind.Bool t ok = absurd (true≢false (sym ok))
 allowed_fits_text kind.Tristate t ok = absurd (true≢false (sym ok))
 allowed_fits_text kind.Str t ok =
-    let (short, none) = and_parts (nat_le (length (escape t) + 2) 65000) (not (list_any is_lf t)) ok in
+    let (short, none) = and_parts (nat_le (length (escape t) + 2) 65000) (not (list_any is_line_feed t)) ok in
     let s = leb-true (length (escape t) + 2) 65000 short in
     fits_from t (omega arith) (no_line_feed t (not-true _ none))
 allowed_fits_text kind.Int t ok =
@@ -271,7 +271,7 @@ fails_each : (p : ℕ → Bool) (xs : List ℕ) (x : ℕ) → list_any p xs ≡ 
 fails_each p xs x e (n, lt, is) = false_from_ne_true _ (λ t. true≢false (sym (list_any_at p xs n x lt (ap p is ∙ t)) ∙ e))
 
 -- The values of an accepted tree, one round of needs after another.
-module _ (tree : TreeFacts) (user : Slot → Option Given) (V : ℕ → Known) (texts : HasLineTexts tree) (allowed_at : AllowedPlaces tree user V) (reads : EquationsReadNeeds) (within : NeedsAreDefined) (solves : Solves (symbol_count tree) (equations tree user) V) where
+module _ (tree : TreeFacts) (user : Slot → Option Given) (V : ℕ → Known) (texts : HasLineTexts tree) (allowed_at : AllowedPlaces tree user) (reads : EquationsReadNeeds) (within : NeedsAreDefined) (solves : Solves (symbol_count tree) (equations tree user) V) where
   -- the values that fit, and n in place of the others
   tamed : ℕ → Known
   tamed i = cond (fits_known (V i)) (V i) (Truth N)
@@ -324,6 +324,6 @@ fits_line (Written kind.Str t) e plain = fits_parts t e
 fits_line (Written kind.Int t) e plain = let (none, short) = fits_parts t e in let l = escape_longer t in (none, omega arith, plain)
 fits_line (Written kind.Hex t) e plain = let (none, short) = fits_parts t e in let l = escape_longer t in (none, omega arith, plain)
 
-pub values_fit_lines : (tree : TreeFacts) (user : Slot → Option Given) (V : ℕ → Known) → HasLineTexts tree → AllowedPlaces tree user V → EquationsReadNeeds → NeedsAreDefined → Solves (symbol_count tree) (equations tree user) V → IsAccepted tree → HasPlainNumbers tree V →
+pub values_fit_lines : (tree : TreeFacts) (user : Slot → Option Given) (V : ℕ → Known) → HasLineTexts tree → AllowedPlaces tree user → EquationsReadNeeds → NeedsAreDefined → Solves (symbol_count tree) (equations tree user) V → IsAccepted tree → HasPlainNumbers tree V →
     (s : SymId) → s.0 < symbol_count tree → written tree (seen tree V) s ≡ true → FitsLine (V s.0)
 values_fit_lines tree user V texts allowed_at reads within solves accepted plain s lt w = fits_line (V s.0) (values_fit tree user V texts allowed_at reads within solves accepted s.0 lt) (plain s lt w)

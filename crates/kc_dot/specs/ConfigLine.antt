@@ -3,6 +3,7 @@ use Rattle.std.specs.Prelude.{ℕ, ◌-◌, List, length, take, drop, Bool, fals
 use Rattle.std.specs.Option.{option_and_then, option_map_or}
 use Rattle.std.specs.List.{suffix_len, list_any, position_or_len, before_first, after_first}
 use Rattle.std.specs.Str.{bytes_eq}
+use Rattle.kc_text.specs.Bytes.{byte}
 use Rattle.kc_text.specs.Lexemes.{is_blank}
 use Rattle.kc_dot.specs.declared.line.ConfigLine.{ConfigLine}
 use Rattle.kc_dot.specs.declared.line.ConfigLine.TheVariants as line
@@ -47,10 +48,10 @@ unset_name prefix text =
     option_and_then plain (option_and_then (ahead_of (codes " is not set")) (option_and_then (behind prefix) (behind (codes "# ") text)))
 
 abbrev pub is_equals : ℕ → Bool
-is_equals b = b == 61
+is_equals b = b == byte "="
 
 abbrev pub is_hash : ℕ → Bool
-is_hash b = b == 35
+is_hash b = b == byte "#"
 
 -- the bytes up to the first `=`, of which there is one or more, and those after it
 abbrev pub sides : List ℕ → Option (List ℕ × List ℕ)

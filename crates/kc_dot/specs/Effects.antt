@@ -1,13 +1,15 @@
 -- Trusted: What a line does for a tree: nothing, a warning, or an assignment.
-use Rattle.std.specs.Prelude.{ℕ, ◌++◌, List, [], position, Option, Some, None, slice_get, slice_index_or, codes, decimal}
+use Rattle.std.specs.Prelude.{ℕ, ◌++◌, List, position, Option, Some, None, slice_get, codes, decimal}
 use Rattle.std.specs.Option.{option_map}
 use Rattle.kc_expr.specs.declared.expression.SymId.{SymId}
 use Rattle.kc_expr.specs.declared.expression.Tri.TheVariants.{N}
 use Rattle.kc_expr.specs.declared.expression.Kind.{Kind}
 use Rattle.kc_expr.specs.declared.expression.Kind.TheVariants as kind
 use Rattle.kc_expr.specs.Names.{symbol, same_name}
-use Rattle.kc_tree.specs.TreeFacts.{TreeFacts, SymbolFacts}
+use Rattle.kc_tree.specs.TreeFacts.{TreeFacts}
 use Rattle.kc_user.specs.Given.{Given, Chosen}
+pub use Rattle.kc_values.specs.Lookups.{name as name_of}
+pub use Rattle.kc_values.specs.Table.{kind_in}
 use Rattle.kc_dot.specs.ConfigLine.{Said, Nothing, Unset, Set, Malformed}
 use Rattle.kc_dot.specs.LineValue.{line_value}
 
@@ -23,19 +25,12 @@ pub data Effect : Type 0 where
   Warns : Trouble → Effect
   Assigns : SymId → Given → Effect
 
-abbrev pub kind_in : Option SymbolFacts → Kind
-kind_in None = kind.Undefined
-kind_in (Some facts) = facts.kind
-
 -- the type of a symbol; a name that is not defined has none
 abbrev pub kind_of : TreeFacts → SymId → Kind
 kind_of tree s = kind_in (slice_get tree.symbols s.0)
 
 abbrev pub symbol_named : TreeFacts → List ℕ → Option SymId
 symbol_named tree name = option_map symbol (position (same_name name) tree.names)
-
-abbrev pub name_of : TreeFacts → SymId → List ℕ
-name_of tree s = slice_index_or tree.names s.0 []
 
 abbrev pub assigned_or : List ℕ → SymId → Option Given → Effect
 assigned_or name s None = Warns (NotAllowed name)

@@ -1,11 +1,15 @@
 -- Trusted: What a reader does with the bytes that it is fed, whatever follows them.
-use Rattle.std.specs.Prelude.{◌≡◌, ℕ, ◌+◌, ◌-◌, ◌^◌, ◌<◌, ◌≤◌, ◌++◌, List, [], ◌∷◌, length, min, count_by, All, Option, Some, true, false, if◌then◌else◌, ◌==◌}
+use Rattle.std.specs.Prelude.{◌≡◌, ℕ, ◌+◌, ◌≤◌, ◌++◌, List, [], ◌∷◌, length, min, count_by, All, Option, Some, true, false, if◌then◌else◌, ◌==◌}
 use Rattle.std.specs.List.{after_last}
+use Rattle.kc_text.specs.Bytes.{byte}
+use Rattle.kc_text.specs.Limits.{last_count}
+use Rattle.kc_text.specs.Lines.{is_line_feed}
 use Rattle.kc_tree.specs.TreeFacts.{TreeFacts}
 use Rattle.kc_user.specs.Places.{Places}
 use Rattle.kc_dot.specs.declared.fault.DotFault.{DotFault}
 use Rattle.kc_dot.specs.declared.fault.DotFault.TheVariants.{ConfigLineTooLong, Sink, Memory}
-use Rattle.kc_dot.specs.Reading.{Line, line, is_lf, is_within, next_number, lines_from, reading, told, warning}
+use Rattle.kc_dot.specs.Limits.{longest_config_line}
+use Rattle.kc_dot.specs.Reading.{Line, line, is_within, next_number, lines_from, reading, told, warning}
 use Rattle.kc_dot.specs.Sink.{extended, next_failure, BreaksOff, GoesBeyond}
 
 -- where a reader stands in its stream: the number of the line not yet ended, and its bytes so far
@@ -19,17 +23,17 @@ first_spot = record { number = 1; pending = [] }
 
 -- the pending bytes are those of one line that is not too long
 pub record IsOpen (spot : Spot) : Type 0 where
-  pub numbered : spot.number < 2 ^ 64
-  pub within : length spot.pending ≤ 65535
-  pub one_line : All (λ b. is_lf b ≡ false) spot.pending
+  pub numbered : spot.number ≤ last_count
+  pub within : length spot.pending ≤ longest_config_line
+  pub one_line : All (λ b. is_line_feed b ≡ false) spot.pending
 
 -- the line's number after these bytes: one more for each LF
 abbrev pub number_after : ℕ → List ℕ → ℕ
-number_after n bytes = min (n + count_by is_lf bytes) (2 ^ 64 - 1)
+number_after n bytes = min (n + count_by is_line_feed bytes) last_count
 
 -- where the reader stands after a piece: the bytes after its last LF are pending, or all where it has none
 abbrev pub fed : List ℕ → Spot → Spot
-fed piece spot = record { number = number_after spot.number piece; pending = after_last is_lf (spot.pending ++ piece) }
+fed piece spot = record { number = number_after spot.number piece; pending = after_last is_line_feed (spot.pending ++ piece) }
 
 -- where it stands once the last line is ended
 abbrev pub ended : Spot → Spot
@@ -43,19 +47,20 @@ counted_fault Memory count = count
 
 -- another byte than an LF comes next
 abbrev pub GoesOn : List ℕ → Type 0
-GoesOn bytes = (b : ℕ) × (rest : List ℕ) × (bytes ≡ b ∷ rest) × (is_lf b ≡ false)
+GoesOn bytes = (b : ℕ) × (rest : List ℕ) × (bytes ≡ b ∷ rest) × (is_line_feed b ≡ false)
 
+-- the lines of a stream that are still to come: those of the pending bytes and the rest, and more of other streams
+abbrev pub to_come : List ℕ → Spot → List ℕ → List Line → List Line
+to_come name spot rest more = lines_from name spot.number (spot.pending ++ rest) ++ more
+
+-- For a tree, a prefix and the name of the stream.
 module _ (tree : TreeFacts) (prefix name : List ℕ) where
-  -- the lines that are still to come: those of the pending bytes and the rest, and more of other streams
-  abbrev pub to_come : Spot → List ℕ → List Line → List Line
-  to_come spot rest more = lines_from name spot.number (spot.pending ++ rest) ++ more
-
   -- Whatever follows: reading the piece and it from the old spot and places is these warnings, and then reading it
   -- from the new spot and places.
   abbrev pub Goes : List ℕ → Spot → Spot → Places → Places → List ℕ → Type 0
   Goes piece old new before after warned =
       (rest : List ℕ) (more : List Line) →
-      reading tree prefix before (to_come old (piece ++ rest) more) ≡ told warned (reading tree prefix after (to_come new rest more))
+      reading tree prefix before (to_come name old (piece ++ rest) more) ≡ told warned (reading tree prefix after (to_come name new rest more))
 
   -- the warnings of the piece were handed out
   abbrev pub Feeds : List ℕ → Spot → Spot → Places → Places → Option (List ℕ) → Option (List ℕ) → Type 0
@@ -66,7 +71,7 @@ module _ (tree : TreeFacts) (prefix name : List ℕ) where
   abbrev pub Stops : List ℕ → Spot → Places → Type 0
   Stops left spot places =
       (rest : List ℕ) (more : List Line) →
-      reading tree prefix places (to_come spot (left ++ rest) more)
+      reading tree prefix places (to_come name spot (left ++ rest) more)
       ≡ record { places = places; warned = []; stopped = Some (record { stream = name; number = spot.number }) }
 
   -- The sink failed at the warning of the line at this spot: that line is the pending bytes and the first of what is
@@ -74,15 +79,15 @@ module _ (tree : TreeFacts) (prefix name : List ℕ) where
   pub record BreaksAt (left : List ℕ) (spot : Spot) (places : Places) (front : List ℕ) : Type 0 where
     pub text : List ℕ
     pub later : List ℕ
-    pub ends : left ≡ text ++ 10 ∷ later
-    pub one_line : All (λ b. is_lf b ≡ false) (spot.pending ++ text)
-    pub within : length (spot.pending ++ text) ≤ 65535
+    pub ends : left ≡ text ++ byte "\n" ∷ later
+    pub one_line : All (λ b. is_line_feed b ≡ false) (spot.pending ++ text)
+    pub within : length (spot.pending ++ text) ≤ longest_config_line
     pub begun : GoesBeyond (warning tree prefix places (line name spot.number (spot.pending ++ text) true)) front
 
   -- why a reader stops before what is left, with a beginning of the next line's warning handed out
   abbrev pub Because : DotFault → List ℕ → Spot → Places → List ℕ → Type 0
   Because (ConfigLineTooLong n) left spot places front =
-      (front ≡ []) × (n ≡ spot.number) × (length spot.pending ≡ 65535) × GoesOn left × Stops left spot places
+      (front ≡ []) × (n ≡ spot.number) × (length spot.pending ≡ longest_config_line) × GoesOn left × Stops left spot places
   Because Sink left spot places front = BreaksAt left spot places front
   Because Memory left spot places front = front ≡ []
 

@@ -1,10 +1,11 @@
 -- For proofs: What the names of the defined symbols are.
 use Rattle.std.specs.Prelude.{◌<◌, ◌≤◌, length}
+use Rattle.kc_expr.specs.Limits.{longest_name}
 use Rattle.kc_expr.specs.declared.expression.SymId.{SymId}
 use Rattle.kc_tree.specs.TreeFacts.{TreeFacts}
 use Rattle.kc_dot.specs.Effects.{name_of}
 use Rattle.kc_dot.specs.RoundTrip.{IsName}
 
--- the name of a defined symbol has 1 to 255 bytes, each of which may stand in a name
+-- the name of a defined symbol has one byte or more, not too many, each of which may stand in a name
 abbrev pub HasNames : TreeFacts → Type 0
-HasNames tree = (s : SymId) → s.0 < length tree.symbols → IsName (name_of tree s) × (length (name_of tree s) ≤ 255)
+HasNames tree = (s : SymId) → s.0 < length tree.symbols → IsName (name_of tree s) × (length (name_of tree s) ≤ longest_name)

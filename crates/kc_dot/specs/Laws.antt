@@ -1,5 +1,6 @@
 -- Trusted: What holds of the texts that are written, and of reading, for every tree and every prefix.
 use Rattle.std.specs.Prelude.{◌≡◌, ℕ, ◌<◌, ◌↔◌, List, Bool, true, false, None, All}
+use Rattle.kc_text.specs.Lines.{is_line_feed}
 use Rattle.kc_expr.specs.declared.expression.SymId.{SymId}
 use Rattle.kc_expr.specs.Value.{Known}
 use Rattle.kc_order.specs.Solution.{Solves}
@@ -13,21 +14,21 @@ use Rattle.kc_dot.specs.ConfigLine.{says}
 use Rattle.kc_dot.specs.Effects.{Assigns, effect_of}
 use Rattle.kc_dot.specs.Plain.{HasPlainNumbers, HasPlainTitles}
 use Rattle.kc_dot.specs.Prefixes.{is_prefix}
-use Rattle.kc_dot.specs.Reading.{Line, effect, is_lf, is_within, lines_from}
+use Rattle.kc_dot.specs.Reading.{Line, effect, is_within, lines_from}
 use Rattle.kc_dot.specs.Reread.{HasOtherSolution, IsOneSolution, kept_lines, read_alone, told_by}
 use Rattle.kc_dot.specs.Texts.{config_text, minimal_text}
 
 -- What a line assigns to a symbol is allowed for it.
 abbrev pub AssignedAreAllowed : Type 0
 AssignedAreAllowed =
-    (tree : TreeFacts) (prefix bytes : List ℕ) (s : SymId) (given : Given) → All (λ b. is_lf b ≡ false) bytes →
+    (tree : TreeFacts) (prefix bytes : List ℕ) (s : SymId) (given : Given) → All (λ b. is_line_feed b ≡ false) bytes →
     effect_of tree (says prefix bytes) ≡ Assigns s given → allowed tree s given ≡ true
 
 -- Every value that is allowed for a symbol is assigned by some line, which is not too long.
 abbrev pub AllowedAreAssigned : Type 0
 AllowedAreAssigned =
     (tree : TreeFacts) (prefix : List ℕ) (s : SymId) (given : Given) → IsWellFormed tree → is_prefix prefix ≡ true → allowed tree s given ≡ true →
-    (l : Line) × (l.ended ≡ true) × All (λ b. is_lf b ≡ false) l.bytes × (is_within l ≡ true) × (effect tree prefix l ≡ Assigns s given)
+    (l : Line) × (l.ended ≡ true) × All (λ b. is_line_feed b ≡ false) l.bytes × (is_within l ≡ true) × (effect tree prefix l ≡ Assigns s given)
 
 -- the values of an accepted tree solve its equations under places that hold what is allowed
 pub record IsSolutionOf (tree : TreeFacts) (places : Places) (V : ℕ → Known) : Type 0 where

@@ -1,4 +1,3 @@
-pub mod Asking
 pub mod Calls
 pub mod ConfigLine
 pub mod EffectView
@@ -7,7 +6,9 @@ pub mod Feeding
 pub mod HasNames
 pub mod Laws
 pub mod LineSteps
+pub mod Limits
 pub mod LineValue
+pub mod Named
 pub mod Pages
 pub mod Plain
 pub mod Prefixes

@@ -1,21 +1,23 @@
 -- Trusted: The value that the text right of a line's `=` gives to a symbol of a type.
 use Rattle.std.specs.Prelude.{ℕ, List, [], ◌∷◌, ◌++◌, length, drop, slice_index, Bool, ◌==◌, nat_le, Option, Some, None, is_some, if◌then◌else◌}
 use Rattle.std.specs.Option.{option_map}
+use Rattle.kc_text.specs.Bytes.{byte}
 use Rattle.kc_text.specs.Escapes.{unescape}
 use Rattle.kc_text.specs.Numbers.{int_of, hex_of}
 use Rattle.kc_expr.specs.declared.expression.Tri.{Tri}
 use Rattle.kc_expr.specs.declared.expression.Tri.TheVariants.{N, M, Y}
 use Rattle.kc_expr.specs.declared.expression.Kind.{Kind}
 use Rattle.kc_expr.specs.declared.expression.Kind.TheVariants as kind
+use Rattle.kc_user.specs.Limits.{longest_value}
 use Rattle.kc_user.specs.Given.{Given, Chosen, Typed}
 
 -- y and n, by the first byte alone
 abbrev pub yes_or_no : ℕ → Option Tri
-yes_or_no b = if b == 121 then Some Y else (if b == 110 then Some N else None)
+yes_or_no b = if b == byte "y" then Some Y else (if b == byte "n" then Some N else None)
 
 -- y, m and n
 abbrev pub yes_m_or_no : ℕ → Option Tri
-yes_m_or_no b = if b == 109 then Some M else yes_or_no b
+yes_m_or_no b = if b == byte "m" then Some M else yes_or_no b
 
 abbrev pub with_front : List ℕ → Option (List ℕ) → Option (List ℕ)
 with_front front found = option_map (λ text. front ++ text) found
@@ -23,13 +25,13 @@ with_front front found = option_map (λ text. front ++ text) found
 -- what stands before the first `"` that no `\` takes away: a `\` takes away the byte after it
 abbrev pub inside : List ℕ → Option (List ℕ)
 inside [] = None
-inside (b ∷ []) = if b == 34 then Some [] else None
+inside (b ∷ []) = if b == byte "\"" then Some [] else None
 inside (b ∷ c ∷ bs) =
-    if b == 34 then Some [] else (if b == 92 then with_front (b ∷ c ∷ []) (inside bs) else with_front (b ∷ []) (inside (c ∷ bs)))
+    if b == byte "\"" then Some [] else (if b == byte "\\" then with_front (b ∷ c ∷ []) (inside bs) else with_front (b ∷ []) (inside (c ∷ bs)))
 
 -- what stands between the `"` that the text begins with and the one that closes it
 abbrev pub quoted : List ℕ → Option (List ℕ)
-quoted text = if slice_index text 0 == 34 then inside (drop 1 text) else None
+quoted text = if slice_index text 0 == byte "\"" then inside (drop 1 text) else None
 
 abbrev pub string_value : List ℕ → Option Given
 string_value text = option_map (λ raw. Typed (unescape raw)) (quoted text)
@@ -45,6 +47,6 @@ value_by kind.Str text = string_value text
 value_by kind.Int text = number_value text (is_some (int_of text))
 value_by kind.Hex text = number_value text (is_some (hex_of text))
 
--- no text of more than 65,000 bytes gives a value
+-- a text that is too long gives no value
 abbrev pub line_value : Kind → List ℕ → Option Given
-line_value kind text = if nat_le (length text) 65000 then value_by kind text else None
+line_value kind text = if nat_le (length text) longest_value then value_by kind text else None

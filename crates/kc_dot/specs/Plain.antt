@@ -1,6 +1,7 @@
 -- Trusted: Plain numbers and plain titles: what reads again as it was written.
 use Rattle.std.specs.Prelude.{◌≡◌, ℕ, ◌<◌, List, [], ◌∷◌, ◌++◌, Bool, true, false, ◌||◌, ◌==◌, Some, slice_get, codes}
 use Rattle.std.specs.Str.Lines.{strip_carriage_return}
+use Rattle.kc_text.specs.Bytes.{byte}
 use Rattle.kc_text.specs.Lexemes.{is_blank}
 use Rattle.kc_expr.specs.declared.expression.Kind.TheVariants as kind
 use Rattle.kc_expr.specs.declared.expression.SymId.{SymId}
@@ -13,7 +14,7 @@ use Rattle.kc_dot.specs.Told.{Told, is_shown}
 
 -- a blank or a carriage return
 abbrev pub is_end_byte : ℕ → Bool
-is_end_byte b = is_blank b || b == 13
+is_end_byte b = is_blank b || b == byte "\r"
 
 -- the text does not end in a blank or a carriage return
 abbrev pub EndsPlainly : List ℕ → Type 0

@@ -1,18 +1,16 @@
 -- Trusted: What may stand before the name of a symbol.
-use Rattle.std.specs.Prelude.{ℕ, List, length, slice_index, Bool, not, ◌==◌, ◌&&◌, ◌||◌, nat_le, Option, Some, None, if◌then◌else◌}
+use Rattle.std.specs.Prelude.{ℕ, List, length, slice_index, Bool, not, ◌&&◌, nat_le, Option, Some, None, if◌then◌else◌}
 use Rattle.std.specs.List.{list_all}
-use Rattle.std.specs.Char.{is_ascii_alphanumeric, is_ascii_digit}
-
--- `A` to `Z`, `a` to `z`, `0` to `9` and `_`
-abbrev pub is_name_byte : ℕ → Bool
-is_name_byte b = is_ascii_alphanumeric b || b == 95
+use Rattle.std.specs.Char.{is_ascii_digit}
+use Rattle.kc_expr.specs.Names.{is_name_byte}
+use Rattle.kc_dot.specs.Limits.{longest_prefix}
 
 abbrev pub begins_with_digit : List ℕ → Bool
 begins_with_digit text = is_ascii_digit (slice_index text 0)
 
--- at most 64 such bytes, of which the first is no digit
+-- bytes that may stand in a name, not too many, of which the first is no digit
 abbrev pub is_prefix : List ℕ → Bool
-is_prefix text = not (begins_with_digit text) && (nat_le (length text) 64 && list_all is_name_byte text)
+is_prefix text = not (begins_with_digit text) && (nat_le (length text) longest_prefix && list_all is_name_byte text)
 
 -- the text, where it is a prefix
 abbrev pub prefix_of : List ℕ → Option (List ℕ)

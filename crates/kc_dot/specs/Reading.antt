@@ -1,14 +1,17 @@
 -- Trusted: What reading named streams of .config text gives: the user's places and the warnings.
-use Rattle.std.specs.Prelude.{ℕ, ◌+◌, ◌-◌, ◌^◌, ◌++◌, List, [], ◌∷◌, length, min, Bool, true, false, not, ◌&&◌, ◌==◌, nat_le, find, take_while, Option, Some, None, is_some, slice_get, if◌then◌else◌}
+use Rattle.std.specs.Prelude.{ℕ, ◌+◌, ◌++◌, List, [], ◌∷◌, length, Bool, true, false, not, ◌&&◌, ◌==◌, nat_le, find, take_while, Option, Some, None, is_some, slice_get, if◌then◌else◌}
 use Rattle.std.specs.Option.{option_map, option_and_then}
 use Rattle.std.specs.List.{slice_split, filter_map, flat_map, last_or}
 use Rattle.std.specs.Str.Lines.{strip_carriage_return}
+use Rattle.kc_text.specs.Limits.{one_more}
+use Rattle.kc_text.specs.Lines.{is_line_feed}
 use Rattle.kc_expr.specs.declared.expression.SymId.{SymId}
 use Rattle.kc_expr.specs.declared.expression.Tri.TheVariants.{N, M, Y}
 use Rattle.kc_tree.specs.TreeFacts.{TreeFacts}
 use Rattle.kc_user.specs.Given.{Given, Chosen, Typed, Member, At}
 use Rattle.kc_user.specs.Places.{Places, place_at}
 use Rattle.kc_dot.specs.ConfigLine.{says}
+use Rattle.kc_dot.specs.Limits.{longest_config_line}
 use Rattle.kc_dot.specs.Effects.{Effect, Silent, Warns, Assigns, Trouble, SetAgain, effect_of, name_of, warning_line}
 
 -- A line of a stream: its bytes before the LF, and whether an LF ended it.
@@ -18,12 +21,9 @@ pub record Line : Type 0 where
   pub bytes : List ℕ
   pub ended : Bool
 
-abbrev pub is_lf : ℕ → Bool
-is_lf b = b == 10
-
 -- the number of the line after line n; a number that reaches the greatest u64 stays there
 abbrev pub next_number : ℕ → ℕ
-next_number n = min (n + 1) (2 ^ 64 - 1)
+next_number n = one_more n
 
 abbrev pub line : List ℕ → ℕ → List ℕ → Bool → Line
 line stream number bytes ended = record { stream = stream; number = number; bytes = bytes; ended = ended }
@@ -39,15 +39,15 @@ lines_of_parts stream n (part ∷ next ∷ parts) = line stream n part true ∷ 
 
 -- the lines of these bytes of a stream, of which the first has number n
 unfoldable pub lines_from : List ℕ → ℕ → List ℕ → List Line
-lines_from stream n bytes = lines_of_parts stream n (slice_split is_lf bytes)
+lines_from stream n bytes = lines_of_parts stream n (slice_split is_line_feed bytes)
 
 -- One carriage return directly before the LF belongs to the line's end.
 abbrev pub text_of : Line → List ℕ
 text_of l = if l.ended then strip_carriage_return l.bytes else l.bytes
 
--- at most 65,535 bytes stand before the LF
+-- not too many bytes stand before the LF
 abbrev pub is_within : Line → Bool
-is_within l = nat_le (length l.bytes) 65535
+is_within l = nat_le (length l.bytes) longest_config_line
 
 -- a value for a symbol
 pub record Assignment : Type 0 where
@@ -123,6 +123,10 @@ abbrev pub warning_words : List ℕ → ℕ → Option Trouble → List ℕ
 warning_words stream number None = []
 warning_words stream number (Some trouble) = warning_line stream number trouble
 
+-- the lines before the first that is too long count
+abbrev pub counted : List Line → List Line
+counted lines = take_while is_within lines
+
 -- For a tree and a prefix.
 module _ (tree : TreeFacts) (prefix : List ℕ) where
   unfoldable pub effect : Line → Effect
@@ -143,10 +147,6 @@ module _ (tree : TreeFacts) (prefix : List ℕ) where
   unfoldable pub warnings : Places → List Line → List Line → List ℕ
   warnings places before [] = []
   warnings places before (l ∷ lines) = warning (places_after places before) l ++ warnings places (before ++ l ∷ []) lines
-
-  -- the lines before the first that is too long count
-  abbrev pub counted : List Line → List Line
-  counted lines = take_while is_within lines
 
   unfoldable pub reading : Places → List Line → Read
   reading places lines = record {

@@ -1,8 +1,8 @@
--- Trusted: What is known of a symbol by its value.
+-- For proofs: What is known of a symbol by its value.
 use Rattle.kc_expr.specs.Value.{Known}
 use Rattle.kc_expr.specs.Value as known
-use Rattle.kc_dot.specs.declared.solution.Value.{Value}
-use Rattle.kc_dot.specs.declared.solution.Value.TheVariants.{Truth, Written}
+use Rattle.kc_dot.specs.declared.symbol_line.Value.{Value}
+use Rattle.kc_dot.specs.declared.symbol_line.Value.TheVariants.{Truth, Written}
 
 abbrev pub known_by : Value → Known
 known_by (Truth tri) = known.Truth tri

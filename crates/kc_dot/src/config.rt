@@ -1,7 +1,6 @@
 //! The writer of the `.config`.
 ghost use Rattle.std.specs.Prelude.{◌≡◌, ◌++◌, ◌<◌, length, map as map_list, slice_get, Some, true, false, OnOk, OnErr, IfOk, IfErr, if◌then◌else◌};
 ghost use Rattle.std.specs.Option.{option_copied};
-ghost use Rattle.kc_expr.specs.declared.expression.SymId.{SymId};
 ghost use Rattle.kc_tree.specs.TreeFacts.{IsWellFormed, SymbolShown};
 ghost use Rattle.kc_tree.specs.Views.{condition_of, shown_of};
 ghost use Rattle.kc_dot.specs.Laws.{ConfigGivesBack, HasShortLines};
@@ -9,7 +8,7 @@ ghost use Rattle.kc_dot.specs.Sink.{extended, HandsOut};
 ghost use Rattle.kc_dot.specs.SolutionTold.{told_of};
 ghost use Rattle.kc_dot.specs.Texts.{title_if, end_if, gap, is_title, shown_title, entry_text, ends_after, entries_text, config_heading, config_text};
 ghost use Rattle.kc_dot.specs.Told.{is_shown};
-ghost use Rattle.kc_dot.specs.Asking.{MayAsk};
+ghost use Rattle.kc_dot.specs.Named.{HasName};
 ghost use Rattle.kc_dot.specs.Writing.{counted_write};
 ghost use Rattle.kc_solve.specs.Solved.{value_of};
 ghost use Rattle.kc_user.specs.Places.{ArePlaces};
@@ -19,11 +18,10 @@ use crate::laws::{config_settles, written_texts_are_short};
 use crate::page::{add_parts, new_page, put_full};
 use crate::prefix::Prefix;
 use crate::sink::{Sink, put};
-use crate::solution::Solution;
-use crate::symbol_line::add_config_line;
+use crate::symbol_line::{add_config_line, symbol_value};
 use kc_expr::expression::{SymId, Tri};
 use kc_solve::solved::Solved;
-use kc_tree::parts::Entry;
+use kc_tree::parts::{Cond, Entry};
 use kc_tree::tree::Tree;
 use std::alloc::{AllocError, Global};
 
@@ -35,6 +33,13 @@ fn is_shown(tri: Tri) -> bool
         Tri::N => false,
         Tri::M | Tri::Y => true,
     }
+}
+
+// Whether the condition is worth more than n.
+fn is_met(solved: &Solved<'_>, when: &Cond) -> bool
+    ensures { result ≡ is_shown ((told_of solved.now).truth (condition_of when.now)) }
+{
+    is_shown(solved.truth(when))
 }
 
 // Adds an empty line, the title and the lines around it, where it is shown.
@@ -68,12 +73,12 @@ fn add_gap(after_end: bool, page: &mut Vec<u8>) -> Result<(), AllocError>
 }
 
 // The title of the menu at this place among the entries, where it is shown.
-fn shown_title<'a, V: Solution>(tree: &'a Tree, solution: &V, menu: usize) -> Option<&'a [u8]>
-    ensures { option_copied result ≡ shown_title (V.told solution.now) (slice_get tree.now.entries menu) }
+fn shown_title<'a>(tree: &'a Tree, solved: &Solved<'_>, menu: usize) -> Option<&'a [u8]>
+    ensures { option_copied result ≡ shown_title (told_of solved.now) (slice_get tree.now.entries menu) }
 {
     match tree.entries().get(menu) {
         Some(Entry::Menu { text, when }) => {
-            if is_shown(solution.truth(when)) {
+            if is_met(solved, when) {
                 return Some(text);
             }
             None
@@ -85,37 +90,38 @@ fn shown_title<'a, V: Solution>(tree: &'a Tree, solution: &V, menu: usize) -> Op
 
 // Adds the symbol's line where it is written, after an empty line where an end line stands before it. Answers whether
 // the last line is an end line now.
-fn add_symbol_if<V: Solution>(
+fn add_symbol_if(
     tree: &Tree,
-    solution: &V,
+    solved: &Solved<'_>,
     prefix: &Prefix,
     id: SymId,
     after_end: bool,
     page: &mut Vec<u8>,
 ) -> Result<bool, AllocError>
-    requires named { id.0 < length tree.now.names }
-    requires known { V.knows solution.now id }
-    ensures text { OnOk result (page.new.items ≡ page.old.items ++ entry_text tree.now prefix.now (V.told solution.now) after_end (SymbolShown id)) }
-    ensures next { IfOk result (λ next. next ≡ ends_after tree.now (V.told solution.now) after_end (SymbolShown id)) }
+    requires { id.0 < length tree.now.names }
+    ensures text { OnOk result (page.new.items ≡ page.old.items ++ entry_text tree.now prefix.now (told_of solved.now) after_end (SymbolShown id)) }
+    ensures next { IfOk result (λ next. next ≡ ends_after tree.now (told_of solved.now) after_end (SymbolShown id)) }
 {
-    if !solution.written(id) {
+    if !solved.written(id) {
         return Ok(after_end);
     }
     add_gap(after_end, page)?;
-    add_config_line(prefix, tree.name(id), solution.value(id), page)?;
+    add_config_line(prefix, tree.name(id), symbol_value(solved, id), page)?;
     Ok(false)
 }
 
-// Adds the title where it is shown. Answers whether the last line is an end line now.
+// Adds the title where its condition is met. Answers whether the last line is an end line now.
 fn add_title(
-    shown: bool,
+    solved: &Solved<'_>,
+    when: &Cond,
     text: &[u8],
     after_end: bool,
     page: &mut Vec<u8>,
 ) -> Result<bool, AllocError>
-    ensures text { OnOk result (page.new.items ≡ page.old.items ++ title_if shown text.now) }
-    ensures next { IfOk result (λ next. next ≡ (if shown then false else after_end)) }
+    ensures text { OnOk result (page.new.items ≡ page.old.items ++ title_if (is_shown ((told_of solved.now).truth (condition_of when.now))) text.now) }
+    ensures next { IfOk result (λ next. next ≡ (if is_shown ((told_of solved.now).truth (condition_of when.now)) then false else after_end)) }
 {
+    let shown = is_met(solved, when);
     add_title_if(shown, text, page)?;
     Ok(!shown && after_end)
 }
@@ -130,42 +136,37 @@ fn add_end(title: Option<&[u8]>, after_end: bool, page: &mut Vec<u8>) -> Result<
 }
 
 // Adds what an entry gives. Answers whether the last line is an end line now.
-fn add_entry<V: Solution>(
+fn add_entry(
     tree: &Tree,
-    solution: &V,
+    solved: &Solved<'_>,
     prefix: &Prefix,
     entry: &Entry,
     after_end: bool,
     page: &mut Vec<u8>,
 ) -> Result<bool, AllocError>
-    requires { MayAsk tree.now (V.knows solution.now) (shown_of entry.now) }
-    ensures text { OnOk result (page.new.items ≡ page.old.items ++ entry_text tree.now prefix.now (V.told solution.now) after_end (shown_of entry.now)) }
-    ensures next { IfOk result (λ next. next ≡ ends_after tree.now (V.told solution.now) after_end (shown_of entry.now)) }
+    requires { HasName tree.now (shown_of entry.now) }
+    ensures text { OnOk result (page.new.items ≡ page.old.items ++ entry_text tree.now prefix.now (told_of solved.now) after_end (shown_of entry.now)) }
+    ensures next { IfOk result (λ next. next ≡ ends_after tree.now (told_of solved.now) after_end (shown_of entry.now)) }
 {
     match entry {
-        Entry::Symbol(id) => add_symbol_if(tree, solution, prefix, *id, after_end, page),
-        Entry::Menu { text, when } => {
-            add_title(is_shown(solution.truth(when)), text, after_end, page)
-        }
-        Entry::Comment { text, when } => {
-            add_title(is_shown(solution.truth(when)), text, after_end, page)
-        }
-        Entry::End { menu } => add_end(shown_title(tree, solution, *menu), after_end, page),
+        Entry::Symbol(id) => add_symbol_if(tree, solved, prefix, *id, after_end, page),
+        Entry::Menu { text, when } => add_title(solved, when, text, after_end, page),
+        Entry::Comment { text, when } => add_title(solved, when, text, after_end, page),
+        Entry::End { menu } => add_end(shown_title(tree, solved, *menu), after_end, page),
     }
 }
 
 // Hands out what waits on the page, and what the entries give.
-fn put_entries<V: Solution, S: Sink>(
+fn put_entries<S: Sink>(
     tree: &Tree,
-    solution: &V,
+    solved: &Solved<'_>,
     prefix: &Prefix,
     page: &mut Vec<u8>,
     sink: &mut S,
 ) -> Result<(), WriteFault>
-    requires { (id : SymId) → id.0 < length tree.now.symbols → V.knows solution.now id }
-    ensures whole { OnOk result (S.taken sink.new ≡ extended (S.taken sink.old) (page.old.items ++ entries_text tree.now prefix.now (V.told solution.now) false tree.now.entries)) }
+    ensures whole { OnOk result (S.taken sink.new ≡ extended (S.taken sink.old) (page.old.items ++ entries_text tree.now prefix.now (told_of solved.now) false tree.now.entries)) }
     ensures quiet { OnOk result (S.failures sink.new ≡ S.failures sink.old) }
-    ensures beginning { OnErr result (HandsOut (page.old.items ++ entries_text tree.now prefix.now (V.told solution.now) false tree.now.entries) (S.taken sink.old) (S.taken sink.new)) }
+    ensures beginning { OnErr result (HandsOut (page.old.items ++ entries_text tree.now prefix.now (told_of solved.now) false tree.now.entries) (S.taken sink.old) (S.taken sink.new)) }
     ensures counted { IfErr result (λ fault. S.failures sink.new ≡ counted_write fault (S.failures sink.old)) }
     ensures keeps { S.goes_to sink.old sink.new }
 {
@@ -174,7 +175,7 @@ fn put_entries<V: Solution, S: Sink>(
     let entries = tree.entries();
     let mut after_end = false;
     for entry in entries {
-        after_end = add_entry(tree, solution, prefix, entry, after_end, page)?;
+        after_end = add_entry(tree, solved, prefix, entry, after_end, page)?;
         put_full(page, sink)?;
     }
     put(page, sink)?;
@@ -196,23 +197,22 @@ fn add_heading(title: &[u8], page: &mut Vec<u8>) -> Result<(), AllocError>
 }
 
 // Hands out the full `.config`.
-fn put_config<V: Solution, S: Sink>(
+fn put_config<S: Sink>(
     alloc: Global,
     tree: &Tree,
-    solution: &V,
+    solved: &Solved<'_>,
     prefix: &Prefix,
     sink: &mut S,
 ) -> Result<(), WriteFault>
-    requires { (id : SymId) → id.0 < length tree.now.symbols → V.knows solution.now id }
-    ensures whole { OnOk result (S.taken sink.new ≡ extended (S.taken sink.old) (config_text tree.now prefix.now (V.told solution.now))) }
+    ensures whole { OnOk result (S.taken sink.new ≡ extended (S.taken sink.old) (config_text tree.now prefix.now (told_of solved.now))) }
     ensures quiet { OnOk result (S.failures sink.new ≡ S.failures sink.old) }
-    ensures beginning { OnErr result (HandsOut (config_text tree.now prefix.now (V.told solution.now)) (S.taken sink.old) (S.taken sink.new)) }
+    ensures beginning { OnErr result (HandsOut (config_text tree.now prefix.now (told_of solved.now)) (S.taken sink.old) (S.taken sink.new)) }
     ensures counted { IfErr result (λ fault. S.failures sink.new ≡ counted_write fault (S.failures sink.old)) }
     ensures keeps { S.goes_to sink.old sink.new }
 {
     let mut page = new_page(alloc)?;
     add_heading(tree.main_menu(), &mut page)?;
-    put_entries(tree, solution, prefix, &mut page, sink)
+    put_entries(tree, solved, prefix, &mut page, sink)
 }
 
 /// Hands out the full `.config`: the heading, then in the order of the entries the line of each written symbol at its

@@ -1,10 +1,11 @@
 //! Where a reader stands in its stream, and what each byte does to it.
 ghost use Rattle.std.specs.Prelude.{◌≡◌, ◌<◌, ◌≤◌, ◌∷◌, ◌++◌, [], ℕ, List, true, false, length, take, All, OnOk, OnErr, IfOk, IfErr, if◌then◌else◌};
 ghost use Rattle.std.specs.Str.Lines.{strip_carriage_return};
+ghost use Rattle.kc_text.specs.Lines.{is_line_feed};
 ghost use Rattle.kc_user.specs.Places.{IsUserOf};
 ghost use Rattle.kc_dot.specs.Feeding.{Spot, IsOpen, Feeds, Refuses, StopsAt, Finishes, FailsToEnd, fed, ended, counted_fault};
 ghost use Rattle.kc_dot.specs.LineSteps.{FailsIn};
-ghost use Rattle.kc_dot.specs.Reading.{is_lf, line, next_number, places_after, warning};
+ghost use Rattle.kc_dot.specs.Reading.{line, next_number, places_after, warning};
 ghost use Rattle.kc_dot.specs.ReaderView.{spot_of};
 ghost use Rattle.kc_dot.specs.Sink.{extended};
 
@@ -98,7 +99,7 @@ fn take_byte<S: Sink>(
 // How many bytes stand before the first LF.
 fn bytes_before_lf(bytes: &[u8]) -> usize
     ensures within { result ≤ length bytes.now }
-    ensures none { All (λ b. is_lf b ≡ false) (take result bytes.now) }
+    ensures none { All (λ b. is_line_feed b ≡ false) (take result bytes.now) }
 {
     match bytes.find_byte(b'\n') {
         Some(n) => n,

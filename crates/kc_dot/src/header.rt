@@ -1,6 +1,5 @@
 //! The writers of the header and of the minimal file.
 ghost use Rattle.std.specs.Prelude.{◌≡◌, ◌<◌, ◌++◌, length, OnOk, OnErr, IfErr, flat_map};
-ghost use Rattle.kc_expr.specs.declared.expression.SymId.{SymId};
 ghost use Rattle.kc_dot.specs.Laws.{HasShortLines, MinimalGivesBack, MinimalNeedsEach};
 ghost use Rattle.kc_dot.specs.Sink.{extended, HandsOut};
 ghost use Rattle.kc_dot.specs.Texts.{header_heading, header_text, minimal_text, header_if, minimal_if, symbols_of};
@@ -8,72 +7,70 @@ ghost use Rattle.kc_dot.specs.SolutionTold.{told_of};
 ghost use Rattle.kc_dot.specs.Writing.{counted_write};
 ghost use Rattle.kc_solve.specs.Solved.{value_of};
 ghost use Rattle.kc_user.specs.Places.{ArePlaces};
+ghost use Rattle.kc_values.specs.Solution.{symbol_count};
 
 use crate::fault::WriteFault;
 use crate::laws::{minimal_gives_back, written_texts_are_short};
 use crate::page::{add_parts, new_page, put_full};
 use crate::prefix::Prefix;
 use crate::sink::{Sink, put};
-use crate::solution::Solution;
-use crate::symbol_line::{add_config_line, add_header_line};
+use crate::symbol_line::{add_config_line, add_header_line, symbol_value};
 use kc_expr::expression::SymId;
 use kc_solve::solved::Solved;
 use kc_tree::tree::Tree;
 use std::alloc::{AllocError, Global};
 
 // Adds the symbol's header line where it is written.
-fn add_header_if<V: Solution>(
+fn add_header_if(
     tree: &Tree,
-    solution: &V,
+    solved: &Solved<'_>,
     prefix: &Prefix,
     id: SymId,
     page: &mut Vec<u8>,
 ) -> Result<(), AllocError>
-    requires named { id.0 < length tree.now.names }
-    requires known { V.knows solution.now id }
-    ensures { OnOk result (page.new.items ≡ page.old.items ++ header_if tree.now prefix.now (V.told solution.now) id) }
+    requires { id.0 < length tree.now.names }
+    ensures { OnOk result (page.new.items ≡ page.old.items ++ header_if tree.now prefix.now (told_of solved.now) id) }
 {
-    if !solution.written(id) {
+    if !solved.written(id) {
         return Ok(());
     }
-    add_header_line(prefix, tree.name(id), solution.value(id), page)
+    add_header_line(prefix, tree.name(id), symbol_value(solved, id), page)
 }
 
 // Adds the symbol's line where it differs.
-fn add_minimal_if<V: Solution>(
+fn add_minimal_if(
     tree: &Tree,
-    solution: &V,
+    solved: &Solved<'_>,
     prefix: &Prefix,
     id: SymId,
     page: &mut Vec<u8>,
 ) -> Result<(), AllocError>
     requires named { id.0 < length tree.now.names }
-    requires known { V.knows solution.now id }
-    ensures { OnOk result (page.new.items ≡ page.old.items ++ minimal_if tree.now prefix.now (V.told solution.now) id) }
+    requires defined { id.0 < symbol_count solved.now.tree }
+    ensures { OnOk result (page.new.items ≡ page.old.items ++ minimal_if tree.now prefix.now (told_of solved.now) id) }
 {
-    if !solution.differs(id) {
+    if !solved.differs(id) {
         return Ok(());
     }
-    add_config_line(prefix, tree.name(id), solution.value(id), page)
+    add_config_line(prefix, tree.name(id), symbol_value(solved, id), page)
 }
 
 // Hands out what waits on the page, and the header lines of the written symbols.
-fn put_header_lines<V: Solution, S: Sink>(
+fn put_header_lines<S: Sink>(
     tree: &Tree,
-    solution: &V,
+    solved: &Solved<'_>,
     prefix: &Prefix,
     page: &mut Vec<u8>,
     sink: &mut S,
 ) -> Result<(), WriteFault>
-    requires { (id : SymId) → id.0 < length tree.now.symbols → V.knows solution.now id }
-    ensures whole { OnOk result (S.taken sink.new ≡ extended (S.taken sink.old) (page.old.items ++ flat_map (header_if tree.now prefix.now (V.told solution.now)) (symbols_of tree.now))) }
+    ensures whole { OnOk result (S.taken sink.new ≡ extended (S.taken sink.old) (page.old.items ++ flat_map (header_if tree.now prefix.now (told_of solved.now)) (symbols_of tree.now))) }
     ensures quiet { OnOk result (S.failures sink.new ≡ S.failures sink.old) }
-    ensures beginning { OnErr result (HandsOut (page.old.items ++ flat_map (header_if tree.now prefix.now (V.told solution.now)) (symbols_of tree.now)) (S.taken sink.old) (S.taken sink.new)) }
+    ensures beginning { OnErr result (HandsOut (page.old.items ++ flat_map (header_if tree.now prefix.now (told_of solved.now)) (symbols_of tree.now)) (S.taken sink.old) (S.taken sink.new)) }
     ensures counted { IfErr result (λ fault. S.failures sink.new ≡ counted_write fault (S.failures sink.old)) }
     ensures keeps { S.goes_to sink.old sink.new }
 {
     for i in 0..tree.symbol_count() {
-        add_header_if(tree, solution, prefix, tree.symbol(i), page)?;
+        add_header_if(tree, solved, prefix, tree.symbol(i), page)?;
         put_full(page, sink)?;
     }
     put(page, sink)?;
@@ -94,44 +91,24 @@ fn add_heading(title: &[u8], page: &mut Vec<u8>) -> Result<(), AllocError>
     )
 }
 
-// Hands out the header.
-fn put_header<V: Solution, S: Sink>(
-    alloc: Global,
-    tree: &Tree,
-    solution: &V,
-    prefix: &Prefix,
-    sink: &mut S,
-) -> Result<(), WriteFault>
-    requires { (id : SymId) → id.0 < length tree.now.symbols → V.knows solution.now id }
-    ensures whole { OnOk result (S.taken sink.new ≡ extended (S.taken sink.old) (header_text tree.now prefix.now (V.told solution.now))) }
-    ensures quiet { OnOk result (S.failures sink.new ≡ S.failures sink.old) }
-    ensures beginning { OnErr result (HandsOut (header_text tree.now prefix.now (V.told solution.now)) (S.taken sink.old) (S.taken sink.new)) }
-    ensures counted { IfErr result (λ fault. S.failures sink.new ≡ counted_write fault (S.failures sink.old)) }
-    ensures keeps { S.goes_to sink.old sink.new }
-{
-    let mut page = new_page(alloc)?;
-    add_heading(tree.main_menu(), &mut page)?;
-    put_header_lines(tree, solution, prefix, &mut page, sink)
-}
-
 // Hands out the minimal file.
-fn put_minimal<V: Solution, S: Sink>(
+fn put_minimal<S: Sink>(
     alloc: Global,
     tree: &Tree,
-    solution: &V,
+    solved: &Solved<'_>,
     prefix: &Prefix,
     sink: &mut S,
 ) -> Result<(), WriteFault>
-    requires { (id : SymId) → id.0 < length tree.now.symbols → V.knows solution.now id }
-    ensures whole { OnOk result (S.taken sink.new ≡ extended (S.taken sink.old) (minimal_text tree.now prefix.now (V.told solution.now))) }
+    requires { solved.now.tree ≡ tree.now }
+    ensures whole { OnOk result (S.taken sink.new ≡ extended (S.taken sink.old) (minimal_text tree.now prefix.now (told_of solved.now))) }
     ensures quiet { OnOk result (S.failures sink.new ≡ S.failures sink.old) }
-    ensures beginning { OnErr result (HandsOut (minimal_text tree.now prefix.now (V.told solution.now)) (S.taken sink.old) (S.taken sink.new)) }
+    ensures beginning { OnErr result (HandsOut (minimal_text tree.now prefix.now (told_of solved.now)) (S.taken sink.old) (S.taken sink.new)) }
     ensures counted { IfErr result (λ fault. S.failures sink.new ≡ counted_write fault (S.failures sink.old)) }
     ensures keeps { S.goes_to sink.old sink.new }
 {
     let mut page = new_page(alloc)?;
     for i in 0..tree.symbol_count() {
-        add_minimal_if(tree, solution, prefix, tree.symbol(i), &mut page)?;
+        add_minimal_if(tree, solved, prefix, tree.symbol(i), &mut page)?;
         put_full(&mut page, sink)?;
     }
     put(&page, sink)?;
@@ -155,7 +132,9 @@ pub fn write_header<S: Sink>(
     ensures counted { IfErr result (λ fault. S.failures sink.new ≡ counted_write fault (S.failures sink.old)) }
     ensures keeps { S.goes_to sink.old sink.new }
 {
-    put_header(alloc, tree, solved, prefix, sink)
+    let mut page = new_page(alloc)?;
+    add_heading(tree.main_menu(), &mut page)?;
+    put_header_lines(tree, solved, prefix, &mut page, sink)
 }
 
 /// Hands out the minimal file: the lines of the symbols that differ, in the order of their first definition. (Our own

@@ -14,7 +14,6 @@ pub mod place_laws;
 pub mod prefix;
 pub mod reader;
 pub mod sink;
-pub mod solution;
 mod step;
 mod symbol_line;
 pub mod value;

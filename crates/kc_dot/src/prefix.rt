@@ -1,6 +1,7 @@
 //! What stands before the name of a symbol in the files that are read and written.
 ghost use Rattle.std.specs.Prelude.{◌≡◌, true, IfOk};
 ghost use Rattle.std.specs.List.{list_all};
+ghost use Rattle.kc_expr.specs.Names as names;
 ghost use Rattle.kc_dot.specs.Prefixes as spec;
 
 use std::alloc::{AllocError, Global};
@@ -50,7 +51,7 @@ impl Prefix {
 
 // Whether the byte may stand in a name.
 fn is_name_byte(byte: u8) -> bool
-    ensures { result ≡ spec.is_name_byte byte }
+    ensures { result ≡ names.is_name_byte byte }
 {
     byte.is_ascii_alphanumeric() || byte == b'_'
 }
@@ -67,7 +68,7 @@ fn begins_with_digit(text: &[u8]) -> bool
 
 // Whether each byte may stand in a name.
 fn has_name_bytes(text: &[u8]) -> bool
-    ensures { result ≡ list_all spec.is_name_byte text.now }
+    ensures { result ≡ list_all names.is_name_byte text.now }
 {
     text.iter().all(|b| is_name_byte(*b))
 }

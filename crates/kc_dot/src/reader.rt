@@ -3,6 +3,7 @@ ghost use Rattle.std.specs.Prelude.{◌≡◌, ◌≤◌, length, Some, None, Er
 ghost use Rattle.kc_dot.specs.declared.fault.DotFault.{DotFault};
 ghost use Rattle.kc_user.specs.Places.{IsUserOf};
 ghost use Rattle.kc_dot.specs.Feeding.{IsOpen, Feeds, Refuses, Finishes, FailsToEnd, fed, ended, first_spot, counted_fault};
+ghost use Rattle.kc_dot.specs.Limits.{longest_config_line};
 ghost use Rattle.kc_dot.specs.Sink.{extended};
 
 use crate::cursor::{Cursor, end_stream, take_piece};
@@ -60,7 +61,7 @@ impl<'a> DotReader<'a> {
     /// How many bytes were fed since the last LF, `finish` or `next_stream`.
     pub fn pending(&self) -> usize
         ensures count { result ≡ length self.now.spot.pending }
-        ensures few { result ≤ 65535 }
+        ensures few { result ≤ longest_config_line }
     {
         self.cursor.pending.len()
     }
@@ -122,13 +123,11 @@ impl<'a> DotReader<'a> {
         if let Some(fault) = self.refusal {
             return Err(fault);
         }
-        match end_stream(self.alloc, &self.source, &mut self.cursor, user, sink) {
-            Ok(()) => Ok(()),
-            Err(fault) => {
-                self.refusal = Some(fault);
-                Err(fault)
-            }
-        }
+        let Err(fault) = end_stream(self.alloc, &self.source, &mut self.cursor, user, sink) else {
+            return Ok(());
+        };
+        self.refusal = Some(fault);
+        Err(fault)
     }
 
     /// Ends the last line, and goes on at line 1 of another stream. After an error it is as after one of `finish`, and the

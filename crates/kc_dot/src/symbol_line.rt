@@ -1,16 +1,48 @@
-//! The line that tells a symbol's value.
+//! A symbol's value, and the line that tells it.
 ghost use Rattle.std.specs.Prelude.{◌≡◌, ◌++◌, OnOk, codes, flat_map};
 ghost use Rattle.kc_text.specs.Escapes.{escape};
 ghost use Rattle.kc_text.specs.Numbers as numbers;
+ghost use Rattle.kc_dot.specs.SolutionTold.{told_of};
 ghost use Rattle.kc_dot.specs.SymbolLines.{config_line, header_line, hex_text};
 ghost use Rattle.kc_dot.specs.ValueSeen.{known_by};
+ghost use Rattle.kc_expr.specs.Value.{known_of};
 
 use crate::page::add_parts;
 use crate::prefix::Prefix;
-use crate::solution::Value;
-use kc_expr::expression::{Kind, Tri};
+use kc_expr::expression::{Kind, SymId, Tri};
+use kc_expr::values::Values;
+use kc_solve::solved::Solved;
 use kc_text::escape_into;
 use std::alloc::AllocError;
+
+/// The value of a symbol: of a bool or tristate, or the text of another with its type.
+#[derive(Clone, Copy, Debug, PartialEq, Eq)]
+pub enum Value<'a> {
+    Truth(Tri),
+    Written(Kind, &'a [u8]),
+}
+
+// The value of a symbol of this type.
+fn value_by<'a>(kind: Kind, tri: Tri, text: &'a [u8]) -> Value<'a>
+    ensures { known_by result ≡ known_of kind tri text.now }
+{
+    match kind {
+        Kind::Bool => Value::Truth(tri),
+        Kind::Tristate => Value::Truth(tri),
+        Kind::Undefined => Value::Written(Kind::Undefined, text),
+        Kind::Str => Value::Written(Kind::Str, text),
+        Kind::Int => Value::Written(Kind::Int, text),
+        Kind::Hex => Value::Written(Kind::Hex, text),
+    }
+}
+
+/// The value that the solution gives to a symbol, and to a name that is not defined its own text.
+pub fn symbol_value<'a>(solved: &'a Solved<'_>, id: SymId) -> Value<'a>
+    ensures { known_by result ≡ (told_of solved.now).value id }
+{
+    solved.tells_known();
+    value_by(solved.kind(id), solved.tri(id), solved.text(id))
+}
 
 // Adds the parts before a string, the string with a `\` before each `"` and `\`, and the end of its line.
 fn add_string_line(before: &[&[u8]], text: &[u8], page: &mut Vec<u8>) -> Result<(), AllocError>

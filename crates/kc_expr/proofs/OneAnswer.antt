@@ -1,5 +1,5 @@
 -- The grammar has an answer to any tokens, and one.
-use Rattle.std.proofs.Common.{◌≡◌, ◌≢◌, ℕ, zero, suc, ◌+◌, ◌≤◌, ◌⊎◌, Bool, true, false, List, [], ◌∷◌, ◌++◌, length, inl, inr, refl, sym, ap, ◌∙◌, subst, append_assoc, append-nil, arith}
+use Rattle.std.proofs.Common.{◌≡◌, ℕ, zero, suc, ◌+◌, ◌≤◌, ◌⊎◌, Bool, true, false, List, [], ◌∷◌, ◌++◌, length, inl, inr, refl, sym, ap, ◌∙◌, subst, append_assoc, append-nil, arith}
 use Rattle.std.proofs.lemmas.Bool.{false≢true}
 use Rattle.std.proofs.lemmas.List.{length-append}
 use Rattle.kc_text.specs.declared.tokens.Op.{Op}
@@ -7,7 +7,7 @@ use Rattle.kc_expr.specs.declared.parse.Connective.{Connective}
 use Rattle.kc_expr.specs.declared.parse.Connective.TheVariants.{And, Or}
 use Rattle.kc_expr.specs.declared.parse.ExprFault.{ExprFault}
 use Rattle.kc_expr.specs.declared.parse.ExprFault.TheVariants.{Syntax, TooDeep, Memory}
-use Rattle.kc_expr.specs.Grammar.{Atom, Terminal, Plain, Compares, Bang, Joins, Open, Close, Keyword, Chain, Part, Negation, Disjunction, only, negation, conjunction, bang, group, lone, compare, spell, spell_part, spell_not, spell_or, levels, levels_part, levels_not, levels_or, LongestFront}
+use Rattle.kc_expr.specs.Grammar.{Atom, Terminal, Plain, Compares, Bang, Joins, Open, Close, Keyword, Chain, Part, Disjunction, only, negation, conjunction, bang, group, lone, compare, spell, spell_part, spell_not, spell_or, levels, levels_part, levels_not, LongestFront}
 use Rattle.kc_expr.specs.Scan.{lone_in}
 use Rattle.kc_expr.specs.Parsing.{IsNoExpression, IsTooDeep, Answer, Derived, NoExpression, TooManyLevels, Answers, OneAnswer}
 use Rattle.kc_expr.specs.Reading.{starts_compares, starts_joins, starts_close, starts_plain, starts_bang, starts_open, same_connective, NoneWithin, StopsNot, StopsPart, Stops, FailsNot, FailsPart, FailsChain}

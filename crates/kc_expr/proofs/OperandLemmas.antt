@@ -1,14 +1,12 @@
 -- Where an operand stands among tokens.
-use Rattle.std.proofs.Common.{◌≡◌, ℕ, Bool, true, false, List, [], ◌∷◌, ◌++◌, Option, refl, sym, ap, ◌∙◌, subst, append_assoc}
+use Rattle.std.proofs.Common.{◌≡◌, ℕ, true, List, [], ◌∷◌, ◌++◌, refl, sym, ap, ◌∙◌, subst, append_assoc}
 use Rattle.std.proofs.lemmas.Bool.{false≢true}
-use Rattle.kc_expr.specs.declared.expression.SymId.{SymId}
 use Rattle.kc_expr.specs.declared.parse.Connective.{Connective}
 use Rattle.kc_expr.specs.declared.parse.ExprFault.{ExprFault}
 use Rattle.kc_expr.specs.declared.parse.ExprFault.TheVariants.{Syntax, TooDeep, Memory}
-use Rattle.kc_expr.specs.Form.{Form}
 use Rattle.kc_expr.specs.Grammar.{Atom, Terminal, Plain, Compares, Bang, Joins, Open, Close, Keyword, Chain, Part, Negation, only, joined, negation, conjunction, bang, group, lone, compare, spell, spell_part, spell_not}
 use Rattle.kc_expr.specs.Parsing.{HasOperand}
-use Rattle.kc_expr.specs.Reading.{starts_plain, IsMemory, IsMemoryAt, ParsedNot, ParsedPart, ParsedChain, FailsNot, FailsPart, FailsChain}
+use Rattle.kc_expr.specs.Reading.{starts_plain, IsMemory, IsMemoryAt, FailsNot, FailsChain}
 
 pub operand_after : (front ts : List Terminal) → HasOperand ts → HasOperand (front ++ ts)
 operand_after front ts h = record {

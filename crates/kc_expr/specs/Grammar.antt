@@ -5,7 +5,7 @@
 --     not  = "!" not | "(" or ")" | rel
 --     rel  = operand [ ( "=" | "!=" | "<" | ">" | "<=" | ">=" ) operand ]
 --     operand = a word other than if | a quoted text
-use Rattle.std.specs.Prelude.{◌≡◌, ℕ, suc, max, ◌≤◌, Bool, false, List, [], ◌∷◌, ◌++◌, map, drop, is_some, Option, Some, None, if◌then◌else◌}
+use Rattle.std.specs.Prelude.{◌≡◌, ℕ, suc, max, ◌≤◌, Bool, false, List, [], ◌∷◌, ◌++◌, map, drop, is_some, Option, Some, None, if◌then◌else◌, codes}
 use Rattle.std.specs.List.{flat_map}
 use Rattle.kc_text.specs.declared.tokens.Op.{Op}
 use Rattle.kc_text.specs.declared.tokens.Op.TheVariants as op
@@ -48,7 +48,7 @@ op_terminal op.RParen = Close
 
 -- the word if
 abbrev pub if_word : List ℕ
-if_word = 105 ∷ 102 ∷ []
+if_word = codes "if"
 
 abbrev pub terminal_of : Lexeme → Terminal
 terminal_of (AWord w) = if same_name w if_word then Keyword else Plain (WordAtom w)
@@ -129,7 +129,7 @@ abbrev pub is_letter : List ℕ → Bool
 is_letter w = is_some (letter_of w)
 
 abbrev pub m_word : List ℕ
-m_word = 109 ∷ []
+m_word = codes "m"
 
 abbrev pub is_m_leaf : Leaf → Bool
 is_m_leaf (Symbol s) = false

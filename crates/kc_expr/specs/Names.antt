@@ -1,11 +1,17 @@
 -- Trusted: Names and their numbers.
-use Rattle.std.specs.Prelude.{ℕ, ◌≡◌, ◌==◌, Bool, List, [], ◌∷◌, ◌++◌, if◌then◌else◌}
+use Rattle.std.specs.Prelude.{ℕ, ◌≡◌, ◌==◌, ◌||◌, Bool, List, [], ◌∷◌, ◌++◌, if◌then◌else◌, length, map, slice_get, Some}
 use Rattle.std.specs.List.{list_any, position_or_len, IsDistinct}
+use Rattle.std.specs.Char.{is_ascii_alphanumeric}
 use Rattle.std.specs.Cmp.Lexicographic.{pointwise}
+use Rattle.kc_text.specs.Bytes.{byte}
 use Rattle.kc_expr.specs.declared.expression.SymId.{SymId}
 
 abbrev pub symbol : ℕ → SymId
 symbol n = record { 0 = n }
+
+-- `A` to `Z`, `a` to `z`, `0` to `9` and `_`
+abbrev pub is_name_byte : ℕ → Bool
+is_name_byte b = is_ascii_alphanumeric b || b == byte "_"
 
 abbrev pub same_name : List ℕ → List ℕ → Bool
 same_name = pointwise ◌==◌
@@ -34,3 +40,8 @@ IsNumber names name id = (later : List (List ℕ)) → Extends names later → i
 -- no name stands twice
 abbrev pub AreDistinct : List (List ℕ) → Type 0
 AreDistinct = IsDistinct same_name
+
+-- the names once each has the number that stands at its own in the list
+pub record IsRenumbered (names : List (List ℕ)) (numbers : List SymId) (new : List (List ℕ)) : Type 0 where
+  pub all : length new ≡ length names
+  pub there : map (λ id. slice_get new id.0) numbers ≡ map Some names

@@ -1,5 +1,6 @@
 -- Trusted: What parsing answers.
 use Rattle.std.specs.Prelude.{◌≡◌, ◌≢◌, ℕ, ◌≤◌, List, ◌∷◌, ◌++◌, Option}
+use Rattle.kc_expr.specs.Limits.{most_levels}
 use Rattle.kc_expr.specs.declared.parse.ExprFault.{ExprFault}
 use Rattle.kc_expr.specs.declared.parse.ExprFault.TheVariants.{Syntax, TooDeep, Memory}
 use Rattle.kc_expr.specs.declared.expression.SymId.{SymId}
@@ -13,25 +14,25 @@ pub record IsParsed (condition : Option SymId) (ts rest : List Terminal) (old na
   pub longest : LongestFront ts front rest
   pub tree : Disjunction
   pub derives : spell_or tree ≡ front
-  pub within : levels_or tree ≤ 64
+  pub within : levels_or tree ≤ most_levels
   pub mentions : names ≡ all_mentioned old (words tree)
   pub form : (later : List (List ℕ)) → Extends names later → f ≡ meaning_or condition (number_of later) tree
 
--- the longest front that begins some expression is none itself, and opens at most 64 levels
+-- the longest front that begins some expression is none itself, and opens at most `most_levels`
 pub record IsNoExpression (ts : List Terminal) : Type 0 where
   pub front : List Terminal
   pub rest : List Terminal
   pub longest : LongestFront ts front rest
-  pub within : BeginsWithin 64 front
+  pub within : BeginsWithin most_levels front
   pub none : (d : Disjunction) → spell_or d ≢ front
 
--- a front begins some expression, but none of at most 64 levels
+-- a front begins some expression, but none of at most `most_levels`
 pub record IsTooDeep (ts : List Terminal) : Type 0 where
   pub front : List Terminal
   pub rest : List Terminal
   pub whole : ts ≡ front ++ rest
   pub begins : Begins front
-  pub deep : BeginsWithin 64 front → ⊥
+  pub deep : BeginsWithin most_levels front → ⊥
 
 -- an operand stands among the tokens
 pub record HasOperand (ts : List Terminal) : Type 0 where
@@ -59,7 +60,7 @@ pub data Answer : Type 0 where
   TooManyLevels : Answer
 
 abbrev pub Answers : List Terminal → Answer → Type 0
-Answers ts (Derived d rest) = LongestFront ts (spell_or d) rest × (levels_or d ≤ 64)
+Answers ts (Derived d rest) = LongestFront ts (spell_or d) rest × (levels_or d ≤ most_levels)
 Answers ts NoExpression = IsNoExpression ts
 Answers ts TooManyLevels = IsTooDeep ts
 

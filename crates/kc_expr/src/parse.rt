@@ -2,14 +2,14 @@
 
 ghost use Rattle.std.specs.Prelude.{◌≡◌, ℕ, ◌+◌, ◌≤◌, ◌<◌, ◌≢◌, Bool, true, false, List, length, [], ◌∷◌, ◌++◌, map, IfOk, IfErr, OnOk};
 ghost use Rattle.kc_expr.specs.declared.parse.ExprFault.TheVariants.{Memory};
-ghost use Rattle.kc_expr.specs.Form.{form_of, forms, leaf_of, Text};
+ghost use Rattle.kc_expr.specs.Form.{form_of, forms, leaf_of};
 ghost use Rattle.kc_expr.specs.Grammar as spec;
 ghost use Rattle.kc_expr.specs.Grammar.{terminals_from, is_m_leaf, plain_under, IsUnambiguous, Terminal, HasOneLongestFront};
 ghost use Rattle.kc_expr.specs.Parsing.{IsParsed, IsDetermined, IsRefused, OneAnswer};
 ghost use Rattle.kc_expr.specs.Reading.{ParsedNot, ParsedPart, ParsedChain, FailsNot, FailsPart, FailsChain, IsNext, ReadsOperand, ReadsRelation, IsMemory, IsMemoryAt, IsOp, IsJoined, StartsNoOperand};
 ghost use Rattle.kc_expr.specs.Names.{Extends, mention};
 
-use crate::expression::{Expr, Operand, Sides, SymId};
+use crate::expression::{Expr, Operand, Sides, SymId, Tri};
 use crate::names::Names;
 use crate::values::letter_of;
 use kc_text::{Op, Token, TokenKind, unescape_into};
@@ -281,12 +281,14 @@ fn is_m(operand: &Operand) -> bool
 {
     match operand {
         Operand::Const(text) => text.as_slice() == b"m".as_slice(),
-        Operand::Sym(_) => false,
+        Operand::Letter(Tri::M) => true,
+        Operand::Letter(_) | Operand::Sym(_) => false,
     }
 }
 
 // The operand at a place, if there is one.
 #[inline(always)]
+#[tactic(auto, using(crate::proofs::LetterLemmas::letter_text))]
 fn operand(
     alloc: Global,
     tokens: &[Token],
@@ -302,8 +304,8 @@ fn operand(
             if word == b"if".as_slice() {
                 return Ok(None);
             }
-            if letter_of(word).is_some() {
-                return Ok(Some(constant(alloc, word)?));
+            if let Some(letter) = letter_of(word) {
+                return Ok(Some(Operand::Letter(letter)));
             }
             Ok(Some(Operand::Sym(names.id(word)?)))
         }
@@ -314,14 +316,6 @@ fn operand(
         }
         _ => Ok(None),
     }
-}
-
-// A word as a constant.
-fn constant(alloc: Global, text: &[u8]) -> Result<Operand, ExprFault>
-    ensures constant { IfOk result (λ o. leaf_of o ≡ Text text.now) }
-    ensures memory { IfErr result IsMemory }
-{
-    Ok(Operand::Const(Vec::from_slice(alloc, text)?))
 }
 
 // The operator of a relation at a place, if there is one.

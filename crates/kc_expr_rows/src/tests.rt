@@ -114,7 +114,7 @@ fn shape(
 const SHAPES: &[(&[u8], &str)] = &[
     (
         b"A && !B = A || m) x",
-        "Any([All([One(Sym(SymId(1))), Not(Rel(Eq, Sides { left: Sym(SymId(2)), right: Sym(SymId(1)) }))]), One(Const([109]))]) 8",
+        "Any([All([One(Sym(SymId(1))), Not(Rel(Eq, Sides { left: Sym(SymId(2)), right: Sym(SymId(1)) }))]), One(Letter(M))]) 8",
     ),
     (
         b"!A=B",
@@ -202,23 +202,23 @@ fn lines_follow_the_grammar(rt: HostRuntime) -> Result<(), Fail> {
 
 // The line, then what it reads as in a condition.
 const CONDITIONS: &[(&[u8], &str)] = &[
-    (b"m", "All([One(Const([109])), One(Sym(SymId(0)))]) 1"),
+    (b"m", "All([One(Letter(M)), One(Sym(SymId(0)))]) 1"),
     (b"\"m\"", "All([One(Const([109])), One(Sym(SymId(0)))]) 1"),
     (b"'\\m'", "All([One(Const([109])), One(Sym(SymId(0)))]) 1"),
     (
         b"A && m",
-        "All([One(Sym(SymId(1))), All([One(Const([109])), One(Sym(SymId(0)))])]) 3",
+        "All([One(Sym(SymId(1))), All([One(Letter(M)), One(Sym(SymId(0)))])]) 3",
     ),
-    (b"!m", "Not(All([One(Const([109])), One(Sym(SymId(0)))])) 2"),
+    (b"!m", "Not(All([One(Letter(M)), One(Sym(SymId(0)))])) 2"),
     (
         b"m = A",
-        "Rel(Eq, Sides { left: Const([109]), right: Sym(SymId(1)) }) 3",
+        "Rel(Eq, Sides { left: Letter(M), right: Sym(SymId(1)) }) 3",
     ),
     (
         b"A != m",
-        "Rel(Ne, Sides { left: Sym(SymId(1)), right: Const([109]) }) 3",
+        "Rel(Ne, Sides { left: Sym(SymId(1)), right: Letter(M) }) 3",
     ),
-    (b"y", "One(Const([121])) 1"),
+    (b"y", "One(Letter(Y)) 1"),
 ];
 
 #[test]
@@ -330,7 +330,7 @@ type Level = (
 );
 
 const LEVELS: &[Level] = &[
-    (64, b"(", b"y", b")", "One(Const([121])) 129"),
+    (64, b"(", b"y", b")", "One(Letter(Y)) 129"),
     (65, b"(", b"y", b")", "too deep"),
     (65, b"!", b"y", b"", "too deep"),
     (32, b"!(", b"=", b"", "syntax"),
@@ -383,7 +383,7 @@ fn the_65th_level_is_too_deep(rt: HostRuntime) -> Result<(), Fail> {
 #[test]
 fn a_plain_m_opens_no_level(rt: HostRuntime) -> Result<(), Fail> {
     let line = opened(rt.alloc(), 64, b"(", b"m", b")")?;
-    let want = "All([One(Const([109])), One(Sym(SymId(3)))]) 129";
+    let want = "All([One(Letter(M)), One(Sym(SymId(3)))]) 129";
     reads_without_names(&rt, rt.alloc(), &line, Some(SymId(3)), want)
 }
 

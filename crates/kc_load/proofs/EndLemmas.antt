@@ -1,5 +1,5 @@
 -- The beginning of the loading, its ends, and why it ends.
-use Rattle.std.proofs.Common.{◌≡◌, ℕ, ◌+◌, ◌-◌, ◌*◌, ◌<◌, ◌≤◌, zero, suc, List, [], ◌∷◌, ◌++◌, reverse, length, min, Contains, IsUtf8, inl, inr, arith, refl, sym, ap, ◌∙◌, subst, length-append, append-nil, nat_lt, true, false, map, vec_len}
+use Rattle.std.proofs.Common.{◌≡◌, ℕ, Bool, ◌+◌, ◌-◌, ◌*◌, ◌<◌, ◌≤◌, zero, suc, List, [], ◌∷◌, ◌++◌, reverse, length, min, Contains, IsUtf8, inl, inr, arith, refl, sym, ap, ◌∙◌, subst, length-append, append-nil, nat_lt, true, false, map, vec_len}
 use Rattle.std.proofs.lemmas.Bool.Decides.{nat_tests}
 use Rattle.std.proofs.lemmas.List.{nil_from_length}
 use Rattle.std.proofs.Math.ListN.{length-map}
@@ -7,9 +7,12 @@ use Rattle.std.specs.declared.vec.Vec.{Vec}
 use Rattle.std.specs.declared.alloc.Global.{Global}
 use Rattle.kc_read.specs.Files.{bytes_in}
 use Rattle.kc_load.specs.Faults.{IsLoadFault, IsNext}
-use Rattle.kc_load.specs.Folders.{Told}
-use Rattle.kc_load.specs.Loaded.{IsWhole, Loads, Reached, itself, line_limit, lines_of}
-use Rattle.kc_load.specs.Steps.{FailsAt, State, Visits, no_text, known, no_file, file, begun, most}
+use Rattle.kc_load.specs.Folders.{Told, path_of}
+use Rattle.kc_read.specs.Limits.{most_lines}
+use Rattle.kc_read.specs.Expansion.{lines_of}
+use Rattle.kc_load.specs.Loaded.{IsWhole, Loads, Reached, itself}
+use Rattle.kc_text.specs.Limits.{last_count}
+use Rattle.kc_load.specs.Steps.{FailsAt, State, Visits, no_text, known, no_file, file, begun}
 use Rattle.kc_load.specs.declared.fault.LoadFault.{LoadFault}
 use Rattle.kc_load.specs.declared.fault.LoadFault.TheVariants.{CannotRead, Memory}
 use Rattle.kc_load.proofs.HeldLemmas.{only_element}
@@ -17,10 +20,10 @@ use Rattle.kc_load.proofs.SourceLemmas.{no_lines_no_sources}
 use Rattle.kc_load.proofs.Ongoing.{IsMet, Ongoing}
 use Rattle.kc_load.proofs.TurnLemmas.{absent_if_new, reached_now, turn}
 
-pub not_over : (n : ℕ) → false ≡ nat_lt line_limit n → n ≤ line_limit
+pub not_over : (n : ℕ) → false ≡ nat_lt most_lines n → n ≤ most_lines
 not_over n e = grind (arith, nat_tests)
 
-pub is_over : (n : ℕ) → true ≡ nat_lt line_limit n → line_limit < n
+pub is_over : (n : ℕ) → true ≡ nat_lt most_lines n → most_lines < n
 is_over n e = grind (arith, nat_tests)
 
 -- a vector's elements are fewer than 2^64, and none where its length is 0
@@ -65,7 +68,7 @@ module _ (told : Told) (dir first : List ℕ) (s : State) (h : Ongoing told dir 
       met x (inl asked) = h.answers x asked
       met x (inr waits) = absurd (no_element x (subst (λ (l : List (List ℕ)). Contains l x) none waits))
 
-  pub when_over : line_limit < s.lines → Loads told dir first s.files
+  pub when_over : most_lines < s.lines → Loads told dir first s.files
   when_over over = record {
     read = h.read;
     held = h.held;
@@ -73,22 +76,24 @@ module _ (told : Told) (dir first : List ℕ) (s : State) (h : Ongoing told dir 
     are_all = λ within. absurd (let t = h.total in omega arith);
   }
 
-  pub at_fault : s.lines ≤ line_limit → (rest : List (List ℕ)) (name : List ℕ) → s.waiting ≡ rest ++ name ∷ [] → (fault : LoadFault) → FailsAt (record s { waiting = rest }) name fault → IsLoadFault told dir first fault
-  at_fault within rest name last (CannotRead n) f =
-      subst (λ (x : List ℕ). IsNext told dir first x) (sym f.0) (record {
+  pub at_fault : s.lines ≤ most_lines → (failing now : List ℕ → Bool) → now ≡ failing → (rest : List (List ℕ)) (name : List ℕ) → s.waiting ≡ rest ++ name ∷ [] → (fault : LoadFault) → FailsAt now dir (record s { waiting = rest }) name fault →
+      IsLoadFault told failing dir first fault
+  at_fault within failing now same rest name last (CannotRead n) f =
+      subst (λ (x : List ℕ). IsNext told failing dir first x) (sym f.0) (record {
         read = h.read;
         are_read = h.are_read;
         within = let t = h.total in omega arith;
         reached = reached_now told dir first s h rest name last (record { utf8 = f.1.utf8; is_new = f.1.is_new });
         absent = absent_if_new told dir first s h name f.1.is_new;
+        may_fail = sym (ap (λ (p : List ℕ → Bool). p (path_of dir name)) same) ∙ f.2;
       })
-  at_fault within rest name last Memory f = tt
+  at_fault within failing now same rest name last Memory f = tt
 
 -- What falls with each turn: the lines that may still come, and, where none came, the names that wait.
 abbrev pub still_left : State → ℕ
-still_left s = (line_limit - s.lines) * 18446744073709551616 + length s.waiting
+still_left s = (most_lines - s.lines) * 18446744073709551616 + length s.waiting
 
-pub falls : (told : Told) (dir : List ℕ) (s : State) (rest : List (List ℕ)) (name : List ℕ) (n : State) → s.waiting ≡ rest ++ name ∷ [] → s.lines ≤ line_limit → n.lines ≤ line_limit → length n.waiting < 18446744073709551616 → Visits told dir name (record s { waiting = rest }) n → still_left n < still_left s
+pub falls : (told : Told) (dir : List ℕ) (s : State) (rest : List (List ℕ)) (name : List ℕ) (n : State) → s.waiting ≡ rest ++ name ∷ [] → s.lines ≤ most_lines → n.lines ≤ most_lines → length n.waiting < 18446744073709551616 → Visits told dir name (record s { waiting = rest }) n → still_left n < still_left s
 falls told dir s rest name n last within later fits v = by v
   where
     shorter : length s.waiting ≡ length rest + 1
@@ -103,8 +108,8 @@ falls told dir s rest name n last within later fits v = by v
     by (no_file due answer asks) = fewer asks.waiting_is asks.lines_are
     by (file middle bytes due answer asks takes) = taken (lines_of bytes) refl
       where
-        lines_now : n.lines ≡ min (s.lines + lines_of bytes) most
-        lines_now = takes.lines_are ∙ ap (λ k. min (k + lines_of bytes) most) asks.lines_are
+        lines_now : n.lines ≡ min (s.lines + lines_of bytes) last_count
+        lines_now = takes.lines_are ∙ ap (λ k. min (k + lines_of bytes) last_count) asks.lines_are
 
         taken : (k : ℕ) → lines_of bytes ≡ k → still_left n < still_left s
         taken zero e =
@@ -115,6 +120,6 @@ falls told dir s rest name n last within later fits v = by v
         taken (suc k) e = let l = lines_now in let more = shorter in omega arith
 
 -- the turn of a name, as another state of the folder told it
-pub turned : (told given : Told) (dir first : List ℕ) (s : State) → Ongoing told dir first s → s.lines ≤ line_limit → given ≡ told → (rest : List (List ℕ)) (name : List ℕ) → s.waiting ≡ rest ++ name ∷ [] → (n : State) → Visits given dir name (record s { waiting = rest }) n → Ongoing told dir first n
+pub turned : (told given : Told) (dir first : List ℕ) (s : State) → Ongoing told dir first s → s.lines ≤ most_lines → given ≡ told → (rest : List (List ℕ)) (name : List ℕ) → s.waiting ≡ rest ++ name ∷ [] → (n : State) → Visits given dir name (record s { waiting = rest }) n → Ongoing told dir first n
 turned told given dir first s h within same rest name last n v =
     turn told dir first s h rest name last within n (subst (λ (t : Told). Visits t dir name (record s { waiting = rest }) n) same v)

@@ -1,5 +1,5 @@
 -- What was loaded is enough: the expansion over it is the expansion over the folder's files.
-use Rattle.std.proofs.Common.{◌≡◌, ℕ, Bool, true, false, cond, nat_le, List, [], ◌∷◌, ◌++◌, length, Option, Some, None, MatchOption, Result, Err, Contains, IsUtf8, arith, refl, sym, ap, ◌∙◌, subst}
+use Rattle.std.proofs.Common.{◌≡◌, ℕ, Bool, true, false, cond, nat_le, List, [], ◌∷◌, ◌++◌, length, Option, Some, None, MatchOption, Result, Ok, Err, Contains, IsUtf8, arith, refl, sym, ap, ◌∙◌, subst}
 use Rattle.std.proofs.lemmas.Bool.{false≢true}
 use Rattle.std.proofs.lemmas.List.Elements.{Contains-append_left, Contains-append_right}
 use Rattle.std.proofs.lemmas.Str.{IsUtf8-from_is_utf8, is_utf8-from_IsUtf8}
@@ -15,7 +15,7 @@ use Rattle.kc_read.specs.Openings.{asked}
 use Rattle.kc_read.specs.Statements.{Placed, Written}
 use Rattle.kc_read.proofs.ExpansionThere.{has_one_expansion}
 use Rattle.kc_read.proofs.OneExpansion.{one_expansion_law}
-use Rattle.kc_load.specs.Expanding.{ExpandsAlike, Suffices, named}
+use Rattle.kc_load.specs.Expanding.{ExpandsAlike, OpensAlike, Suffices, named}
 use Rattle.kc_load.specs.Folders.{Told, path_of}
 use Rattle.kc_load.specs.Loaded.{Reached, itself, sourced}
 use Rattle.kc_load.specs.Steps.{State}
@@ -53,6 +53,24 @@ module _ (files others : Files) where
       (over d (λ y c. h y (Contains-append_right (name ∷ []) (asked d ++ asked g) y (Contains-append_left (asked d) (asked g) y c))))
       (over g (λ y c. h y (Contains-append_right (name ∷ []) (asked d ++ asked g) y (Contains-append_right (asked d) (asked g) y c))))
 
+  -- and it opens the same files
+  asked_over : {a : Around} {l : Left} {own : List (Placed Written)} {log : Log} {r : Result Log Refused} (d : Rest files a l own log r) (h : (y : List ℕ) → Contains (asked d) y → others y ≡ files y) → asked (over d h) ≡ asked d
+  unfolding over
+  asked_over (at_end a l own log none closed) h = refl
+  asked_over (unclosed a l own log line none unmatched) h = refl
+  asked_over (too_long a l own log long) h = refl
+  asked_over (no_tokens a l m own log ts why next) h = refl
+  asked_over (blank a l m own log r next d) h = asked_over d h
+  asked_over (bad_line a l m own log c n) h = refl
+  asked_over (bad_effect a l m own log s c n f) h = refl
+  asked_over (statement a l m own log s r n plain f d) h = asked_over d h
+  asked_over (bad_source a l m own log name c n f) h = refl
+  asked_over (refused_inside a l m own log name bytes e n free there d) h = ap (λ (t : List (List ℕ)). name ∷ t) (asked_over d (λ y c. h y (Contains-append_right (name ∷ []) (asked d) y c)))
+  asked_over (source a l m own log more name bytes r n free there d g) h =
+      let within = λ (y : List ℕ) (c : Contains (asked d) y). h y (Contains-append_right (name ∷ []) (asked d ++ asked g) y (Contains-append_left (asked d) (asked g) y c)) in
+      let later = λ (y : List ℕ) (c : Contains (asked g) y). h y (Contains-append_right (name ∷ []) (asked d ++ asked g) y (Contains-append_right (asked d) (asked g) y c)) in
+      ap (λ (t : List (List ℕ)). name ∷ (t ++ asked (over g later))) (asked_over d within) ∙ ap (λ (t : List (List ℕ)). name ∷ (asked d ++ t)) (asked_over g later)
+
 -- ---- From the root file on
 
 abbrev RootGives : Files → List ℕ → Result Log Refused → Type 0
@@ -62,14 +80,24 @@ module _ (told : List ℕ → Option (List ℕ)) (dir first : List ℕ) (loaded 
   same_root : loaded first ≡ named told dir first
   same_root = agree first (first_met (omega arith) walk)
 
-  opened_alike : (r : Result Log Refused) → bytes_cause first 0 (named told dir first) ≡ None → RootGives (named told dir) first r → RootGives loaded first r
-  opened_alike r free (bytes, there, d) =
+  -- what the root file asks for was loaded
+  asked_agree : (bytes : List ℕ) (r : Result Log Refused) → bytes_cause first 0 (named told dir first) ≡ None → named told dir first ≡ Some bytes →
+      (d : Rest (named told dir) (root_around first) (left bytes 1) [] (opening nothing_read bytes) r) → (y : List ℕ) → Contains (asked d) y → loaded y ≡ named told dir y
+  asked_agree bytes r free there d y c =
       let few = few_lines first bytes 0 (named told dir first) free there in
       let free : list_any (same_name first) [] ≡ false = refl in
       let shut : IsClosed told dir [] [] = λ x c now. absurd (false≢true now) in
       let en = enter told dir {opens = []} bytes 0 there free (omega arith) (omega arith) shut walk in
       let f = follow told dir d en.names en.sources en.walk en.closed en.fewer few in
-      (bytes, same_root ∙ there, over (named told dir) loaded d (λ y c. agree y (en.grown y (f.asks y c))))
+      agree y (en.grown y (f.asks y c))
+
+  opened_alike : (r : Result Log Refused) → bytes_cause first 0 (named told dir first) ≡ None → RootGives (named told dir) first r → RootGives loaded first r
+  opened_alike r free (bytes, there, d) = (bytes, same_root ∙ there, over (named told dir) loaded d (asked_agree bytes r free there d))
+
+  pub opens_alike : OpensAlike first (named told dir) loaded
+  opens_alike bytes log there few d =
+      let agrees = asked_agree bytes (Ok log) (ap (bytes_cause first 0) there ∙ few) there d in
+      (same_root ∙ there, (over (named told dir) loaded d agrees, asked_over (named told dir) loaded d agrees))
 
   pub forward : (r : Result Log Refused) → Expands (named told dir) first r → Expands loaded first r
   forward r d = by (bytes_cause first 0 (named told dir first)) refl d
@@ -107,8 +135,13 @@ module _ (told : List ℕ → Option (List ℕ)) (dir first : List ℕ) (s : Sta
       by false u = h.held y ∙ none u (bytes_in h.read y) refl
 
   pub enough_told : (b : Bool) → Walks (Some told) dir [] 0 (first ∷ []) s.asked s.lines b → Suffices (Some told) dir first s.files
-  enough_told b walk = (named told dir, refl, alike told dir first s.files s.asked s.lines b h.text walk asked_are_whole)
+  enough_told b walk = (
+    named told dir,
+    refl,
+    alike told dir first s.files s.asked s.lines b h.text walk asked_are_whole,
+    opens_alike told dir first s.files s.asked s.lines b h.text walk asked_are_whole,
+  )
 
 pub enough : (told : Told) (dir first : List ℕ) (s : State) → Ongoing told dir first s → (b : Bool) → Walks told dir [] 0 (first ∷ []) s.asked s.lines b → Suffices told dir first s.files
-enough None dir first s h b walk = (s.files, tt, λ r. (λ x. x, λ x. x))
+enough None dir first s h b walk = (s.files, tt, λ r. (λ x. x, λ x. x), λ bytes log there few d. (there, (d, refl)))
 enough (Some told) dir first s h b walk = enough_told told dir first s h b walk

@@ -12,7 +12,7 @@ use Rattle.kc_text.specs.Lines.{Left}
 use Rattle.kc_expr.specs.Names.{same_name, mention}
 use Rattle.kc_expr.proofs.NamesLemmas.{same_name-refl}
 use Rattle.kc_read.specs.declared.refusal.Code.TheVariants as code
-use Rattle.kc_read.specs.Expansion.{Around, Log, Refused, Rest, NextStatement, bytes_cause, is_source, lexemes, of_file, sourcing_cause, at_end, unclosed, too_long, no_tokens, blank, bad_line, bad_effect, statement, bad_source, refused_inside, source}
+use Rattle.kc_read.specs.Expansion.{Around, Log, Refused, Rest, NextStatement, bytes_cause, is_source, lexemes, of_file, sourcing_cause, at_end, unclosed, too_long, no_tokens, blank, bad_line, bad_effect, statement, bad_source, refused_inside, source, lines_of}
 use Rattle.kc_read.specs.Files.{Files}
 use Rattle.kc_read.specs.Lines.{Context, After, Cause, ReadsSource, begins_with, cause, finish, plain_text, text_of}
 use Rattle.kc_read.specs.Openings.{asked}
@@ -24,8 +24,10 @@ use Rattle.kc_read.proofs.SourceLines as lines
 use Rattle.kc_read.proofs.SourceWord.{source_begins, begins_source}
 use Rattle.kc_load.specs.Expanding.{named}
 use Rattle.kc_load.specs.Folders.{path_of}
-use Rattle.kc_load.specs.Loaded.{AreSources, line_limit, lines_of}
-use Rattle.kc_load.specs.Steps.{most, was_asked}
+use Rattle.kc_read.specs.Limits.{most_lines}
+use Rattle.kc_load.specs.Loaded.{AreSources}
+use Rattle.kc_text.specs.Limits.{last_count}
+use Rattle.kc_load.specs.Steps.{was_asked}
 use Rattle.kc_load.proofs.HeldLemmas.{asked_cases, asked_itself, asked_still, only_element}
 use Rattle.kc_load.proofs.Walks.{IsMetIn, Walks, stopped, passed, missing, taken, all_passed, first_met, first_or_later, grows, meets, no_name, split}
 use Rattle.kc_load.proofs.Walks as walks
@@ -64,21 +66,21 @@ names_source l m c name ns n d =
 -- ---- A file that may be opened
 
 -- with its lines there are no more than the limit
-pub few_lines : (name bytes : List ℕ) (n : ℕ) (o : Option (List ℕ)) → bytes_cause name n o ≡ None → o ≡ Some bytes → n + lines_of bytes ≤ line_limit
+pub few_lines : (name bytes : List ℕ) (n : ℕ) (o : Option (List ℕ)) → bytes_cause name n o ≡ None → o ≡ Some bytes → n + lines_of bytes ≤ most_lines
 few_lines name bytes n None e f = absurd cc
 few_lines name bytes n (Some c) e f =
     let same : c ≡ bytes = cc in
-    subst (λ b. n + lines_of b ≤ line_limit) same (by (nat_lt 1000000 (n + lines_of c)) refl e)
+    subst (λ b. n + lines_of b ≤ most_lines) same (by (nat_lt most_lines (n + lines_of c)) refl e)
   where
-    by : (b : Bool) → nat_lt 1000000 (n + lines_of c) ≡ b → cond b (Some (cause code.TooManyLines)) None ≡ None → n + lines_of c ≤ line_limit
+    by : (b : Bool) → nat_lt most_lines (n + lines_of c) ≡ b → cond b (Some (cause code.TooManyLines)) None ≡ None → n + lines_of c ≤ most_lines
     by true g h = absurd cc
     by false g h = grind (arith, nat_tests)
 
 -- and it is not open
-may_open : (files : Files) (opens : List (List ℕ)) (n : ℕ) (name bytes : List ℕ) → sourcing_cause files opens n name ≡ None → files name ≡ Some bytes → (list_any (same_name name) opens ≡ false) × (n + lines_of bytes ≤ line_limit)
+may_open : (files : Files) (opens : List (List ℕ)) (n : ℕ) (name bytes : List ℕ) → sourcing_cause files opens n name ≡ None → files name ≡ Some bytes → (list_any (same_name name) opens ≡ false) × (n + lines_of bytes ≤ most_lines)
 may_open files opens n name bytes h there = by (list_any (same_name name) opens) (nat_le 64 (length opens)) refl h
   where
-    by : (open_now full : Bool) → list_any (same_name name) opens ≡ open_now → cond open_now (Some (of_file code.InclusionLoop name)) (cond full (Some (cause code.TooDeep)) (bytes_cause name n (files name))) ≡ None → (list_any (same_name name) opens ≡ false) × (n + lines_of bytes ≤ line_limit)
+    by : (open_now full : Bool) → list_any (same_name name) opens ≡ open_now → cond open_now (Some (of_file code.InclusionLoop name)) (cond full (Some (cause code.TooDeep)) (bytes_cause name n (files name))) ≡ None → (list_any (same_name name) opens ≡ false) × (n + lines_of bytes ≤ most_lines)
     by true full e g = absurd cc
     by false true e g = absurd cc
     by false false e g = (e, few_lines name bytes n (files name) g there)
@@ -157,13 +159,13 @@ module _ (told : List ℕ → Option (List ℕ)) (dir : List ℕ) where
       pub leaves : over ≡ false → IsClosed (opens ++ x ∷ []) after → IsClosed opens after × Walks (Some told) dir after count_after rest w m b
 
     -- a file that was not asked for before
-    entered_new : (bytes : List ℕ) (counted : ℕ) (rest v w names : List (List ℕ)) (n m : ℕ) (b : Bool) → all x ≡ Some bytes → n ≤ counted → IsClosed opens v → was_asked v x ≡ false → AreSources bytes names → Walks (Some told) dir (mention v x) (min (n + lines_of bytes) most) (names ++ rest) w m b → Enters bytes counted rest w m b
+    entered_new : (bytes : List ℕ) (counted : ℕ) (rest v w names : List (List ℕ)) (n m : ℕ) (b : Bool) → all x ≡ Some bytes → n ≤ counted → IsClosed opens v → was_asked v x ≡ false → AreSources bytes names → Walks (Some told) dir (mention v x) (min (n + lines_of bytes) last_count) (names ++ rest) w m b → Enters bytes counted rest w m b
     entered_new bytes counted rest v w names n m b there le shut new are d = elim (split d names rest refl) [
       | inl r ↦ record {
         names = names;
         sources = are;
         before = mention v x;
-        count = min (n + lines_of bytes) most;
+        count = min (n + lines_of bytes) last_count;
         after = r.0;
         count_after = r.1;
         over = false;
@@ -178,7 +180,7 @@ module _ (told : List ℕ → Option (List ℕ)) (dir : List ℕ) where
         names = names;
         sources = are;
         before = mention v x;
-        count = min (n + lines_of bytes) most;
+        count = min (n + lines_of bytes) last_count;
         after = w;
         count_after = m;
         over = true;
@@ -191,7 +193,7 @@ module _ (told : List ℕ → Option (List ℕ)) (dir : List ℕ) where
       }
     ]
 
-  pub enter : {opens v rest w : List (List ℕ)} {x : List ℕ} {n m : ℕ} {b : Bool} (bytes : List ℕ) (counted : ℕ) → all x ≡ Some bytes → list_any (same_name x) opens ≡ false → n ≤ counted → counted ≤ line_limit → IsClosed opens v → Walks (Some told) dir v n (x ∷ rest) w m b → Enters opens x bytes counted rest w m b
+  pub enter : {opens v rest w : List (List ℕ)} {x : List ℕ} {n m : ℕ} {b : Bool} (bytes : List ℕ) (counted : ℕ) → all x ≡ Some bytes → list_any (same_name x) opens ≡ false → n ≤ counted → counted ≤ most_lines → IsClosed opens v → Walks (Some told) dir v n (x ∷ rest) w m b → Enters opens x bytes counted rest w m b
   enter bytes counted there free le lim shut (stopped v xs n lt) = absurd (omega arith)
   enter {opens} bytes counted there free le lim shut (passed v xs w x n m b met d) =
       let now = met (IsUtf8-from_is_utf8 x (is_found x bytes there).0) in
@@ -215,13 +217,13 @@ module _ (told : List ℕ → Option (List ℕ)) (dir : List ℕ) where
       none_or_some (told (path_of dir x)) bytes none (is_found x bytes there).1
   enter {opens} bytes counted there free le lim shut (taken v xs w names x c n m b new some are d) =
       let same : c ≡ bytes = one_some (told (path_of dir x)) c bytes some (is_found x bytes there).1 in
-      entered_new opens x bytes counted xs v w names n m b there le shut new (subst (λ k. AreSources k names) same are) (subst (λ k. Walks (Some told) dir (mention v x) (min (n + lines_of k) most) (names ++ xs) w m b) same d)
+      entered_new opens x bytes counted xs v w names n m b there le shut new (subst (λ k. AreSources k names) same are) (subst (λ k. Walks (Some told) dir (mention v x) (min (n + lines_of k) last_count) (names ++ xs) w m b) same d)
 
   -- ---- The rest of a file
 
   -- where the rest of the file is whole, so was the walk
   abbrev pub Ends : Around → Result Log Refused → List (List ℕ) → ℕ → Bool → Type 0
-  Ends a (Ok log) w m b = (b ≡ false) × IsClosed a.open_files w × (m ≤ log.counted) × (log.counted ≤ line_limit)
+  Ends a (Ok log) w m b = (b ≡ false) × IsClosed a.open_files w × (m ≤ log.counted) × (log.counted ≤ most_lines)
   Ends a (Err e) w m b = Unit {0}
 
   -- the walk asked for these names
@@ -232,7 +234,7 @@ module _ (told : List ℕ → Option (List ℕ)) (dir : List ℕ) where
   none_asked : (a : Around) (e : Refused) (w : List (List ℕ)) (m : ℕ) (b : Bool) → Follows a (Err e) [] w m b
   none_asked a e w m b = record { asks = λ y c. absurd (no_name y c); ends = tt }
 
-  pub follow : {a : Around} {l : Left} {own : List (Placed Written)} {log : Log} {r : Result Log Refused} (d : Rest all a l own log r) {v w : List (List ℕ)} {n m : ℕ} {b : Bool} (ns : List (List ℕ)) → Names l ns → Walks (Some told) dir v n ns w m b → IsClosed a.open_files v → n ≤ log.counted → log.counted ≤ line_limit → Follows a r (asked d) w m b
+  pub follow : {a : Around} {l : Left} {own : List (Placed Written)} {log : Log} {r : Result Log Refused} (d : Rest all a l own log r) {v w : List (List ℕ)} {n m : ℕ} {b : Bool} (ns : List (List ℕ)) → Names l ns → Walks (Some told) dir v n ns w m b → IsClosed a.open_files v → n ≤ log.counted → log.counted ≤ most_lines → Follows a r (asked d) w m b
   follow (at_end a l own log none closed) ns names walk shut le lim =
       let e = walks.at_end walk (lines.one_list l ns [] names (lines.at_end l none)) (omega arith) in
       record { asks = λ y c. absurd (no_name y c); ends = (e.2, subst (IsClosed a.open_files) e.0 shut, let k = e.1 in omega arith, lim) }

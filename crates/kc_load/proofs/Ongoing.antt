@@ -3,7 +3,8 @@ use Rattle.std.proofs.Common.{◌≡◌, ◌⊎◌, ℕ, List, min, true, Some, 
 use Rattle.kc_read.specs.Files.{bytes_in}
 use Rattle.kc_load.specs.Folders.{Told}
 use Rattle.kc_load.specs.Loaded.{AreSources, AreRead, File, IsWhole, Reached, line_total}
-use Rattle.kc_load.specs.Steps.{State, most, was_asked}
+use Rattle.kc_text.specs.Limits.{last_count}
+use Rattle.kc_load.specs.Steps.{State, was_asked}
 
 -- the name was asked for, or waits
 abbrev pub IsMet : State → List ℕ → Type 0
@@ -19,7 +20,7 @@ pub record Ongoing (told : Told) (dir first : List ℕ) (s : State) : Type 0 whe
   pub read : List File
   pub held : (name : List ℕ) → s.files name ≡ bytes_in read name
   pub are_read : AreRead told dir first read
-  pub total : s.lines ≡ min (line_total read) most
+  pub total : s.lines ≡ min (line_total read) last_count
   pub text : IsUtf8 first
   pub first_is : IsMet s first
   pub sources_are : (file bytes : List ℕ) → bytes_in read file ≡ Some bytes → AreMet s bytes

@@ -4,8 +4,10 @@ use Rattle.std.proofs.lemmas.List.Elements.{Contains-append_left, Contains-appen
 use Rattle.kc_expr.specs.Names.{same_name, mention}
 use Rattle.kc_read.specs.Files.{bytes_in}
 use Rattle.kc_load.specs.Folders.{Told, AnswersAs, path_of}
-use Rattle.kc_load.specs.Loaded.{AreRead, File, IsWhole, Reached, sourced, line_limit, line_total}
-use Rattle.kc_load.specs.Steps.{Asks, IsDue, State, Takes, Visits, no_text, known, no_file, file, most, was_asked}
+use Rattle.kc_read.specs.Limits.{most_lines}
+use Rattle.kc_load.specs.Loaded.{AreRead, File, IsWhole, Reached, sourced, line_total}
+use Rattle.kc_text.specs.Limits.{last_count}
+use Rattle.kc_load.specs.Steps.{Asks, IsDue, State, Takes, Visits, no_text, known, no_file, file, was_asked}
 use Rattle.kc_load.proofs.HeldLemmas.{held_cases, held_new, held_old, reached_more, asked_still, asked_itself, asked_cases, apart_asked, only_element}
 use Rattle.kc_load.proofs.ListLemmas.{reversed_in, reversed_out}
 use Rattle.kc_load.proofs.Ongoing.{AreMet, IsMet, Ongoing}
@@ -95,7 +97,7 @@ module _ (told : Told) (dir first : List ℕ) (s : State) (h : Ongoing told dir 
         }
 
     -- the file of the name is read
-    module _ (within : s.lines ≤ line_limit) (n middle : State) (bytes : List ℕ) (answer : AnswersAs told (path_of dir name) (Some bytes)) (asks : Asks name (record s { waiting = rest }) middle) (takes : Takes name bytes middle n) where
+    module _ (within : s.lines ≤ most_lines) (n middle : State) (bytes : List ℕ) (answer : AnswersAs told (path_of dir name) (Some bytes)) (asks : Asks name (record s { waiting = rest }) middle) (takes : Takes name bytes middle n) where
       abbrev read_now : List File
       read_now = (name, bytes) ∷ h.read
 
@@ -136,7 +138,7 @@ module _ (told : Told) (dir first : List ℕ) (s : State) (h : Ongoing told dir 
         ];
       }
 
-      total_now : n.lines ≡ min (line_total read_now) most
+      total_now : n.lines ≡ min (line_total read_now) last_count
       total_now =
           let t = h.total in
           let m = asks.lines_are in
@@ -183,7 +185,7 @@ module _ (told : Told) (dir first : List ℕ) (s : State) (h : Ongoing told dir 
       }
 
   -- the turn of the name
-  pub turn : s.lines ≤ line_limit → (n : State) → Visits told dir name (record s { waiting = rest }) n → Ongoing told dir first n
+  pub turn : s.lines ≤ most_lines → (n : State) → Visits told dir name (record s { waiting = rest }) n → Ongoing told dir first n
   turn within n (no_text not_text same) = subst (Ongoing told dir first) (sym same) (left_out (λ text. absurd (not_text text)))
   turn within n (known a same) = subst (Ongoing told dir first) (sym same) (left_out (λ text. a))
   turn within n (no_file due answer asks) = missing (record { utf8 = due.utf8; is_new = due.is_new }) n answer asks

@@ -5,8 +5,11 @@ use Rattle.std.proofs.lemmas.List.{reverse-append, reverse-reverse}
 use Rattle.std.proofs.lemmas.List.Elements.{Contains-append_right, Contains-append_cases}
 use Rattle.kc_expr.specs.Names.{mention}
 use Rattle.kc_load.specs.Folders.{Told, AnswersAs, path_of}
-use Rattle.kc_load.specs.Loaded.{AreSources, line_limit, lines_of}
-use Rattle.kc_load.specs.Steps.{State, Visits, no_text, known, no_file, file, begun, most, was_asked}
+use Rattle.kc_read.specs.Limits.{most_lines}
+use Rattle.kc_read.specs.Expansion.{lines_of}
+use Rattle.kc_load.specs.Loaded.{AreSources}
+use Rattle.kc_text.specs.Limits.{last_count}
+use Rattle.kc_load.specs.Steps.{State, Visits, no_text, known, no_file, file, begun, was_asked}
 use Rattle.kc_load.proofs.HeldLemmas.{asked_still, asked_itself, only_element}
 
 -- the name was asked for, if it is text
@@ -17,10 +20,10 @@ IsMetIn asked name = IsUtf8 name → was_asked asked name ≡ true
 -- names were asked for and these lines counted, and whether the walk was stopped, over the limit.
 pub data Walks (told : Told) (dir : List ℕ) : List (List ℕ) → ℕ → List (List ℕ) → List (List ℕ) → ℕ → Bool → Type 0 where
   ended : (v : List (List ℕ)) (n : ℕ) → Walks told dir v n [] v n false
-  stopped : (v xs : List (List ℕ)) (n : ℕ) → line_limit < n → Walks told dir v n xs v n true
+  stopped : (v xs : List (List ℕ)) (n : ℕ) → most_lines < n → Walks told dir v n xs v n true
   passed : (v xs w : List (List ℕ)) (x : List ℕ) (n m : ℕ) (b : Bool) → IsMetIn v x → Walks told dir v n xs w m b → Walks told dir v n (x ∷ xs) w m b
   missing : (v xs w : List (List ℕ)) (x : List ℕ) (n m : ℕ) (b : Bool) → was_asked v x ≡ false → AnswersAs told (path_of dir x) None → Walks told dir (mention v x) n xs w m b → Walks told dir v n (x ∷ xs) w m b
-  taken : (v xs w names : List (List ℕ)) (x bytes : List ℕ) (n m : ℕ) (b : Bool) → was_asked v x ≡ false → AnswersAs told (path_of dir x) (Some bytes) → AreSources bytes names → Walks told dir (mention v x) (min (n + lines_of bytes) most) (names ++ xs) w m b → Walks told dir v n (x ∷ xs) w m b
+  taken : (v xs w names : List (List ℕ)) (x bytes : List ℕ) (n m : ℕ) (b : Bool) → was_asked v x ≡ false → AnswersAs told (path_of dir x) (Some bytes) → AreSources bytes names → Walks told dir (mention v x) (min (n + lines_of bytes) last_count) (names ++ xs) w m b → Walks told dir v n (x ∷ xs) w m b
 
 pub no_name : (y : List ℕ) → Contains {X = List ℕ} [] y → ⊥
 no_name y h = let lt = h.1 in absurd (omega arith)
@@ -59,7 +62,7 @@ meets (taken v xs w names x bytes n m b new some are d) e y h = elim (first_or_l
 ]
 
 -- a walk within the limit asked for its first name
-pub first_met : {told : Told} {dir : List ℕ} {v xs w : List (List ℕ)} {x : List ℕ} {n m : ℕ} {b : Bool} → n ≤ line_limit → Walks told dir v n (x ∷ xs) w m b → IsMetIn w x
+pub first_met : {told : Told} {dir : List ℕ} {v xs w : List (List ℕ)} {x : List ℕ} {n m : ℕ} {b : Bool} → n ≤ most_lines → Walks told dir v n (x ∷ xs) w m b → IsMetIn w x
 first_met le (stopped v xs n lt) = absurd (omega arith)
 first_met le (passed v xs w x n m b met d) = λ t. grows d x (met t)
 first_met le (missing v xs w x n m b new none d) = λ t. grows d x (asked_itself v x new)
@@ -72,7 +75,7 @@ all_passed told dir v n (x ∷ xs) h =
     passed v xs v x n n false (h x (0, omega arith, refl)) (all_passed told dir v n xs (λ y c. h y (Contains-append_right (x ∷ []) xs y c)))
 
 -- without names nothing changes
-pub at_end : {told : Told} {dir : List ℕ} {v xs w : List (List ℕ)} {n m : ℕ} {b : Bool} → Walks told dir v n xs w m b → xs ≡ [] → n ≤ line_limit → (v ≡ w) × (m ≡ n) × (b ≡ false)
+pub at_end : {told : Told} {dir : List ℕ} {v xs w : List (List ℕ)} {n m : ℕ} {b : Bool} → Walks told dir v n xs w m b → xs ≡ [] → n ≤ most_lines → (v ≡ w) × (m ≡ n) × (b ≡ false)
 at_end (ended v n) e le = (refl, refl, refl)
 at_end (stopped v xs n lt) e le = absurd (omega arith)
 at_end (passed v xs w x n m b met d) e le = absurd cc
@@ -138,9 +141,9 @@ walk_goes_on told dir first s rest name last on n v w m b d =
     step (no_file due answer asks) =
         missing s.asked (reverse rest) w name s.lines m b due.is_new answer (moved told dir n.asked (mention s.asked name) (reverse n.waiting) (reverse rest) w n.lines s.lines m b asks.asked_are asks.lines_are (ap reverse asks.waiting_is) d)
     step (file middle bytes due answer asks takes) =
-        taken s.asked (reverse rest) w takes.names name bytes s.lines m b due.is_new answer takes.sources (moved told dir n.asked (mention s.asked name) (reverse n.waiting) (takes.names ++ reverse rest) w n.lines (min (s.lines + lines_of bytes) most) m b
+        taken s.asked (reverse rest) w takes.names name bytes s.lines m b due.is_new answer takes.sources (moved told dir n.asked (mention s.asked name) (reverse n.waiting) (takes.names ++ reverse rest) w n.lines (min (s.lines + lines_of bytes) last_count) m b
         (takes.asked_are ∙ asks.asked_are)
-        (takes.lines_are ∙ ap (λ k. min (k + lines_of bytes) most) asks.lines_are)
+        (takes.lines_are ∙ ap (λ k. min (k + lines_of bytes) last_count) asks.lines_are)
         (ap reverse (takes.waiting_is ∙ ap (λ l. l ++ reverse takes.names) asks.waiting_is) ∙ reverse-append rest (reverse takes.names) ∙ ap (λ l. l ++ reverse rest) (reverse-reverse takes.names))
         d)
 
@@ -154,5 +157,5 @@ pub ended_walk : (told : Told) (dir first : List ℕ) (s : State) → IsOnWay to
 ended_walk told dir first s on none = on s.asked s.lines false (subst (λ l. Walks told dir s.asked s.lines (reverse l) s.asked s.lines false) (sym none) (ended s.asked s.lines))
 
 -- over the limit it is stopped
-pub over_walk : (told : Told) (dir first : List ℕ) (s : State) → IsOnWay told dir first s → line_limit < s.lines → Walks told dir [] 0 (first ∷ []) s.asked s.lines true
+pub over_walk : (told : Told) (dir first : List ℕ) (s : State) → IsOnWay told dir first s → most_lines < s.lines → Walks told dir [] 0 (first ∷ []) s.asked s.lines true
 over_walk told dir first s on more = on s.asked s.lines true (stopped s.asked (reverse s.waiting) s.lines more)

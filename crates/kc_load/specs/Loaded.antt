@@ -1,7 +1,9 @@
 -- Trusted: What loading gives: the files that a first one reaches.
 use Rattle.std.specs.Prelude.{◌≡◌, ℕ, ◌+◌, ◌≤◌, List, [], ◌∷◌, length, Some, None, Contains}
 use Rattle.std.specs.Str.{IsUtf8}
-use Rattle.kc_text.specs.Lines.{left, physical_lines}
+use Rattle.kc_text.specs.Lines.{left}
+use Rattle.kc_read.specs.Expansion.{lines_of}
+use Rattle.kc_read.specs.Limits.{most_lines}
 use Rattle.kc_read.specs.Files.{Files, bytes_in}
 use Rattle.kc_read.specs.Sources.{Names}
 use Rattle.kc_load.specs.Folders.{Told, AnswersAs, path_of}
@@ -24,12 +26,6 @@ abbrev pub EachOnce : List File → Type 0
 EachOnce [] = Unit {0}
 EachOnce (f ∷ fs) = (bytes_in fs f.0 ≡ None) × EachOnce fs
 
-abbrev pub line_limit : ℕ
-line_limit = 1000000
-
-abbrev pub lines_of : List ℕ → ℕ
-lines_of bytes = length (physical_lines bytes)
-
 -- the physical lines of all the files
 abbrev pub line_total : List File → ℕ
 line_total [] = 0
@@ -38,7 +34,7 @@ line_total (f ∷ fs) = lines_of f.1 + line_total fs
 -- after each file but the last one, which stands first, there were no more lines than the limit
 abbrev pub WithinBeforeLast : List File → Type 0
 WithinBeforeLast [] = Unit {0}
-WithinBeforeLast (f ∷ fs) = line_total fs ≤ line_limit
+WithinBeforeLast (f ∷ fs) = line_total fs ≤ most_lines
 
 -- What may have been read, the last file first: names that the first one reaches, each once, with the folder's bytes,
 -- until the lines are over the limit.
@@ -62,4 +58,4 @@ pub record Loads (told : Told) (dir first : List ℕ) (files : Files) : Type 0 w
   pub read : List File
   pub held : (name : List ℕ) → files name ≡ bytes_in read name
   pub are_read : AreRead told dir first read
-  pub are_all : line_total read ≤ line_limit → AreAll told dir first read
+  pub are_all : line_total read ≤ most_lines → AreAll told dir first read

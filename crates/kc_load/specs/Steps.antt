@@ -2,10 +2,12 @@
 use Rattle.std.specs.Prelude.{◌≡◌, ◌+◌, ◌-◌, ◌^◌, ℕ, List, [], ◌∷◌, ◌++◌, map, reverse, min, Bool, true, false, None, Some}
 use Rattle.std.specs.List.{list_any}
 use Rattle.std.specs.Str.{IsUtf8}
+use Rattle.kc_text.specs.Limits.{last_count}
 use Rattle.kc_expr.specs.Names.{same_name, mention}
 use Rattle.kc_read.specs.Files.{Files, Puts, bytes_in}
 use Rattle.kc_load.specs.Folders.{Told, AnswersAs, path_of}
-use Rattle.kc_load.specs.Loaded.{AreSources, lines_of}
+use Rattle.kc_read.specs.Expansion.{lines_of}
+use Rattle.kc_load.specs.Loaded.{AreSources}
 use Rattle.kc_load.specs.declared.fault.LoadFault.{LoadFault}
 use Rattle.kc_load.specs.declared.fault.LoadFault.TheVariants.{CannotRead, Memory}
 use Rattle.kc_load.specs.declared.loading.Loading.{Loading}
@@ -26,10 +28,6 @@ begun first = record { files = bytes_in []; asked = []; waiting = first ∷ []; 
 abbrev pub was_asked : List (List ℕ) → List ℕ → Bool
 was_asked asked name = list_any (same_name name) asked
 
--- the greatest count of lines
-abbrev pub most : ℕ
-most = 2 ^ 64 - 1
-
 -- the names that the file sources wait, the first one last
 pub record Lists (file : List ℕ) (old new : State) : Type 0 where
   pub names : List (List ℕ)
@@ -46,7 +44,7 @@ pub record Takes (name bytes : List ℕ) (old new : State) : Type 0 where
   pub waiting_is : new.waiting ≡ old.waiting ++ reverse names
   pub puts : Puts old.files new.files name bytes
   pub asked_are : new.asked ≡ old.asked
-  pub lines_are : new.lines ≡ min (old.lines + lines_of bytes) most
+  pub lines_are : new.lines ≡ min (old.lines + lines_of bytes) last_count
 
 -- all stays but the names that were asked for
 pub record Asks (name : List ℕ) (old new : State) : Type 0 where
@@ -67,7 +65,7 @@ pub data Visits (told : Told) (dir name : List ℕ) (old new : State) : Type 0 w
   no_file : IsDue old name → AnswersAs told (path_of dir name) None → Asks name old new → Visits told dir name old new
   file : (middle : State) (bytes : List ℕ) → IsDue old name → AnswersAs told (path_of dir name) (Some bytes) → Asks name old middle → Takes name bytes middle new → Visits told dir name old new
 
--- the device fails at a name that is due
-abbrev pub FailsAt : State → List ℕ → LoadFault → Type 0
-FailsAt s name (CannotRead n) = (n.items ≡ name) × IsDue s name
-FailsAt s name Memory = Unit {0}
+-- the device fails at a name that is due, and may fail at its path
+abbrev pub FailsAt : (List ℕ → Bool) → List ℕ → State → List ℕ → LoadFault → Type 0
+FailsAt failing dir s name (CannotRead n) = (n.items ≡ name) × IsDue s name × (failing (path_of dir name) ≡ true)
+FailsAt failing dir s name Memory = Unit {0}

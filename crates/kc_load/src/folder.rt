@@ -1,7 +1,7 @@
 //! A folder: files by their paths.
 
-ghost use Rattle.std.specs.Prelude.{◌≡◌, ℕ, IfOk, IfErr, OnOk, option_map};
-ghost use Rattle.kc_load.specs.Folders.{AnswersAs, Told, counted};
+ghost use Rattle.std.specs.Prelude.{◌≡◌, ℕ, List, Bool, IfOk, IfErr, OnOk, option_map};
+ghost use Rattle.kc_load.specs.Folders.{AnswersAs, FailsWhere, Told, counted};
 ghost use Rattle.kc_load.specs.declared.folder.FolderFault.TheVariants.{Memory};
 
 use std::alloc::AllocError;
@@ -27,13 +27,18 @@ impl From<AllocError> for FolderFault {
 pub trait Folder {
     /// The files by their paths, or nothing told, as of a folder on a disk.
     ghost files: { Self → Told };
+    /// The paths at which the device may fail: one that tells nothing, as a disk, may fail at any.
+    ghost failing: { Self → List ℕ → Bool };
+
     /// How often the device failed. At 2^64 - 1 it stays.
     ghost failures: { Self → ℕ };
 
-    /// The bytes of the file at this path, or None where there is no such file.
+    /// The bytes of the file at this path, or None where there is no such file. `Device` means that it failed at this path.
     fn read(&mut self, path: &str) -> Result<Option<Vec<u8>>, FolderFault>
         ensures answer { IfOk result (λ found. AnswersAs (files self.old) path.now (option_map (λ b. b.items) found)) }
+        ensures fault { IfErr result (FailsWhere (failing self.old) path.now) }
         ensures stays { files self.new ≡ files self.old }
+        ensures failing_stays { failing self.new ≡ failing self.old }
         ensures quiet { OnOk result (failures self.new ≡ failures self.old) }
         ensures counted { IfErr result (λ fault. failures self.new ≡ counted fault (failures self.old)) };
 }

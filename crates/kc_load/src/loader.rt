@@ -32,12 +32,13 @@ pub fn load<F: Folder>(
     ensures loaded { IfOk result (λ map. Loads (F.files folder.old) root.now kconfig.now (bytes_in map)) }
     // They are enough: over them the first file gives what it gives over all the folder's files.
     ensures enough { IfOk result (λ map. Suffices (F.files folder.old) root.now kconfig.now (bytes_in map)) }
-    // The folder's files stay.
+    // The folder's files stay, and the paths at which it may fail.
     ensures stays { F.files folder.new ≡ F.files folder.old }
+    ensures failing_stays { F.failing folder.new ≡ F.failing folder.old }
     // No failure is counted where all was read.
     ensures quiet { OnOk result (F.failures folder.new ≡ F.failures folder.old) }
-    // A file that could not be read is one whose turn it was.
-    ensures fault { IfErr result (IsLoadFault (F.files folder.old) root.now kconfig.now) }
+    // A file that could not be read is one whose turn it was, and at whose path the device may fail.
+    ensures fault { IfErr result (IsLoadFault (F.files folder.old) (F.failing folder.old) root.now kconfig.now) }
     // The device's failure is counted, being out of memory is not.
     ensures counted { IfErr result (λ fault. F.failures folder.new ≡ counted_load fault (F.failures folder.old)) }
 {

@@ -1,10 +1,12 @@
 //! The loading of files, name by name.
 
 ghost use Rattle.std.specs.Prelude.{◌≡◌, ◌+◌, IfOk, IfErr, OnOk, min, nat_lt, option_map};
-ghost use Rattle.kc_load.specs.Folders.{AnswersAs, counted, path_of};
+ghost use Rattle.kc_load.specs.Folders.{AnswersAs, FailsWhere, counted, path_of};
 ghost use Rattle.kc_load.specs.Faults.{counted_load};
-ghost use Rattle.kc_load.specs.Loaded.{line_limit, lines_of};
-ghost use Rattle.kc_load.specs.Steps.{FailsAt, Lists, Takes, Visits, begun, most, state_of, was_asked};
+ghost use Rattle.kc_read.specs.Limits.{most_lines};
+ghost use Rattle.kc_read.specs.Expansion.{lines_of};
+ghost use Rattle.kc_text.specs.Limits.{last_count};
+ghost use Rattle.kc_load.specs.Steps.{FailsAt, Lists, Takes, Visits, begun, state_of, was_asked};
 
 use crate::fault::LoadFault;
 use crate::folder::{Folder, FolderFault};
@@ -40,7 +42,9 @@ fn read_named<F: Folder>(
     name: &str,
 ) -> Result<Option<Vec<u8>>, FolderFault>
     ensures answer { IfOk result (λ found. AnswersAs (F.files folder.old) (path_of root.now name.now) (option_map (λ b. b.items) found)) }
+    ensures fault { IfErr result (FailsWhere (F.failing folder.old) (path_of root.now name.now)) }
     ensures stays { F.files folder.new ≡ F.files folder.old }
+    ensures failing_stays { F.failing folder.new ≡ F.failing folder.old }
     ensures quiet { OnOk result (F.failures folder.new ≡ F.failures folder.old) }
     ensures counted { IfErr result (λ fault. F.failures folder.new ≡ counted fault (F.failures folder.old)) }
 {
@@ -66,7 +70,7 @@ impl Loading {
 
     // Whether there are more lines than the limit.
     pub(crate) fn is_over(&self) -> bool
-        ensures { result ≡ nat_lt line_limit self.now.lines }
+        ensures { result ≡ nat_lt most_lines self.now.lines }
     {
         self.lines > LINE_LIMIT
     }
@@ -80,7 +84,7 @@ impl Loading {
 
     // The lines with those of one file more, or the greatest number.
     fn lines_with(&self, file: &[u8]) -> usize
-        ensures { result ≡ min (self.now.lines + lines_of file.now) most }
+        ensures { result ≡ min (self.now.lines + lines_of file.now) last_count }
     {
         self.lines.saturating_add(line_count(file))
     }
@@ -114,8 +118,9 @@ impl Loading {
         name: Vec<u8>,
     ) -> Result<(), LoadFault>
         ensures ok { OnOk result (Visits (F.files folder.old) root.now name.items (state_of self.old) (state_of self.new)) }
-        ensures err { IfErr result (FailsAt (state_of self.old) name.items) }
+        ensures err { IfErr result (FailsAt (F.failing folder.old) root.now (state_of self.old) name.items) }
         ensures stays { F.files folder.new ≡ F.files folder.old }
+        ensures failing_stays { F.failing folder.new ≡ F.failing folder.old }
         ensures quiet { OnOk result (F.failures folder.new ≡ F.failures folder.old) }
         ensures counted { IfErr result (λ fault. F.failures folder.new ≡ counted_load fault (F.failures folder.old)) }
     {

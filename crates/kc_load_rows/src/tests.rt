@@ -1,5 +1,5 @@
 //! Worked rows of loading, over a folder in memory.
-ghost use Rattle.std.specs.Prelude.{◌≡◌, Some, IfOk, option_map};
+ghost use Rattle.std.specs.Prelude.{◌≡◌, Some, IfOk, bytes_eq, option_map};
 ghost use Rattle.kc_read.specs.Files.{bytes_in};
 
 use kc_load::*;
@@ -20,6 +20,8 @@ struct Shelf<'a> {
 
 impl<'a> Folder for Shelf<'a> {
     ghost files = { λ s. Some (bytes_in s.files) };
+
+    ghost failing = { λ s path. bytes_eq path s.failing.now };
 
     ghost failures = { λ s. s.failures };
 

@@ -162,7 +162,7 @@ impl Slot {
     }
 }
 
-/// The four outputs over memory (our own).
+/// The five outputs over memory (our own).
 #[derive(Drop)]
 pub struct MemoryOutputs {
     /// The full `.config`.
@@ -171,6 +171,8 @@ pub struct MemoryOutputs {
     pub header: Slot,
     /// The minimal file.
     pub minimal: Slot,
+    /// The rule for make.
+    pub depfile: Slot,
     /// The diagnostics.
     pub notes: Slot,
 }
@@ -178,7 +180,7 @@ pub struct MemoryOutputs {
 impl MemoryOutputs {
     ghost use Rattle.kc_memory.specs.Slot.{AreNew, place_of, places_of};
 
-    /// Four outputs with nothing in them, each with room for so many bytes. `AllocError` where there is no memory.
+    /// Five outputs with nothing in them, each with room for so many bytes. `AllocError` where there is no memory.
     pub fn new(alloc: Global, room: usize) -> Result<MemoryOutputs, AllocError>
         ensures { IfOk result (AreNew room) }
     {
@@ -186,6 +188,7 @@ impl MemoryOutputs {
             config: Slot::new(alloc, room)?,
             header: Slot::new(alloc, room)?,
             minimal: Slot::new(alloc, room)?,
+            depfile: Slot::new(alloc, room)?,
             notes: Slot::new(alloc, room)?,
         })
     }
@@ -198,6 +201,7 @@ impl MemoryOutputs {
             Which::Config => &self.config,
             Which::Header => &self.header,
             Which::Minimal => &self.minimal,
+            Which::Depfile => &self.depfile,
             Which::Notes => &self.notes,
         }
     }
@@ -213,6 +217,7 @@ impl Outputs for MemoryOutputs {
             Which::Config => self.config.begin(),
             Which::Header => self.header.begin(),
             Which::Minimal => self.minimal.begin(),
+            Which::Depfile => self.depfile.begin(),
             Which::Notes => self.notes.begin(),
         }
     }
@@ -222,6 +227,7 @@ impl Outputs for MemoryOutputs {
             Which::Config => self.config.write(bytes),
             Which::Header => self.header.write(bytes),
             Which::Minimal => self.minimal.write(bytes),
+            Which::Depfile => self.depfile.write(bytes),
             Which::Notes => self.notes.write(bytes),
         }
     }
@@ -231,6 +237,7 @@ impl Outputs for MemoryOutputs {
             Which::Config => self.config.end(),
             Which::Header => self.header.end(),
             Which::Minimal => self.minimal.end(),
+            Which::Depfile => self.depfile.end(),
             Which::Notes => self.notes.end(),
         }
     }

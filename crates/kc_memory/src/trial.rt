@@ -40,15 +40,25 @@ pub struct Asked<'a> {
     pub header: Option<&'a str>,
     /// The name of the minimal file, where it is wanted.
     pub minimal: Option<&'a str>,
+    /// The name of the rule for make, where it is wanted.
+    pub depfile: Option<&'a str>,
+    /// Whether a warning is refused.
+    pub strict: bool,
+    /// Whether a value that was given and is not the symbol's is warned of.
+    pub warn_lost: bool,
 }
 
-/// The root file `Kconfig`, the prefix `CONFIG_`, no fragment, and neither header nor minimal file.
+/// The root file `Kconfig`, the prefix `CONFIG_`, no fragment, neither header, minimal file nor rule for make, warnings pass, and lost
+/// values are not told.
 pub const PLAIN: Asked<'static> = Asked {
     root: "Kconfig",
     prefix: b"CONFIG_",
     fragments: &[],
     header: None,
     minimal: None,
+    depfile: None,
+    strict: false,
+    warn_lost: false,
 };
 
 fn copy_of(alloc: Global, name: Option<&str>) -> Result<Option<String>, AllocError> {
@@ -74,9 +84,13 @@ fn options(alloc: Global, asked: &Asked<'_>) -> Result<Options, Fail> {
         kconfig: String::from_str(alloc, asked.root)?,
         header: copy_of(alloc, asked.header)?,
         minimal: copy_of(alloc, asked.minimal)?,
+        depfile: copy_of(alloc, asked.depfile)?,
         fragments: names,
         prefix,
         must_exist: false,
+        strict: asked.strict,
+        warn_lost: asked.warn_lost,
+        replace: false,
     })
 }
 

@@ -47,13 +47,15 @@ module _ (n : ℕ) (needs : ℕ → List ℕ) (order : List ℕ) (is : IsOrderOf
   differ i j l b = eqb-false (get_or order i 0) (get_or order j 0) (apart_from_distinct eqb order i j 0 is.apart l b)
 
   -- an equation whose symbol stands up to i does not read the value at i
-  unread : {A : Type 0} (rhs : ℕ → (ℕ → A) → A) → ReadsNeeds needs rhs → (i j : ℕ) (V W : ℕ → A) (x : A) → i < length order → IsUpdate V W (get_or order i 0) x → j ≤ i → rhs (get_or order j 0) W ≡ rhs (get_or order j 0) V
+  unread : {A : Type 0} (rhs : ℕ → (ℕ → A) → A) → ReadsNeeds needs rhs → (i j : ℕ) (V W : ℕ → A) (x : A) → i < length order → IsUpdate V W (get_or order i 0) x → j ≤ i →
+      rhs (get_or order j 0) W ≡ rhs (get_or order j 0) V
   unread rhs reads i j V W x b u l =
       reads (get_or order j 0) W V (λ t c.
       let w = in_front order j t (omega arith) (is.needs_first j t (omega arith) c) in
       u.others t (λ e. differ w.0 i (omega (arith, w.1)) b (w.2 ∙ e)))
 
-  pub fill_one : {A : Type 0} (rhs : ℕ → (ℕ → A) → A) → ReadsNeeds needs rhs → (i : ℕ) (V W : ℕ → A) → IsFilled order rhs i V → i < length order → IsUpdate V W (get_or order i 0) (rhs (get_or order i 0) V) → IsFilled order rhs (i + 1) W
+  pub fill_one : {A : Type 0} (rhs : ℕ → (ℕ → A) → A) → ReadsNeeds needs rhs → (i : ℕ) (V W : ℕ → A) → IsFilled order rhs i V → i < length order →
+      IsUpdate V W (get_or order i 0) (rhs (get_or order i 0) V) → IsFilled order rhs (i + 1) W
   fill_one rhs reads i V W h b u j l c =
       elim (cases_lt j i) [
         | inl before ↦ u.others (get_or order j 0) (differ j i before b) ∙ h j before c ∙ sym (unread rhs reads i j V W _ b u (omega arith))
@@ -68,14 +70,16 @@ module _ (n : ℕ) (needs : ℕ → List ℕ) (order : List ℕ) (is : IsOrderOf
       subst (λ x. V x ≡ rhs x V) (get_or_default order c.0 0 s c.1 ∙ c.2) (h c.0 c.1 c.1)
 
   -- after each step of a filling the equations so far hold
-  filled_to : {A : Type 0} (rhs : ℕ → (ℕ → A) → A) → ReadsNeeds needs rhs → (filled : ℕ → ℕ → A) → ((i : ℕ) → i < length order → IsUpdate (filled i) (filled (i + 1)) (get_or order i 0) (rhs (get_or order i 0) (filled i))) → (i : ℕ) → i ≤ length order → IsFilled order rhs i (filled i)
+  filled_to : {A : Type 0} (rhs : ℕ → (ℕ → A) → A) → ReadsNeeds needs rhs → (filled : ℕ → ℕ → A) →
+      ((i : ℕ) → i < length order → IsUpdate (filled i) (filled (i + 1)) (get_or order i 0) (rhs (get_or order i 0) (filled i))) → (i : ℕ) → i ≤ length order → IsFilled order rhs i (filled i)
   filled_to rhs reads filled steps zero l = λ j up. absurd (omega arith)
   filled_to rhs reads filled steps (suc i) l =
       let e : i + 1 ≡ suc i = omega arith in
       let step = fill_one rhs reads i (filled i) (filled (i + 1)) (filled_to rhs reads filled steps i (omega arith)) (omega arith) (steps i (omega arith)) in
       subst (λ k. IsFilled order rhs k (filled k)) e step
 
-  pub filled_solves : {A : Type 0} (rhs : ℕ → (ℕ → A) → A) → ReadsNeeds needs rhs → (filled : ℕ → ℕ → A) → ((i : ℕ) → i < length order → IsUpdate (filled i) (filled (i + 1)) (get_or order i 0) (rhs (get_or order i 0) (filled i))) → Solves n rhs (filled (length order))
+  pub filled_solves : {A : Type 0} (rhs : ℕ → (ℕ → A) → A) → ReadsNeeds needs rhs → (filled : ℕ → ℕ → A) →
+      ((i : ℕ) → i < length order → IsUpdate (filled i) (filled (i + 1)) (get_or order i 0) (rhs (get_or order i 0) (filled i))) → Solves n rhs (filled (length order))
   filled_solves rhs reads filled steps =
       all_filled rhs (filled (length order)) (λ j up. filled_to rhs reads filled steps (length order) (omega arith) j up)
 
@@ -85,7 +89,9 @@ symbol_below n needs order is i l = is.all_below (get_or order i 0) (Contains-ge
 
 -- what was computed once from the needs of a symbol that stands before i stays right when the value of the i-th symbol is written:
 -- for a selection that all members of a choice share, kept from the first member's turn on
-pub stays_right : {A B : Type 0} (n : ℕ) (needs : ℕ → List ℕ) (order : List ℕ) → IsOrderOf n needs order → (read : (ℕ → A) → B) (i j : ℕ) → ((V W : ℕ → A) → ((t : ℕ) → Contains (needs (get_or order j 0)) t → V t ≡ W t) → read V ≡ read W) → (V W : ℕ → A) (x : A) → j ≤ i → i < length order → IsUpdate V W (get_or order i 0) x → read W ≡ read V
+pub stays_right : {A B : Type 0} (n : ℕ) (needs : ℕ → List ℕ) (order : List ℕ) → IsOrderOf n needs order → (read : (ℕ → A) → B) (i j : ℕ) →
+    ((V W : ℕ → A) → ((t : ℕ) → Contains (needs (get_or order j 0)) t → V t ≡ W t) → read V ≡ read W) → (V W : ℕ → A) (x : A) → j ≤ i → i < length order →
+    IsUpdate V W (get_or order i 0) x → read W ≡ read V
 stays_right n needs order is read i j reads V W x l b u =
     reads W V (λ t c.
     let w = in_front order j t (omega arith) (is.needs_first j t (omega arith) c) in

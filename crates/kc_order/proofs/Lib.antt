@@ -1,3 +1,4 @@
+pub mod OneList
 pub mod Held
 pub mod Unique
 pub mod OneSolution

@@ -6,7 +6,8 @@ use Rattle.kc_order.specs.Solution.{Solves, ReadsNeeds}
 use Rattle.kc_order.specs.Minimal.{under, kept, Restores, NothingCanGo, KeepsWhatDiffers}
 use Rattle.kc_order.proofs.Unique.{only}
 
-module _ {A Place G : Type 0} (n : ℕ) (needs : ℕ → List ℕ) (place : ℕ → Place) (rhs : ℕ → Option G → (ℕ → A) → A) (below : NeedsBelow n needs) (reads : (given : Place → Option G) → ReadsNeeds needs (under place rhs given)) (lines : Place → Option G) (V : ℕ → A) (keep : Place → Bool) where
+module _ {A Place G : Type 0} (n : ℕ) (needs : ℕ → List ℕ) (place : ℕ → Place) (rhs : ℕ → Option G → (ℕ → A) → A) (below : NeedsBelow n needs)
+    (reads : (given : Place → Option G) → ReadsNeeds needs (under place rhs given)) (lines : Place → Option G) (V : ℕ → A) (keep : Place → Bool) where
   pub solves_kept : KeepsWhatDiffers n place rhs lines V keep → Solves n (under place rhs (kept keep lines)) V
   solves_kept m s l =
       elim (cases_Bool (keep (place s))) [

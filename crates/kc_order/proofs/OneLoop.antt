@@ -27,7 +27,8 @@ first_is_one n needs t u a b =
     ]
 
 -- two walks go the same way as far as both go
-same_steps : (n : ℕ) (needs : ℕ → List ℕ) (walk other : List ℕ) → IsStuckWalk n needs walk → IsStuckWalk n needs other → (k : ℕ) → k < length walk → k < length other → get_or walk k 0 ≡ get_or other k 0
+same_steps : (n : ℕ) (needs : ℕ → List ℕ) (walk other : List ℕ) → IsStuckWalk n needs walk → IsStuckWalk n needs other → (k : ℕ) → k < length walk → k < length other →
+    get_or walk k 0 ≡ get_or other k 0
 same_steps n needs walk other a b zero l m = first_is_one n needs (get_or walk 0 0) (get_or other 0 0) a.begins b.begins
 same_steps n needs walk other a b (suc k) l m =
     let e : k + 1 ≡ suc k = omega arith in

@@ -1,6 +1,5 @@
 -- One round over all symbols, one equation after another.
 use Rattle.std.proofs.Common.{◌≡◌, ℕ, ◌<◌, ◌+◌, false, List, zero, suc, sym, ◌∙◌, ap, inl, inr, arith, ◌≤◌, subst}
-use Rattle.std.specs.List.{Contains}
 use Rattle.std.proofs.lemmas.Bool.{true≢false, cases_Bool, both_ways, cases_eq}
 use Rattle.kc_order.specs.Needs.{NeedsBelow, stuck_after, NothingStuck}
 use Rattle.kc_order.specs.Solution.{Solves, ReadsNeeds, IsUpdate, IsRound}
@@ -14,11 +13,6 @@ stays_free needs k s e =
       | inl t ↦ absurd (both_ways (stuck_after needs k s) e (was_stuck needs k s t))
       | inr f ↦ f
     ]
-
--- what a symbol needs that is not stuck is not stuck
-pub needs_free : (needs : ℕ → List ℕ) (k s t : ℕ) → stuck_after needs k s ≡ false → Contains (needs s) t → stuck_after needs k t ≡ false
-needs_free needs zero s t e i = absurd (true≢false e)
-needs_free needs (suc k) s t e i = stays_free needs k t (fails_each (stuck_after needs k) (needs s) t e i)
 
 -- the equations of the symbols that are not stuck after k rounds hold
 abbrev pub SolvesUnstuck : {A : Type 0} → ℕ → (ℕ → List ℕ) → (ℕ → (ℕ → A) → A) → ℕ → (ℕ → A) → Type 0

@@ -11,7 +11,8 @@ values_after a rhs zero s = a
 values_after a rhs (suc k) s = rhs s (values_after a rhs k)
 
 -- what is not stuck after k rounds keeps its value
-keeps_value : {A : Type 0} (a : A) (n : ℕ) (needs : ℕ → List ℕ) (rhs : ℕ → (ℕ → A) → A) → NeedsBelow n needs → ReadsNeeds needs rhs → (k s : ℕ) → s < n → stuck_after needs k s ≡ false → values_after a rhs (suc k) s ≡ values_after a rhs k s
+keeps_value : {A : Type 0} (a : A) (n : ℕ) (needs : ℕ → List ℕ) (rhs : ℕ → (ℕ → A) → A) → NeedsBelow n needs → ReadsNeeds needs rhs → (k s : ℕ) → s < n →
+    stuck_after needs k s ≡ false → values_after a rhs (suc k) s ≡ values_after a rhs k s
 unfolding values_after
 keeps_value a n needs rhs below reads zero s l e = absurd (true≢false e)
 keeps_value a n needs rhs below reads (suc k) s l e =

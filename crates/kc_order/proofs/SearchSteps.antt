@@ -11,13 +11,13 @@ use Rattle.std.proofs.lemmas.List.Folds.{list_any_none, list_any_at, Any-from_li
 use Rattle.std.proofs.lemmas.Map.Keys.{IsDistinct-push, apart_from_distinct, IsDistinct-from_apart}
 use Rattle.kc_order.specs.declared.search.Mark.{Mark}
 use Rattle.kc_order.specs.declared.search.Mark.TheVariants.{New, Open, Done, Stuck}
-use Rattle.std.proofs.Common.{Vec, All, vec_len, map, sum, sum_by}
+use Rattle.std.proofs.Common.{All, map, sum, sum_by}
 use Rattle.std.proofs.lemmas.List.{length-set, length-map, get_or-map}
 use Rattle.std.proofs.lemmas.List.Sums.{sum_by-set}
-use Rattle.std.specs.Global.{Global}
 use Rattle.kc_order.specs.Needs.{NeedsBelow, stuck_after}
 use Rattle.kc_order.specs.Loop.{IsFirstStuck}
-use Rattle.kc_order.specs.Rows.{in_row, needs_of, RowsBelow, AreMarks}
+use Rattle.kc_order.specs.Rows.{in_row}
+use Rattle.kc_order.specs.RowLists.{needs_of, RowsBelow, AreMarks}
 use Rattle.kc_order.specs.Order.{IsOrderOf}
 use Rattle.kc_order.specs.declared.search.Search.{Search}
 use Rattle.kc_order.specs.Search.{IsSearch, IsSound, IsOver, Opens, Closes, GivesUp, KeepsMet, weight, work, mark_of, is_stuck}
@@ -82,7 +82,8 @@ abbrev pub PassesOne : ℕ → (ℕ → List ℕ) → (ℕ → ℕ) → (ℕ →
 PassesOne n needs left left' s j = (t : ℕ) → t < n → ((needs t ≡ needs s) × (left' t ≡ j)) ⊎ (left' t ≡ left t)
 
 module _ (n : ℕ) (needs : ℕ → List ℕ) where
-  pub opened : (mark mark' : ℕ → Mark) (left : ℕ → ℕ) (path order : List ℕ) (s : ℕ) → IsSearch n needs mark left path order → s < n → mark s ≡ New → ((k : ℕ) → k + 1 ≡ length path → Contains (needs (slice_index path k)) s) → IsUpdate mark mark' s Open → IsSearch n needs mark' left (path ++ s ∷ []) order
+  pub opened : (mark mark' : ℕ → Mark) (left : ℕ → ℕ) (path order : List ℕ) (s : ℕ) → IsSearch n needs mark left path order → s < n → mark s ≡ New →
+      ((k : ℕ) → k + 1 ≡ length path → Contains (needs (slice_index path k)) s) → IsUpdate mark mark' s Open → IsSearch n needs mark' left (path ++ s ∷ []) order
   opened mark mark' left path order s h l new needed u =
       let others : (t : ℕ) → mark t ≢ New → mark' t ≡ mark t = λ t ne. u.others t (λ e. ne (ap mark e ∙ new)) in
       record {
@@ -100,7 +101,8 @@ module _ (n : ℕ) (needs : ℕ → List ℕ) where
         path_goes = λ k b.
             elim (cases_lt (k + 1) (length path)) [
               | inl before ↦ goes_at needs (path ++ s ∷ []) k _ _ (get_or_append_left path (s ∷ []) 0 k (omega arith)) (get_or_append_left path (s ∷ []) 0 (k + 1) before) (h.path_goes k before)
-              | inr last ↦ goes_at needs (path ++ s ∷ []) k _ _ (get_or_append_left path (s ∷ []) 0 k (omega (arith, length_push path s))) (get_or_push path s 0 (k + 1) (omega (arith, length_push path s))) (needed k (omega (arith, length_push path s)))
+              | inr last ↦ goes_at needs (path ++ s ∷ []) k _ _ (get_or_append_left path (s ∷ []) 0 k (omega (arith, length_push path s)))
+                  (get_or_push path s 0 (k + 1) (omega (arith, length_push path s))) (needed k (omega (arith, length_push path s)))
             ];
         order_is = λ t c. let d = h.order_is t c in (d.0, others t (done≢new (mark t) d.1) ∙ d.1);
         done_is = λ t b e.
@@ -138,7 +140,8 @@ module _ (n : ℕ) (needs : ℕ → List ℕ) where
         | inr free ↦ free
       ]
 
-  pub closed : NeedsBelow n needs → (mark mark' : ℕ → Mark) (left : ℕ → ℕ) (path order : List ℕ) (s : ℕ) → IsSearch n needs mark left (path ++ s ∷ []) order → left s ≡ 0 → IsUpdate mark mark' s Done → IsSearch n needs mark' left path (order ++ s ∷ [])
+  pub closed : NeedsBelow n needs → (mark mark' : ℕ → Mark) (left : ℕ → ℕ) (path order : List ℕ) (s : ℕ) → IsSearch n needs mark left (path ++ s ∷ []) order → left s ≡ 0 →
+      IsUpdate mark mark' s Done → IsSearch n needs mark' left path (order ++ s ∷ [])
   closed below mark mark' left path order s h none u =
       let there = h.path_is s (Contains-push path s) in
       let done_stays : (t : ℕ) → mark t ≡ Done → mark' t ≡ Done = λ t d. u.others t (λ e. open≢done (mark s) there.1 (sym (ap mark e) ∙ d)) ∙ d in
@@ -194,7 +197,8 @@ module _ (n : ℕ) (needs : ℕ → List ℕ) where
         passed = λ t v b c. done_stays v (h.passed t v b c);
       }
 
-  pub given_up : (mark mark' : ℕ → Mark) (left : ℕ → ℕ) (path order : List ℕ) (s : ℕ) → IsSearch n needs mark left (path ++ s ∷ []) order → ((k : ℕ) → stuck_after needs k s ≡ true) → IsUpdate mark mark' s Stuck → IsSearch n needs mark' left path order
+  pub given_up : (mark mark' : ℕ → Mark) (left : ℕ → ℕ) (path order : List ℕ) (s : ℕ) → IsSearch n needs mark left (path ++ s ∷ []) order → ((k : ℕ) → stuck_after needs k s ≡ true) →
+      IsUpdate mark mark' s Stuck → IsSearch n needs mark' left path order
   given_up mark mark' left path order s h stuck u =
       let there = h.path_is s (Contains-push path s) in
       let done_stays : (t : ℕ) → mark t ≡ Done → mark' t ≡ Done = λ t d. u.others t (λ e. open≢done (mark s) there.1 (sym (ap mark e) ∙ d)) ∙ d in
@@ -236,7 +240,8 @@ module _ (n : ℕ) (needs : ℕ → List ℕ) where
         passed = λ t v b c. done_stays v (h.passed t v b c);
       }
 
-  pub passed_one : (mark : ℕ → Mark) (left left' : ℕ → ℕ) (path order : List ℕ) (s j : ℕ) → IsSearch n needs mark left path order → s < n → left s ≡ j + 1 → mark (get_or (needs s) j 0) ≡ Done → PassesOne n needs left left' s j → IsSearch n needs mark left' path order
+  pub passed_one : (mark : ℕ → Mark) (left left' : ℕ → ℕ) (path order : List ℕ) (s j : ℕ) → IsSearch n needs mark left path order → s < n → left s ≡ j + 1 →
+      mark (get_or (needs s) j 0) ≡ Done → PassesOne n needs left left' s j → IsSearch n needs mark left' path order
   passed_one mark left left' path order s j h l e done u = record {
     path_is = h.path_is;
     open_is = h.open_is;
@@ -274,18 +279,24 @@ module _ (n : ℕ) (needs : ℕ → List ℕ) where
       list_any_at (stuck_after needs k) (needs s) g.1.0 g.0 g.1.1 (rw g.1.2 (ring_stuck ring goes k g.0 g.2))
 
   -- the last open symbol is stuck where it needs an open one
-  pub found : (mark : ℕ → Mark) (left : ℕ → ℕ) (path order : List ℕ) (s t : ℕ) → IsSearch n needs mark left (path ++ s ∷ []) order → Contains (needs s) t → t < n → mark t ≡ Open → (k : ℕ) → stuck_after needs k s ≡ true
+  pub found : (mark : ℕ → Mark) (left : ℕ → ℕ) (path order : List ℕ) (s t : ℕ) → IsSearch n needs mark left (path ++ s ∷ []) order → Contains (needs s) t → t < n → mark t ≡ Open →
+      (k : ℕ) → stuck_after needs k s ≡ true
   found mark left path order s t h c b e =
       let ring = path ++ s ∷ [] in
       let goes : (r : ℕ) → Contains (path ++ s ∷ []) r → (v : ℕ) × Contains (needs r) v × Contains (path ++ s ∷ []) v = λ r d.
       elim (cases_lt (d.0 + 1) (length (path ++ s ∷ []))) [
-        | inl before ↦ (get_or ring (d.0 + 1) 0, subst (λ x. Contains (needs x) (get_or ring (d.0 + 1) 0)) (get_or_default ring d.0 0 r d.1 ∙ d.2) (h.path_goes d.0 before), Contains-get_or ring (d.0 + 1) 0 before)
+        | inl before ↦ (
+          get_or ring (d.0 + 1) 0,
+          subst (λ x. Contains (needs x) (get_or ring (d.0 + 1) 0)) (get_or_default ring d.0 0 r d.1 ∙ d.2) (h.path_goes d.0 before),
+          Contains-get_or ring (d.0 + 1) 0 before,
+        )
         | inr last ↦ (t, subst (λ x. Contains (needs x) t) (sym (get_or_push path s r d.0 (omega (arith, length_push path s))) ∙ d.2) c, h.open_is t b e)
       ] in
       λ k. ring_stuck (path ++ s ∷ []) goes k s (Contains-push path s)
 
   -- and where it needs one that is given up
-  pub needs_stuck : (mark : ℕ → Mark) (left : ℕ → ℕ) (path order : List ℕ) (s t : ℕ) → IsSearch n needs mark left path order → Contains (needs s) t → t < n → mark t ≡ Stuck → (k : ℕ) → stuck_after needs k s ≡ true
+  pub needs_stuck : (mark : ℕ → Mark) (left : ℕ → ℕ) (path order : List ℕ) (s t : ℕ) → IsSearch n needs mark left path order → Contains (needs s) t → t < n → mark t ≡ Stuck → (k : ℕ) →
+      stuck_after needs k s ≡ true
   needs_stuck mark left path order s t h c b e zero = refl
   needs_stuck mark left path order s t h c b e (suc k) = list_any_at (stuck_after needs k) (needs s) c.0 t c.1 (ap (stuck_after needs k) c.2 ∙ h.stuck_is t k b e)
 
@@ -332,7 +343,7 @@ is_given_up Done e = cc
 is_given_up Stuck e = refl
 
 -- after the last step
-module _ (rows : List (Vec ℕ Global)) (row_of : List ℕ) (search : Search) (over : IsOver rows row_of search) where
+module _ (rows : List (List ℕ)) (row_of : List ℕ) (search : Search) (over : IsOver rows row_of search) where
   -- a symbol is marked as stuck exactly where it is
   pub stuck_iff : (s : ℕ) → s < length row_of → is_stuck (get_or search.marks.items s New) ≡ stuck_after (needs_of rows row_of) (length row_of) s
   stuck_iff s b =
@@ -349,7 +360,8 @@ module _ (rows : List (Vec ℕ Global)) (row_of : List ℕ) (search : Search) (o
     each = λ s b. get_or-map is_stuck search.marks.items s New false (omega (arith, b, over.sound.marks_len)) ∙ stuck_iff s b;
   }
 
-  pub first_is : (i : ℕ) → i < length search.marks.items → is_stuck (get_or search.marks.items i New) ≡ true → ((k : ℕ) → k < i → is_stuck (get_or search.marks.items k New) ≡ false) → IsFirstStuck (length row_of) (needs_of rows row_of) i
+  pub first_is : (i : ℕ) → i < length search.marks.items → is_stuck (get_or search.marks.items i New) ≡ true → ((k : ℕ) → k < i → is_stuck (get_or search.marks.items k New) ≡ false) →
+      IsFirstStuck (length row_of) (needs_of rows row_of) i
   first_is i l given before = record {
     below = omega (arith, l, over.sound.marks_len);
     stuck = sym (stuck_iff i (omega (arith, l, over.sound.marks_len))) ∙ given;
@@ -369,13 +381,14 @@ module _ (rows : List (Vec ℕ Global)) (row_of : List ℕ) (search : Search) (o
       }
 
 -- the lengths of the rows are the numbers of needs
-pub counts_are : (rows : List (Vec ℕ Global)) (r : ℕ) → get_or (map (λ row. vec_len row) rows) r 0 ≡ length (in_row rows r)
+pub counts_are : (rows : List (List ℕ)) (r : ℕ) → get_or (map length rows) r 0 ≡ length (in_row rows r)
 counts_are [] r = refl
-counts_are (row ∷ rows) zero = omega (arith, row.ok.0)
+counts_are (row ∷ rows) zero = refl
 counts_are (row ∷ rows) (suc r) = counts_are rows r
 
 -- one need fewer is left in a row
-pub row_passes_one : (rows : List (Vec ℕ Global)) (row_of : List ℕ) (left : List ℕ) (s j : ℕ) → s < length row_of → get_or row_of s 0 < length left → PassesOne (length row_of) (needs_of rows row_of) (λ t. get_or left (get_or row_of t 0) 0) (λ t. get_or (set left (get_or row_of s 0) j) (get_or row_of t 0) 0) s j
+pub row_passes_one : (rows : List (List ℕ)) (row_of : List ℕ) (left : List ℕ) (s j : ℕ) → s < length row_of → get_or row_of s 0 < length left →
+    PassesOne (length row_of) (needs_of rows row_of) (λ t. get_or left (get_or row_of t 0) 0) (λ t. get_or (set left (get_or row_of s 0) j) (get_or row_of t 0) 0) s j
 row_passes_one rows row_of left s j b l t c =
     elim (cases_eq (get_or row_of t 0) (get_or row_of s 0)) [
       | inl same ↦ inl (
@@ -385,9 +398,10 @@ row_passes_one rows row_of left s j b l t c =
       | inr other ↦ inr (get_or-set_other left (get_or row_of s 0) (get_or row_of t 0) j 0 other)
     ]
 
-module _ (rows : List (Vec ℕ Global)) (row_of : List ℕ) (before after : Search) (s : ℕ) (sound : IsSound rows row_of before) where
+module _ (rows : List (List ℕ)) (row_of : List ℕ) (before after : Search) (s : ℕ) (sound : IsSound rows row_of before) where
   -- a new symbol that the last open one needs is opened
-  pub opens_sound : s < length row_of → get_or before.marks.items s New ≡ New → ((k : ℕ) → k + 1 ≡ length before.path.items → Contains (needs_of rows row_of (slice_index before.path.items k)) s) → Opens before after s → IsSound rows row_of after
+  pub opens_sound : s < length row_of → get_or before.marks.items s New ≡ New →
+      ((k : ℕ) → k + 1 ≡ length before.path.items → Contains (needs_of rows row_of (slice_index before.path.items k)) s) → Opens before after s → IsSound rows row_of after
   opens_sound below new needed o = record {
     marks_len = ap length o.marks ∙ length-set before.marks.items s Open ∙ sound.marks_len;
     left_len = ap length o.left ∙ sound.left_len;
@@ -415,7 +429,8 @@ module _ (rows : List (Vec ℕ Global)) (row_of : List ℕ) (before after : Sear
   -- the last open symbol, of which no need is left, is closed
   pub closes_sound : RowsBelow (length row_of) rows → s < length row_of → get_or before.left.items (get_or row_of s 0) 0 ≡ 0 → Closes before after s → IsSound rows row_of after
   closes_sound rows_below below none o =
-      let split = subst (λ p. IsSearch (length row_of) (needs_of rows row_of) (λ t. get_or before.marks.items t New) (λ t. get_or before.left.items (get_or row_of t 0) 0) p before.order.items) o.path sound.keeps in
+      let split = subst (λ p. IsSearch (length row_of) (needs_of rows row_of) (λ t. get_or before.marks.items t New)
+      (λ t. get_or before.left.items (get_or row_of t 0) 0) p before.order.items) o.path sound.keeps in
       record {
         marks_len = ap length o.marks ∙ length-set before.marks.items s Done ∙ sound.marks_len;
         left_len = ap length o.left ∙ sound.left_len;
@@ -429,19 +444,11 @@ module _ (rows : List (Vec ℕ Global)) (row_of : List ℕ) (before after : Sear
       let less = sum_by-set weight before.marks.items s Done New (omega (arith, sound.marks_len)) in
       omega (arith, less, was, ap (sum_by weight) o.marks, ap sum o.left)
 
-  pub closes_met : s < length row_of → Closes before after s → KeepsMet before after
-  closes_met below o t met new =
-      let u = list_set New before.marks.items s Done (omega (arith, sound.marks_len)) in
-      let is = sym (ap (λ xs. get_or xs t New) o.marks) ∙ new in
-      elim (cases_eq t s) [
-        | inl same ↦ done≢new (get_or (set before.marks.items s Done) s New) u.here (sym (ap (λ k. get_or (set before.marks.items s Done) k New) same) ∙ is)
-        | inr other ↦ met (sym (u.others t other) ∙ is)
-      ]
-
   -- the last open symbol, which is stuck, is given up
   pub gives_up_sound : s < length row_of → ((k : ℕ) → stuck_after (needs_of rows row_of) k s ≡ true) → GivesUp before after s → IsSound rows row_of after
   gives_up_sound below stuck o =
-      let split = subst (λ p. IsSearch (length row_of) (needs_of rows row_of) (λ t. get_or before.marks.items t New) (λ t. get_or before.left.items (get_or row_of t 0) 0) p before.order.items) o.path sound.keeps in
+      let split = subst (λ p. IsSearch (length row_of) (needs_of rows row_of) (λ t. get_or before.marks.items t New)
+      (λ t. get_or before.left.items (get_or row_of t 0) 0) p before.order.items) o.path sound.keeps in
       record {
         marks_len = ap length o.marks ∙ length-set before.marks.items s Stuck ∙ sound.marks_len;
         left_len = ap length o.left ∙ sound.left_len;
@@ -454,12 +461,3 @@ module _ (rows : List (Vec ℕ Global)) (row_of : List ℕ) (before after : Sear
       let was = ap weight (sound.keeps.path_is s (subst (λ p. Contains p s) (sym o.path) (Contains-push after.path.items s))).1 in
       let less = sum_by-set weight before.marks.items s Stuck New (omega (arith, sound.marks_len)) in
       omega (arith, less, was, ap (sum_by weight) o.marks, ap sum o.left)
-
-  pub gives_up_met : s < length row_of → GivesUp before after s → KeepsMet before after
-  gives_up_met below o t met new =
-      let u = list_set New before.marks.items s Stuck (omega (arith, sound.marks_len)) in
-      let is = sym (ap (λ xs. get_or xs t New) o.marks) ∙ new in
-      elim (cases_eq t s) [
-        | inl same ↦ stuck≢new (get_or (set before.marks.items s Stuck) s New) u.here (sym (ap (λ k. get_or (set before.marks.items s Stuck) k New) same) ∙ is)
-        | inr other ↦ met (sym (u.others t other) ∙ is)
-      ]

@@ -46,7 +46,8 @@ no_more p q h x =
       | inr gone ↦ let b = ap one_if gone in omega arith
     ]
 
-fewer_same : {X : Type 0} (p q : X → Bool) (x : X) (xs : List X) → p x ≡ q x → All (λ x. p x ≡ q x) xs ⊎ (count_by q xs + 1 ≤ count_by p xs) → All (λ x. p x ≡ q x) (x ∷ xs) ⊎ (count_by q (x ∷ xs) + 1 ≤ count_by p (x ∷ xs))
+fewer_same : {X : Type 0} (p q : X → Bool) (x : X) (xs : List X) → p x ≡ q x → All (λ x. p x ≡ q x) xs ⊎ (count_by q xs + 1 ≤ count_by p xs) →
+    All (λ x. p x ≡ q x) (x ∷ xs) ⊎ (count_by q (x ∷ xs) + 1 ≤ count_by p (x ∷ xs))
 fewer_same p q x xs e (inl same) = inl (All-cons (λ x. p x ≡ q x) x xs e same)
 fewer_same p q x xs e (inr less) =
     let p_is = sum_by-cons (λ x. cond (p x) 1 0) x xs in
@@ -76,7 +77,8 @@ settled_or_fewer n needs below (suc k) =
     elim (settled_or_fewer n needs below k) [
       | inl done ↦ inl (settled_next n needs k below done)
       | inr few ↦ elim (fewer (stuck_after needs k) (stuck_after needs (suc k)) (was_stuck needs k) (range_with_len 0 n)) [
-        | inl same ↦ inl (settled_next n needs k below (λ s l. subst (λ x. stuck_after needs k x ≡ stuck_after needs (suc k) x) (get_or-range_with_len 0 n s 0 l ∙ zero-add s) (same s 0 (omega (arith, length-range_with_len 0 n)))))
+        | inl same ↦ inl (settled_next n needs k below
+            (λ s l. subst (λ x. stuck_after needs k x ≡ stuck_after needs (suc k) x) (get_or-range_with_len 0 n s 0 l ∙ zero-add s) (same s 0 (omega (arith, length-range_with_len 0 n)))))
         | inr less ↦ inr (omega arith)
       ]
     ]

@@ -15,7 +15,8 @@ fails_each p xs x e c =
     ]
 
 -- two solutions agree at each symbol that is not stuck after k rounds
-pub agree_after : {A : Type 0} (n : ℕ) (needs : ℕ → List ℕ) (rhs : ℕ → (ℕ → A) → A) → NeedsBelow n needs → ReadsNeeds needs rhs → (V W : ℕ → A) → Solves n rhs V → Solves n rhs W → (k s : ℕ) → s < n → stuck_after needs k s ≡ false → V s ≡ W s
+pub agree_after : {A : Type 0} (n : ℕ) (needs : ℕ → List ℕ) (rhs : ℕ → (ℕ → A) → A) → NeedsBelow n needs → ReadsNeeds needs rhs → (V W : ℕ → A) → Solves n rhs V → Solves n rhs W →
+    (k s : ℕ) → s < n → stuck_after needs k s ≡ false → V s ≡ W s
 agree_after n needs rhs below reads V W v w zero s h e = absurd (true≢false e)
 agree_after n needs rhs below reads V W v w (suc k) s h e =
     v s h ∙ reads s V W (λ t i. agree_after n needs rhs below reads V W v w k t (below s t h i) (fails_each (stuck_after needs k) (needs s) t e i)) ∙ sym (w s h)

@@ -1,5 +1,6 @@
 -- The walk along stuck symbols.
-use Rattle.std.proofs.Common.{false, replicate, ◌||◌, get_or-set_same, get_or-set_other, ◌≡◌, ℕ, ◌<◌, ◌≤◌, ◌+◌, Bool, true, false, List, [], ◌∷◌, ◌++◌, length, get_or, sym, ◌∙◌, ap, refl, inl, inr, arith, All, take, drop, eqb, filter, ◌≢◌, subst}
+use Rattle.std.proofs.Common.{false, replicate, ◌||◌, get_or-set_same, get_or-set_other, ◌≡◌, ℕ, ◌<◌, ◌≤◌, ◌+◌, Bool, true, false, List, [], ◌∷◌}
+use Rattle.std.proofs.Common.{◌++◌, length, get_or, sym, ◌∙◌, ap, refl, inl, inr, arith, All, take, drop, eqb, filter, ◌≢◌, subst}
 use Rattle.std.specs.Cmp.{nat_eq_equiv}
 use Rattle.std.proofs.lemmas.Map.Keys.{IsDistinct-push}
 use Rattle.std.proofs.lemmas.Map.Views.{list_any-from_Contains}
@@ -12,7 +13,7 @@ use Rattle.std.specs.List.{Contains, list_any, IsDistinct}
 use Rattle.std.proofs.lemmas.Bool.{eqb-false, cases_eq, cases_Bool, ne_eqb, eqb-true, cases_lt}
 use Rattle.std.proofs.lemmas.List.Elements.{All-tail, Contains-get_or, All-contains, All-filter, filter_passes, All-contains_itself, All-push, Contains-push}
 use Rattle.kc_order.specs.Needs.{NeedsBelow, stuck_after}
-use Rattle.kc_order.specs.Rows.{AreMarks}
+use Rattle.kc_order.specs.RowLists.{AreMarks}
 use Rattle.kc_order.specs.Loop.{IsFirstStuck, IsNext, IsStuckWalk, IsNamedLoop}
 use Rattle.kc_order.proofs.Stays.{stays_stuck}
 
@@ -39,7 +40,8 @@ keeps_some p (x ∷ xs) e h =
     ]
 
 -- the marked symbols of a row are the stuck needs
-pub marked_needs : (n k : ℕ) (needs : ℕ → List ℕ) (marks : List Bool) (row : List ℕ) (s : ℕ) → NeedsBelow n needs → AreMarks n (stuck_after needs k) marks → row ≡ needs s → s < n → filter (λ t. get_or marks t false) row ≡ filter (stuck_after needs k) (needs s)
+pub marked_needs : (n k : ℕ) (needs : ℕ → List ℕ) (marks : List Bool) (row : List ℕ) (s : ℕ) → NeedsBelow n needs → AreMarks n (stuck_after needs k) marks → row ≡ needs s → s < n →
+    filter (λ t. get_or marks t false) row ≡ filter (stuck_after needs k) (needs s)
 marked_needs n k needs marks row s below m e l =
     ap (filter (λ t. get_or marks t false)) e ∙
     filter_agree_on (λ t. get_or marks t false) (stuck_after needs k) (needs s)
@@ -77,7 +79,8 @@ next_at : (n : ℕ) (needs : ℕ → List ℕ) (xs : List ℕ) (k a b : ℕ) →
 next_at n needs xs k a b p q h = subst (λ x. IsNext n needs x (get_or xs (k + 1) 0)) (sym p) (subst (λ y. IsNext n needs a y) (sym q) h)
 
 -- a symbol that is not on the walk yet is put on it
-pub goes_further : (n : ℕ) (needs : ℕ → List ℕ) (walk : List ℕ) (at next : ℕ) → NeedsBelow n needs → IsOnTheWay n needs walk at → All (λ s. s ≢ at) walk → IsNext n needs at next → IsOnTheWay n needs (walk ++ at ∷ []) next
+pub goes_further : (n : ℕ) (needs : ℕ → List ℕ) (walk : List ℕ) (at next : ℕ) → NeedsBelow n needs → IsOnTheWay n needs walk at → All (λ s. s ≢ at) walk → IsNext n needs at next →
+    IsOnTheWay n needs (walk ++ at ∷ []) next
 goes_further n needs walk at next below h new e =
     let to = next_is_stuck n needs at next below h.below e in
     record {
@@ -92,7 +95,8 @@ goes_further n needs walk at next below h new e =
                   let there = get_or_append_left (walk ++ at ∷ []) (next ∷ []) 0 (k + 1) before in
                   next_at n needs (walk ++ at ∷ [] ++ next ∷ []) k _ _ here there (h.walks.goes_on k before)
               | inr last ↦
-                  let here = get_or_append_left (walk ++ at ∷ []) (next ∷ []) 0 k (omega (arith, length_push (walk ++ at ∷ []) next)) ∙ get_or_push walk at 0 k (omega (arith, length_push walk at, length_push (walk ++ at ∷ []) next)) in
+                  let here = get_or_append_left (walk ++ at ∷ []) (next ∷ []) 0 k (omega (arith, length_push (walk ++ at ∷ []) next))
+                  ∙ get_or_push walk at 0 k (omega (arith, length_push walk at, length_push (walk ++ at ∷ []) next)) in
                   let there = get_or_push (walk ++ at ∷ []) next 0 (k + 1) (omega (arith, length_push (walk ++ at ∷ []) next)) in
                   next_at n needs (walk ++ at ∷ [] ++ next ∷ []) k _ _ here there e
             ];

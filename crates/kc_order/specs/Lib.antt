@@ -1,5 +1,6 @@
 pub mod Needs
 pub mod Rows
+pub mod RowLists
 pub mod Solution
 pub mod Loop
 pub mod Order

@@ -1,12 +1,11 @@
 -- For proofs: What a depth-first search for an order keeps.
-use Rattle.std.specs.Prelude.{◌≡◌, ◌≢◌, ℕ, ◌<◌, ◌≤◌, ◌+◌, Bool, true, false, List, length, slice_index, slice_index_or, nat_eq, drop, Vec, sum, sum_by, slice_set, ◌++◌, ◌∷◌, []}
-use Rattle.std.specs.Global.{Global}
+use Rattle.std.specs.Prelude.{◌≡◌, ◌≢◌, ℕ, ◌<◌, ◌≤◌, ◌+◌, Bool, true, false, List, length, slice_index, slice_index_or, nat_eq, drop, sum, sum_by, slice_set, ◌++◌, ◌∷◌, []}
 use Rattle.std.specs.List.{Contains, IsDistinct}
 use Rattle.kc_order.specs.declared.search.Mark.{Mark}
 use Rattle.kc_order.specs.declared.search.Mark.TheVariants.{New, Open, Done, Stuck}
 use Rattle.kc_order.specs.declared.search.Search.{Search}
 use Rattle.kc_order.specs.Needs.{stuck_after}
-use Rattle.kc_order.specs.Rows.{needs_of}
+use Rattle.kc_order.specs.RowLists.{needs_of}
 use Rattle.kc_order.specs.Order.{NeedsFirst}
 
 -- the open symbols are a path along needs, the done ones are in order, what is given up is stuck for ever, and of each symbol the needs past its first `left` are done
@@ -33,10 +32,11 @@ abbrev pub left_of : List ℕ → Search → ℕ → ℕ
 left_of row_of search s = slice_index_or search.left.items (slice_index row_of s) 0
 
 -- a search over rows
-pub record IsSound (rows : List (Vec ℕ Global)) (row_of : List ℕ) (search : Search) : Type 0 where
+pub record IsSound (rows : List (List ℕ)) (row_of : List ℕ) (search : Search) : Type 0 where
   pub marks_len : length search.marks.items ≡ length row_of
   pub left_len : length search.left.items ≡ length rows
-  pub keeps : IsSearch (length row_of) (needs_of rows row_of) (λ s. slice_index_or search.marks.items s New) (λ s. slice_index_or search.left.items (slice_index row_of s) 0) search.path.items search.order.items
+  pub keeps : IsSearch (length row_of) (needs_of rows row_of) (λ s. slice_index_or search.marks.items s New)
+      (λ s. slice_index_or search.left.items (slice_index row_of s) 0) search.path.items search.order.items
 
 -- s is open now, at the end of the path
 pub record Opens (before after : Search) (s : ℕ) : Type 0 where
@@ -82,7 +82,7 @@ is_stuck Done = false
 is_stuck Stuck = true
 
 -- a search that has met each symbol, and has none open
-pub record IsOver (rows : List (Vec ℕ Global)) (row_of : List ℕ) (search : Search) : Type 0 where
+pub record IsOver (rows : List (List ℕ)) (row_of : List ℕ) (search : Search) : Type 0 where
   pub sound : IsSound rows row_of search
   pub idle : length search.path.items ≡ 0
   pub met : (s : ℕ) → s < length row_of → mark_of search s ≢ New

@@ -2,10 +2,11 @@
 
 ghost use Rattle.std.specs.Prelude.{◌≡◌, ◌<◌, length, IfOk, MatchOption, slice_index_or, slice_index, All, filter, true, false, ◌≢◌, replicate};
 ghost use Rattle.kc_order.specs.Needs.{stuck_after};
-ghost use Rattle.kc_order.specs.Rows.{needs_of, RowsBelow, RowsAreThere, AreMarks};
+ghost use Rattle.kc_order.specs.Rows.{RowsAreThere};
+ghost use Rattle.kc_order.specs.RowLists.{needs_of, RowsBelow, AreMarks};
 ghost use Rattle.kc_order.specs.Loop.{IsLeast, IsFirstStuck, IsNext, IsNamedLoop};
 
-use crate::rows::row_of_symbol;
+use crate::rows::{Rows, row_of_symbol};
 use std::alloc::{AllocError, Global};
 
 // The first marked symbol among those in a row.
@@ -17,7 +18,7 @@ fn first_marked(row: &[u32], marks: &[bool]) -> Option<u32>
 }
 
 // The first stuck symbol that a stuck symbol needs.
-fn next_stuck(rows: &[Vec<u32>], row_of: &[usize], stuck: &[bool], symbol: u32) -> u32
+fn next_stuck(rows: &Rows, row_of: &[usize], stuck: &[bool], symbol: u32) -> u32
     requires rows_below { RowsBelow (length row_of.now) rows.now }
     requires there { RowsAreThere rows.now row_of.now }
     requires marks { AreMarks (length row_of.now) (stuck_after (needs_of rows.now row_of.now) (length row_of.now)) stuck.now }
@@ -51,7 +52,7 @@ fn no_marks(alloc: Global, count: usize) -> Result<Vec<bool>, AllocError>
 /// The loop that the walk along stuck symbols comes to.
 pub fn named_loop(
     alloc: Global,
-    rows: &[Vec<u32>],
+    rows: &Rows,
     row_of: &[usize],
     stuck: &[bool],
     first: u32,

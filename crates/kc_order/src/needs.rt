@@ -1,31 +1,17 @@
 //! What each symbol needs.
 
-ghost use Rattle.std.specs.Prelude.{◌≡◌, ◌<◌, [], ◌∷◌, ◌++◌, ◌↔◌, length, IfOk, OnOk, OnErr, IsTrue, All};
+ghost use Rattle.std.specs.Prelude.{◌≡◌, ◌<◌, [], ◌∷◌, ◌++◌, ◌↔◌, length, IfOk, OnOk, OnErr, IsTrue};
 ghost use Rattle.kc_order.specs.Needs.{needs_in, AreWithin};
-ghost use Rattle.kc_order.specs.Rows.{RowsBelow};
 
+use crate::rows::Rows;
 use std::alloc::{AllocError, Global};
 use std::marker::Model;
-
-// Whether a row holds numbers below a bound.
-fn is_below(row: &[u32], bound: usize) -> bool
-    ensures { IsTrue result ↔ All (λ t. t < bound) row.now }
-{
-    row.iter().all(|need| (*need as usize) < bound)
-}
-
-// Whether each row does.
-fn are_below(rows: &[Vec<u32>], bound: usize) -> bool
-    ensures { IsTrue result ↔ RowsBelow bound rows.now }
-{
-    rows.iter().all(|row| is_below(row, bound))
-}
 
 /// What each symbol needs. Symbols are numbers from 0 on, in the order in which they are added, and symbols that need the same can
 /// share one row, so that all members of a choice take no more room than one of them.
 #[derive(Drop)]
 pub struct Needs {
-    pub(crate) rows: Vec<Vec<u32>>,
+    pub(crate) rows: Rows,
     pub(crate) row_of: Vec<usize>,
 }
 
@@ -35,9 +21,9 @@ impl Model for Needs {
 
     ghost Value = { List (List ℕ) };
 
-    ghost view = { λ n. held n.rows.items n.row_of.items };
+    ghost view = { λ n. held n.rows n.row_of.items };
 
-    ghost invariant = { λ n. AreTheirs n.rows.items n.row_of.items };
+    ghost invariant = { λ n. AreTheirs n.rows n.row_of.items };
 }
 
 impl Needs {
@@ -46,7 +32,7 @@ impl Needs {
         ensures { result ≡ [] }
     {
         Needs {
-            rows: Vec::new(alloc),
+            rows: Rows::new(alloc),
             row_of: Vec::new(alloc),
         }
     }
@@ -56,7 +42,7 @@ impl Needs {
     pub fn with_room(alloc: Global, count: usize) -> Result<Needs, AllocError>
         ensures { IfOk result (λ n. n ≡ []) }
     {
-        let rows = Vec::with_capacity(alloc, count)?;
+        let rows = Rows::with_room(alloc, count)?;
         let row_of = Vec::with_capacity(alloc, count)?;
         Ok(Needs { rows, row_of })
     }
@@ -72,19 +58,19 @@ impl Needs {
     pub fn is_within(&self) -> bool
         ensures { IsTrue result ↔ AreWithin self.now }
     {
-        are_below(&self.rows, self.row_of.len())
+        self.rows.are_below(self.row_of.len())
     }
 
     /// The next symbol needs these, which may be symbols that are added later. Where it is out of memory, nothing changes.
-    pub fn add(&mut self, row: Vec<u32>) -> Result<(), AllocError>
-        ensures added { OnOk result (self.new ≡ self.old ++ row.items ∷ []) }
+    pub fn add(&mut self, row: &[u32]) -> Result<(), AllocError>
+        ensures added { OnOk result (self.new ≡ self.old ++ row.now ∷ []) }
         ensures unchanged { OnErr result (self.new ≡ self.old) }
     {
-        let number = self.rows.len();
-        self.rows.push(row)?;
-        if let Err(failed) = self.row_of.push(number) {
-            self.rows.pop();
-            return Err(failed.into());
+        let number = self.rows.count();
+        self.row_of.push(number)?;
+        if let Err(failed) = self.rows.push(row) {
+            self.row_of.pop();
+            return Err(failed);
         }
         Ok(())
     }

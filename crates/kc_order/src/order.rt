@@ -4,10 +4,12 @@ ghost use Rattle.std.specs.Prelude.{◌≡◌, ◌<◌, ◌^◌, length, IfOk, I
 ghost use Rattle.kc_order.specs.Needs.{AreWithin, IsAccepted};
 ghost use Rattle.kc_order.specs.Order.{Orders};
 ghost use Rattle.kc_order.specs.Reason.{IsReason};
-ghost use Rattle.kc_order.specs.Rows.{held, RowsBelow, RowsAreThere};
+ghost use Rattle.kc_order.specs.Rows.{held, RowsAreThere};
+ghost use Rattle.kc_order.specs.RowLists.{RowsBelow};
 
 use crate::named_loop::named_loop;
 use crate::needs::Needs;
+use crate::rows::Rows;
 use crate::search::{Search, first_stuck, search_all, stuck_symbols};
 use std::alloc::{AllocError, Global};
 use std::marker::Model;
@@ -60,7 +62,7 @@ impl Order {
 }
 
 // The symbols in order, or the loop that is named.
-fn order_or_loop(alloc: Global, rows: &[Vec<u32>], row_of: &[usize]) -> Result<Vec<u32>, NoOrder>
+fn order_or_loop(alloc: Global, rows: &Rows, row_of: &[usize]) -> Result<Vec<u32>, NoOrder>
     requires rows_below { RowsBelow (length row_of.now) rows.now }
     requires there { RowsAreThere rows.now row_of.now }
     requires few { length row_of.now < 2 ^ 32 }

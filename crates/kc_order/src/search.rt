@@ -1,10 +1,11 @@
 //! A depth-first search for an order, with a stack of its own. It goes on past what is stuck, so that it finds all of it.
 
 ghost use Rattle.std.specs.Prelude.{◌≡◌, ℕ, ◌<◌, length, IfOk, MatchOption, OnOk, All, slice_index_or, take, vec_len, replicate, map, ◌≢◌, ◌^◌, ◌++◌, ◌∷◌, [], ◌-◌, true, false};
-ghost use Rattle.kc_order.specs.Rows.{RowsBelow, RowsAreThere};
+ghost use Rattle.kc_order.specs.Rows.{RowsAreThere};
+ghost use Rattle.kc_order.specs.RowLists.{RowsBelow};
 ghost use Rattle.kc_order.specs.Search.{IsSound, IsOver, KeepsMet, Opens, Closes, GivesUp, work, mark_of, is_stuck};
 
-use crate::rows::row_of_symbol;
+use crate::rows::{Rows, row_of_symbol};
 use std::alloc::{AllocError, Global};
 
 /// How far a symbol is.
@@ -67,12 +68,7 @@ fn give_up(search: &mut Search, symbol: u32)
 
 // Looks at one more need of the last open symbol, or closes that symbol. It is stuck where that need is open itself, so that the
 // path comes back to it, or stuck.
-fn advance(
-    rows: &[Vec<u32>],
-    row_of: &[usize],
-    search: &mut Search,
-    top: u32,
-) -> Result<(), AllocError>
+fn advance(rows: &Rows, row_of: &[usize], search: &mut Search, top: u32) -> Result<(), AllocError>
     requires rows_below { RowsBelow (length row_of.now) rows.now }
     requires there { RowsAreThere rows.now row_of.now }
     requires sound { IsSound rows.now row_of.now search.old }
@@ -99,12 +95,7 @@ fn advance(
 }
 
 // Goes through all that a symbol needs, unless it was met.
-fn visit(
-    rows: &[Vec<u32>],
-    row_of: &[usize],
-    search: &mut Search,
-    root: u32,
-) -> Result<(), AllocError>
+fn visit(rows: &Rows, row_of: &[usize], search: &mut Search, root: u32) -> Result<(), AllocError>
     requires rows_below { RowsBelow (length row_of.now) rows.now }
     requires there { RowsAreThere rows.now row_of.now }
     requires sound { IsSound rows.now row_of.now search.old }
@@ -136,14 +127,18 @@ fn new_marks(alloc: Global, count: usize) -> Result<Vec<Mark>, AllocError>
 }
 
 // How many needs each row has.
-fn need_counts(alloc: Global, rows: &[Vec<u32>]) -> Result<Vec<usize>, AllocError>
-    ensures { IfOk result (λ v. v.items ≡ map (λ row. vec_len row) rows.now) }
+fn need_counts(alloc: Global, rows: &Rows) -> Result<Vec<usize>, AllocError>
+    ensures { IfOk result (λ v. v.items ≡ map length rows.now) }
 {
-    rows.iter().map(|row| row.len()).collect(alloc)
+    let mut counts = Vec::with_capacity(alloc, rows.count())?;
+    for row in 0..rows.count() {
+        counts.push(rows.row(row).len())?;
+    }
+    Ok(counts)
 }
 
 /// A search over all symbols: which are stuck, and an order of the others.
-pub fn search_all(alloc: Global, rows: &[Vec<u32>], row_of: &[usize]) -> Result<Search, AllocError>
+pub fn search_all(alloc: Global, rows: &Rows, row_of: &[usize]) -> Result<Search, AllocError>
     requires rows_below { RowsBelow (length row_of.now) rows.now }
     requires there { RowsAreThere rows.now row_of.now }
     requires few { length row_of.now < 2 ^ 32 }

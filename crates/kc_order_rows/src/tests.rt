@@ -35,8 +35,7 @@ fn loop_of(alloc: Global, needs: Needs) -> Result<Vec<u32>, AllocError> {
 fn needs_from(alloc: Global, rows: &[&[u32]]) -> Result<Needs, AllocError> {
     let mut needs = Needs::new(alloc);
     for row in rows {
-        let owned = Vec::from_slice(alloc, row)?;
-        needs.add(owned)?;
+        needs.add(row)?;
     }
     Ok(needs)
 }
@@ -78,10 +77,9 @@ fn members_share_a_row(rt: HostRuntime) -> Result<(), Fail> {
 fn a_long_chain_in_reverse(rt: HostRuntime) -> Result<(), Fail> {
     let mut needs = Needs::new(rt.alloc());
     for symbol in 1..20_000u32 {
-        let row = vec![in rt.alloc(); symbol]?;
-        needs.add(row)?;
+        needs.add(&[symbol])?;
     }
-    needs.add(Vec::new(rt.alloc()))?;
+    needs.add(&[])?;
     assert_eq!(rt; needs.count(), 20_000);
     match order_if_within(rt.alloc(), needs) {
         Ok(order) => {
@@ -101,12 +99,10 @@ fn a_loop_beside_a_long_chain(rt: HostRuntime) -> Result<(), Fail> {
     // each symbol of the chain needs the next, the last none; behind them stands one that needs itself
     let mut needs = Needs::new(rt.alloc());
     for symbol in 1..20_000u32 {
-        let row = vec![in rt.alloc(); symbol]?;
-        needs.add(row)?;
+        needs.add(&[symbol])?;
     }
-    needs.add(Vec::new(rt.alloc()))?;
-    let row = vec![in rt.alloc(); 20_000u32]?;
-    needs.add(row)?;
+    needs.add(&[])?;
+    needs.add(&[20_000])?;
     assert_eq!(rt; loop_of(rt.alloc(), needs)?.as_slice(), [20_000].as_slice());
     Ok(())
 }
@@ -127,13 +123,13 @@ fn many_members_share_a_long_row(rt: HostRuntime) -> Result<(), Fail> {
         row.push(symbol)?;
     }
     let mut needs = Needs::new(rt.alloc());
-    needs.add(row)?;
+    needs.add(&row)?;
     for _member in 1..20_000 {
         assert!(rt; 0 < needs.count());
         needs.add_same(0)?;
     }
     for _symbol in 0..20_000 {
-        needs.add(Vec::new(rt.alloc()))?;
+        needs.add(&[])?;
     }
     assert_eq!(rt; loop_of(rt.alloc(), needs)?.len(), 0);
     Ok(())

@@ -2,6 +2,7 @@ pub mod BlockLemmas
 pub mod ExpansionThere
 pub mod FileLemmas
 pub mod FrontLemmas
+pub mod KeywordLemmas
 pub mod LineThere
 pub mod ListLemmas
 pub mod ModulesLemmas

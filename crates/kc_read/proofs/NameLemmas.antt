@@ -1,19 +1,21 @@
 -- Names and their numbers, as more names are mentioned.
-use Rattle.std.proofs.Common.{max, ◌≡◌, ◌≢◌, ℕ, suc, ◌+◌, ◌<◌, ◌≤◌, ◌⊎◌, nat_lt, Bool, true, false, not, cond, ◌||◌, ◌==◌, List, [], ◌∷◌, ◌++◌, length, Option, Some, None, option_map, slice_get, refl, sym, ap, ◌∙◌, append-nil, length-append, inl, inr, arith}
+use Rattle.std.proofs.Common.{◌≡◌, ◌≢◌, ℕ, suc, ◌+◌, ◌<◌, ◌≤◌, ◌⊎◌, nat_lt, Bool, true, false, not, cond, ◌||◌, ◌==◌, List, [], ◌∷◌, ◌++◌, length, map, Option, Some, None, option_map, slice_get, refl, sym, ap, ◌∙◌, append-nil, length-append, inl, inr, arith}
 use Rattle.std.specs.List.{list_any}
-use Rattle.std.specs.Option.{option_or, option_and_then}
+use Rattle.std.specs.Option.{option_or}
 use Rattle.std.proofs.lemmas.Bool.{cases_eq, eq-eqb, ne_eqb}
 use Rattle.std.proofs.lemmas.List.Folds.{list_any-append}
-use Rattle.std.proofs.lemmas.Option.{slice_get_within}
+use Rattle.std.proofs.lemmas.List.{length-map, map-append}
 use Rattle.kc_expr.specs.declared.expression.SymId.{SymId}
 use Rattle.kc_expr.specs.Names.{IsNumber, same_name, number_of, symbol, mention, Extends}
 use Rattle.std.proofs.lemmas.Bool.Decides.{nat_tests}
 use Rattle.kc_read.specs.declared.refusal.Code.TheVariants as code
 use Rattle.kc_read.specs.Lines.{cause}
+use Rattle.kc_expr.specs.Order.{has_place, place_of, placed}
 use Rattle.kc_expr.proofs.NamesLemmas.{extends_on, same_name-refl}
-use Rattle.kc_read.specs.Expansion.{names_match, symbol_cause}
-use Rattle.kc_read.specs.Progress.{ids_match}
-use Rattle.kc_read.specs.Expanded.{IsNamed}
+use Rattle.kc_expr.proofs.OrderLemmas.{next_place, place-some}
+use Rattle.kc_read.specs.Expansion.{names_match}
+use Rattle.kc_read.specs.Progress.{defined_after, defining_cause, ids_match, naming_cause, order_after, placing_cause}
+use Rattle.kc_read.specs.Expanded.{AreNumbers, IsNamed}
 use Rattle.kc_read.proofs.FileLemmas.{same_name_eq}
 
 pub extends_none : (names : List (List ℕ)) → Extends names names
@@ -58,11 +60,6 @@ is_known names w id h = by (list_any (same_name w) names) refl
         let two : id.0 ≡ length (names ++ (0 ∷ w) ∷ []) = ap (λ s. s.0) (h (names ++ (0 ∷ w) ∷ []) ((0 ∷ w) ∷ [], refl)) ∙ absent_number (names ++ (0 ∷ w) ∷ []) w none in
         absurd (omega (arith, length-append names ((0 ∷ w) ∷ []), one, two))
 
-pub known_below : (names : List (List ℕ)) (w : List ℕ) (id : SymId) → IsNumber names w id → id.0 < length names
-known_below names w id h =
-    let k : slice_get names id.0 ≡ Some w = ap (λ s. slice_get names s.0) (h names (extends_none names)) ∙ known_at names w (is_known names w id h) in
-    slice_get_within names id.0 w k
-
 -- two names have one number where they are the same
 ids_same : (names : List (List ℕ)) (a b : List ℕ) (i j : SymId) → IsNumber names a i → IsNumber names b j → (i.0 == j.0) ≡ same_name a b
 ids_same names a b i j x y = elim (cases_eq i.0 j.0) [
@@ -105,65 +102,96 @@ pub named_if : (names : List (List ℕ)) (b : Bool) (i : Option SymId) (m : Opti
 named_if names true i m x = x
 named_if names false i m x = tt
 
--- the name at the number that a symbol has
-pub named_of : (names : List (List ℕ)) (i : Option SymId) (m : Option (List ℕ)) → IsNamed names i m → option_and_then (λ id. slice_get names id.0) i ≡ m
-named_of names None None x = refl
-named_of names None (Some m) x = absurd x
-named_of names (Some i) None x = absurd x
-named_of names (Some i) (Some m) x = ap (λ s. slice_get names s.0) (x names (extends_none names)) ∙ known_at names m (is_known names m i x)
-
 pub is_named : (names : List (List ℕ)) (i : Option SymId) (m : Option (List ℕ)) → ((later : List (List ℕ)) → Extends names later → i ≡ option_map (λ n. symbol (number_of later n)) m) → IsNamed names i m
 is_named names None None h = tt
 is_named names None (Some m) h = absurd (let e = h names (extends_none names) in cc)
 is_named names (Some i) None h = absurd (let e = h names (extends_none names) in cc)
 is_named names (Some i) (Some m) h = λ later x. let e = h later x in cc
 
--- The number of names once one more is mentioned.
-known_number : (names : List (List ℕ)) (w : List ℕ) → list_any (same_name w) names ≡ true → number_of names w < length names
-known_number names w h = slice_get_within names (number_of names w) w (known_at names w h)
+-- The numbers of names, one after another, and those of one more.
+same_place : (names : List (List ℕ)) (ids : List SymId) (ns : List (List ℕ)) (w : List ℕ) (id : SymId) → AreNumbers names ids ns → IsNumber names w id → has_place ids id ≡ list_any (same_name w) ns
+same_place names [] [] w id h k = refl
+same_place names [] (n ∷ ns) w id h k = absurd (let e = h names (extends_none names) in cc)
+same_place names (s ∷ ids) [] w id h k = absurd (let e = h names (extends_none names) in cc)
+same_place names (s ∷ ids) (n ∷ ns) w id h k =
+    let one : (id.0 == s.0) ≡ same_name w n = ids_same names w n id s k (λ later x. let e = h later x in cc) in
+    let rest : has_place ids id ≡ list_any (same_name w) ns = same_place names ids ns w id (λ later x. let e = h later x in cc) k in
+    λ j. one j || rest j
 
-mention_by : (names : List (List ℕ)) (w : List ℕ) → ((mention names w ≡ names) × (number_of names w < length names)) ⊎ ((length (mention names w) ≡ length names + 1) × (number_of names w ≡ length names))
-mention_by names w = by (list_any (same_name w) names) refl
+pub place_is : (names : List (List ℕ)) (ids : List SymId) (ns : List (List ℕ)) (w : List ℕ) (id : SymId) → AreNumbers names ids ns → IsNumber names w id → place_of ids id ≡ number_of ns w
+place_is names [] [] w id h k = refl
+place_is names [] (n ∷ ns) w id h k = absurd (let e = h names (extends_none names) in cc)
+place_is names (s ∷ ids) [] w id h k = absurd (let e = h names (extends_none names) in cc)
+place_is names (s ∷ ids) (n ∷ ns) w id h k =
+    let one : (id.0 == s.0) ≡ same_name w n = ids_same names w n id s k (λ later x. let e = h later x in cc) in
+    let rest : place_of ids id ≡ number_of ns w = place_is names ids ns w id (λ later x. let e = h later x in cc) k in
+    λ j. cond (not (one j)) (1 + rest j) 0
+
+pub numbers_placed : (known names : List (List ℕ)) (ids : List SymId) (ns : List (List ℕ)) (w : List ℕ) (id : SymId) → Extends known names → AreNumbers known ids ns → IsNumber names w id → AreNumbers names (placed ids id) (mention ns w)
+numbers_placed known names ids ns w id e h k later x =
+    ap (λ b. cond b ids (ids ++ id ∷ [])) (same_place names ids ns w id (λ l y. h l (extends_on known names l e y)) k)
+    ∙ by (list_any (same_name w) ns)
   where
-    by : (b : Bool) → list_any (same_name w) names ≡ b → ((cond b names (names ++ w ∷ []) ≡ names) × (number_of names w < length names)) ⊎ ((length (cond b names (names ++ w ∷ [])) ≡ length names + 1) × (number_of names w ≡ length names))
-    by true e = inl (refl, known_number names w e)
-    by false e = inr (omega (arith, length-append names (w ∷ [])), absent_number names w e)
+    base : ids ≡ map (λ n. symbol (number_of later n)) ns
+    base = h later (extends_on known names later e x)
 
-count_past : (names : List (List ℕ)) (w : List ℕ) → 65535 ≤ number_of names w → 65535 < length (mention names w)
-count_past names w h = elim (mention_by names w) [
+    by : (b : Bool) → cond b ids (ids ++ id ∷ []) ≡ map (λ n. symbol (number_of later n)) (cond b ns (ns ++ w ∷ []))
+    by true = base
+    by false =
+        let here : id ≡ symbol (number_of later w) = k later x in
+        (λ j. base j ++ here j ∷ []) ∙ sym (map-append (λ n. symbol (number_of later n)) ns (w ∷ []))
+
+pub numbers_after : (known names : List (List ℕ)) (ids : List SymId) (ns : List (List ℕ)) (o : Option SymId) (m : Option (List ℕ)) → Extends known names → AreNumbers known ids ns → IsNamed names o m → AreNumbers names (order_after ids o) (defined_after ns m)
+numbers_after known names ids ns None None e h k = λ later x. h later (extends_on known names later e x)
+numbers_after known names ids ns None (Some n) e h k = absurd k
+numbers_after known names ids ns (Some id) None e h k = absurd k
+numbers_after known names ids ns (Some id) (Some n) e h k = numbers_placed known names ids ns n id e h k
+
+as_many : (names : List (List ℕ)) (ids : List SymId) (ns : List (List ℕ)) → AreNumbers names ids ns → length ids ≡ length ns
+as_many names ids ns h = ap length (h names (extends_none names)) ∙ length-map ns (λ n. symbol (number_of names n))
+
+pub defining_same : (known names : List (List ℕ)) (ids : List SymId) (ns : List (List ℕ)) (o : Option SymId) (m : Option (List ℕ)) → Extends known names → AreNumbers known ids ns → IsNamed names o m → defining_cause ids o ≡ naming_cause ns m
+defining_same known names ids ns None None e h k = refl
+defining_same known names ids ns None (Some n) e h k = absurd k
+defining_same known names ids ns (Some id) None e h k = absurd k
+defining_same known names ids ns (Some id) (Some n) e h k =
+    ap (λ (l : ℕ). cond (nat_lt 65535 l) (Some (cause code.TooManySymbols)) None) (as_many names (placed ids id) (mention ns n) (numbers_placed known names ids ns n id e h k))
+
+-- How many symbols have a place once one more is placed.
+placed_by : (ids : List SymId) (id : SymId) → ((placed ids id ≡ ids) × (place_of ids id < length ids)) ⊎ ((length (placed ids id) ≡ length ids + 1) × (place_of ids id ≡ length ids))
+placed_by ids id = by (has_place ids id) refl
+  where
+    by : (b : Bool) → has_place ids id ≡ b → ((cond b ids (ids ++ id ∷ []) ≡ ids) × (place_of ids id < length ids)) ⊎ ((length (cond b ids (ids ++ id ∷ [])) ≡ length ids + 1) × (place_of ids id ≡ length ids))
+    by true e = inl (refl, place-some (λ s. id.0 == s.0) ids e)
+    by false e = inr (omega (arith, length-append ids (id ∷ [])), sym (next_place ids id e))
+
+count_past : (ids : List SymId) (id : SymId) → 65535 ≤ place_of ids id → 65535 < length (placed ids id)
+count_past ids id h = elim (placed_by ids id) [
   | inl k ↦ rw k.0 (omega (arith, k.1))
   | inr k ↦ omega (arith, k.0, k.1)
 ]
 
-count_within : (names : List (List ℕ)) (w : List ℕ) → number_of names w < 65535 → length names ≤ 65535 → length (mention names w) ≤ 65535
-count_within names w h l = elim (mention_by names w) [
+count_within : (ids : List SymId) (id : SymId) → place_of ids id < 65535 → length ids ≤ 65535 → length (placed ids id) ≤ 65535
+count_within ids id h l = elim (placed_by ids id) [
   | inl k ↦ rw k.0 l
   | inr k ↦ omega (arith, k.0, k.1)
 ]
 
-pub too_many : (names : List (List ℕ)) (w : List ℕ) (id : SymId) → id ≡ symbol (number_of names w) → 65535 ≤ id.0 → symbol_cause names w ≡ Some (cause code.TooManySymbols)
-too_many names w id e h =
-    let n : 65535 ≤ number_of names w = omega (arith, ap (λ s. s.0) e) in
-    let past : 65535 < length (mention names w) = count_past names w n in
-    let t : nat_lt 65535 (length (mention names w)) ≡ true = grind (arith, nat_tests) in
+pub too_many : (ids : List SymId) (id place : SymId) → place ≡ symbol (place_of ids id) → 65535 ≤ place.0 → placing_cause ids id ≡ Some (cause code.TooManySymbols)
+too_many ids id place e h =
+    let n : 65535 ≤ place_of ids id = omega (arith, ap (λ s. s.0) e) in
+    let past : 65535 < length (placed ids id) = count_past ids id n in
+    let t : nat_lt 65535 (length (placed ids id)) ≡ true = grind (arith, nat_tests) in
     rw t refl
 
-pub not_too_many : (names : List (List ℕ)) (w : List ℕ) (id : SymId) → id ≡ symbol (number_of names w) → id.0 < 65535 → length names ≤ 65535 → symbol_cause names w ≡ None
-not_too_many names w id e h l =
-    let n : number_of names w < 65535 = omega (arith, ap (λ s. s.0) e) in
-    let within : length (mention names w) ≤ 65535 = count_within names w n l in
-    let t : nat_lt 65535 (length (mention names w)) ≡ false = grind (arith, nat_tests) in
+pub not_too_many : (ids : List SymId) (id place : SymId) → place ≡ symbol (place_of ids id) → place.0 < 65535 → length ids ≤ 65535 → placing_cause ids id ≡ None
+not_too_many ids id place e h l =
+    let n : place_of ids id < 65535 = omega (arith, ap (λ s. s.0) e) in
+    let within : length (placed ids id) ≤ 65535 = count_within ids id n l in
+    let t : nat_lt 65535 (length (placed ids id)) ≡ false = grind (arith, nat_tests) in
     rw t refl
 
-pub still_within : (names now : List (List ℕ)) (w : List ℕ) (id : SymId) → id ≡ symbol (number_of names w) → now ≡ mention names w → id.0 < 65535 → length names ≤ 65535 → length now ≤ 65535
-still_within names now w id e f h l =
-    let n : number_of names w < 65535 = omega (arith, ap (λ s. s.0) e) in
-    rw f (count_within names w n l)
-
-pub still_counted : (names now : List (List ℕ)) (w : List ℕ) (id : SymId) (count : ℕ) → id ≡ symbol (number_of names w) → now ≡ mention names w → count ≡ length names → max count (id.0 + 1) ≡ length now
-still_counted names now w id count e f c =
-    let n : id.0 ≡ number_of names w = ap (λ s. s.0) e in
-    elim (mention_by names w) [
-      | inl k ↦ rw (f, k.0) (omega (arith, k.1, n, c))
-      | inr k ↦ rw f (omega (arith, k.0, k.1, n, c))
-    ]
+pub still_within : (ids now : List SymId) (id place : SymId) → place ≡ symbol (place_of ids id) → now ≡ placed ids id → place.0 < 65535 → length ids ≤ 65535 → length now ≤ 65535
+still_within ids now id place e f h l =
+    let n : place_of ids id < 65535 = omega (arith, ap (λ s. s.0) e) in
+    rw f (count_within ids id n l)

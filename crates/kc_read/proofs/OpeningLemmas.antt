@@ -34,7 +34,7 @@ ends_as s t [] e = cc
 ends_as s t (x ∷ xs) e = absurd cc
 
 -- nothing else than a `source` line
-reads_source : (ts : List Lexeme) (s : Written) → ReadsSource ts (Ok s) → (name : List ℕ) × (s ≡ SourceLine name)
+pub reads_source : (ts : List Lexeme) (s : Written) → ReadsSource ts (Ok s) → (name : List ℕ) × (s ≡ SourceLine name)
 reads_source ts s h =
     let (t, plain) = read_on (text_of ts) (λ t. After (plain_text t) (λ u r. r ≡ finish (SourceLine u) (drop 1 ts))) s h in
     let (u, e) = read_on (plain_text t) (λ u r. r ≡ finish (SourceLine u) (drop 1 ts)) s plain in

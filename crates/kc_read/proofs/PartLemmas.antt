@@ -1,10 +1,14 @@
 -- Parts of a line, and refusals that are passed on.
 use Rattle.std.proofs.Common.{◌≡◌, ℕ, true, false, List, [], ◌∷◌, drop, Option, Some, None, Result, Ok, IfErr, IsErrAnd, Err, codes, refl, sym, ap, subst, inl, inr}
+use Rattle.std.specs.Prelude.{is_some}
 use Rattle.std.proofs.lemmas.Result.{err_from_is_err_and}
 use Rattle.kc_text.specs.Escapes.{unescape}
 use Rattle.kc_text.specs.Lexemes.{Lexeme, AWord, AQuoted}
 use Rattle.kc_expr.specs.declared.expression.SymId.{SymId}
-use Rattle.kc_expr.specs.Form.{Form, Text, Symbol}
+use Rattle.kc_expr.specs.declared.expression.Tri.{Tri}
+use Rattle.kc_expr.specs.Form.{Form, Text, Symbol, tri_text}
+use Rattle.kc_expr.specs.Value.{letter_of}
+use Rattle.kc_expr.proofs.LetterLemmas.{letter_text}
 use Rattle.kc_expr.specs.Grammar.{Atom, Disjunction, WordAtom, QuotedAtom, is_letter, if_word}
 use Rattle.kc_expr.specs.Names.{IsNumber, same_name, mention}
 use Rattle.kc_read.specs.declared.statement.Fault.{Fault}
@@ -18,13 +22,15 @@ use Rattle.kc_read.specs.LineReads.{cause_of, IsFront, IsRead, IsFault, IsOperan
 pub fault_passed : {A : Type 0} (r : Result A Fault) (P : Fault → Type 0) (e : Fault) → IsErrAnd r (λ y. y ≡ e) → P e → IfErr r P
 fault_passed r P e a h = let p = err_from_is_err_and r a in rw (p.1, p.2) h
 
-pub operand_letter : (ls rest : List Lexeme) (w b : List ℕ) (names : List (List ℕ)) → ls ≡ AWord w ∷ rest → same_name w if_word ≡ false → is_letter w ≡ true → b ≡ w → IsOperand names names (operand_of ls) (Text b)
-operand_letter ls rest w b names e n l s = record {
-  atom = WordAtom w;
-  part_is = rw (e, n) refl;
-  mentions = rw l refl;
-  form = λ later x. rw (l, s) refl;
-}
+pub operand_letter : (ls rest : List Lexeme) (w : List ℕ) (t : Tri) (names : List (List ℕ)) → ls ≡ AWord w ∷ rest → same_name w if_word ≡ false → letter_of w ≡ Some t → IsOperand names names (operand_of ls) (Text (tri_text t))
+operand_letter ls rest w t names e n l =
+    let letter : is_letter w ≡ true = ap is_some l in
+    record {
+      atom = WordAtom w;
+      part_is = rw (e, n) refl;
+      mentions = rw letter refl;
+      form = λ later x. rw (letter, letter_text w t l) refl;
+    }
 
 pub operand_name : (ls rest : List Lexeme) (w : List ℕ) (id : SymId) (old names : List (List ℕ)) → ls ≡ AWord w ∷ rest → same_name w if_word ≡ false → is_letter w ≡ false → IsNumber names w id → names ≡ mention old w → IsOperand old names (operand_of ls) (Symbol id)
 operand_name ls rest w id old names e n l s m = record {

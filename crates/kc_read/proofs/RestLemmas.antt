@@ -1,6 +1,6 @@
 -- The rest of a file, one line after another.
 use Rattle.std.specs.Bool.{⊤}
-use Rattle.std.proofs.Common.{IfErr, IsErrAnd, MatchOption, take, ◌≡◌, ◌≢◌, ℕ, ◌-◌, ◌<◌, Bool, true, false, cond, List, [], ◌∷◌, ◌++◌, length, Option, Some, None, Result, Ok, Err, refl, sym, ap, ◌∙◌, subst, map, arith, append-nil}
+use Rattle.std.proofs.Common.{IfErr, IsErrAnd, take, ◌≡◌, ◌≢◌, ℕ, ◌-◌, ◌<◌, Bool, true, false, cond, List, [], ◌∷◌, ◌++◌, length, Option, Some, None, Result, Ok, Err, refl, sym, ap, ◌∙◌, subst, map, arith, append-nil}
 use Rattle.std.proofs.lemmas.Result.{err_from_is_err_and}
 use Rattle.kc_expr.specs.declared.expression.SymId.{SymId}
 use Rattle.kc_text.specs.Lines.{Left, left}
@@ -14,14 +14,11 @@ use Rattle.kc_read.specs.declared.refusal.Code.TheVariants as code
 use Rattle.kc_read.specs.declared.refusal.Refusal.{Refusal}
 use Rattle.kc_read.specs.declared.statement.Entry.TheVariants as entry
 use Rattle.kc_read.specs.declared.statement.Statement.{Statement}
-use Rattle.kc_read.specs.Blocks.{last_of, name_at}
-use Rattle.kc_read.proofs.NameLemmas.{known_below}
-use Rattle.kc_read.proofs.ShapeLemmas.{made_name}
+use Rattle.kc_read.specs.Blocks.{last_of}
 use Rattle.kc_read.specs.Expansion.{Around, Log, Rest, refused, context_of, inside, is_help, is_source, lexemes, logged, opening, source_cause, sourcing_cause, with_line, without_help, NextLine, NextStatement, at_end, unclosed, too_long, no_tokens, blank, bad_line, bad_effect, statement, bad_source, refused_inside, source}
 use Rattle.kc_read.specs.Files.{Files}
 use Rattle.kc_read.specs.Lines.{Context, Cause, cause}
-use Rattle.kc_read.specs.Progress.{GoesOn, IsKnown, IsNextRead, IsReading, IsStatementRead, IsEnded, IsFileRead, IsOpenAtEnd, IsProgress, IsRestRefusal, IsState, IsTaken, effect_view, open_names}
-use Rattle.kc_read.specs.Expanded.{IsNamed}
+use Rattle.kc_read.specs.Progress.{GoesOn, IsNextRead, IsReading, IsStatementRead, IsEnded, IsFileRead, IsOpenAtEnd, IsProgress, IsRestRefusal, IsState, IsTaken, effect_view, open_names}
 use Rattle.kc_read.specs.Reads.{statement_view}
 use Rattle.kc_read.specs.LineReads.{IsMade, cause_of}
 use Rattle.kc_read.specs.declared.statement.Fault.{Fault}
@@ -88,7 +85,7 @@ blank_goes files first modules names a l m own log p f i n = record {
 }
 
 -- a statement that is no `source` line
-pub statement_goes : (files : Files) (first : List (List ℕ)) (modules : Option SymId) (known names : List (List ℕ)) (a : Around) (l m : Left) (own : List (Placed Written)) (log : Log) (f g : Frame) (p q : Progress) (s : Statement) (x : Written) (line : ℕ) → IsState first modules known a own log p f → IsMade modules known names s x → NextStatement l m (context_of a own log) (Ok x) → line ≡ l.number → is_source x ≡ false → IsTaken names (statement_view s) line f g p q → effect_view names (statement_view s) f p ≡ None → GoesOn files first modules names a l m own log q g
+pub statement_goes : (files : Files) (first : List (List ℕ)) (modules : Option SymId) (known names : List (List ℕ)) (a : Around) (l m : Left) (own : List (Placed Written)) (log : Log) (f g : Frame) (p q : Progress) (s : Statement) (x : Written) (line : ℕ) → IsState first modules known a own log p f → IsMade modules known names s x → NextStatement l m (context_of a own log) (Ok x) → line ≡ l.number → is_source x ≡ false → IsTaken (statement_view s) line f g p q → effect_view (statement_view s) f p ≡ None → GoesOn files first modules names a l m own log q g
 statement_goes files first modules known names a l m own log f g p q s x line i made next e src t allowed = record {
   own_now = with_line own a line x;
   log_now = logged log a line x;
@@ -98,7 +95,7 @@ statement_goes files first modules known names a l m own log f g p q s x line i 
       (subst (λ n. Rest files a m (with_line own a n x) (logged log a n x) r) e rest);
 }
 
-pub effect_refused : (files : Files) (first : List (List ℕ)) (modules : Option SymId) (known names : List (List ℕ)) (a : Around) (l m : Left) (own : List (Placed Written)) (log : Log) (f : Frame) (p : Progress) (s : Statement) (x : Written) (line : ℕ) (file : List ℕ) (why : Cause) (r : Refusal) → IsState first modules known a own log p f → IsMade modules known names s x → NextStatement l m (context_of a own log) (Ok x) → line ≡ l.number → file ≡ f.file.value.items → effect_view names (statement_view s) f p ≡ Some why → refusal_view r ≡ refused why file line → Rest files a l own log (Err (refusal_view r))
+pub effect_refused : (files : Files) (first : List (List ℕ)) (modules : Option SymId) (known names : List (List ℕ)) (a : Around) (l m : Left) (own : List (Placed Written)) (log : Log) (f : Frame) (p : Progress) (s : Statement) (x : Written) (line : ℕ) (file : List ℕ) (why : Cause) (r : Refusal) → IsState first modules known a own log p f → IsMade modules known names s x → NextStatement l m (context_of a own log) (Ok x) → line ≡ l.number → file ≡ f.file.value.items → effect_view (statement_view s) f p ≡ Some why → refusal_view r ≡ refused why file line → Rest files a l own log (Err (refusal_view r))
 effect_refused files first modules known names a l m own log f p s x line file why r i made next e g effect v =
     refusal_at files a l own log r why file line v (g ∙ i.frame.file) e
     (bad_effect a l m own log x why next (sym (effect_same first modules known names a own log f p s x i made) ∙ effect))
@@ -165,15 +162,6 @@ next_passed files first modules names a l m own log p f r e is h = let q = err_f
 
 pub statement_passed : (files : Files) (first : List (List ℕ)) (modules : Option SymId) (names : List (List ℕ)) (a : Around) (l m : Left) (own : List (Placed Written)) (log : Log) (p : Progress) (f : Frame) (r : Result ⊤ Refusal) (e : Refusal) → IsErrAnd r (λ y. y ≡ e) → IsRestRefusal files a l own log e → IsStatementRead files first modules names a l m own log p f r
 statement_passed files first modules names a l m own log p f r e is h = let q = err_from_is_err_and r is in rw (q.1, q.2) h
-
--- the symbol of a config line has a name
-pub known_made : (modules : Option SymId) (known names : List (List ℕ)) (s : Statement) (x : Written) → IsMade modules known names s x → IsKnown names (statement_view s)
-known_made modules known names s x m = by (name_at (statement_view s)) (name_at x) (made_name modules known names s x m)
-  where
-    by : (o : Option SymId) (q : Option (List ℕ)) → IsNamed names o q → MatchOption o (Unit {0}) (λ id. id.0 < length names)
-    by None q h = tt
-    by (Some id) None h = absurd h
-    by (Some id) (Some n) h = known_below names n id h
 
 -- a cause that is not being out of memory
 pub no_memory : (r : Refusal) (f : Fault) (file : List ℕ) (line : ℕ) → r.code ≢ code.Memory → (r.code ≢ code.Memory → refusal_view r ≡ refused (cause_of f) file line) → f.code ≢ code.Memory

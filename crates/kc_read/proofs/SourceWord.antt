@@ -1,6 +1,7 @@
 -- The lines that begin with the word `source`, and no others, are `source` lines.
-use Rattle.std.proofs.Common.{◌≡◌, inl, inr, ℕ, Bool, true, false, cond, List, [], ◌∷◌, drop, codes, Option, Some, None, Result, Ok, Err, refl, ap, subst}
+use Rattle.std.proofs.Common.{◌≡◌, inl, inr, ℕ, Bool, true, false, cond, List, [], ◌∷◌, drop, codes, Option, Some, None, Result, Ok, Err, refl, ap, ◌∙◌, subst}
 use Rattle.std.proofs.lemmas.Bool.{cases_Bool}
+use Rattle.std.specs.Option.{option_or}
 use Rattle.kc_text.specs.Lexemes.{Lexeme, AWord, AQuoted, AnOp}
 use Rattle.kc_expr.specs.declared.expression.Kind.{Kind}
 use Rattle.kc_expr.specs.declared.expression.Kind.TheVariants as kind
@@ -10,8 +11,9 @@ use Rattle.kc_read.specs.declared.statement.Keyword.{Keyword}
 use Rattle.kc_read.specs.declared.statement.Keyword.TheVariants as key
 use Rattle.kc_read.specs.Statements.{Written, Asked, IfLine, EndIfLine, CommentLine, SourceLine, MenuLine, EndMenuLine, EndChoiceLine, MainMenuLine, TypeLine, PromptLine, DefaultLine, DefLine, DependsLine, VisibleLine, SelectLine, ImplyLine, RangeLine, HelpLine, ModulesLine, ConfigLine, IgnoredLine}
 use Rattle.kc_read.specs.declared.refusal.Code.TheVariants as code
-use Rattle.kc_read.specs.Lines.{Context, Cause, syntax_cause, After, ReadsWhole, ReadsCondition, ReadsTextLine, ReadsSource, ReadsConfig, ReadsAsked, ReadsType, ReadsValue, ReadsTarget, ReadsRange, ReadsRest, ReadsPlaced, ReadsLine, finish, text_of, word_of, target_of, operand_of, good_name, is_good_name, choice_line, option_line, expected, block_word, type_word, attribute_word, left_out_word, first_some, keyword_of, known, in_place, place_cause, begins_with}
+use Rattle.kc_read.specs.Lines.{Context, Cause, syntax_cause, After, ReadsWhole, ReadsCondition, ReadsTextLine, ReadsSource, ReadsConfig, ReadsAsked, ReadsType, ReadsValue, ReadsTarget, ReadsRange, ReadsRest, ReadsPlaced, ReadsLine, finish, text_of, word_of, target_of, operand_of, good_name, is_good_name, choice_line, option_line, expected, block_words, type_words, attribute_words, left_out_words, keyword_in, keyword_of, known, in_place, place_cause, begins_with}
 use Rattle.kc_read.proofs.FileLemmas.{same_name_eq}
+use Rattle.kc_read.proofs.KeywordLemmas.{keyword_in_turn}
 use Rattle.kc_read.proofs.OneExpansion.{source_line}
 
 -- ---- The word
@@ -28,26 +30,26 @@ not_source : (b : Bool) (o : Option Keyword) → b ≡ false → is_source_key o
 not_source true o e f = absurd (let h : true ≡ false = e in cc)
 not_source false o e f = f
 
-either_word : (o p : Option Keyword) → is_source_key o ≡ false → is_source_key p ≡ false → is_source_key (first_some o p) ≡ false
+either_word : (o p : Option Keyword) → is_source_key o ≡ false → is_source_key p ≡ false → is_source_key (option_or o p) ≡ false
 either_word None p e f = f
 either_word (Some k) p e f = e
 
-block_other : (w : List ℕ) → same_name w (codes "source") ≡ false → is_source_key (block_word w) ≡ false
+block_other : (w : List ℕ) → same_name w (codes "source") ≡ false → is_source_key (keyword_in block_words w) ≡ false
 block_other w e = other_word (same_name w (codes "config")) key.Config _ refl (other_word (same_name w (codes "menuconfig")) key.Config _ refl (other_word (same_name w (codes "if")) key.If _ refl (other_word (same_name w (codes "endif")) key.EndIf _ refl (other_word (same_name w (codes "comment")) key.Comment _ refl (not_source (same_name w (codes "source")) _ e (other_word (same_name w (codes "menu")) key.Menu _ refl (other_word (same_name w (codes "endmenu")) key.EndMenu _ refl (other_word (same_name w (codes "choice")) key.Choice _ refl (other_word (same_name w (codes "endchoice")) key.EndChoice _ refl (other_word (same_name w (codes "mainmenu")) key.MainMenu _ refl (refl)))))))))))
 
-type_other : (w : List ℕ) → is_source_key (type_word w) ≡ false
+type_other : (w : List ℕ) → is_source_key (keyword_in type_words w) ≡ false
 type_other w = other_word (same_name w (codes "bool")) (key.Type kind.Bool) _ refl (other_word (same_name w (codes "tristate")) (key.Type kind.Tristate) _ refl (other_word (same_name w (codes "string")) (key.Type kind.Str) _ refl (other_word (same_name w (codes "int")) (key.Type kind.Int) _ refl (other_word (same_name w (codes "hex")) (key.Type kind.Hex) _ refl (other_word (same_name w (codes "def_bool")) (key.Def kind.Bool) _ refl (other_word (same_name w (codes "def_tristate")) (key.Def kind.Tristate) _ refl (refl)))))))
 
-attribute_other : (w : List ℕ) → is_source_key (attribute_word w) ≡ false
+attribute_other : (w : List ℕ) → is_source_key (keyword_in attribute_words w) ≡ false
 attribute_other w = other_word (same_name w (codes "default")) key.Default _ refl (other_word (same_name w (codes "depends")) key.Depends _ refl (other_word (same_name w (codes "help")) key.Help _ refl (other_word (same_name w (codes "select")) key.Select _ refl (other_word (same_name w (codes "prompt")) key.Prompt _ refl (other_word (same_name w (codes "imply")) key.Imply _ refl (other_word (same_name w (codes "range")) key.Range _ refl (other_word (same_name w (codes "visible")) key.Visible _ refl (other_word (same_name w (codes "modules")) key.Modules _ refl (other_word (same_name w (codes "option")) key.«Option» _ refl (other_word (same_name w (codes "---help---")) key.Help _ refl (refl)))))))))))
 
-left_out_other : (w : List ℕ) → is_source_key (left_out_word w) ≡ false
+left_out_other : (w : List ℕ) → is_source_key (keyword_in left_out_words w) ≡ false
 left_out_other w = other_word (same_name w (codes "rsource")) key.LeftOut _ refl (other_word (same_name w (codes "osource")) key.LeftOut _ refl (other_word (same_name w (codes "orsource")) key.LeftOut _ refl (other_word (same_name w (codes "boolean")) key.LeftOut _ refl (other_word (same_name w (codes "def_int")) key.LeftOut _ refl (other_word (same_name w (codes "def_hex")) key.LeftOut _ refl (other_word (same_name w (codes "def_string")) key.LeftOut _ refl (other_word (same_name w (codes "transitional")) key.LeftOut _ refl (other_word (same_name w (codes "optional")) key.LeftOut _ refl (refl)))))))))
 
 keyword_other : (w : List ℕ) → same_name w (codes "source") ≡ false → is_source_key (keyword_of w) ≡ false
 keyword_other w e =
-    either_word (attribute_word w) (first_some (type_word w) (first_some (block_word w) (left_out_word w))) (attribute_other w)
-    (either_word (type_word w) (first_some (block_word w) (left_out_word w)) (type_other w) (either_word (block_word w) (left_out_word w) (block_other w e) (left_out_other w)))
+    ap is_source_key (keyword_in_turn attribute_words type_words block_words left_out_words w)
+    ∙ either_word _ _ (attribute_other w) (either_word _ _ (type_other w) (either_word _ _ (block_other w e) (left_out_other w)))
 
 -- ---- What is read
 

@@ -7,7 +7,7 @@ use Rattle.std.proofs.lemmas.Grind.{flat_map-append}
 use Rattle.std.proofs.lemmas.List.Elements.{filter-append, filter_map-append}
 use Rattle.std.proofs.lemmas.List.Folds.{list_any-append}
 use Rattle.kc_expr.specs.declared.expression.SymId.{SymId}
-use Rattle.kc_expr.specs.Names.{all_mentioned, number_of, Extends}
+use Rattle.kc_expr.specs.Names.{all_mentioned, number_of, symbol, Extends}
 use Rattle.kc_expr.proofs.NamesLemmas.{extends_on, mentioned_on, mentioned_extends, all_mentioned-append}
 use Rattle.kc_read.specs.declared.frame.Frame.{Frame}
 use Rattle.kc_read.specs.declared.progress.Progress.{Progress}
@@ -20,14 +20,14 @@ use Rattle.kc_read.specs.Files.{Files}
 use Rattle.kc_read.specs.Lines.{Context, Cause}
 use Rattle.kc_text.specs.Lines.{left}
 use Rattle.kc_read.specs.Numbering.{place_numbered}
-use Rattle.kc_read.specs.Progress.{effect_view, naming_cause, IsEntered, IsFrame, IsInside, IsProgress, IsState, IsTaken, IsBegun, defined_after, entry_after, ids_match, named, openers_after}
+use Rattle.kc_read.specs.Progress.{effect_view, IsEntered, IsFrame, IsInside, IsProgress, IsState, IsTaken, IsBegun, defined_after, entry_after, ids_match, openers_after}
 use Rattle.kc_read.specs.Expanded.{IsNamed}
 use Rattle.kc_read.specs.Reads.{line_view, statement_view}
 use Rattle.kc_read.specs.LineReads.{IsMade}
 use Rattle.kc_read.specs.Statements.{Numbered, Placed, Written, statement_words}
 use Rattle.kc_read.proofs.BlockLemmas.{blocks_of_openers, openers_push}
 use Rattle.kc_read.proofs.ListLemmas.{last_of-map, last_of-push, list_any-map, map-push}
-use Rattle.kc_read.proofs.NameLemmas.{match_same, named_if, named_later, named_of, named_or}
+use Rattle.kc_read.proofs.NameLemmas.{defining_same, match_same, named_if, named_later, named_or, numbers_after}
 use Rattle.kc_read.proofs.ShapeLemmas.{effect_by, made_name, made_shape, or_none, shape}
 
 abbrev placed : Around → ℕ → Written → Placed Written
@@ -51,8 +51,8 @@ frame_push a own f g x n i e_file e_depth e_choice e_blocks e_entry = record {
       ∙ ap (λ l. entry_of (last_other l)) (sym (map-push (λ l. l.statement) own (placed a n x)));
 }
 
-frame_taken : (a : Around) (own : List (Placed Written)) (f g : Frame) (p q : Progress) (names : List (List ℕ)) (v : Numbered) (x : Written) (n : ℕ) → IsFrame a own f → shape v ≡ shape x → IsTaken names v n f g p q → IsFrame a (with_line own a n x) g
-frame_taken a own f g p q names v x n i e t =
+frame_taken : (a : Around) (own : List (Placed Written)) (f g : Frame) (p q : Progress) (v : Numbered) (x : Written) (n : ℕ) → IsFrame a own f → shape v ≡ shape x → IsTaken v n f g p q → IsFrame a (with_line own a n x) g
+frame_taken a own f g p q v x n i e t =
     frame_push a own f g x n i t.file t.depth t.in_choice
     (t.blocks ∙ ap (λ b. openers_after b n f.blocks.items) (ap (λ z. z.0) e))
     (t.entry ∙ ap (λ b. cond b f.entry (entry_of (Some v))) (ap (λ z. z.1) e) ∙ ap (λ y. cond (is_attribute x) f.entry y) (ap (λ z. z.2) e))
@@ -113,7 +113,7 @@ modules_of_push ss x =
 words_push : (ss : List Written) (x : Written) → flat_map statement_words ss ++ statement_words x ≡ flat_map statement_words (ss ++ x ∷ [])
 words_push ss x = ap (λ ws. flat_map statement_words ss ++ ws) (sym (append-nil (statement_words x))) ∙ sym (flat_map-append statement_words ss (x ∷ []))
 
-progress_taken : (first : List (List ℕ)) (modules : Option SymId) (known names : List (List ℕ)) (a : Around) (own : List (Placed Written)) (log : Log) (f g : Frame) (p q : Progress) (s : Statement) (x : Written) (n : ℕ) → IsProgress first modules known log p → IsFrame a own f → IsMade modules known names s x → IsTaken names (statement_view s) n f g p q → IsProgress first modules names (logged log a n x) q
+progress_taken : (first : List (List ℕ)) (modules : Option SymId) (known names : List (List ℕ)) (a : Around) (own : List (Placed Written)) (log : Log) (f g : Frame) (p q : Progress) (s : Statement) (x : Written) (n : ℕ) → IsProgress first modules known log p → IsFrame a own f → IsMade modules known names s x → IsTaken (statement_view s) n f g p q → IsProgress first modules names (logged log a n x) q
 progress_taken first modules known names a own log f g p q s x n i fr m t =
     let ss = statements log.lines in
     let later_names : Extends known names = mentioned_extends known names (statement_words x) m.mentions in
@@ -130,8 +130,10 @@ progress_taken first modules known names a own log f g p q s x n i fr m t =
       mentions = mentioned_on first known names (flat_map statement_words ss) (statement_words x) i.mentions m.mentions ∙ ap (all_mentioned first) (words_push ss x ∙ ap (flat_map statement_words) (sym pushed));
       counted = t.counted ∙ i.counted;
       defined_is =
-          t.defined_is ∙ ap (defined_after p.defined) (named_of names (name_at (statement_view s)) (name_at x) name)
-          ∙ ap (λ ds. defined_after ds (name_at x)) i.defined_is ∙ defined_push ss x ∙ ap defined (sym pushed);
+          λ later e.
+          t.defined_is
+          ∙ numbers_after known names p.defined (defined ss) (name_at (statement_view s)) (name_at x) later_names i.defined_is name later e
+          ∙ ap (map (λ w. symbol (number_of later w))) (defined_push ss x ∙ ap defined (sym pushed));
       config =
           subst (λ o. IsNamed names o (last_of (definitions (statements (log.lines ++ placed a n x ∷ []))))) (sym t.config)
           (subst (IsNamed names (option_or (name_at (statement_view s)) p.config)) (last_definition_push ss x ∙ ap (λ l. last_of (definitions l)) (sym pushed))
@@ -143,10 +145,10 @@ progress_taken first modules known names a own log f g p q s x n i fr m t =
           (named_if names (is_modules x) p.config (last_of (definitions ss)) config_now)));
     }
 
-pub state_taken : (first : List (List ℕ)) (modules : Option SymId) (known names : List (List ℕ)) (a : Around) (own : List (Placed Written)) (log : Log) (f g : Frame) (p q : Progress) (s : Statement) (x : Written) (n : ℕ) → IsState first modules known a own log p f → IsMade modules known names s x → IsTaken names (statement_view s) n f g p q → IsState first modules names a (with_line own a n x) (logged log a n x) q g
+pub state_taken : (first : List (List ℕ)) (modules : Option SymId) (known names : List (List ℕ)) (a : Around) (own : List (Placed Written)) (log : Log) (f g : Frame) (p q : Progress) (s : Statement) (x : Written) (n : ℕ) → IsState first modules known a own log p f → IsMade modules known names s x → IsTaken (statement_view s) n f g p q → IsState first modules names a (with_line own a n x) (logged log a n x) q g
 state_taken first modules known names a own log f g p q s x n i m t = record {
   progress = progress_taken first modules known names a own log f g p q s x n i.progress i.frame m t;
-  frame = frame_taken a own f g p q names (statement_view s) x n i.frame (made_shape modules known names s x m) t;
+  frame = frame_taken a own f g p q (statement_view s) x n i.frame (made_shape modules known names s x m) t;
   files = ap (λ fs. map (λ f. f.value.items) fs.items) t.open_files ∙ i.files;
 }
 
@@ -172,7 +174,7 @@ state_inside first modules names a own log f g p q name bytes counted i n t c =
         lines = λ later e. ap (λ ls. map line_view ls.items) t.lines ∙ i.progress.lines later e;
         mentions = i.progress.mentions;
         counted = t.counted_is ∙ c ∙ ap (λ k. k + lines_of bytes) i.progress.counted;
-        defined_is = t.defined_is ∙ i.progress.defined_is;
+        defined_is = λ later e. t.defined_is ∙ i.progress.defined_is later e;
         config = subst (λ o. IsNamed names o (last_of (definitions (statements log.lines)))) (sym t.config) i.progress.config;
         modules_is = subst (λ o. IsNamed names o (modules_of (statements log.lines))) (sym t.modules_is) i.progress.modules_is;
       };
@@ -192,14 +194,15 @@ state_inside first modules names a own log f g p q name bytes counted i n t c =
     }
 
 -- what a statement may not do
-pub effect_same : (first : List (List ℕ)) (modules : Option SymId) (known names : List (List ℕ)) (a : Around) (own : List (Placed Written)) (log : Log) (f : Frame) (p : Progress) (s : Statement) (x : Written) → IsState first modules known a own log p f → IsMade modules known names s x → effect_view names (statement_view s) f p ≡ effect_cause a own log x
+pub effect_same : (first : List (List ℕ)) (modules : Option SymId) (known names : List (List ℕ)) (a : Around) (own : List (Placed Written)) (log : Log) (f : Frame) (p : Progress) (s : Statement) (x : Written) → IsState first modules known a own log p f → IsMade modules known names s x → effect_view (statement_view s) f p ≡ effect_cause a own log x
 effect_same first modules known names a own log f p s x i m =
     let blocks : map (λ o. o.block) f.blocks.items ≡ open_blocks (statements own) = ap (map (λ o. o.block)) i.frame.blocks ∙ blocks_of_openers own in
     let mapped : length (map (λ o. o.block) f.blocks.items) ≡ length f.blocks.items = simp length-map in
     let many : length f.blocks.items ≡ length (open_blocks (statements own)) = sym mapped ∙ ap length blocks in
-    let name : named names (statement_view s) ≡ name_at x = named_of names (name_at (statement_view s)) (name_at x) (made_name modules known names s x m) in
+    let later_names : Extends known names = mentioned_extends known names (statement_words x) m.mentions in
+    let defining = defining_same known names p.defined (defined (statements log.lines)) (name_at (statement_view s)) (name_at x) later_names i.progress.defined_is (made_name modules known names s x m) in
     let depth : f.depth + length f.blocks.items ≡ length a.blocks + length (open_blocks (statements own)) = ap (λ k. k + length f.blocks.items) i.frame.depth ∙ ap (λ k. length a.blocks + k) many in
-    (λ j. option_or (naming_cause (i.progress.defined_is j) (name j)) (opener_cause (depth j) (ap (λ z. z.0) (made_shape modules known names s x m) j)))
+    (λ j. option_or (defining j) (opener_cause (depth j) (ap (λ z. z.0) (made_shape modules known names s x m) j)))
     ∙ effect_by a own log x
 
 -- as the root file is opened
@@ -209,7 +212,7 @@ state_begun modules names root bytes counted f p b c = record {
     lines = λ later e. ap (map line_view) b.lines;
     mentions = refl;
     counted = b.counted_is ∙ c;
-    defined_is = b.defined_is;
+    defined_is = λ later e. b.defined_is;
     config = subst (λ o. IsNamed names o None) (sym b.config) tt;
     modules_is = subst (λ o. IsNamed names o None) (sym b.modules_is) tt;
   };

@@ -1,8 +1,8 @@
 -- Trusted: The expanded list that was read.
-use Rattle.std.specs.Prelude.{◌≡◌, ℕ, List, map, length, Option, Some, None}
+use Rattle.std.specs.Prelude.{◌≡◌, ℕ, List, map, Option, Some, None}
 use Rattle.std.specs.List.{flat_map}
 use Rattle.kc_expr.specs.declared.expression.SymId.{SymId}
-use Rattle.kc_expr.specs.Names.{all_mentioned, IsNumber}
+use Rattle.kc_expr.specs.Names.{all_mentioned, symbol, IsNumber}
 use Rattle.kc_read.specs.declared.expansion.Expansion.{Expansion}
 use Rattle.kc_read.specs.Blocks.{modules_of}
 use Rattle.kc_read.specs.Expansion.{Log, statements, defined}
@@ -17,10 +17,13 @@ IsNamed names None (Some n) = ⊥
 IsNamed names (Some id) None = ⊥
 IsNamed names (Some id) (Some n) = IsNumber names n id
 
+-- the numbers of these names, one after another
+abbrev pub AreNumbers : List (List ℕ) → List SymId → List (List ℕ) → Type 0
+AreNumbers names ids ns = ForLater names (λ number. ids ≡ map (λ n. symbol (number n)) ns)
+
 -- the expanded list that was read: the names stood at first, and are names now
 pub record IsExpansion (first : List (List ℕ)) (modules : Option SymId) (names : List (List ℕ)) (log : Log) (e : Expansion) : Type 0 where
   pub lines : ForLater names (λ number. map line_view e.lines.items ≡ map (place_numbered modules number) log.lines)
   pub mentions : names ≡ all_mentioned first (flat_map statement_words (statements log.lines))
-  pub defined_is : e.defined ≡ defined (statements log.lines)
-  pub symbols : e.symbols ≡ length (defined (statements log.lines))
+  pub defined_is : AreNumbers names e.defined (defined (statements log.lines))
   pub modules_is : IsNamed names e.modules (modules_of (statements log.lines))

@@ -1,6 +1,7 @@
 -- Trusted: The expanded list: the statements of a file, with those of a sourced file in place of its `source` line.
 use Rattle.std.specs.Prelude.{◌≡◌, ◌≢◌, ℕ, ◌+◌, ◌-◌, List, [], ◌∷◌, ◌++◌, length, map, Bool, true, false, ◌||◌, nat_le, nat_lt, codes, Option, Some, None, Result, Ok, Err, if◌then◌else◌, MatchOption}
 use Rattle.std.specs.List.{list_any}
+use Rattle.kc_read.specs.Limits.{most_blocks, most_files, most_lines, most_symbols}
 use Rattle.kc_text.specs.declared.faults.TextFault.{TextFault}
 use Rattle.kc_text.specs.declared.faults.TextFault.TheVariants as fault
 use Rattle.kc_text.specs.Help.{after_help}
@@ -68,15 +69,15 @@ abbrev pub defined : List Written → List (List ℕ)
 defined ss = all_mentioned [] (definitions ss)
 
 abbrev pub opener_cause : ℕ → Bracket → Option Cause
-opener_cause depth (Opens b) = if nat_le 64 depth then Some (cause code.TooDeep) else None
+opener_cause depth (Opens b) = if nat_le most_blocks depth then Some (cause code.TooDeep) else None
 opener_cause depth Closes = None
 opener_cause depth NoBracket = None
 
--- a name is defined, where these names are: the 65,536th may not be
+-- a name is defined, where these names are: there may not be too many
 abbrev pub symbol_cause : List (List ℕ) → List ℕ → Option Cause
-symbol_cause names n = if nat_lt 65535 (length (mention names n)) then Some (cause code.TooManySymbols) else None
+symbol_cause names n = if nat_lt most_symbols (length (mention names n)) then Some (cause code.TooManySymbols) else None
 
--- what the statement may not do here: open a 65th block, define a 65,536th symbol
+-- what the statement may not do here: open a block too many, define a symbol too many
 abbrev pub effect_cause : Around → List (Placed Written) → Log → Written → Option Cause
 effect_cause a own log (ConfigLine n) = symbol_cause (defined (statements log.lines)) n
 effect_cause a own log s = opener_cause (length a.blocks + length (open_blocks (statements own))) (bracket s)
@@ -90,13 +91,13 @@ of_file c name = record { code = c; detail = name }
 -- why a file with these bytes, or with none, cannot be opened; n physical lines are counted before
 abbrev pub bytes_cause : List ℕ → ℕ → Option (List ℕ) → Option Cause
 bytes_cause name n None = Some (of_file code.NoFile name)
-bytes_cause name n (Some bytes) = if nat_lt 1000000 (n + lines_of bytes) then Some (cause code.TooManyLines) else None
+bytes_cause name n (Some bytes) = if nat_lt most_lines (n + lines_of bytes) then Some (cause code.TooManyLines) else None
 
 -- why a file may not be sourced here, where these files are open
 abbrev pub sourcing_cause : Files → List (List ℕ) → ℕ → List ℕ → Option Cause
 sourcing_cause files names n name =
     if list_any (same_name name) names then Some (of_file code.InclusionLoop name)
-    else if nat_le 64 (length names) then Some (cause code.TooDeep)
+    else if nat_le most_files (length names) then Some (cause code.TooDeep)
     else bytes_cause name n (files name)
 
 abbrev pub source_cause : Files → Around → ℕ → List ℕ → Option Cause

@@ -2,6 +2,7 @@
 pub mod Blocks
 pub mod Expansion
 pub mod Files
+pub mod Limits
 pub mod Lines
 pub mod Openings
 pub mod Statements

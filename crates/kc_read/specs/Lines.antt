@@ -1,13 +1,14 @@
 -- Trusted: How a line of tokens is read.
-use Rattle.std.specs.Prelude.{◌≡◌, ℕ, ◌≤◌, ◌⊎◌, List, [], ◌∷◌, length, Bool, true, false, not, ◌||◌, ◌&&◌, ◌==◌, nat_le, codes, Option, Some, None, Result, Ok, Err, if◌then◌else◌, MatchResult, drop}
+use Rattle.std.specs.Prelude.{◌≡◌, ℕ, ◌≤◌, ◌⊎◌, List, [], ◌∷◌, ◌++◌, length, Bool, true, false, not, ◌||◌, ◌&&◌, ◌==◌, nat_le, codes, Option, Some, None, Result, Ok, Err, if◌then◌else◌, MatchResult, drop}
 use Rattle.std.specs.List.{list_any, list_all}
-use Rattle.std.specs.Char.{is_ascii_alphanumeric}
+use Rattle.kc_text.specs.Bytes.{byte}
 use Rattle.kc_text.specs.Lexemes.{Lexeme, AWord, AQuoted, AnOp}
 use Rattle.kc_text.specs.Escapes.{unescape}
 use Rattle.kc_expr.specs.declared.expression.Kind.{Kind}
 use Rattle.kc_expr.specs.declared.expression.Kind.TheVariants as kind
 use Rattle.kc_expr.specs.Grammar.{Disjunction, Atom, WordAtom, QuotedAtom, spell_or, levels_or, terminals, LongestFront, if_word, is_letter}
-use Rattle.kc_expr.specs.Names.{same_name}
+use Rattle.kc_expr.specs.Limits.{longest_name, most_levels}
+use Rattle.kc_expr.specs.Names.{is_name_byte, same_name}
 use Rattle.kc_expr.specs.Parsing.{IsNoExpression, IsTooDeep}
 use Rattle.kc_expr.specs.declared.parse.ExprFault.{ExprFault}
 use Rattle.kc_expr.specs.declared.parse.ExprFault.TheVariants as expr
@@ -38,67 +39,76 @@ misplaced_cause = cause code.Misplaced
 abbrev pub left_out : List ℕ → Cause
 left_out w = record { code = code.LeftOut; detail = w }
 
--- the words that begin a line
-abbrev pub block_word : List ℕ → Option Keyword
-block_word w =
-    if same_name w (codes "config") then Some key.Config
-    else if same_name w (codes "menuconfig") then Some key.Config
-    else if same_name w (codes "if") then Some key.If
-    else if same_name w (codes "endif") then Some key.EndIf
-    else if same_name w (codes "comment") then Some key.Comment
-    else if same_name w (codes "source") then Some key.Source
-    else if same_name w (codes "menu") then Some key.Menu
-    else if same_name w (codes "endmenu") then Some key.EndMenu
-    else if same_name w (codes "choice") then Some key.Choice
-    else if same_name w (codes "endchoice") then Some key.EndChoice
-    else if same_name w (codes "mainmenu") then Some key.MainMenu
-    else None
+-- the keyword of a word in a table of words, each with its keyword
+abbrev pub keyword_in : List (List ℕ × Keyword) → List ℕ → Option Keyword
+keyword_in [] w = None
+keyword_in (k ∷ more) w = if same_name w k.0 then Some k.1 else keyword_in more w
 
-abbrev pub type_word : List ℕ → Option Keyword
-type_word w =
-    if same_name w (codes "bool") then Some (key.Type kind.Bool)
-    else if same_name w (codes "tristate") then Some (key.Type kind.Tristate)
-    else if same_name w (codes "string") then Some (key.Type kind.Str)
-    else if same_name w (codes "int") then Some (key.Type kind.Int)
-    else if same_name w (codes "hex") then Some (key.Type kind.Hex)
-    else if same_name w (codes "def_bool") then Some (key.Def kind.Bool)
-    else if same_name w (codes "def_tristate") then Some (key.Def kind.Tristate)
-    else None
+-- the words that begin a line: of blocks and entries
+abbrev pub block_words : List (List ℕ × Keyword)
+block_words =
+    (codes "config", key.Config) ∷
+    (codes "menuconfig", key.Config) ∷
+    (codes "if", key.If) ∷
+    (codes "endif", key.EndIf) ∷
+    (codes "comment", key.Comment) ∷
+    (codes "source", key.Source) ∷
+    (codes "menu", key.Menu) ∷
+    (codes "endmenu", key.EndMenu) ∷
+    (codes "choice", key.Choice) ∷
+    (codes "endchoice", key.EndChoice) ∷
+    (codes "mainmenu", key.MainMenu) ∷
+    []
 
-abbrev pub attribute_word : List ℕ → Option Keyword
-attribute_word w =
-    if same_name w (codes "default") then Some key.Default
-    else if same_name w (codes "depends") then Some key.Depends
-    else if same_name w (codes "help") then Some key.Help
-    else if same_name w (codes "select") then Some key.Select
-    else if same_name w (codes "prompt") then Some key.Prompt
-    else if same_name w (codes "imply") then Some key.Imply
-    else if same_name w (codes "range") then Some key.Range
-    else if same_name w (codes "visible") then Some key.Visible
-    else if same_name w (codes "modules") then Some key.Modules
-    else if same_name w (codes "option") then Some key.«Option»
-    else if same_name w (codes "---help---") then Some key.Help
-    else None
+-- of types
+abbrev pub type_words : List (List ℕ × Keyword)
+type_words =
+    (codes "bool", key.Type kind.Bool) ∷
+    (codes "tristate", key.Type kind.Tristate) ∷
+    (codes "string", key.Type kind.Str) ∷
+    (codes "int", key.Type kind.Int) ∷
+    (codes "hex", key.Type kind.Hex) ∷
+    (codes "def_bool", key.Def kind.Bool) ∷
+    (codes "def_tristate", key.Def kind.Tristate) ∷
+    []
 
-abbrev pub left_out_word : List ℕ → Option Keyword
-left_out_word w =
-    if same_name w (codes "rsource") then Some key.LeftOut
-    else if same_name w (codes "osource") then Some key.LeftOut
-    else if same_name w (codes "orsource") then Some key.LeftOut
-    else if same_name w (codes "boolean") then Some key.LeftOut
-    else if same_name w (codes "def_int") then Some key.LeftOut
-    else if same_name w (codes "def_hex") then Some key.LeftOut
-    else if same_name w (codes "def_string") then Some key.LeftOut
-    else if same_name w (codes "transitional") then Some key.LeftOut
-    else if same_name w (codes "optional") then Some key.LeftOut
-    else None
+-- of attributes
+abbrev pub attribute_words : List (List ℕ × Keyword)
+attribute_words =
+    (codes "default", key.Default) ∷
+    (codes "depends", key.Depends) ∷
+    (codes "help", key.Help) ∷
+    (codes "select", key.Select) ∷
+    (codes "prompt", key.Prompt) ∷
+    (codes "imply", key.Imply) ∷
+    (codes "range", key.Range) ∷
+    (codes "visible", key.Visible) ∷
+    (codes "modules", key.Modules) ∷
+    (codes "option", key.«Option») ∷
+    (codes "---help---", key.Help) ∷
+    []
 
-abbrev pub first_some : Option Keyword → Option Keyword → Option Keyword
-first_some None o = o
-first_some (Some k) o = Some k
+-- of what is left out
+abbrev pub left_out_words : List (List ℕ × Keyword)
+left_out_words =
+    (codes "rsource", key.LeftOut) ∷
+    (codes "osource", key.LeftOut) ∷
+    (codes "orsource", key.LeftOut) ∷
+    (codes "boolean", key.LeftOut) ∷
+    (codes "def_int", key.LeftOut) ∷
+    (codes "def_hex", key.LeftOut) ∷
+    (codes "def_string", key.LeftOut) ∷
+    (codes "transitional", key.LeftOut) ∷
+    (codes "optional", key.LeftOut) ∷
+    []
 
+-- all of them
+abbrev pub keyword_words : List (List ℕ × Keyword)
+keyword_words = attribute_words ++ type_words ++ block_words ++ left_out_words
+
+-- the keyword of a word, if it is one
 abbrev pub keyword_of : List ℕ → Option Keyword
-keyword_of w = first_some (attribute_word w) (first_some (type_word w) (first_some (block_word w) (left_out_word w)))
+keyword_of w = keyword_in keyword_words w
 
 -- Whether the line stands in a right place.
 
@@ -198,9 +208,9 @@ pub record StartsExpression (ts : List Lexeme) (f : Front) : Type 0 where
   pub used : ℕ
   pub rest_is : f.rest ≡ drop used ts
   pub longest : LongestFront (terminals ts) (spell_or f.tree) (terminals f.rest)
-  pub within : levels_or f.tree ≤ 64
+  pub within : levels_or f.tree ≤ most_levels
 
--- it is none, or opens a 65th level
+-- it is none, or opens a level too many
 abbrev pub ExpressionFault : List Lexeme → Cause → Type 0
 ExpressionFault ts c = (IsNoExpression (terminals ts) × (c ≡ syntax_cause)) ⊎ (IsTooDeep (terminals ts) × (c ≡ cause code.TooDeep))
 
@@ -284,7 +294,7 @@ ReadsTextLine make ts = After (text_of ts) (λ t r. r ≡ finish (make t) (drop 
 
 -- `*`, `?` or `[` stands in the text
 abbrev pub is_pattern : List ℕ → Bool
-is_pattern t = list_any (λ b. b == 42 || b == 63 || b == 91) t
+is_pattern t = list_any (λ b. b == byte "*" || b == byte "?" || b == byte "[") t
 
 abbrev pub plain_text : List ℕ → Result (List ℕ) Cause
 plain_text t = if is_pattern t then Err (left_out (codes "pattern")) else Ok t
@@ -292,12 +302,9 @@ plain_text t = if is_pattern t then Err (left_out (codes "pattern")) else Ok t
 abbrev pub ReadsSource : List Lexeme → Result Written Cause → Type 0
 ReadsSource ts = After (text_of ts) (λ t. After (plain_text t) (λ u r. r ≡ finish (SourceLine u) (drop 1 ts)))
 
--- 1 to 255 bytes of `A` to `Z`, `a` to `z`, `0` to `9` and `_`, and none of the words n, m, y and if
-abbrev pub is_name_byte : ℕ → Bool
-is_name_byte b = is_ascii_alphanumeric b || b == 95
-
+-- one byte or more that may stand in a name, not too many, and none of the words n, m, y and if
 abbrev pub is_good_name : List ℕ → Bool
-is_good_name w = if same_name w if_word || is_letter w then false else (nat_le 1 (length w) && nat_le (length w) 255 && list_all is_name_byte w)
+is_good_name w = if same_name w if_word || is_letter w then false else (nat_le 1 (length w) && nat_le (length w) longest_name && list_all is_name_byte w)
 
 abbrev pub good_name : List ℕ → Result Written Cause
 good_name w = if is_good_name w then Ok (ConfigLine w) else Err (record { code = code.BadName; detail = w })

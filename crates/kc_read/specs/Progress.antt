@@ -1,13 +1,15 @@
 -- For proofs: What the reader of files remembers of what it has read.
-use Rattle.std.specs.Prelude.{◌≡◌, ◌≢◌, ℕ, ◌+◌, ◌<◌, ◌≤◌, List, [], ◌∷◌, ◌++◌, map, length, Bool, true, false, Option, Some, None, Result, Ok, Err, option_map, slice_get, take, ◌-◌, ◌==◌, ◌||◌, if◌then◌else◌, MatchOption, ⊤}
+use Rattle.std.specs.Prelude.{◌≡◌, ◌≢◌, ℕ, ◌+◌, ◌≤◌, List, [], ◌∷◌, ◌++◌, map, length, Bool, true, false, Option, Some, None, Result, Ok, Err, option_map, slice_get, take, ◌-◌, ◌==◌, ◌||◌, if◌then◌else◌, nat_lt, ⊤}
 use Rattle.std.specs.List.{filter_map, flat_map, list_any}
-use Rattle.std.specs.Option.{option_or, option_and_then}
+use Rattle.std.specs.Option.{option_or}
 use Rattle.std.specs.declared.alloc.Global.{Global}
 use Rattle.std.specs.declared.vec.Vec.{Vec}
 use Rattle.std.specs.declared.rc.Rc.{Rc}
+use Rattle.kc_read.specs.Limits.{most_blocks, most_files, most_lines, most_symbols}
 use Rattle.kc_text.specs.Lines.{Left}
 use Rattle.kc_expr.specs.declared.expression.SymId.{SymId}
 use Rattle.kc_expr.specs.Names.{all_mentioned, mention}
+use Rattle.kc_expr.specs.Order.{placed}
 use Rattle.kc_read.specs.declared.frame.Frame.{Frame}
 use Rattle.kc_read.specs.declared.progress.Progress.{Progress}
 use Rattle.kc_read.specs.declared.refusal.Code.TheVariants as code
@@ -23,7 +25,7 @@ use Rattle.kc_read.specs.Numbering.{place_numbered}
 use Rattle.kc_read.specs.Reads.{ForLater, line_view}
 use Rattle.kc_read.specs.Statements.{Statement, Written, Numbered, Placed, statement_words}
 use Rattle.kc_read.specs.Steps.{refusal_view}
-use Rattle.kc_read.specs.Expanded.{IsNamed}
+use Rattle.kc_read.specs.Expanded.{AreNumbers, IsNamed}
 
 -- the last defined name after one more statement
 abbrev pub name_after : {E L S : Type 0} → Option S → Statement E L S → Option S
@@ -48,9 +50,9 @@ openers_after NoBracket n bs = bs
 abbrev pub entry_after : {E L S : Type 0} → Entry → Statement E L S → Entry
 entry_after now s = if is_attribute s then now else entry_of (Some s)
 
--- no more than 64 blocks are open
+-- no more blocks are open than there may be
 abbrev pub IsShallow : Frame → Type 0
-IsShallow f = f.depth + length f.blocks.items ≤ 64
+IsShallow f = f.depth + length f.blocks.items ≤ most_blocks
 
 -- what a file's reader knows: own are the file's statements so far
 pub record IsFrame (a : Around) (own : List (Placed Written)) (f : Frame) : Type 0 where
@@ -80,7 +82,7 @@ pub record IsProgress (first : List (List ℕ)) (modules : Option SymId) (names 
   pub lines : ForLater names (λ number. map line_view p.lines.items ≡ map (place_numbered modules number) log.lines)
   pub mentions : names ≡ all_mentioned first (flat_map statement_words (statements log.lines))
   pub counted : p.counted ≡ log.counted
-  pub defined_is : p.defined ≡ defined (statements log.lines)
+  pub defined_is : AreNumbers names p.defined (defined (statements log.lines))
   pub config : IsNamed names p.config (last_of (definitions (statements log.lines)))
   pub modules_is : IsNamed names p.modules (modules_of (statements log.lines))
 
@@ -92,25 +94,17 @@ pub record IsState (first : List (List ℕ)) (modules : Option SymId) (names : L
   pub frame : IsFrame a own f
   pub files : open_names p ≡ a.open_files
 
--- the defined names are counted, and no more than there may be
-pub record IsCounted (p : Progress) : Type 0 where
-  pub count : p.symbols ≡ length p.defined
-  pub within : length p.defined ≤ 65535
+-- no more symbols are defined than there may be
+abbrev pub IsCounted : Progress → Type 0
+IsCounted p = length p.defined ≤ most_symbols
 
 -- as many physical lines, symbols and files as there may be
 pub record IsBounded (p : Progress) : Type 0 where
-  pub lines : p.counted ≤ 1000000
+  pub lines : p.counted ≤ most_lines
   pub symbols : IsCounted p
-  pub files : length p.open_files.items ≤ 64
+  pub files : length p.open_files.items ≤ most_files
 
--- the symbol of a config line has a name
-abbrev pub IsKnown : List (List ℕ) → Numbered → Type 0
-IsKnown names s = MatchOption (name_at s) (Unit {0}) (λ id. id.0 < length names)
-
--- the name that a statement defines
-abbrev pub named : List (List ℕ) → Numbered → Option (List ℕ)
-named names s = option_and_then (λ id. slice_get names id.0) (name_at s)
-
+-- the defined names once this one is defined, where there is one, and why it may not be
 abbrev pub defined_after : List (List ℕ) → Option (List ℕ) → List (List ℕ)
 defined_after ds None = ds
 defined_after ds (Some n) = mention ds n
@@ -119,9 +113,21 @@ abbrev pub naming_cause : List (List ℕ) → Option (List ℕ) → Option Cause
 naming_cause ds None = None
 naming_cause ds (Some n) = symbol_cause ds n
 
+-- the same of the symbols
+abbrev pub order_after : List SymId → Option SymId → List SymId
+order_after ids None = ids
+order_after ids (Some id) = placed ids id
+
+abbrev pub placing_cause : List SymId → SymId → Option Cause
+placing_cause ids id = if nat_lt most_symbols (length (placed ids id)) then Some (cause code.TooManySymbols) else None
+
+abbrev pub defining_cause : List SymId → Option SymId → Option Cause
+defining_cause ids None = None
+defining_cause ids (Some id) = placing_cause ids id
+
 -- a statement was seen: what is remembered of the symbols
-pub record IsSeen (names : List (List ℕ)) (s : Numbered) (old new : Progress) : Type 0 where
-  pub defined_is : new.defined ≡ defined_after old.defined (named names s)
+pub record IsSeen (s : Numbered) (old new : Progress) : Type 0 where
+  pub defined_is : new.defined ≡ order_after old.defined (name_at s)
   pub config : new.config ≡ name_after old.config s
   pub modules_is : new.modules ≡ option_or old.modules (if is_modules s then old.config else None)
   pub lines : new.lines ≡ old.lines
@@ -129,8 +135,8 @@ pub record IsSeen (names : List (List ℕ)) (s : Numbered) (old new : Progress) 
   pub open_files : new.open_files ≡ old.open_files
 
 -- a statement was taken
-pub record IsTaken (names : List (List ℕ)) (s : Numbered) (line : ℕ) (f g : Frame) (old new : Progress) : Type 0 where
-  pub defined_is : new.defined ≡ defined_after old.defined (named names s)
+pub record IsTaken (s : Numbered) (line : ℕ) (f g : Frame) (old new : Progress) : Type 0 where
+  pub defined_is : new.defined ≡ order_after old.defined (name_at s)
   pub config : new.config ≡ name_after old.config s
   pub modules_is : new.modules ≡ option_or old.modules (if is_modules s then old.config else None)
   pub lines : map line_view new.lines.items ≡ map line_view old.lines.items ++ record { file = f.file.value.items; line = line; statement = s } ∷ []
@@ -143,8 +149,8 @@ pub record IsTaken (names : List (List ℕ)) (s : Numbered) (line : ℕ) (f g : 
   pub entry : g.entry ≡ entry_after f.entry s
 
 -- what a statement may not do
-abbrev pub effect_view : List (List ℕ) → Numbered → Frame → Progress → Option Cause
-effect_view names s f p = option_or (naming_cause p.defined (named names s)) (opener_cause (f.depth + length f.blocks.items) (bracket s))
+abbrev pub effect_view : Numbered → Frame → Progress → Option Cause
+effect_view s f p = option_or (defining_cause p.defined (name_at s)) (opener_cause (f.depth + length f.blocks.items) (bracket s))
 
 -- what is known inside a file that is sourced in another one
 pub record IsInside (f : Frame) (name : List ℕ) (g : Frame) : Type 0 where

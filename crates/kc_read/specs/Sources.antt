@@ -46,4 +46,4 @@ Holds text bytes = (before after : List ℕ) × (text ≡ before ++ bytes ++ aft
 -- neither the bytes of `source` nor a `\` stand in the text
 pub record IsSilent (text : List ℕ) : Type 0 where
   pub no_word : Holds text (codes "source") → ⊥
-  pub no_backslash : Holds text (92 ∷ []) → ⊥
+  pub no_backslash : Holds text (codes "\\") → ⊥

@@ -44,20 +44,15 @@ Written = Statement Disjunction Atom (List ℕ)
 abbrev pub Numbered : Type 0
 Numbered = Statement Form Leaf SymId
 
+-- a value: a plain m is m
+abbrev pub value_form : (List ℕ → ℕ) → Disjunction → Form
+value_form number d = meaning_or None number d
+
+-- For a modules symbol, where names have these numbers.
 module _ (modules : Option SymId) (number : List ℕ → ℕ) where
   -- a condition: a plain m in it asks for the modules symbol too
   abbrev pub condition_form : Disjunction → Form
   condition_form d = meaning_or modules number d
-
-  -- a value: a plain m is m
-  abbrev pub value_form : Disjunction → Form
-  value_form d = meaning_or None number d
-
-  abbrev pub name_form : List ℕ → SymId
-  name_form n = symbol (number n)
-
-  abbrev pub atom_form : Atom → Leaf
-  atom_form a = leaf number a
 
   -- a prompt's condition: what it asks is not kept
   abbrev pub asked_form : Asked Disjunction → Asked Form
@@ -65,7 +60,7 @@ module _ (modules : Option SymId) (number : List ℕ → ℕ) where
 
   -- the statement with its names numbered
   abbrev pub numbered : Written → Numbered
-  numbered (ConfigLine n) = ConfigLine (name_form n)
+  numbered (ConfigLine n) = ConfigLine (symbol (number n))
   numbered (IfLine e) = IfLine (condition_form e)
   numbered EndIfLine = EndIfLine
   numbered (CommentLine t) = CommentLine t
@@ -77,13 +72,13 @@ module _ (modules : Option SymId) (number : List ℕ → ℕ) where
   numbered (MainMenuLine t) = MainMenuLine t
   numbered (TypeLine k p) = TypeLine k (option_map asked_form p)
   numbered (PromptLine p) = PromptLine (asked_form p)
-  numbered (DefaultLine v w) = DefaultLine (value_form v) (option_map condition_form w)
-  numbered (DefLine k v w) = DefLine k (value_form v) (option_map condition_form w)
+  numbered (DefaultLine v w) = DefaultLine (value_form number v) (option_map condition_form w)
+  numbered (DefLine k v w) = DefLine k (value_form number v) (option_map condition_form w)
   numbered (DependsLine e) = DependsLine (condition_form e)
   numbered (VisibleLine e) = VisibleLine (condition_form e)
-  numbered (SelectLine n w) = SelectLine (name_form n) (option_map condition_form w)
-  numbered (ImplyLine n w) = ImplyLine (name_form n) (option_map condition_form w)
-  numbered (RangeLine a b w) = RangeLine (atom_form a) (atom_form b) (option_map condition_form w)
+  numbered (SelectLine n w) = SelectLine (symbol (number n)) (option_map condition_form w)
+  numbered (ImplyLine n w) = ImplyLine (symbol (number n)) (option_map condition_form w)
+  numbered (RangeLine a b w) = RangeLine (leaf number a) (leaf number b) (option_map condition_form w)
   numbered HelpLine = HelpLine
   numbered ModulesLine = ModulesLine
   numbered IgnoredLine = IgnoredLine

@@ -1,6 +1,7 @@
 //! The expanded list of a root file.
 
 ghost use Rattle.std.specs.Prelude.{◌≡◌, ◌≢◌, ◌≤◌, Err, IfErr, IfOk, Ok, OnOk};
+ghost use Rattle.kc_read.specs.Limits.{most_lines};
 ghost use Rattle.kc_expr.specs.Names.{Extends};
 ghost use Rattle.kc_read.specs.Expansion.{Expands, Log};
 ghost use Rattle.kc_read.specs.Files.{bytes_in};
@@ -19,22 +20,22 @@ use crate::refuse::{memory, refuse};
 use crate::statement::{Entry, Fault};
 use kc_expr::expression::SymId;
 use kc_expr::names::Names;
+use kc_expr::order::SymbolOrder;
 use std::alloc::Global;
 use std::rc::Rc;
 
-/// The expanded list of a root file: its lines, the names of the defined symbols in order of their first definition
-/// and how many they are, and the symbol in whose entry the first `modules` line stands.
+/// The expanded list of a root file: its lines, the defined symbols in order of their first definition, and the symbol
+/// in whose entry the first `modules` line stands.
 #[derive(Drop)]
 pub struct Expansion {
     pub lines: Vec<Line>,
-    pub defined: Names,
-    pub symbols: usize,
+    pub defined: SymbolOrder,
     pub modules: Option<SymId>,
 }
 
 // What is known as the root file is opened.
 fn begin(alloc: Global, root: &[u8], counted: usize) -> Result<(Frame, Progress), Fault<'static>>
-    requires { counted ≤ 1000000 }
+    requires { counted ≤ most_lines }
     ensures begun { IfOk result (λ r. IsBegun root.now counted r.0 r.1) }
     ensures shallow { IfOk result (λ r. IsShallow r.0) }
     ensures bounded { IfOk result (λ r. IsBounded r.1) }
@@ -54,8 +55,7 @@ fn begin(alloc: Global, root: &[u8], counted: usize) -> Result<(Frame, Progress)
     let progress = Progress {
         lines: Vec::new(alloc),
         counted,
-        defined: Names::new(alloc),
-        symbols: 0,
+        defined: SymbolOrder::new(alloc),
         config: None,
         modules: None,
         open_files,
@@ -106,7 +106,6 @@ pub fn expand(
     Ok(Expansion {
         lines: progress.lines,
         defined: progress.defined,
-        symbols: progress.symbols,
         modules: progress.modules,
     })
 }

@@ -1,6 +1,7 @@
 //! Reading a file, and the files that it sources.
 
 ghost use Rattle.std.specs.Prelude.{◌≡◌, ◌≢◌, ◌≤◌, ◌<◌, ◌+◌, ℕ, List, Option, [], ◌∷◌, ◌++◌, None, Some, Ok, Err, false, true, length, map, IfErr, IfOk, OnOk, IsTrue};
+ghost use Rattle.kc_read.specs.Limits.{most_files, most_lines};
 ghost use Rattle.kc_text.specs.Lines.{Left, left};
 ghost use Rattle.std.specs.List.{list_any};
 ghost use Rattle.kc_expr.specs.Names.{Extends, same_name};
@@ -8,7 +9,7 @@ ghost use Rattle.kc_read.specs.declared.refusal.Code.TheVariants.{Memory};
 ghost use Rattle.kc_read.specs.Expansion as spec;
 ghost use Rattle.kc_read.specs.Expansion.{Around, Log, NextStatement, sourcing_cause};
 ghost use Rattle.kc_read.specs.Files.{bytes_in};
-ghost use Rattle.kc_read.specs.Progress.{IsBounded, IsEntered, IsInside, IsKnown, IsNextRead, IsOpenAtEnd, IsReading, IsShallow, IsState, IsStatementRead, IsTaken, effect_view, open_names};
+ghost use Rattle.kc_read.specs.Progress.{IsBounded, IsEntered, IsInside, IsNextRead, IsOpenAtEnd, IsReading, IsShallow, IsState, IsStatementRead, IsTaken, effect_view, open_names};
 ghost use Rattle.kc_read.specs.Reads.{statement_view};
 ghost use Rattle.kc_read.specs.LineReads.{IsFault, IsMade, cause_of};
 ghost use Rattle.kc_read.specs.Statements.{Placed, Written, SourceLine};
@@ -47,9 +48,9 @@ pub fn open<'a, 'b>(
     name: &'b [u8],
     counted: usize,
 ) -> Result<(&'a [u8], usize), Fault<'b>>
-    requires { counted ≤ 1000000 }
+    requires { counted ≤ most_lines }
     ensures bytes { IfOk result (λ r. bytes_in map.now name.now ≡ Some r.0.now) }
-    ensures counted { IfOk result (λ r. (r.1 ≡ counted + spec.lines_of r.0.now) × (r.1 ≤ 1000000)) }
+    ensures counted { IfOk result (λ r. (r.1 ≡ counted + spec.lines_of r.0.now) × (r.1 ≤ most_lines)) }
     ensures allowed { OnOk result (spec.bytes_cause name.now counted (bytes_in map.now name.now) ≡ None) }
     ensures fault { IfErr result (λ f. spec.bytes_cause name.now counted (bytes_in map.now name.now) ≡ Some (cause_of f)) }
 {
@@ -91,8 +92,8 @@ fn open_source<'a, 'b>(
 ) -> Result<(&'a [u8], usize), Fault<'b>>
     requires { IsBounded progress.now }
     ensures bytes { IfOk result (λ r. bytes_in map.now name.now ≡ Some r.0.now) }
-    ensures counted { IfOk result (λ r. (r.1 ≡ progress.now.counted + spec.lines_of r.0.now) × (r.1 ≤ 1000000)) }
-    ensures fewer { OnOk result (length progress.now.open_files.items < 64) }
+    ensures counted { IfOk result (λ r. (r.1 ≡ progress.now.counted + spec.lines_of r.0.now) × (r.1 ≤ most_lines)) }
+    ensures fewer { OnOk result (length progress.now.open_files.items < most_files) }
     ensures allowed { OnOk result (sourcing_cause (bytes_in map.now) (open_names progress.now) progress.now.counted name.now ≡ None) }
     ensures fault { IfErr result (λ f. sourcing_cause (bytes_in map.now) (open_names progress.now) progress.now.counted name.now ≡ Some (cause_of f)) }
 {
@@ -117,20 +118,18 @@ fn take(
     line: u32,
     frame: &mut Frame,
     progress: &mut Progress,
-    names: &Names,
 ) -> Result<(), Fault<'static>>
     requires shallow { IsShallow frame.old }
     requires bounded { IsBounded progress.old }
-    requires known { IsKnown names.now (statement_view statement) }
-    ensures taken { OnOk result (IsTaken names.now (statement_view statement) line frame.old frame.new progress.old progress.new) }
+    ensures taken { OnOk result (IsTaken (statement_view statement) line frame.old frame.new progress.old progress.new) }
     ensures shallow { OnOk result (IsShallow frame.new) }
     ensures file { frame.new.file ≡ frame.old.file }
     ensures bounded { OnOk result (IsBounded progress.new) }
-    ensures allowed { OnOk result (effect_view names.now (statement_view statement) frame.old progress.old ≡ None) }
-    ensures fault { IfErr result (λ f. IsFault f (λ c. effect_view names.now (statement_view statement) frame.old progress.old ≡ Some c)) }
+    ensures allowed { OnOk result (effect_view (statement_view statement) frame.old progress.old ≡ None) }
+    ensures fault { IfErr result (λ f. IsFault f (λ c. effect_view (statement_view statement) frame.old progress.old ≡ Some c)) }
 {
     // Each early end drops the statement by a call: `?` would write out the drop of every kind of statement at each.
-    if let Err(fault) = progress.see(&statement, names) {
+    if let Err(fault) = progress.see(&statement) {
         drop(statement);
         return Err(fault);
     }
@@ -163,8 +162,8 @@ fn enter(
 ) -> Result<Frame, Fault<'static>>
     requires shallow { IsShallow frame.now }
     requires bounded { IsBounded progress.old }
-    requires counted { counted ≤ 1000000 }
-    requires fewer { length progress.old.open_files.items < 64 }
+    requires counted { counted ≤ most_lines }
+    requires fewer { length progress.old.open_files.items < most_files }
     ensures frame { IfOk result (λ f. IsInside frame.now name.items f) }
     ensures progress { OnOk result (IsEntered name.items counted progress.old progress.new) }
     ensures shallow { IfOk result IsShallow }
@@ -288,7 +287,6 @@ fn read_statement(
 ) -> Result<(), Refusal>
     requires shallow { IsShallow frame.old }
     requires bounded { IsBounded progress.old }
-    requires known { IsKnown names.old (statement_view statement) }
     ensures read { (first known : List (List ℕ)) (a : Around) (own : List (Placed Written)) (log : Log) (x : Written) (l m : Left) → IsState first reader.now.modules known a own log progress.old frame.old → IsMade reader.now.modules known names.old statement x → NextStatement l m (spec.context_of a own log) (Ok x) → line ≡ l.number → IsStatementRead (bytes_in reader.now.map.now) first reader.now.modules names.new a l m own log progress.new frame.new result }
     ensures open { OnOk result (progress.new.open_files.items ≡ progress.old.open_files.items) }
     ensures shallow { OnOk result (IsShallow frame.new) }
@@ -298,7 +296,7 @@ fn read_statement(
 {
     match statement {
         Statement::Source(name) => source(reader, name, line, frame, progress, names),
-        other => match take(other, line, frame, progress, names) {
+        other => match take(other, line, frame, progress) {
             Ok(()) => Ok(()),
             Err(fault) => Err(refuse(reader.alloc, fault, &frame.file, line)),
         },

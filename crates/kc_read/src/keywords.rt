@@ -10,7 +10,7 @@ use kc_expr::expression::{Kind, SymId};
 
 // The words that begin statements.
 fn block_word(word: &[u8]) -> Option<Keyword>
-    ensures { result ≡ spec.block_word word.now }
+    ensures { result ≡ spec.keyword_in spec.block_words word.now }
 {
     if word == b"config".as_slice() {
         Some(Keyword::Config)
@@ -41,7 +41,7 @@ fn block_word(word: &[u8]) -> Option<Keyword>
 
 // The words that begin types.
 fn type_word(word: &[u8]) -> Option<Keyword>
-    ensures { result ≡ spec.type_word word.now }
+    ensures { result ≡ spec.keyword_in spec.type_words word.now }
 {
     if word == b"bool".as_slice() {
         Some(Keyword::Type(Kind::Bool))
@@ -64,7 +64,7 @@ fn type_word(word: &[u8]) -> Option<Keyword>
 
 // The words that begin other attributes.
 fn attribute_word(word: &[u8]) -> Option<Keyword>
-    ensures { result ≡ spec.attribute_word word.now }
+    ensures { result ≡ spec.keyword_in spec.attribute_words word.now }
 {
     if word == b"default".as_slice() {
         Some(Keyword::Default)
@@ -95,7 +95,7 @@ fn attribute_word(word: &[u8]) -> Option<Keyword>
 
 // The words that are left out.
 fn left_out_word(word: &[u8]) -> Option<Keyword>
-    ensures { result ≡ spec.left_out_word word.now }
+    ensures { result ≡ spec.keyword_in spec.left_out_words word.now }
 {
     if word == b"rsource".as_slice() {
         Some(Keyword::LeftOut)

@@ -3,7 +3,7 @@
 ghost use Rattle.std.specs.Prelude.{◌≡◌, ◌≤◌, ◌+◌, [], length, IfOk, IfErr, OnOk, option_map, false, Ok, Some, None, Err, IsTrue, ◌<◌};
 ghost use Rattle.kc_expr.specs.Form.{form_of, leaf_of};
 ghost use Rattle.kc_expr.specs.Grammar.{lexemes_from, if_word, is_letter};
-ghost use Rattle.kc_expr.specs.Names.{IsNumber, same_name, mention, Extends};
+ghost use Rattle.kc_expr.specs.Names.{IsNumber, is_name_byte, same_name, mention, Extends};
 ghost use Rattle.std.specs.List.{list_all};
 ghost use Rattle.kc_read.specs.declared.refusal.Code.TheVariants.{Memory};
 ghost use Rattle.kc_read.specs.Lines as spec;
@@ -22,6 +22,9 @@ use kc_expr::values::letter_of;
 use kc_text::{Token, TokenKind, unescape_into};
 use std::alloc::Global;
 use std::rc::Rc;
+
+// The most bytes of a symbol's name.
+const MAX_NAME: usize = 255;
 
 // The token at a place, if there is one.
 pub fn next<'a>(tokens: &[Token<'a>], at: usize) -> Option<TokenKind<'a>>
@@ -242,9 +245,8 @@ pub fn operand_at<'a>(
             if is_if(word) {
                 return Err(syntax());
             }
-            if is_letter(word) {
-                let bytes = Vec::from_slice(alloc, word)?;
-                return Ok(Operand::Const(bytes));
+            if let Some(letter) = letter_of(word) {
+                return Ok(Operand::Letter(letter));
             }
             let id = name_number(names, word)?;
             Ok(Operand::Sym(id))
@@ -260,7 +262,7 @@ pub fn operand_at<'a>(
 
 // Whether each byte may stand in a symbol's name.
 pub fn are_name_bytes(word: &[u8]) -> bool
-    ensures { result ≡ list_all spec.is_name_byte word.now }
+    ensures { result ≡ list_all is_name_byte word.now }
 {
     word.iter().all(|b| b.is_ascii_alphanumeric() || *b == b'_')
 }
@@ -273,7 +275,7 @@ pub fn is_good_name(word: &[u8]) -> bool
         return false;
     }
     let length = word.len();
-    1 <= length && length <= 255 && are_name_bytes(word)
+    1 <= length && length <= MAX_NAME && are_name_bytes(word)
 }
 
 // `*`, `?` or `[` stands in the text.

@@ -2,32 +2,30 @@
 
 ghost use Rattle.std.specs.Prelude.{◌≡◌, ◌≤◌, IfErr, OnOk, [], ◌∷◌, ◌++◌, None, Some, false, true, length, nat_lt, nat_le, IfOk};
 ghost use Rattle.std.specs.Option.{option_or};
-ghost use Rattle.kc_expr.specs.Names.{mention};
-ghost use Rattle.kc_read.specs.Lines.{cause};
-ghost use Rattle.kc_read.specs.Progress.{ids_match, IsCounted, IsKnown, IsSeen, named, naming_cause};
+ghost use Rattle.kc_expr.specs.Order.{placed};
+ghost use Rattle.kc_read.specs.Progress.{defining_cause, ids_match, IsCounted, IsSeen, placing_cause};
 ghost use Rattle.kc_read.specs.Reads.{statement_view};
 ghost use Rattle.kc_read.specs.LineReads.{IsFault, cause_of};
 ghost use Rattle.kc_read.specs.declared.refusal.Code.TheVariants.{TooManySymbols};
-ghost use Rattle.kc_read.specs.Expansion.{symbol_cause};
+ghost use Rattle.kc_read.specs.Blocks.{name_at};
 
 use crate::line::Line;
 use crate::refusal::Code;
 use crate::statement::{Fault, Statement};
 use kc_expr::expression::SymId;
-use kc_expr::names::Names;
+use kc_expr::order::SymbolOrder;
 use std::rc::Rc;
 
 const MAX_SYMBOLS: usize = 65535;
 
-/// What is remembered of all files read so far: their lines, the sum of their physical lines, the defined names in
-/// order of their first definition and how many they are, the symbol defined last, the symbol of the first `modules` line, and the open
+/// What is remembered of all files read so far: their lines, the sum of their physical lines, the defined symbols in
+/// order of their first definition, the symbol defined last, the symbol of the first `modules` line, and the open
 /// files, the innermost last.
 #[derive(Drop)]
 pub struct Progress {
     pub lines: Vec<Line>,
     pub counted: usize,
-    pub defined: Names,
-    pub symbols: usize,
+    pub defined: SymbolOrder,
     pub config: Option<SymId>,
     pub modules: Option<SymId>,
     pub open_files: Vec<Rc<Vec<u8>>>,
@@ -45,24 +43,23 @@ impl Progress {
         }
     }
 
-    // A symbol of this name is defined. The 65,536th is refused.
-    fn define(&mut self, id: SymId, name: &[u8]) -> Result<(), Fault<'static>>
+    // The symbol is defined. The 65,536th is refused.
+    fn define(&mut self, id: SymId) -> Result<(), Fault<'static>>
         requires { IsCounted self.old }
-        ensures defined { OnOk result (self.new.defined ≡ mention self.old.defined name.now) }
+        ensures defined { OnOk result (self.new.defined ≡ placed self.old.defined id) }
         ensures config { OnOk result (self.new.config ≡ Some id) }
         ensures kept { (self.new.lines ≡ self.old.lines) × (self.new.counted ≡ self.old.counted) × (self.new.modules ≡ self.old.modules) × (self.new.open_files ≡ self.old.open_files) }
         ensures within { OnOk result (IsCounted self.new) }
-        ensures allowed { OnOk result (symbol_cause self.old.defined name.now ≡ None) }
-        ensures fault { IfErr result (λ f. IsFault f (λ c. symbol_cause self.old.defined name.now ≡ Some c)) }
+        ensures allowed { OnOk result (placing_cause self.old.defined id ≡ None) }
+        ensures fault { IfErr result (λ f. IsFault f (λ c. placing_cause self.old.defined id ≡ Some c)) }
     {
-        let number = self.defined.id(name)?;
-        if number.0 >= MAX_SYMBOLS {
+        let place = self.defined.place(id)?;
+        if place.0 >= MAX_SYMBOLS {
             return Err(Fault {
                 code: Code::TooManySymbols,
                 detail: b"",
             });
         }
-        self.symbols = self.symbols.max(number.0 + 1);
         self.config = Some(id);
         Ok(())
     }
@@ -70,7 +67,7 @@ impl Progress {
     // The symbol that was defined last has a `modules` line.
     fn mark(&mut self)
         ensures modules { self.new.modules ≡ option_or self.old.modules self.old.config }
-        ensures kept { (self.new.lines ≡ self.old.lines) × (self.new.counted ≡ self.old.counted) × (self.new.symbols ≡ self.old.symbols) × (self.new.defined ≡ self.old.defined) × (self.new.config ≡ self.old.config) × (self.new.open_files ≡ self.old.open_files) }
+        ensures kept { (self.new.lines ≡ self.old.lines) × (self.new.counted ≡ self.old.counted) × (self.new.defined ≡ self.old.defined) × (self.new.config ≡ self.old.config) × (self.new.open_files ≡ self.old.open_files) }
     {
         if self.modules.is_none() {
             self.modules = self.config;
@@ -79,16 +76,15 @@ impl Progress {
 
     /// Sees a statement: a config line defines its symbol, of which the 65,536th is refused, and the first `modules`
     /// line is remembered.
-    pub fn see(&mut self, statement: &Statement, names: &Names) -> Result<(), Fault<'static>>
-        requires within { IsCounted self.old }
-        requires known { IsKnown names.now (statement_view statement.now) }
-        ensures seen { OnOk result (IsSeen names.now (statement_view statement.now) self.old self.new) }
+    pub fn see(&mut self, statement: &Statement) -> Result<(), Fault<'static>>
+        requires { IsCounted self.old }
+        ensures seen { OnOk result (IsSeen (statement_view statement.now) self.old self.new) }
         ensures within { OnOk result (IsCounted self.new) }
-        ensures allowed { OnOk result (naming_cause self.old.defined (named names.now (statement_view statement.now)) ≡ None) }
-        ensures fault { IfErr result (λ f. IsFault f (λ c. naming_cause self.old.defined (named names.now (statement_view statement.now)) ≡ Some c)) }
+        ensures allowed { OnOk result (defining_cause self.old.defined (name_at (statement_view statement.now)) ≡ None) }
+        ensures fault { IfErr result (λ f. IsFault f (λ c. defining_cause self.old.defined (name_at (statement_view statement.now)) ≡ Some c)) }
     {
         match statement {
-            Statement::Config(id) => self.define(*id, names.name(*id)),
+            Statement::Config(id) => self.define(*id),
             Statement::Modules => {
                 self.mark();
                 Ok(())

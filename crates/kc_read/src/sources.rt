@@ -1,6 +1,7 @@
 //! The files that a file names in its `source` lines.
 
-ghost use Rattle.std.specs.Prelude.{◌≡◌, ◌≢◌, ◌<◌, ◌≤◌, ◌⊎◌, ◌∷◌, [], IfOk, OnErr, codes, length, map, None, false, true};
+ghost use Rattle.std.specs.Prelude.{◌≡◌, ◌≢◌, ◌<◌, ◌≤◌, ◌⊎◌, IfOk, OnErr, codes, length, map, None, false, true};
+ghost use Rattle.kc_text.specs.Limits.{longest_line};
 ghost use Rattle.kc_text.specs.Lines.{Left, TakesLine, left};
 ghost use Rattle.kc_text.specs.declared.faults.TextFault.TheVariants.{Memory};
 ghost use Rattle.kc_read.specs.declared.sources.Found.TheVariants.{Nothing};
@@ -42,7 +43,7 @@ fn source_of_line<'l>(
     lines: &mut LogicalLines,
 ) -> Result<Found, AllocError>
     requires clear { lines.old.refusal ≡ None }
-    requires short { length line.now ≤ 8191 }
+    requires short { length line.now ≤ longest_line }
     // Whatever the lines were before.
     ensures { IfOk result (λ f. (before : Left) → TakesLine before lines.old line.now → IsFound before lines.new f) }
 {
@@ -93,7 +94,7 @@ fn next_source<'a>(
 // Whether a file may have a `source` line, seen without cutting it into tokens. A `\` may join the parts of the word.
 fn may_source(file: &[u8]) -> bool
     ensures silent { result ≡ false → IsSilent file.now }
-    ensures heard { result ≡ true → Holds file.now (codes "source") ⊎ Holds file.now (92 ∷ []) }
+    ensures heard { result ≡ true → Holds file.now (codes "source") ⊎ Holds file.now (codes "\\") }
 {
     file.find(b"source").is_some() || file.find_byte(b'\\').is_some()
 }

@@ -1,6 +1,7 @@
 //! The next line of a file.
 
 ghost use Rattle.std.specs.Prelude.{◌≡◌, ◌≢◌, ◌≤◌, [], length, IfOk, IfErr, IsTrue, None, Some};
+ghost use Rattle.kc_text.specs.Limits.{longest_line};
 ghost use Rattle.kc_expr.specs.Grammar.{lexemes_from};
 ghost use Rattle.kc_expr.specs.Names.{Extends};
 ghost use Rattle.kc_text.specs.Lines.{Left, TakesLine};
@@ -82,7 +83,7 @@ fn step_of_line<'l>(
     names: &mut Names,
 ) -> Result<Step, Refusal>
     requires clear { lines.old.refusal ≡ None }
-    requires short { length line.now ≤ 8191 }
+    requires short { length line.now ≤ longest_line }
     // Whatever the lines were before.
     ensures step { IfOk result (λ s. (before : Left) → number ≡ before.number → TakesLine before lines.old line.now → IsStep position.now.modules names.old names.new (context_in position.now.frame.now position.now.progress.now) before lines.new s) }
     ensures refused { IfErr result (λ r. (before : Left) → number ≡ before.number → TakesLine before lines.old line.now → IsStepRefusal position.now.frame.now.file.value.items (context_in position.now.frame.now position.now.progress.now) before r) }

@@ -275,11 +275,11 @@ mainmenu m => +-+++
 
 // Each statement, where the modules symbol has the number 0.
 const STATEMENTS: &str = r#"mainmenu "D" => MainMenu([68])
-if A = m && m => If(All([Rel(Eq, Sides { left: Sym(SymId(1)), right: Const([109]) }), All([One(Const([109])), One(Sym(SymId(0)))])]))
+if A = m && m => If(All([Rel(Eq, Sides { left: Sym(SymId(1)), right: Letter(M) }), All([One(Letter(M)), One(Sym(SymId(0)))])]))
 endif => EndIf
 menu 'a\'b' => Menu([97, 39, 98])
 visible if A => Visible(One(Sym(SymId(1))))
-depends on m => Depends(All([One(Const([109])), One(Sym(SymId(0)))]))
+depends on m => Depends(All([One(Letter(M)), One(Sym(SymId(0)))]))
 endmenu => EndMenu
 comment c => Comment([99])
 choice => Choice
@@ -291,13 +291,13 @@ tristate t if !A => Type(Tristate, Some(Prompt { when: Some(Not(One(Sym(SymId(1)
 string "" => Type(Str, Some(Prompt { when: None }))
 int => Type(Int, None)
 hex => Type(Hex, None)
-default m if m => Default(One(Const([109])), Some(All([One(Const([109])), One(Sym(SymId(0)))])))
+default m if m => Default(One(Letter(M)), Some(All([One(Letter(M)), One(Sym(SymId(0)))])))
 default (A) => Default(One(Sym(SymId(1))), None)
-def_bool y => Def(Bool, One(Const([121])), None)
+def_bool y => Def(Bool, One(Letter(Y)), None)
 def_tristate A || C if B => Def(Tristate, Any([One(Sym(SymId(1))), One(Sym(SymId(3)))]), Some(One(Sym(SymId(2)))))
 select config => Select(SymId(4), None)
 imply A if C => Imply(SymId(1), Some(One(Sym(SymId(3)))))
-range -5 "9" if y => Range(Bounds { low: Sym(SymId(5)), high: Const([57]) }, Some(One(Const([121]))))
+range -5 "9" if y => Range(Bounds { low: Sym(SymId(5)), high: Const([57]) }, Some(One(Letter(Y))))
 help => Help
 option modules => Modules
 option allnoconfig_y => Ignored"#;
@@ -388,7 +388,7 @@ fn refused(alloc: Global, refusal: Refusal) -> Result<String, Fail> {
 
 // How many lines and symbols there are.
 fn counted(alloc: Global, expansion: Expansion) -> Result<String, Fail> {
-    let (lines, symbols) = (expansion.lines.len(), expansion.symbols);
+    let (lines, symbols) = (expansion.lines.len(), expansion.defined.count());
     drop(expansion);
     Ok(format!(in alloc; "{lines} lines, {symbols} symbols")?)
 }
@@ -586,7 +586,7 @@ fn push_expansion(alloc: Global, text: &mut String, expansion: &Expansion) -> Re
     for line in &expansion.lines {
         push_line(alloc, text, line)?;
     }
-    let (modules, symbols) = (expansion.modules, expansion.symbols);
+    let (modules, symbols) = (expansion.modules, expansion.defined.count());
     push_text(text, format!(in alloc; "{modules:?} {symbols}")?)
 }
 
@@ -719,7 +719,7 @@ const ROOT: &[u8] = b"config B\nsource \"a\"\nconfig A\ndepends on m\n";
 const OTHER: &[u8] = b"\nconfig A\nmodules\nconfig\\\n C";
 
 const BOTH: &str =
-    "Kconfig:1 Config(SymId(0))\na:2 Config(SymId(1))\na:3 Modules\na:4 Config(SymId(2))\nKconfig:3 Config(SymId(1))\nKconfig:4 Depends(One(Const([109])))\nSome(SymId(1)) 3";
+    "Kconfig:1 Config(SymId(0))\na:2 Config(SymId(1))\na:3 Modules\na:4 Config(SymId(2))\nKconfig:3 Config(SymId(1))\nKconfig:4 Depends(One(Letter(M)))\nSome(SymId(1)) 3";
 
 // What comes of no file, and then of a root file alone.
 fn root_alone(rt: &impl Abort, alloc: Global, map: &mut FileMap) -> Result<(), Fail> {

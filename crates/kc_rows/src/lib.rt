@@ -2,6 +2,10 @@
 #![tactic(auto)]
 
 #[cfg(test)]
+mod depfile;
+#[cfg(test)]
+mod lost;
+#[cfg(test)]
 mod pieces;
 #[cfg(test)]
 mod rerun;
@@ -13,5 +17,7 @@ mod rows;
 mod runs;
 #[cfg(test)]
 mod solvers;
+#[cfg(test)]
+mod strict;
 #[cfg(test)]
 mod texts;

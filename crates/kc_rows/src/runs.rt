@@ -68,6 +68,39 @@ pub(crate) fn run_row(
     run_files(alloc, &files, &asked, row.settings, first, later, outputs)
 }
 
+/// What a run warns of, and whether it refuses that.
+#[derive(Clone, Copy, PartialEq, Eq)]
+pub(crate) enum Warnings {
+    /// Warnings pass, and lost values are not told.
+    Plain,
+    /// Warnings are refused.
+    Refused,
+    /// Lost values are told.
+    OfLost,
+    /// Lost values are told, and warnings are refused.
+    OfLostRefused,
+}
+
+/// Runs the row, with such warnings.
+pub(crate) fn run_warned(
+    alloc: Global,
+    row: &Accepted,
+    warnings: Warnings,
+    outputs: &mut MemoryOutputs,
+) -> Result<Status, Fail> {
+    let files = files(alloc, "Kconfig", row.kconfig, row.others)?;
+    let asked = Asked {
+        prefix: row.prefix,
+        fragments: row.fragments,
+        header: row.header.map(|_| "out.h"),
+        minimal: row.minimal.map(|_| "min.config"),
+        strict: matches!(warnings, Warnings::Refused | Warnings::OfLostRefused),
+        warn_lost: matches!(warnings, Warnings::OfLost | Warnings::OfLostRefused),
+        ..PLAIN
+    };
+    run_files(alloc, &files, &asked, row.settings, 4096, 4096, outputs)
+}
+
 // The status of the row's tree and prefix with these streams, header and minimal file with them.
 fn status_on<'x>(
     alloc: Global,

@@ -112,7 +112,7 @@ fn is_refused(
 }
 
 // The outputs have these notes, and none was begun.
-fn tells_alone(rt: &impl Abort, outputs: &MemoryOutputs, notes: &[u8], name: &str) {
+pub(crate) fn tells_alone(rt: &impl Abort, outputs: &MemoryOutputs, notes: &[u8], name: &str) {
     is_text(rt, outputs.notes.bytes.as_slice(), notes, name);
     slot_holds(rt, &outputs.config, None, name);
     slot_holds(rt, &outputs.header, None, name);

@@ -52,7 +52,8 @@ known_seen tree values l s =
     ]
 
 -- a value that an equation gives has the shape of its kind
-shaped_by_kind : (tree : TreeFacts) (known : SymId → Known) (s : SymId) (f : SymbolFacts) (user : Option Given) (n : List ℕ) (kind : Kind) (x : Value) → known_value kind x ≡ by_kind tree known s f kind user → known_of kind (tri_in (Some x)) (text_in (Some x) n) ≡ known_value kind x
+shaped_by_kind : (tree : TreeFacts) (known : SymId → Known) (s : SymId) (f : SymbolFacts) (user : Option Given) (n : List ℕ) (kind : Kind) (x : Value) →
+    known_value kind x ≡ by_kind tree known s f kind user → known_of kind (tri_in (Some x)) (text_in (Some x) n) ≡ known_value kind x
 shaped_by_kind tree known s f user n Undefined (value.Truth t) e = cc
 shaped_by_kind tree known s f user n Undefined (value.Text v) e = refl
 shaped_by_kind tree known s f user n IsBool (value.Truth t) e = refl
@@ -75,12 +76,15 @@ shaped_bool n Str x t b e = cc
 shaped_bool n Int x t b e = cc
 shaped_bool n Hex x t b e = cc
 
-pub shaped : (tree : TreeFacts) (known : SymId → Known) (s : SymId) (f : SymbolFacts) (c : Option ℕ) (user : Option Given) (n : List ℕ) (x : Value) → ((d : ℕ) → c ≡ Some d → f.kind ≡ IsBool) → known_value f.kind x ≡ by_choice tree known s f c user → known_of f.kind (tri_in (Some x)) (text_in (Some x) n) ≡ known_value f.kind x
+pub shaped : (tree : TreeFacts) (known : SymId → Known) (s : SymId) (f : SymbolFacts) (c : Option ℕ) (user : Option Given) (n : List ℕ) (x : Value) →
+    ((d : ℕ) → c ≡ Some d → f.kind ≡ IsBool) → known_value f.kind x ≡ by_choice tree known s f c user → known_of f.kind (tri_in (Some x)) (text_in (Some x) n) ≡ known_value f.kind x
 shaped tree known s f None user n x bools e = shaped_by_kind tree known s f user n f.kind x e
 shaped tree known s f (Some c) user n x bools e = shaped_bool n f.kind x _ (bools c refl) e
 
 -- one place written
-pub written_at : (tree : TreeFacts) (values : List (Option Value)) (i : ℕ) (f : SymbolFacts) (x : Value) → i < length values → facts tree (symbol i) ≡ Some f → known_of f.kind (tri_in (Some x)) (text_in (Some x) (name tree (symbol i))) ≡ known_value f.kind x → IsUpdate (valuation tree values) (valuation tree (slice_set values i (Some x))) i (known_value f.kind x)
+pub written_at : (tree : TreeFacts) (values : List (Option Value)) (i : ℕ) (f : SymbolFacts) (x : Value) → i < length values → facts tree (symbol i) ≡ Some f →
+    known_of f.kind (tri_in (Some x)) (text_in (Some x) (name tree (symbol i))) ≡ known_value f.kind x →
+    IsUpdate (valuation tree values) (valuation tree (slice_set values i (Some x))) i (known_value f.kind x)
 written_at tree values i f x l e shape = record {
   here =
       ap (λ o. known_of (kind_in o) (tri_in (value_in (slice_set values i (Some x)) (symbol i))) (text_in (value_in (slice_set values i (Some x)) (symbol i)) (name tree (symbol i)))) e
@@ -89,7 +93,8 @@ written_at tree values i f x l e shape = record {
   others = λ t ne. ap (λ o. known_of (kind_in (facts tree (symbol t))) (tri_in o) (text_in o (name tree (symbol t)))) (get_or-set_other values i t (Some x) None ne);
 }
 
-pub place_of : (given : List (Option UserValue)) (chosen : List (Option SymId)) (i : ℕ) (choice : Option ChoiceId) (c : Option ℕ) → c ≡ option_map (λ (k : ChoiceId). k.0) choice → given_for choice (places given chosen (At i)) chosen ≡ places given chosen (slot_by i c)
+pub place_of : (given : List (Option UserValue)) (chosen : List (Option SymId)) (i : ℕ) (choice : Option ChoiceId) (c : Option ℕ) → c ≡ option_map (λ (k : ChoiceId). k.0) choice →
+    given_for choice (places given chosen (At i)) chosen ≡ places given chosen (slot_by i c)
 place_of given chosen i None c e = ap (λ o. places given chosen (slot_by i o)) (sym e)
 place_of given chosen i (Some k) c e = ap (λ o. places given chosen (slot_by i o)) (sym e)
 
@@ -111,18 +116,21 @@ module _ (tree : TreeFacts) (given : List (Option UserValue)) (chosen : List (Op
     pub since : (c : ℕ) (x : Option SymId) → slice_index_or settled c None ≡ Some x → (j : ℕ) × (j < i) × (slot tree (get_or order j 0) ≡ In c)
 
   module _ (law : DependsOnSymbols) (bools : MembersAreBools tree) (is : Orders (needs tree) order) where
-    equation_seen : (values : List (Option Value)) → length values ≡ symbol_count tree → (s : SymId) (f : Option SymbolFacts) (user : Option Given) → equation tree (known_in tree values) s f user ≡ equation tree (seen tree (valuation tree values)) s f user
+    equation_seen : (values : List (Option Value)) → length values ≡ symbol_count tree → (s : SymId) (f : Option SymbolFacts) (user : Option Given) →
+        equation tree (known_in tree values) s f user ≡ equation tree (seen tree (valuation tree values)) s f user
     equation_seen values l s f user =
         same_equation law tree (known_in tree values) (seen tree (valuation tree values)) s f user
         (each (λ (t : SymId). known_in tree values t ≡ seen tree (valuation tree values) t) (known_seen tree values l) (names_of tree f))
 
-    selected_seen : (values : List (Option Value)) → length values ≡ symbol_count tree → (c : ℕ) (user : Option Given) → selected tree (known_in tree values) (choice_at tree c) user ≡ selected tree (seen tree (valuation tree values)) (choice_at tree c) user
+    selected_seen : (values : List (Option Value)) → length values ≡ symbol_count tree → (c : ℕ) (user : Option Given) →
+        selected tree (known_in tree values) (choice_at tree c) user ≡ selected tree (seen tree (valuation tree values)) (choice_at tree c) user
     selected_seen values l c user =
         same_selected law tree (known_in tree values) (seen tree (valuation tree values)) (choice_at tree c) user
         (each (λ (t : SymId). known_in tree values t ≡ seen tree (valuation tree values) t) (known_seen tree values l) (names_of_choice tree (choice_at tree c)))
 
     -- a selection reads what each member of its choice needs
-    selection_reads : (i c : ℕ) (user : Option Given) → slot tree i ≡ In c → (V W : ℕ → Known) → ((t : ℕ) → Contains (needs_in (needs tree) i) t → V t ≡ W t) → selected tree (seen tree V) (choice_at tree c) user ≡ selected tree (seen tree W) (choice_at tree c) user
+    selection_reads : (i c : ℕ) (user : Option Given) → slot tree i ≡ In c → (V W : ℕ → Known) → ((t : ℕ) → Contains (needs_in (needs tree) i) t → V t ≡ W t) →
+        selected tree (seen tree V) (choice_at tree c) user ≡ selected tree (seen tree W) (choice_at tree c) user
     selection_reads i c user e V W h =
         let row = needs_at tree i ∙ ap (defined_numbers tree) (names_in tree i c (facts tree (symbol i)) e) in
         same_selected law tree (seen tree V) (seen tree W) (choice_at tree c) user
@@ -131,11 +139,14 @@ module _ (tree : TreeFacts) (given : List (Option UserValue)) (chosen : List (Op
     pub id_below : (i : ℕ) → i < length order → get_or order i 0 < symbol_count tree
     id_below i l = let b = symbol_below (length (needs tree)) (needs_in (needs tree)) order is i l in omega (arith, b, needs_length tree)
 
-    module _ (i : ℕ) (values : List (Option Value)) (settled : List (Option (Option SymId))) (now : IsFilling i values settled) (l : i < length order) (f : SymbolFacts) (at : facts tree (symbol (get_or order i 0)) ≡ Some f) where
+    module _ (i : ℕ) (values : List (Option Value)) (settled : List (Option (Option SymId))) (now : IsFilling i values settled) (l : i < length order) (f : SymbolFacts)
+        (at : facts tree (symbol (get_or order i 0)) ≡ Some f) where
       abbrev Id : ℕ
       Id = get_or order i 0
 
-      value_is : (x : Value) (choice : Option ChoiceId) → f.choice ≡ option_map (λ (k : ChoiceId). k.0) choice → known_value f.kind x ≡ by_choice tree (known_in tree values) (symbol Id) f f.choice (given_for choice (places given chosen (At Id)) chosen) → known_value f.kind x ≡ equations tree (places given chosen) Id (valuation tree values)
+      value_is : (x : Value) (choice : Option ChoiceId) → f.choice ≡ option_map (λ (k : ChoiceId). k.0) choice →
+          known_value f.kind x ≡ by_choice tree (known_in tree values) (symbol Id) f f.choice (given_for choice (places given chosen (At Id)) chosen) →
+          known_value f.kind x ≡ equations tree (places given chosen) Id (valuation tree values)
       value_is x choice c e =
           let place : slot tree Id ≡ slot_by Id f.choice = ap (slot_of_facts Id) at in
           e
@@ -143,7 +154,10 @@ module _ (tree : TreeFacts) (given : List (Option UserValue)) (chosen : List (Op
           ∙ ap (λ o. equation tree (known_in tree values) (symbol Id) o (places given chosen (slot tree Id))) (sym at)
           ∙ equation_seen values now.count (symbol Id) (facts tree (symbol Id)) (places given chosen (slot tree Id))
 
-      pub step : (x : Value) (settled' : List (Option (Option SymId))) (choice : Option ChoiceId) → f.choice ≡ option_map (λ (k : ChoiceId). k.0) choice → AreSettled tree (known_in tree values) chosen settled' → OnlySettles f.choice settled settled' → known_value f.kind x ≡ by_choice tree (known_in tree values) (symbol Id) f f.choice (given_for choice (places given chosen (At Id)) chosen) → IsFilling (i + 1) (slice_set values Id (Some x)) settled'
+      pub step : (x : Value) (settled' : List (Option (Option SymId))) (choice : Option ChoiceId) → f.choice ≡ option_map (λ (k : ChoiceId). k.0) choice →
+          AreSettled tree (known_in tree values) chosen settled' → OnlySettles f.choice settled settled' →
+          known_value f.kind x ≡ by_choice tree (known_in tree values) (symbol Id) f f.choice (given_for choice (places given chosen (At Id)) chosen) →
+          IsFilling (i + 1) (slice_set values Id (Some x)) settled'
       step x settled' choice c right only e =
           let values' = slice_set values Id (Some x) in
           let below : Id < length values = let b = id_below i l in let n = now.count in omega (arith, b, n) in
@@ -166,12 +180,14 @@ module _ (tree : TreeFacts) (given : List (Option UserValue)) (chosen : List (Op
             right = λ d y h.
                 let s = since d y h in
                 right d y h ∙ selected_seen values now.count d (member_given chosen d)
-                ∙ sym (stays_right (length (needs tree)) (needs_in (needs tree)) order is (λ V. selected tree (seen tree V) (choice_at tree d) (member_given chosen d)) i s.0 (selection_reads (get_or order s.0 0) d (member_given chosen d) s.2) (valuation tree values) (valuation tree values') _ (omega (arith, s.1)) l update)
+                ∙ sym (stays_right (length (needs tree)) (needs_in (needs tree)) order is (λ V. selected tree (seen tree V) (choice_at tree d) (member_given chosen d)) i s.0
+                (selection_reads (get_or order s.0 0) d (member_given chosen d) s.2) (valuation tree values) (valuation tree values') _ (omega (arith, s.1)) l update)
                 ∙ sym (selected_seen values' count d (member_given chosen d));
             since = since;
           }
 
-    pub done : (values : List (Option Value)) (settled : List (Option (Option SymId))) → IsFilling (length order) values settled → Solves (symbol_count tree) (equations tree (places given chosen)) (valuation tree values)
+    pub done : (values : List (Option Value)) (settled : List (Option (Option SymId))) → IsFilling (length order) values settled →
+        Solves (symbol_count tree) (equations tree (places given chosen)) (valuation tree values)
     done values settled h =
         let all = all_filled (length (needs tree)) (needs_in (needs tree)) order is (equations tree (places given chosen)) (valuation tree values) h.filled in
         subst (λ n. Solves n (equations tree (places given chosen)) (valuation tree values)) (needs_length tree) all
@@ -180,6 +196,7 @@ module _ (tree : TreeFacts) (given : List (Option UserValue)) (chosen : List (Op
 pub choice_at_most : (tree : TreeFacts) → IsWellFormed tree → (i : ℕ) (f : SymbolFacts) (c : ℕ) → slice_get tree.symbols i ≡ Some f → f.choice ≡ Some c → c < length tree.choices
 choice_at_most tree formed i f c e h = let listed = formed.members_listed i f e c h in slice_get_within tree.choices c listed.0 listed.1
 
-pub choice_below : (tree : TreeFacts) → IsWellFormed tree → (i : ℕ) (f : SymbolFacts) (choice : Option ChoiceId) → slice_get tree.symbols i ≡ Some f → f.choice ≡ option_map (λ (k : ChoiceId). k.0) choice → IfSome choice (λ k. k.0 < length tree.choices)
+pub choice_below : (tree : TreeFacts) → IsWellFormed tree → (i : ℕ) (f : SymbolFacts) (choice : Option ChoiceId) → slice_get tree.symbols i ≡ Some f →
+    f.choice ≡ option_map (λ (k : ChoiceId). k.0) choice → IfSome choice (λ k. k.0 < length tree.choices)
 choice_below tree formed i f None e h = tt
 choice_below tree formed i f (Some k) e h = choice_at_most tree formed i f k.0 e h

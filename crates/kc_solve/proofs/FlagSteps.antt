@@ -17,7 +17,8 @@ use Rattle.kc_values.specs.Solution.{symbol_count, slot, slot_by, slot_of_facts,
 use Rattle.kc_values.proofs.SameValue.{same_value_itself}
 use Rattle.kc_values.proofs.Uncounted.{uncounted}
 use Rattle.kc_values.specs.Differs.{same_value, selection, default_selection, differs, differs_at}
-use Rattle.kc_values.specs.Values.{selected, names_symbol, equation, by_choice, by_kind, is_n, visibility}
+use Rattle.kc_tree.specs.Facts.{is_symbol_of}
+use Rattle.kc_values.specs.Values.{selected, equation, by_choice, by_kind, is_n, visibility}
 use Rattle.kc_values.specs.Written.{written}
 use Rattle.kc_values.specs.declared.table.Value.{Value}
 use Rattle.kc_solve.specs.Flags.{differs_by, is_written, IsSolvedOwn}
@@ -28,19 +29,28 @@ one_more : {X : Type 0} (f : ℕ → X) (i : ℕ) (x : X) (old new : List X) →
 one_more f i x old new e n h =
     n ∙ ap (λ xs. xs ++ x ∷ []) e ∙ ap (λ y. map f (range_with_len 0 i) ++ y ∷ []) h ∙ sym (map-range_with_len_more f 0 i i (omega arith))
 
-pub one_more_selected : (tree : TreeFacts) (values : List (Option Value)) (U : Slot → Option Given) (c : ℕ) (x : Option SymId) (old new : List (Option SymId)) → length values ≡ symbol_count tree → old ≡ map (selection tree U (valuation tree values)) (range_with_len 0 c) → new ≡ old ++ x ∷ [] → x ≡ selected tree (known_in tree values) (choice_at tree c) (U (In c)) → new ≡ map (selection tree U (valuation tree values)) (range_with_len 0 (c + 1))
+pub one_more_selected : (tree : TreeFacts) (values : List (Option Value)) (U : Slot → Option Given) (c : ℕ) (x : Option SymId) (old new : List (Option SymId)) →
+    length values ≡ symbol_count tree → old ≡ map (selection tree U (valuation tree values)) (range_with_len 0 c) → new ≡ old ++ x ∷ [] →
+    x ≡ selected tree (known_in tree values) (choice_at tree c) (U (In c)) → new ≡ map (selection tree U (valuation tree values)) (range_with_len 0 (c + 1))
 one_more_selected tree values U c x old new l e n h =
     one_more (selection tree U (valuation tree values)) c x old new e n (h ∙ ap (λ k. selected tree k (choice_at tree c) (U (In c))) (tables_seen tree values l))
 
-pub one_more_default : (tree : TreeFacts) (values : List (Option Value)) (U : Slot → Option Given) (c : ℕ) (x : Option SymId) (old new : List (Option SymId)) → length values ≡ symbol_count tree → old ≡ map (default_selection tree U (valuation tree values)) (range_with_len 0 c) → new ≡ old ++ x ∷ [] → x ≡ selected tree (known_in tree values) (choice_at tree c) None → new ≡ map (default_selection tree U (valuation tree values)) (range_with_len 0 (c + 1))
-one_more_default tree values U c x old new l e n h =
-    one_more (default_selection tree U (valuation tree values)) c x old new e n (h ∙ ap (λ k. selected tree k (choice_at tree c) None) (tables_seen tree values l))
+pub one_more_default : (tree : TreeFacts) (values : List (Option Value)) (c : ℕ) (x : Option SymId) (old new : List (Option SymId)) →
+    length values ≡ symbol_count tree → old ≡ map (default_selection tree (valuation tree values)) (range_with_len 0 c) → new ≡ old ++ x ∷ [] →
+    x ≡ selected tree (known_in tree values) (choice_at tree c) None → new ≡ map (default_selection tree (valuation tree values)) (range_with_len 0 (c + 1))
+one_more_default tree values c x old new l e n h =
+    one_more (default_selection tree (valuation tree values)) c x old new e n (h ∙ ap (λ k. selected tree k (choice_at tree c) None) (tables_seen tree values l))
 
-pub one_more_written : (tree : TreeFacts) (values : List (Option Value)) (i : ℕ) (x : Bool) (old new : List Bool) → length values ≡ symbol_count tree → old ≡ map (is_written tree (valuation tree values)) (range_with_len 0 i) → new ≡ old ++ x ∷ [] → x ≡ written tree (known_in tree values) (symbol i) → new ≡ map (is_written tree (valuation tree values)) (range_with_len 0 (i + 1))
+pub one_more_written : (tree : TreeFacts) (values : List (Option Value)) (i : ℕ) (x : Bool) (old new : List Bool) → length values ≡ symbol_count tree →
+    old ≡ map (is_written tree (valuation tree values)) (range_with_len 0 i) → new ≡ old ++ x ∷ [] → x ≡ written tree (known_in tree values) (symbol i) →
+    new ≡ map (is_written tree (valuation tree values)) (range_with_len 0 (i + 1))
 one_more_written tree values i x old new l e n h =
     one_more (is_written tree (valuation tree values)) i x old new e n (h ∙ ap (λ k. written tree k (symbol i)) (tables_seen tree values l))
 
-module _ (tree : TreeFacts) (values : List (Option Value)) (full : length values ≡ symbol_count tree) (U : Slot → Option Given) (i : ℕ) (f : SymbolFacts) (at : slice_get tree.symbols i ≡ Some f) (chosen defaults : List (Option SymId)) (sel : chosen ≡ map (selection tree U (valuation tree values)) (range_with_len 0 (length tree.choices))) (def : defaults ≡ map (default_selection tree U (valuation tree values)) (range_with_len 0 (length tree.choices))) where
+module _ (tree : TreeFacts) (values : List (Option Value)) (full : length values ≡ symbol_count tree) (U : Slot → Option Given) (i : ℕ) (f : SymbolFacts)
+    (at : slice_get tree.symbols i ≡ Some f) (chosen defaults : List (Option SymId))
+    (sel : chosen ≡ map (selection tree U (valuation tree values)) (range_with_len 0 (length tree.choices)))
+    (def : defaults ≡ map (default_selection tree (valuation tree values)) (range_with_len 0 (length tree.choices))) where
   abbrev V : ℕ → Known
   V = valuation tree values
 
@@ -51,22 +61,27 @@ module _ (tree : TreeFacts) (values : List (Option Value)) (full : length values
       ∙ ap (λ o. equation tree (known_in tree values) (symbol i) o None) at
       ∙ ap (λ o. by_choice tree (known_in tree values) (symbol i) f o None) e
 
-  by_slot : (c : Option ℕ) → f.choice ≡ c → ((d : ℕ) → c ≡ Some d → d < length tree.choices) → differs_by tree (known_in tree values) (symbol i) f c chosen defaults ≡ differs_at tree U V i (slot_by i c)
+  by_slot : (c : Option ℕ) → f.choice ≡ c → ((d : ℕ) → c ≡ Some d → d < length tree.choices) →
+      differs_by tree (known_in tree values) (symbol i) f c chosen defaults ≡ differs_at tree U V i (slot_by i c)
   by_slot None e below = ap (λ x. not (same_value (V i) x)) (sym (without None e))
   by_slot (Some c) e below =
       let l = below c refl in
-      let a : slice_index_or chosen c None ≡ selection tree U V c = ap (λ xs. slice_index_or xs c None) sel ∙ get_or-map-range_with_len (selection tree U V) 0 (length tree.choices) c c None l (omega arith) in
-      let b : slice_index_or defaults c None ≡ default_selection tree U V c = ap (λ xs. slice_index_or xs c None) def ∙ get_or-map-range_with_len (default_selection tree U V) 0 (length tree.choices) c c None l (omega arith) in
-      ap (λ x. names_symbol x (symbol i) && not (names_symbol (slice_index_or defaults c None) (symbol i))) a
-      ∙ ap (λ x. names_symbol (selection tree U V c) (symbol i) && not (names_symbol x (symbol i))) b
+      let a : slice_index_or chosen c None ≡ selection tree U V c =
+      ap (λ xs. slice_index_or xs c None) sel ∙ get_or-map-range_with_len (selection tree U V) 0 (length tree.choices) c c None l (omega arith) in
+      let b : slice_index_or defaults c None ≡ default_selection tree V c =
+      ap (λ xs. slice_index_or xs c None) def ∙ get_or-map-range_with_len (default_selection tree V) 0 (length tree.choices) c c None l (omega arith) in
+      ap (λ x. is_symbol_of (symbol i) x && not (is_symbol_of (symbol i) (slice_index_or defaults c None))) a
+      ∙ ap (λ x. is_symbol_of (symbol i) (selection tree U V c) && not (is_symbol_of (symbol i) x)) b
 
   differs_is : ((d : ℕ) → f.choice ≡ Some d → d < length tree.choices) → differs_by tree (known_in tree values) (symbol i) f f.choice chosen defaults ≡ differs tree U V i
   differs_is below = by_slot f.choice refl below ∙ ap (differs_at tree U V i) (sym (ap (slot_of_facts i) at))
 
-  pub one_more_differs : ((d : ℕ) → f.choice ≡ Some d → d < length tree.choices) → (x : Bool) (old new : List Bool) → old ≡ map (differs tree U V) (range_with_len 0 i) → new ≡ old ++ x ∷ [] → x ≡ differs_by tree (known_in tree values) (symbol i) f f.choice chosen defaults → new ≡ map (differs tree U V) (range_with_len 0 (i + 1))
+  pub one_more_differs : ((d : ℕ) → f.choice ≡ Some d → d < length tree.choices) → (x : Bool) (old new : List Bool) → old ≡ map (differs tree U V) (range_with_len 0 i) →
+      new ≡ old ++ x ∷ [] → x ≡ differs_by tree (known_in tree values) (symbol i) f f.choice chosen defaults → new ≡ map (differs tree U V) (range_with_len 0 (i + 1))
   one_more_differs below x old new e n h = one_more (differs tree U V) i x old new e n (h ∙ differs_is below)
 
-  solved_by : Solves (symbol_count tree) (equations tree U) V → i < symbol_count tree → (own : Option Given) → own ≡ U (At i) → (c : Option ℕ) → f.choice ≡ c → IsSolvedOwn tree (known_in tree values) (symbol i) f c own
+  solved_by : Solves (symbol_count tree) (equations tree U) V → i < symbol_count tree → (own : Option Given) → own ≡ U (At i) → (c : Option ℕ) → f.choice ≡ c →
+      IsSolvedOwn tree (known_in tree values) (symbol i) f c own
   solved_by solves l own given (Some c) e = tt
   solved_by solves l own given None e =
       let place : slot tree i ≡ At i = ap (slot_of_facts i) at ∙ ap (slot_by i) e in
@@ -82,7 +97,8 @@ module _ (tree : TreeFacts) (values : List (Option Value)) (full : length values
   solved_here solves l own given = solved_by solves l own given f.choice refl
 
 -- a symbol for which nothing counts that was given does not differ
-module _ (tree : TreeFacts) (known : SymId → Known) (s : SymId) (f : SymbolFacts) (own : Option Given) (chosen defaults : List (Option SymId)) (nothing : (is_some own && not (is_n (visibility tree known f))) ≡ false) where
+module _ (tree : TreeFacts) (known : SymId → Known) (s : SymId) (f : SymbolFacts) (own : Option Given) (chosen defaults : List (Option SymId))
+    (nothing : (is_some own && not (is_n (visibility tree known f))) ≡ false) where
   pub does_not_differ : (c : Option ℕ) → c ≡ None → IsSolvedOwn tree known s f c own → false ≡ differs_by tree known s f c chosen defaults
   does_not_differ (Some c) e solved = cc
   does_not_differ None e solved =

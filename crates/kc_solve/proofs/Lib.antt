@@ -3,4 +3,3 @@ pub mod UserSteps
 pub mod WarningSteps
 pub mod FlagSteps
 pub mod SolvedSteps
-mod SlowSteps

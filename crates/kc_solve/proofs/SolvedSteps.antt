@@ -21,7 +21,8 @@ use Rattle.kc_values.specs.Laws.{MinimalRestores, MinimalHasNothingToSpare, Sett
 use Rattle.kc_values.specs.Lookups.{choice_at, is_defined, facts, name}
 use Rattle.kc_values.specs.Solution.{equations, rhs, seen, slot, symbol_count}
 use Rattle.kc_values.specs.Table.{kind_in, value_in, tri_in, text_in}
-use Rattle.kc_values.specs.Values.{equation, names_symbol, selected, visibility}
+use Rattle.kc_tree.specs.Facts.{is_symbol_of}
+use Rattle.kc_values.specs.Values.{equation, selected, visibility}
 use Rattle.kc_values.specs.Warnings.{warnings_of}
 use Rattle.kc_values.specs.Written as writing
 use Rattle.kc_values.specs.declared.table.Value.{Value}
@@ -73,7 +74,8 @@ module _ (tree : TreeFacts) (places : Places) (values : List (Option Value)) whe
   same_differs : (i : ℕ) (p : Slot) → i < symbol_count tree → differs_at tree (place_at places) W i p ≡ differs_at tree (place_at places) V i p
   same_differs i (At j) l = ap (λ x. not (same_value x (rhs tree i None W))) (same_value_at i l) ∙ ap (λ x. not (same_value (V i) x)) (same_rhs i None)
   same_differs i (In c) l =
-      ap (λ (k : SymId → Known). names_symbol (selected tree k (choice_at tree c) (place_at places (In c))) (symbol i) && not (names_symbol (selected tree k (choice_at tree c) None) (symbol i))) same_seen
+      ap (λ (k : SymId → Known). is_symbol_of (symbol i) (selected tree k (choice_at tree c) (place_at places (In c))) && not
+      (is_symbol_of (symbol i) (selected tree k (choice_at tree c) None))) same_seen
 
   solves_too : Solves (symbol_count tree) (equations tree (place_at places)) V → Solves (symbol_count tree) (equations tree (place_at places)) W
   solves_too solves s l = same_value_at s l ∙ solves s l ∙ sym (same_rhs s (place_at places (slot tree s)))
@@ -88,11 +90,13 @@ module _ (tree : TreeFacts) (places : Places) (values : List (Option Value)) whe
       (shape (kind_in (facts tree id)) (tri_in (value_in values id)) (text_in (value_in values id) (name tree id)))
 
   -- one thing that the table tells of a symbol, and what it says at a solution that is this one
-  pub told : {X : Type 0} (full : length values ≡ symbol_count tree) (s : Solution) (e : solution_in tree places values ≡ s) (f : TreeFacts → (SymId → Known) → X) (x : X) → x ≡ f tree (known_in tree values) → x ≡ f s.tree (known s)
+  pub told : {X : Type 0} (full : length values ≡ symbol_count tree) (s : Solution) (e : solution_in tree places values ≡ s) (f : TreeFacts → (SymId → Known) → X) (x : X) →
+      x ≡ f tree (known_in tree values) → x ≡ f s.tree (known s)
   told {X} full s e f x h =
       subst (λ (y : Solution). x ≡ f y.tree (known y)) e (h ∙ ap (f tree) (table_tells full))
 
-  pub visible_is : (full : length values ≡ symbol_count tree) (s : Solution) (e : solution_in tree places values ≡ s) (id : SymId) (f : SymbolFacts) (t : Tri) → Some f ≡ facts tree id → t ≡ visibility tree (known_in tree values) f → t ≡ solved.visibility s id
+  pub visible_is : (full : length values ≡ symbol_count tree) (s : Solution) (e : solution_in tree places values ≡ s) (id : SymId) (f : SymbolFacts) (t : Tri) →
+      Some f ≡ facts tree id → t ≡ visibility tree (known_in tree values) f → t ≡ solved.visibility s id
   visible_is full s e id f t at h =
       subst (λ (y : Solution). t ≡ solved.visibility y id) e
       (h ∙ ap (λ (k : SymId → Known). visibility tree k f) (table_tells full) ∙ ap (solved.visibility_by (solution_in tree places values)) at)
@@ -127,7 +131,7 @@ module _ (tree : TreeFacts) (places : Places) (values : List (Option Value)) whe
     pub default_at : (c : ℕ) → c < length tree.choices → slice_index_or defaults c None ≡ solved.default_selection (solution_in tree places values) c
     default_at c l =
         ap (λ xs. slice_index_or xs c None) is.defaults_are
-        ∙ get_or-map-range_with_len (default_selection tree (place_at places) V) 0 (length tree.choices) c c None l (omega arith)
+        ∙ get_or-map-range_with_len (default_selection tree V) 0 (length tree.choices) c c None l (omega arith)
         ∙ ap (λ (k : SymId → Known). selected tree k (choice_at tree c) None) (sym same_seen)
 
     pub differing_at : (s : SymId) → s.0 < symbol_count tree → slice_index_or differing s.0 false ≡ solved.differs (solution_in tree places values) s
@@ -163,7 +167,7 @@ module _ (tree : TreeFacts) (places : Places) (values : List (Option Value)) whe
     chosen_long = ap length is.chosen_are ∙ length-map-range_with_len (selection tree (place_at places) V) 0 (length tree.choices)
 
     pub defaults_long : length defaults ≡ length tree.choices
-    defaults_long = ap length is.defaults_are ∙ length-map-range_with_len (default_selection tree (place_at places) V) 0 (length tree.choices)
+    defaults_long = ap length is.defaults_are ∙ length-map-range_with_len (default_selection tree V) 0 (length tree.choices)
 
     -- the same at a solution that is this one
     module _ (s : Solution) (e : solution_in tree places values ≡ s) where

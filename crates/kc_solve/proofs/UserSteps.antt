@@ -37,6 +37,7 @@ places_same : (xs : List (Option UserValue)) (ms : List (Option SymId)) (u : Pla
 places_same xs ms u e h (At i) = sym (get_or-map given_at xs i None) ∙ ap (λ s. slice_index_or s i None) e
 places_same xs ms u e h (In c) = ap (λ m. member_given m c) h
 
-pub solves_as_shown : (tree : TreeFacts) (xs : List (Option UserValue)) (ms : List (Option SymId)) (u : Places) (V : ℕ → Known) → map (option_map given_of_value) xs ≡ u.symbols → ms ≡ u.choices → Solves (symbol_count tree) (equations tree (places xs ms)) V → Solves (symbol_count tree) (equations tree (place_at u)) V
+pub solves_as_shown : (tree : TreeFacts) (xs : List (Option UserValue)) (ms : List (Option SymId)) (u : Places) (V : ℕ → Known) → map (option_map given_of_value) xs ≡ u.symbols →
+    ms ≡ u.choices → Solves (symbol_count tree) (equations tree (places xs ms)) V → Solves (symbol_count tree) (equations tree (place_at u)) V
 solves_as_shown tree xs ms u V e h solves s l =
     solves s l ∙ ap (λ p. rhs tree s p V) (places_same xs ms u (given_mapped xs ∙ e) h (slot tree s))

@@ -23,7 +23,10 @@ flat_range f a (suc n) =
     ∙ sym (append_assoc (f a) (flat_map f (range_with_len (a + 1) n)) (f (a + 1 + n)))
     ∙ ap (λ m. (f a ++ flat_map f (range_with_len (a + 1) n)) ++ f m) (omega arith)
 
-pub one_more_warned : (tree : TreeFacts) (values : List (Option Value)) (u : Places) (i : ℕ) (own : Option Given) (old new : List (List ℕ)) → length values ≡ symbol_count tree → own ≡ place_at u (At i) → old ≡ flat_map (warnings_at tree (place_at u) (valuation tree values)) (range_with_len 0 i) → new ≡ old ++ warnings_of tree (known_in tree values) (name tree (symbol i)) (facts tree (symbol i)) own → new ≡ flat_map (warnings_at tree (place_at u) (valuation tree values)) (range_with_len 0 (i + 1))
+pub one_more_warned : (tree : TreeFacts) (values : List (Option Value)) (u : Places) (i : ℕ) (own : Option Given) (old new : List (List ℕ)) → length values ≡ symbol_count tree →
+    own ≡ place_at u (At i) → old ≡ flat_map (warnings_at tree (place_at u) (valuation tree values)) (range_with_len 0 i) →
+    new ≡ old ++ warnings_of tree (known_in tree values) (name tree (symbol i)) (facts tree (symbol i)) own →
+    new ≡ flat_map (warnings_at tree (place_at u) (valuation tree values)) (range_with_len 0 (i + 1))
 one_more_warned tree values u i own old new l o e n =
     let f = warnings_at tree (place_at u) (valuation tree values) in
     let this : warnings_of tree (known_in tree values) (name tree (symbol i)) (facts tree (symbol i)) own ≡ f i =

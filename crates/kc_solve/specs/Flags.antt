@@ -5,7 +5,8 @@ use Rattle.kc_expr.specs.Value.{Known}
 use Rattle.kc_expr.specs.declared.expression.SymId.{SymId}
 use Rattle.kc_tree.specs.TreeFacts.{SymbolFacts, TreeFacts}
 use Rattle.kc_user.specs.Given.{Given}
-use Rattle.kc_values.specs.Values.{names_symbol, by_kind}
+use Rattle.kc_tree.specs.Facts.{is_symbol_of}
+use Rattle.kc_values.specs.Values.{by_kind}
 use Rattle.kc_values.specs.Differs.{same_value}
 use Rattle.kc_values.specs.Solution.{seen}
 use Rattle.kc_values.specs.Written.{written}
@@ -13,7 +14,7 @@ use Rattle.kc_values.specs.Written.{written}
 abbrev pub differs_by : TreeFacts → (SymId → Known) → SymId → SymbolFacts → Option ℕ → List (Option SymId) → List (Option SymId) → Bool
 differs_by tree known s f None selections defaults = not (same_value (known s) (by_kind tree known s f f.kind None))
 differs_by tree known s f (Some c) selections defaults =
-    names_symbol (slice_index_or selections c None) s && not (names_symbol (slice_index_or defaults c None) s)
+    is_symbol_of s (slice_index_or selections c None) && not (is_symbol_of s (slice_index_or defaults c None))
 
 -- the value of a symbol outside a choice is what its equation gives
 abbrev pub IsSolvedOwn : TreeFacts → (SymId → Known) → SymId → SymbolFacts → Option ℕ → Option Given → Type 0

@@ -81,7 +81,7 @@ abbrev pub selection : Solution → ℕ → Option SymId
 selection s c = values.selection s.tree (place_at s.places) (value_of s) c
 
 abbrev pub default_selection : Solution → ℕ → Option SymId
-default_selection s c = values.default_selection s.tree (place_at s.places) (value_of s) c
+default_selection s c = values.default_selection s.tree (value_of s) c
 
 -- whether a symbol has a line in the minimal file
 abbrev pub differs : Solution → SymId → Bool
@@ -103,7 +103,7 @@ pub record IsMinimal (s : Solution) : Type 0 where
 -- the user's places hold what is allowed.
 abbrev pub SettledWhere : Solution → Type 0
 SettledWhere s =
-    AllowedPlaces s.tree (place_at s.places) (value_of s) →
+    AllowedPlaces s.tree (place_at s.places) →
     Solves (symbol_count s.tree) (equations s.tree (again s.tree (value_of s))) (value_of s)
     ↔ ((i : ℕ) → i < symbol_count s.tree → is_unsettled s.tree (value_of s) i ≡ false)
 
@@ -124,7 +124,7 @@ pub record IsSolved (tree : TreeFacts) (places : Places) (table : List (Option V
   pub solves : Solves (symbol_count tree) (equations tree (place_at places)) (valuation tree table)
   pub only : IsOnlySolution (symbol_count tree) (equations tree (place_at places)) (valuation tree table)
   pub chosen_are : chosen ≡ map (values.selection tree (place_at places) (valuation tree table)) (range_with_len 0 (length tree.choices))
-  pub defaults_are : defaults ≡ map (values.default_selection tree (place_at places) (valuation tree table)) (range_with_len 0 (length tree.choices))
+  pub defaults_are : defaults ≡ map (values.default_selection tree (valuation tree table)) (range_with_len 0 (length tree.choices))
   pub differing_are : differing ≡ map (values.differs tree (place_at places) (valuation tree table)) (range_with_len 0 (symbol_count tree))
   pub written_are : written ≡ map (λ i. writing.written tree (seen tree (valuation tree table)) (symbol i)) (range_with_len 0 (symbol_count tree))
   pub lines_are : lines ≡ warning.value_warnings tree (place_at places) (valuation tree table)

@@ -55,15 +55,10 @@ pub fn selections(
 }
 
 /// The default selection of each choice under the values of a full table: that without the user's member.
-pub fn default_selections(
-    alloc: Global,
-    table: &Table,
-    user: &User,
-) -> Result<Vec<Option<SymId>>, AllocError>
+pub fn default_selections(alloc: Global, table: &Table) -> Result<Vec<Option<SymId>>, AllocError>
     requires full { length table.now.values.items ≡ symbol_count table.now.tree.now }
-    ensures { IfOk result (λ v. v.items ≡ map (spec.default_selection table.now.tree.now (place_at user.now) (valuation table.now.tree.now table.now.values.items)) (range_with_len 0 (length table.now.tree.now.choices))) }
+    ensures { IfOk result (λ v. v.items ≡ map (spec.default_selection table.now.tree.now (valuation table.now.tree.now table.now.values.items)) (range_with_len 0 (length table.now.tree.now.choices))) }
 {
-    let _ = user;
     let count = choice_count(table.tree);
     let mut selected = Vec::with_capacity(alloc, count)?;
     for c in 0..count {
@@ -147,7 +142,7 @@ pub fn flags_of(
     requires user { IsUserOf table.now.tree.now user.now }
     requires solves { Solves (symbol_count table.now.tree.now) (equations table.now.tree.now (place_at user.now)) (valuation table.now.tree.now table.now.values.items) }
     requires selections { selections.now ≡ map (spec.selection table.now.tree.now (place_at user.now) (valuation table.now.tree.now table.now.values.items)) (range_with_len 0 (length table.now.tree.now.choices)) }
-    requires defaults { defaults.now ≡ map (spec.default_selection table.now.tree.now (place_at user.now) (valuation table.now.tree.now table.now.values.items)) (range_with_len 0 (length table.now.tree.now.choices)) }
+    requires defaults { defaults.now ≡ map (spec.default_selection table.now.tree.now (valuation table.now.tree.now table.now.values.items)) (range_with_len 0 (length table.now.tree.now.choices)) }
     ensures differing { IfOk result (λ f. f.differing.items ≡ map (spec.differs table.now.tree.now (place_at user.now) (valuation table.now.tree.now table.now.values.items)) (range_with_len 0 (symbol_count table.now.tree.now))) }
     ensures written { IfOk result (λ f. f.written.items ≡ map (flag.is_written table.now.tree.now (valuation table.now.tree.now table.now.values.items)) (range_with_len 0 (symbol_count table.now.tree.now))) }
     ensures warnings { IfOk result (λ f. map (λ w. w.items) f.warnings.items ≡ value_warnings table.now.tree.now (place_at user.now) (valuation table.now.tree.now table.now.values.items)) }

@@ -4,7 +4,6 @@
 mod fill;
 mod flags;
 pub mod order;
-pub mod slow;
 pub mod solve;
 pub mod solved;
 

@@ -63,7 +63,7 @@ pub fn solve<'a>(
 {
     let table = full_table(alloc, tree, order, user)?;
     let selections = selections(alloc, &table, user)?;
-    let default_selections = default_selections(alloc, &table, user)?;
+    let default_selections = default_selections(alloc, &table)?;
     let Flags {
         differing,
         written,

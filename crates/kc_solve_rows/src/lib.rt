@@ -1,5 +1,5 @@
 //! Worked trees through the solver and the plain slow solver: values, limits, flags, selections, warnings and the loops
-//! that are named. Tests alone.
+//! that are named. For tests alone.
 #![tactic(auto)]
 
 #[cfg(test)]
@@ -10,8 +10,9 @@ mod places;
 mod row;
 #[cfg(test)]
 mod rows;
+pub mod slow;
 #[cfg(test)]
-mod slow;
+mod slow_lines;
 #[cfg(test)]
 mod solved;
 #[cfg(test)]

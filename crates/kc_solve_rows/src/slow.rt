@@ -1,113 +1,142 @@
-//! What the values of the plain slow solver tell.
+//! The plain slow solver, beside which the tests hold the solver: every value computed anew, in rounds.
 
-use crate::trial::{Told, choice_count, choice_into, symbol_into, warnings_into};
-use kc_expr::expression::{Kind, SymId};
-use kc_expr::values::{Values, tri_text};
+ghost use Rattle.std.specs.Prelude.{◌≡◌, ◌<◌, length, slice_get, Some, IfOk, IfSome, OnOk, []};
+ghost use Rattle.kc_expr.specs.Value.{known_of};
+ghost use Rattle.kc_expr.specs.declared.expression.Tri.TheVariants.{N};
+ghost use Rattle.kc_order.specs.Solution.{IsOnlySolution, Solves};
+ghost use Rattle.kc_solve.specs.Places.{known_in, places, valuation};
+ghost use Rattle.kc_tree.specs.Views.{facts_of};
+ghost use Rattle.kc_user.specs.Given.{At};
+ghost use Rattle.kc_user.specs.Places.{IsUserOf, place_at};
+ghost use Rattle.kc_values.specs.Laws.{IsAccepted};
+ghost use Rattle.kc_values.specs.Needs.{needs};
+ghost use Rattle.kc_values.specs.Selections.{given_for, member_given};
+ghost use Rattle.kc_values.specs.Solution.{equations, symbol_count};
+ghost use Rattle.kc_values.specs.Table.{known_value};
+ghost use Rattle.kc_values.specs.Values.{by_choice, member_equation};
+
+use kc_expr::expression::{Kind, SymId, Tri};
+use kc_expr::values::value_depends_on_symbols;
+use kc_order::ordered_are_accepted;
+use kc_solve::order::Order;
 use kc_tree::parts::{ChoiceId, Symbol};
+use kc_tree::tree::Tree;
 use kc_user::user::User;
 use kc_user::value::UserValue;
-use kc_values::differs::member_differs;
 use kc_values::equation::own_equation;
-use kc_values::lookups::name;
+use kc_values::laws::{accepted_have_one_solution, choices_stand_alone};
 use kc_values::members::selected_in;
-use kc_values::table::{Table, Value, found};
-use kc_values::truths::visibility;
-use kc_values::warnings;
-use kc_values::written::written;
+use kc_values::table::{Table, Value};
 use std::alloc::{AllocError, Global};
 
-// What was given for the symbol.
-fn given(user: &User, id: SymId) -> Option<&UserValue> {
-    match user.symbols().get(id.0) {
-        Some(Some(value)) => Some(value),
-        _ => None,
+// What a tree says of a symbol that is defined.
+fn symbol_facts(tree: &Tree, id: SymId) -> &Symbol
+    requires { id.0 < symbol_count tree.now }
+    ensures facts { slice_get tree.now.symbols id.0 ≡ Some (facts_of result.now) }
+    ensures choice { IfSome result.now.choice (λ c. c.0 < length tree.now.choices) }
+{
+    let _count = tree.symbol_count();
+    match tree.facts(id) {
+        Some(symbol) => symbol,
+        None => unreachable!(),
     }
 }
 
-// The member that was chosen.
-fn chosen(user: &User, choice: ChoiceId) -> Option<SymId> {
-    match user.choices().get(choice.0) {
-        Some(Some(member)) => Some(*member),
-        _ => None,
+// n, or the empty text.
+fn first_value(alloc: Global, kind: Kind) -> Value
+    ensures { known_value kind result ≡ known_of kind N [] }
+{
+    match kind {
+        Kind::Bool => Value::Truth(Tri::N),
+        Kind::Tristate => Value::Truth(Tri::N),
+        Kind::Str => Value::Text(Vec::new(alloc)),
+        Kind::Int => Value::Text(Vec::new(alloc)),
+        Kind::Hex => Value::Text(Vec::new(alloc)),
+        Kind::Undefined => Value::Text(Vec::new(alloc)),
     }
 }
 
-// Whether a place holds the value.
-fn holds(place: Option<&Value>, value: &Value) -> bool {
-    match (place, value) {
-        (Some(Value::Truth(a)), Value::Truth(b)) => *a == *b,
-        (Some(Value::Text(a)), Value::Text(b)) => a.as_slice() == b.as_slice(),
-        _ => false,
+// A table of n and empty texts.
+fn first_values(alloc: Global, tree: &Tree) -> Result<Vec<Option<Value>>, AllocError>
+    ensures { IfOk result (λ v. length v.items ≡ symbol_count tree.now) }
+{
+    let count = tree.symbol_count();
+    let mut values = Vec::with_capacity(alloc, count)?;
+    for i in 0..count {
+        let kind = symbol_facts(tree, SymId(i)).kind;
+        values.push(Some(first_value(alloc, kind)))?;
+    }
+    Ok(values)
+}
+
+// The value of a member of a choice: y where it is selected. The selection is found anew.
+fn member_value(table: &Table, id: SymId, choice: ChoiceId, chosen: &[Option<SymId>]) -> Tri
+    requires { choice.0 < length chosen.now }
+    ensures { result ≡ member_equation table.now.tree.now (known_in table.now.tree.now table.now.values.items) id choice.0 (member_given chosen.now choice.0) }
+{
+    match selected_in(table.tree, choice, chosen[choice.0], table) {
+        Some(member) if member.0 == id.0 => Tri::Y,
+        _ => Tri::N,
     }
 }
 
-// Whether the symbol's value is another one without what was given for it.
-fn differs(
+// The value that the equation of a symbol gives, under the values of the table.
+fn value_anew(
     alloc: Global,
-    table: &Table<'_>,
-    user: &User,
+    table: &Table,
     id: SymId,
     symbol: &Symbol,
-) -> Result<bool, AllocError> {
-    if let Some(choice) = symbol.choice {
-        let selection = selected_in(table.tree, choice, chosen(user, choice), table);
-        let default = selected_in(table.tree, choice, None, table);
-        return Ok(member_differs(selection, default, id));
+    given: &[Option<UserValue>],
+    chosen: &[Option<SymId>],
+) -> Result<Value, AllocError>
+    requires below { id.0 < length given.now }
+    requires users { IfSome symbol.now.choice (λ c. c.0 < length chosen.now) }
+    ensures { IfOk result (λ x. known_value symbol.now.kind x ≡ by_choice table.now.tree.now (known_in table.now.tree.now table.now.values.items) id (facts_of symbol.now) (facts_of symbol.now).choice (given_for symbol.now.choice (places given.now chosen.now (At id.0)) chosen.now)) }
+{
+    let own = given[id.0].as_ref();
+    match symbol.choice {
+        Some(choice) => Ok(Value::Truth(member_value(table, id, choice, chosen))),
+        None => {
+            let value = own_equation(alloc, table.tree, id, symbol, own, table)?;
+            Ok(value)
+        }
     }
-    let without = own_equation(alloc, table.tree, id, symbol, None, table)?;
-    Ok(!holds(found(&table.values, id), &without))
 }
 
-// The value as a text.
-fn text_of<'t>(table: &'t Table<'_>, id: SymId) -> &'t [u8] {
-    match table.kind(id) {
-        Kind::Bool | Kind::Tristate => tri_text(table.tri(id)),
-        _ => table.text(id),
-    }
-}
-
-// The line of a symbol, and its warnings.
-fn symbol_line(
+/// The values that [`kc_solve::solve::solve`] finds, by the plainest way there is. In a table of n and empty texts
+/// every equation is computed anew, one symbol after another in the order of their first definitions, in as many rounds
+/// as there are symbols; the order is only asked that there is one (our own). The caller owes the order and the places
+/// of that tree. Fails only when it is out of memory.
+pub fn slow_table<'t>(
     alloc: Global,
-    table: &Table<'_>,
+    tree: &'t Tree,
+    order: &Order,
     user: &User,
-    id: SymId,
-    out: &mut Vec<u8>,
-    lines: &mut Vec<Vec<u8>>,
-) -> Result<(), AllocError> {
-    let Some(symbol) = table.tree.facts(id) else {
-        return Ok(());
-    };
-    let shown = visibility(table.tree, symbol, table);
-    let told = Told {
-        name: name(table.tree, id),
-        value: text_of(table, id),
-        visibility: shown,
-        is_written: written(table.tree, symbol, shown, table),
-        differs: differs(alloc, table, user, id, symbol)?,
-    };
-    symbol_into(&told, out)?;
-    let own = given(user, id);
-    warnings::warnings_into(alloc, table.tree, id, symbol, shown, own, table, lines)
-}
-
-/// What the values in a table tell.
-pub(crate) fn lines_of(
-    alloc: Global,
-    table: &Table<'_>,
-    user: &User,
-) -> Result<Vec<u8>, AllocError> {
-    let mut out = Vec::new(alloc);
-    let mut lines = Vec::new(alloc);
-    for i in 0..table.tree.symbol_count() {
-        symbol_line(alloc, table, user, SymId(i), &mut out, &mut lines)?;
+) -> Result<Table<'t>, AllocError>
+    requires order { order.now ≡ needs tree.now }
+    requires user { IsUserOf tree.now user.now }
+    ensures tree { IfOk result (λ t. t.tree.now ≡ tree.now) }
+    ensures accepted { OnOk result (IsAccepted tree.now) }
+    ensures count { IfOk result (λ t. length t.values.items ≡ symbol_count tree.now) }
+    ensures solves { IfOk result (λ t. Solves (symbol_count tree.now) (equations tree.now (place_at user.now)) (valuation tree.now t.values.items)) }
+    ensures only { IfOk result (λ t. IsOnlySolution (symbol_count tree.now) (equations tree.now (place_at user.now)) (valuation tree.now t.values.items)) }
+{
+    accepted_have_one_solution();
+    ordered_are_accepted();
+    value_depends_on_symbols();
+    choices_stand_alone();
+    let _symbols = order.symbols();
+    let count = tree.symbol_count();
+    let given = user.symbols();
+    let chosen = user.choices();
+    let values = first_values(alloc, tree)?;
+    let mut table = Table { tree, values };
+    for _round in 0..count {
+        for i in 0..count {
+            let id = SymId(i);
+            let value = value_anew(alloc, &table, id, symbol_facts(tree, id), given, chosen)?;
+            table.values[i] = Some(value);
+        }
     }
-    for c in 0..choice_count(table.tree) {
-        let choice = ChoiceId(c);
-        let selection = selected_in(table.tree, choice, chosen(user, choice), table);
-        let default = selected_in(table.tree, choice, None, table);
-        choice_into(table.tree, selection, default, &mut out)?;
-    }
-    warnings_into(&lines, &mut out)?;
-    Ok(out)
+    Ok(table)
 }

@@ -6,12 +6,12 @@ ghost use Rattle.kc_values.specs.Needs.{needs};
 
 use crate::row::Row;
 use crate::rows::{choices, numbers, truths};
+use crate::slow::slow_table;
 use crate::trial::{tree_of, user_of};
-use crate::{slow, solved};
+use crate::{slow_lines, solved};
 use kc_expr::expression::{SymId, Tri};
 use kc_expr::values::Values;
 use kc_solve::order::Order;
-use kc_solve::slow::slow_table;
 use kc_solve::solve::solve;
 use kc_solve::solved::Solved;
 use kc_tree::tree::Tree;
@@ -50,7 +50,7 @@ fn slow_tells(
     requires user { IsUserOf tree.now user.now }
 {
     let table = slow_table(alloc, tree, order, user)?;
-    is_told(rt, &slow::lines_of(alloc, &table, user)?, told);
+    is_told(rt, &slow_lines::lines_of(alloc, &table, user)?, told);
     Ok(())
 }
 

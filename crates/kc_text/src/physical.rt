@@ -1,6 +1,7 @@
 //! The physical lines of a file.
 ghost use Rattle.std.specs.Prelude.{◌≡◌, ◌==◌, ◌<◌, ◌≤◌, ◌∷◌, length, count_by};
 ghost use Rattle.std.specs.Str.Lines.{strip_carriage_return};
+ghost use Rattle.kc_text.specs.Bytes.{byte};
 ghost use Rattle.kc_text.specs.Lines.{physical_lines, Physical, continues, share};
 
 use bstr::ByteSlice;
@@ -81,7 +82,7 @@ const BLOCK: usize = 224;
 // How many of a few bytes are line feeds.
 fn few_line_feeds(bytes: &[u8]) -> u8
     requires { length bytes.now ≤ 255 }
-    ensures { result ≡ count_by (λ b. b == 10) bytes.now }
+    ensures { result ≡ count_by (λ b. b == byte "\n") bytes.now }
 {
     let mut count = 0;
     for b in bytes {
@@ -94,7 +95,7 @@ fn few_line_feeds(bytes: &[u8]) -> u8
 
 // How many of the bytes are line feeds.
 fn line_feeds(bytes: &[u8]) -> usize
-    ensures count { result ≡ count_by (λ b. b == 10) bytes.now }
+    ensures count { result ≡ count_by (λ b. b == byte "\n") bytes.now }
     ensures within { result ≤ length bytes.now }
 {
     let mut count = 0;

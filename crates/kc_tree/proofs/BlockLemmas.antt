@@ -1,5 +1,5 @@
 -- The blocks round a statement, from one statement to the next.
-use Rattle.std.proofs.Common.{◌≡◌, ℕ, zero, suc, ◌+◌, ◌-◌, ◌<◌, ◌≤◌, Bool, true, false, ◌&&◌, if◌then◌else◌, List, [], ◌∷◌, ◌++◌, length, take, filter, Some, None, refl, ap, sym, ◌∙◌, arith, append_assoc, inl, inr}
+use Rattle.std.proofs.Common.{◌≡◌, ℕ, zero, suc, ◌+◌, ◌-◌, ◌<◌, ◌≤◌, Bool, true, false, ◌&&◌, if◌then◌else◌, List, [], ◌∷◌, ◌++◌, length, take, filter, Some, refl, ap, sym, ◌∙◌, arith, append_assoc, inl, inr}
 use Rattle.std.specs.List.{slice_get}
 use Rattle.std.specs.Option.{is_some}
 use Rattle.std.specs.Prelude.{◌⊎◌}
@@ -226,11 +226,6 @@ last-front [] k h = cc
 last-front (x ∷ []) k h = cc
 last-front (x ∷ y ∷ xs) k h = ap (λ l. x ∷ l) (last-front (y ∷ xs) k h)
 
-last-none : (xs : List ℕ) → last_of xs ≡ None → xs ≡ []
-last-none [] h = refl
-last-none (x ∷ []) h = cc
-last-none (x ∷ y ∷ xs) h = let e = last-none (y ∷ xs) h in cc
-
 pub last-snoc : (xs : List ℕ) (k : ℕ) → last_of (xs ++ k ∷ []) ≡ Some k
 last-snoc [] k = refl
 last-snoc (x ∷ []) k = refl
@@ -243,6 +238,3 @@ round_last ss i k h e = nested ss i h (front (enclosing ss i)) k [] (last-front 
 pub enclosing-last : (ss : List Numbered) (i k : ℕ) → i ≤ length ss → last_of (enclosing ss i) ≡ Some k → enclosing ss i ≡ enclosing ss k ++ k ∷ []
 enclosing-last ss i k h e =
     last-front (enclosing ss i) k e ∙ ap (λ l. l ++ k ∷ []) ((round_last ss i k h e).round)
-
-pub enclosing-none : (ss : List Numbered) (i : ℕ) → last_of (enclosing ss i) ≡ None → enclosing ss i ≡ []
-enclosing-none ss i e = last-none (enclosing ss i) e

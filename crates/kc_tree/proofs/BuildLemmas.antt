@@ -19,7 +19,7 @@ use Rattle.kc_tree.specs.declared.assembly.Assembled.{Assembled}
 use Rattle.kc_tree.specs.declared.numbering.Listing.{Listing}
 use Rattle.kc_tree.specs.Assemblies.{assembled_view}
 use Rattle.kc_tree.specs.Facts.{listed}
-use Rattle.kc_tree.specs.Firsts.{AreBelow}
+use Rattle.kc_tree.specs.Known.{AreBelow}
 use Rattle.kc_tree.specs.Numberings.{IsListing}
 use Rattle.kc_tree.specs.Passes.{said_by}
 use Rattle.kc_tree.specs.TreeFacts.{TreeFacts, IsWellFormed}

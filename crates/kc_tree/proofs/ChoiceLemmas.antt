@@ -27,8 +27,7 @@ use Rattle.kc_tree.specs.Views.{condition_of, named_view, choice_facts_of}
 use Rattle.kc_tree.specs.Choices.{named_given, named_member, member_line, choice_from}
 use Rattle.kc_tree.specs.Warnings.{bad_members}
 use Rattle.kc_tree.proofs.MemberLemmas.{below_or_past}
-use Rattle.kc_tree.proofs.OpenerLemmas.{statement_at}
-use Rattle.kc_tree.proofs.PlaceLemmas.{filter-next, get-map_numbers, length-map_numbers}
+use Rattle.kc_tree.proofs.PlaceLemmas.{filter-next, get-map_numbers, length-map_numbers, statement_at}
 use Rattle.kc_tree.proofs.WarningLemmas.{members-is}
 
 -- where no member is refused, a symbol stands among a choice's members exactly where what is known of it gives it

@@ -15,8 +15,7 @@ use Rattle.kc_tree.specs.Firsts.{is_first_at}
 use Rattle.kc_tree.specs.Entries.{counted, is_entry_line, entry_line, menu_of}
 use Rattle.kc_tree.specs.Passes.{said_by}
 use Rattle.kc_tree.proofs.BlockLemmas.{round_last}
-use Rattle.kc_tree.proofs.PlaceLemmas.{numbers-next, filter_map-next, get-map_numbers}
-use Rattle.kc_tree.proofs.OpenerLemmas.{statement_at}
+use Rattle.kc_tree.proofs.PlaceLemmas.{numbers-next, filter_map-next, get-map_numbers, statement_at}
 
 -- what a table has at a place
 pub read_at : {A : Type 0} (f : ℕ → A) (n i : ℕ) (table : List A) (d : A) → i < n → table ≡ map f (numbers n) → get_or table i d ≡ f i
@@ -60,9 +59,8 @@ module _ (ss : List Numbered) where
       let before = (round_last ss i k h e).before in
       rw (t, get-map_numbers (entry_number ss) n k (omega arith)) refl
 
-  pub menu-is : (n i : ℕ) (openers : List (Option ℕ)) (table : List ℕ) → i < n → n ≤ length ss → openers ≡ map (opener_of ss) (numbers n) → table ≡ map (entry_number ss) (numbers n) → menu_of openers table i ≡ option_map (entry_number ss) (opener_of ss i)
-  menu-is n i openers table h b p t =
-      rw (p, get-map_numbers (opener_of ss) n i h) (by_opener n i (opener_of ss i) table (omega arith) (omega arith) refl t)
+  pub menu-is : (n i : ℕ) (opener : Option ℕ) (table : List ℕ) → i < n → n ≤ length ss → opener ≡ opener_of ss i → table ≡ map (entry_number ss) (numbers n) → menu_of opener table ≡ option_map (entry_number ss) (opener_of ss i)
+  menu-is n i opener table h b p t = rw p (by_opener n i (opener_of ss i) table (omega arith) (omega arith) refl t)
 
 -- The same over lines.
 module _ (ls : List Line) where

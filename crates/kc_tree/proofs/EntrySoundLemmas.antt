@@ -6,7 +6,7 @@ use Rattle.kc_expr.specs.declared.expression.SymId.{SymId}
 use Rattle.kc_read.specs.Statements.{Numbered, Placed, ConfigLine, MenuLine, EndMenuLine, CommentLine}
 use Rattle.kc_tree.specs.TreeFacts.{Condition, Shown, SymbolShown, MenuShown, EndShown, CommentShown, TreeFacts, IsDefined, IsModeBelow, IsEntrySound}
 use Rattle.kc_tree.specs.Facts.{dep, entry_at, entry_number, is_first_definition, opener_of, places, shown_when, symbol_at, symbol_of}
-use Rattle.kc_tree.specs.Firsts.{AreBelow}
+use Rattle.kc_tree.specs.Known.{AreBelow}
 use Rattle.kc_tree.proofs.ElementLemmas.{filter_map-from}
 use Rattle.kc_tree.proofs.FormedLemmas.{defined_if, said, sound_at, tree}
 

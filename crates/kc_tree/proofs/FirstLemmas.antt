@@ -10,7 +10,8 @@ use Rattle.kc_expr.specs.Names.{symbol}
 use Rattle.kc_read.specs.Statements.{Numbered, ConfigLine}
 use Rattle.kc_read.specs.Blocks.{numbers, definitions, name_at}
 use Rattle.kc_tree.specs.Facts.{symbol_at, symbol_of, same_symbol, is_symbol_of, is_first_definition}
-use Rattle.kc_tree.specs.Firsts.{AreBelow, first_seen, is_first_at, first_of_symbol}
+use Rattle.kc_tree.specs.Firsts.{is_first_at, first_of_symbol}
+use Rattle.kc_tree.specs.Known.{AreBelow, first_seen}
 use Rattle.kc_tree.specs.Passes.{changed}
 use Rattle.kc_tree.proofs.BlockLemmas.{take-next, there}
 use Rattle.kc_tree.proofs.PlaceLemmas.{get-map_numbers, filter-next}

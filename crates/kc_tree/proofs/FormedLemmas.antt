@@ -11,7 +11,7 @@ use Rattle.kc_read.specs.Blocks.{numbers, attributes, last_of}
 use Rattle.kc_read.specs.Statements.{Asked, Numbered, Placed, RangeLine}
 use Rattle.kc_tree.specs.TreeFacts.{Condition, Guarded, Bounds, TreeFacts, AreLinesSound, IsModeBelow, IsDefined}
 use Rattle.kc_tree.specs.Facts.{asked_of, asked_under, can_be_target, choice_round, choices, defaults_at, default_under, definitions_of, dep, imply_of, listed, named_under, naming_at, places, prompt_at, range_under, select_of, given_of, symbol_at, symbol_facts}
-use Rattle.kc_tree.specs.Firsts.{AreBelow}
+use Rattle.kc_tree.specs.Known.{AreBelow}
 use Rattle.kc_tree.specs.Trees.{facts_with}
 use Rattle.kc_tree.proofs.ElementLemmas.{All-if, All-filter_map, All-flat_map, All-map_each}
 use Rattle.kc_tree.proofs.PlaceLemmas.{get-map_numbers, length-map_numbers}

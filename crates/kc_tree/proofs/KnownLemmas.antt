@@ -14,8 +14,7 @@ use Rattle.kc_tree.specs.declared.parts.ChoiceId.{ChoiceId}
 use Rattle.kc_tree.specs.declared.known.Known.{Known}
 use Rattle.kc_tree.specs.Definitions.{known_symbol}
 use Rattle.kc_tree.specs.Facts.{symbol_at, kind_of, choice_of, definitions_of, is_symbol_of}
-use Rattle.kc_tree.specs.Firsts.{AreBelow}
-use Rattle.kc_tree.specs.Known.{IsKnown, kind_by, choice_by, known_view}
+use Rattle.kc_tree.specs.Known.{AreBelow, IsKnown, kind_by, choice_by, known_view}
 use Rattle.kc_tree.proofs.MemberLemmas.{below_or_past}
 use Rattle.kc_tree.proofs.PlaceLemmas.{filter-next, get-map_numbers, length-map_numbers}
 

@@ -19,15 +19,13 @@ use Rattle.kc_tree.specs.declared.known.Known.{Known}
 use Rattle.kc_tree.specs.Firsts.{is_first_at}
 use Rattle.kc_tree.specs.TreeFacts.{TreeFacts}
 use Rattle.kc_tree.specs.Trees.{unless_refused}
-use Rattle.kc_tree.specs.Facts.{listed, first_of, choice_of, kind_of, choice_round, opener_of, same_kind, symbol_of}
+use Rattle.kc_tree.specs.Facts.{listed, first_of, choice_of, kind_of, choice_round, same_kind, symbol_of}
 use Rattle.kc_tree.specs.Known.{IsKnown, AreMarks, IsMark, kind_by, choice_by}
 use Rattle.kc_tree.specs.Late.{late}
 use Rattle.kc_tree.specs.Passes.{said_by}
-use Rattle.kc_tree.specs.Rounds.{Surroundings, nothing, inside_table, looked_up}
-use Rattle.kc_tree.specs.Warnings.{owner_at, is_bad_member, is_bad_default, bad_members, bad_defaults, ss, refused_at, late_refusals}
+use Rattle.kc_tree.specs.Warnings.{owner_at, is_bad_member, is_bad_default, bad_members, bad_defaults, numbered_statements, refused_at, late_refusals}
 use Rattle.kc_tree.proofs.BlockLemmas.{numbers_from, numbers-from}
-use Rattle.kc_tree.proofs.OpenerLemmas.{statement_at, length-said_by}
-use Rattle.kc_tree.proofs.RoundLemmas.{looked_up-is}
+use Rattle.kc_tree.proofs.PlaceLemmas.{statement_at, length-said_by}
 use Rattle.kc_tree.proofs.WarningLemmas.{statements-is, placed_at, owner_read, first_read}
 
 -- A walk to the first number that passes.
@@ -66,10 +64,6 @@ module _ (ls : List Line) where
 
   abbrev pub is_bad_given : ℕ → Bool
   is_bad_given i = list_any (is_bad_default (kind_of (said_by ls)) (owner_at (said_by ls) i)) (listed (slice_get (said_by ls) i))
-
-  pub mode_is : (i : ℕ) (openers : List (Option ℕ)) (table : List (Option Surroundings)) (o r : Surroundings) → i < length ls → openers ≡ map (opener_of (said_by ls)) (numbers (length ls)) → table ≡ map (inside_table (said_by ls)) (numbers (length ls)) → o ≡ nothing → r ≡ looked_up o openers table i → r.mode ≡ choice_round (said_by ls) i
-  mode_is i openers table o r h p t e q =
-      ap (λ (s : Surroundings). s.mode) (q ∙ ap (λ (w : Surroundings). looked_up w openers table i) e ∙ looked_up-is (said_by ls) (length ls) (length ls) i openers table (omega (arith, length-said_by ls)) h (omega arith) p t)
 
   pub bad_config-is : (i : ℕ) (x : Line) (k : List Known) (m : Marks) (r : Mark) (mode : Option ℕ) (b : Bool) → IsKnown (said_by ls) k → AreMarks (said_by ls) m → i < length ls → x ≡ get_or ls i x → IsMark m i r → mode ≡ choice_round (said_by ls) i → b ≡ is_bad_member (kind_by k) (choice_by k) r.first mode (statement_view x.statement) → is_bad_config i ≡ b
   bad_config-is i x k m r mode b a d h at p g e =
@@ -123,24 +117,24 @@ module _ (names : List (List ℕ)) (ls : List Line) where
   refused_here c i x h at =
       ap (λ (l : List Numbered). map (late names c (owner_at l i)) (listed (slice_get placed i))) (statements-is names ls) ∙ ap (λ (o : Option (Placed Numbered)). map (late names c (owner_at (said_by ls) i)) (listed o)) (placed_at ls i x h at)
 
-  bad_members-is : bad_members (ss names placed) ≡ bad_members (said_by ls)
+  bad_members-is : bad_members (numbered_statements placed) ≡ bad_members (said_by ls)
   bad_members-is = ap bad_members (statements-is names ls)
 
-  bad_defaults-is : bad_defaults (ss names placed) ≡ bad_defaults (said_by ls)
+  bad_defaults-is : bad_defaults (numbered_statements placed) ≡ bad_defaults (said_by ls)
   bad_defaults-is = ap bad_defaults (statements-is names ls)
 
   pub member_first : (i : ℕ) (x : Line) (m : Marks) (r : Mark) (v : Refused) → AreMarks (said_by ls) m → i < length ls → x ≡ get_or ls i x → IsMark m i r → Some i ≡ first_of (bad_members (said_by ls)) → v ≡ late names code.ChoiceMember r.owner (line_view x) → Some v ≡ first_of (late_refusals names placed)
   member_first i x m r v a h at p f e =
       let own = owner_read (said_by ls) m i r a (omega (arith, length-said_by ls)) p in
       let here = refused_here code.ChoiceMember i x h at ∙ ap (λ (o : Owner). late names code.ChoiceMember o (line_view x) ∷ []) (sym own) ∙ ap (λ (w : Refused). w ∷ []) (sym e) in
-      first_flat (refused_at names placed code.ChoiceMember) (bad_members (ss names placed)) (flat_map (refused_at names placed code.BadDefault) (bad_defaults (ss names placed))) i v (f ∙ ap first_of (sym bad_members-is)) here
+      first_flat (refused_at names placed code.ChoiceMember) (bad_members (numbered_statements placed)) (flat_map (refused_at names placed code.BadDefault) (bad_defaults (numbered_statements placed))) i v (f ∙ ap first_of (sym bad_members-is)) here
 
   abbrev late_list : List ℕ → List ℕ → List Refused
   late_list ms ds = flat_map (refused_at names placed code.ChoiceMember) ms ++ flat_map (refused_at names placed code.BadDefault) ds
 
   no_member : None ≡ first_of (bad_members (said_by ls)) → late_refusals names placed ≡ flat_map (refused_at names placed code.BadDefault) (bad_defaults (said_by ls))
   no_member n =
-      ap (λ (ms : List ℕ). late_list ms (bad_defaults (ss names placed))) (bad_members-is ∙ none_first (bad_members (said_by ls)) (sym n)) ∙ ap (λ (ds : List ℕ). late_list [] ds) bad_defaults-is
+      ap (λ (ms : List ℕ). late_list ms (bad_defaults (numbered_statements placed))) (bad_members-is ∙ none_first (bad_members (said_by ls)) (sym n)) ∙ ap (λ (ds : List ℕ). late_list [] ds) bad_defaults-is
 
   add_nothing : {A : Type 0} (xs : List A) → xs ++ [] ≡ xs
   add_nothing [] = refl

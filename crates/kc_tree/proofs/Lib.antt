@@ -23,7 +23,6 @@ mod MenuEndLemmas
 mod NameLemmas
 mod NestLemmas
 mod NumberingLemmas
-mod OpenerLemmas
 mod OwnerLemmas
 mod PlaceLemmas
 mod RaiseLemmas
@@ -36,6 +35,7 @@ mod ScanLemmas
 mod ShapeLemmas
 mod ShownLemmas
 mod SoundLemmas
+mod StackLemmas
 mod TableLemmas
 mod TreeTextLemmas
 mod WarningLemmas

@@ -16,7 +16,8 @@ use Rattle.kc_read.specs.Blocks.{numbers, attributes}
 use Rattle.kc_read.specs.Statements.{Numbered, Placed}
 use Rattle.kc_tree.specs.TreeFacts.{Guarded, SymbolFacts, ChoiceFacts, TreeFacts, IsMemberOf, IsChoiceSound, IsListed}
 use Rattle.kc_tree.specs.Facts.{Given, choice_facts, choice_number, choice_of, choice_places, choice_round, choices, definitions_of, first_of, given_of, is_member, is_member_place, kind_of, listed, member_default, members_of, named_under, of_block, places, same_kind, same_symbol, single_symbol, symbol_at, symbol_facts, symbol_of}
-use Rattle.kc_tree.specs.Firsts.{AreBelow, is_first_at}
+use Rattle.kc_tree.specs.Firsts.{is_first_at}
+use Rattle.kc_tree.specs.Known.{AreBelow}
 use Rattle.kc_tree.specs.Warnings.{bad_members, is_bad_member}
 use Rattle.kc_tree.proofs.ElementLemmas.{All-filter_map, All-kept, IsKept, kept_at, filter_map-from, found_is}
 use Rattle.kc_tree.proofs.FormedLemmas.{facts_at, few_taken, prompt_mode, tree}

@@ -1,34 +1,35 @@
 -- The names and numbers of an expanded list.
-use Rattle.std.proofs.Common.{◌≡◌, ℕ, zero, suc, ◌+◌, ◌<◌, ◌≤◌, Bool, true, false, cond, ◌||◌, List, [], ◌∷◌, ◌++◌, length, map, take, Option, Some, None, refl, ap, sym, ◌∙◌, arith, append_assoc, codes}
-use Rattle.std.specs.List.{slice_get, list_any, flat_map, cons_option}
-use Rattle.std.specs.Option.{option_map, option_and_then, unwrap_or}
+use Rattle.std.proofs.Common.{◌≡◌, ℕ, zero, suc, ◌+◌, ◌<◌, ◌≤◌, Bool, true, false, cond, ◌||◌, List, [], ◌∷◌, ◌++◌, length, map, take, Option, Some, None, refl, ap, sym, ◌∙◌, subst, arith, append_assoc}
+use Rattle.std.specs.List.{IsDistinct, slice_get, list_any, flat_map, cons_option}
+use Rattle.std.specs.Option.{option_map, unwrap_or}
+use Rattle.std.specs.Prelude.{IfOk, OnOk, Result, Ok, Err}
 use Rattle.std.specs.declared.vec.Vec.{Vec}
 use Rattle.std.specs.declared.alloc.Global.{Global}
 use Rattle.std.proofs.lemmas.List.{length-map, map-append, take_all, take_more}
+use Rattle.std.proofs.lemmas.Cmp.{nat_list_eq_equiv}
 use Rattle.std.proofs.lemmas.List.Folds.{list_any-append}
+use Rattle.std.proofs.lemmas.Map.Keys.{IsDistinct-push}
+use Rattle.std.proofs.lemmas.Map.Made.{length-from_same_keys}
 use Rattle.std.proofs.lemmas.Option.{get_or_from_slice_get, slice_get-map, slice_get_past, slice_get_within}
 use Rattle.kc_expr.specs.declared.expression.SymId.{SymId}
-use Rattle.kc_expr.specs.Names.{IsNumber, Extends, same_name, number_of, symbol, mention, all_mentioned}
-use Rattle.kc_expr.proofs.NamesLemmas.{all_mentioned_extends, all_mentioned-append, extends_on, mentioned_extends, number_later, same_name-refl}
+use Rattle.kc_expr.specs.Names.{AreDistinct, IsNumber, IsRenumbered, Extends, same_name, number_of, symbol, mention, all_mentioned}
+use Rattle.kc_expr.specs.Order.{place_of, placed as placed_in}
+use Rattle.kc_expr.proofs.NamesLemmas.{all_mentioned_extends, all_mentioned-append, extends_on, mentioned_extends, number_for_later, number_later, same_name-refl}
 use Rattle.kc_read.specs.declared.expansion.Expansion.{Expansion}
 use Rattle.kc_read.specs.declared.line.Line.{Line}
-use Rattle.kc_read.specs.Blocks.{definitions, modules_of, name_at}
+use Rattle.kc_read.specs.Blocks.{definitions, name_at}
 use Rattle.kc_read.specs.Expansion.{Log, defined, statements}
 use Rattle.kc_read.specs.Numbering.{known_names, modules_name, names_of, modules_id, place_numbered, numbered_lines}
-use Rattle.kc_read.specs.Expanded.{IsExpansion, IsNamed}
+use Rattle.kc_read.specs.Expanded.{AreNumbers, IsExpansion, IsNamed}
 use Rattle.kc_read.specs.Reads.{line_view}
 use Rattle.kc_read.specs.Statements.{Written, Placed, numbered, statement_words, ConfigLine}
 use Rattle.kc_read.proofs.FileLemmas.{same_name_eq}
-use Rattle.kc_read.proofs.NameLemmas.{extends_none, known_at, named_of}
+use Rattle.kc_read.proofs.NameLemmas.{extends_none, is_known, known_at, numbers_placed, place_is}
 use Rattle.kc_tree.specs.Numberings.{IsListing}
 use Rattle.kc_tree.specs.Renamings.{final, line_renamed}
 use Rattle.kc_tree.specs.Facts.{symbol_of}
-use Rattle.kc_tree.specs.Firsts.{AreBelow}
+use Rattle.kc_tree.specs.Known.{AreBelow}
 use Rattle.kc_tree.proofs.RenamingLemmas.{Agrees, Agree, lines_are}
-
--- the name of the modules symbol, by its number
-pub modules-is : (ss : List Written) (names : List (List ℕ)) (modules : Option SymId) (name : List ℕ) → IsNamed names modules (modules_of ss) → name ≡ unwrap_or (option_and_then (λ id. slice_get names id.0) modules) (codes "MODULES") → name ≡ modules_name ss
-modules-is ss names modules name h e = e ∙ ap (λ (o : Option (List ℕ)). unwrap_or o (codes "MODULES")) (named_of names modules (modules_of ss) h)
 
 -- Names that are mentioned are known.
 known_in : (names others : List (List ℕ)) (w : List ℕ) → list_any (same_name w) names ≡ true → list_any (same_name w) (names ++ others) ≡ true
@@ -82,13 +83,6 @@ numbers_next now new mentioned ids more i w id h there n k m later x =
     ∙ sym (map-append (λ v. symbol (number_of later v)) (take i mentioned) (w ∷ []))
     ∙ ap (map (λ v. symbol (number_of later v))) (sym (front_next mentioned i w there))
 
-pub numbers_end : (names mentioned : List (List ℕ)) (ids : List SymId) (i : ℕ) → Numbers names ids (take i mentioned) → length mentioned ≤ i → ids ≡ map (λ w. symbol (number_of names w)) mentioned
-numbers_end names mentioned ids i h past =
-    h names (extends_none names) ∙ ap (map (λ w. symbol (number_of names w))) (take_all i mentioned past)
-
-pub again_end : (old names mentioned : List (List ℕ)) (i : ℕ) → names ≡ all_mentioned old (take i mentioned) → length mentioned ≤ i → names ≡ all_mentioned old mentioned
-again_end old names mentioned i h past = h ∙ ap (all_mentioned old) (take_all i mentioned past)
-
 -- names that are mentioned, each once, and then all: what they add to other names
 mention_known : (names : List (List ℕ)) (w : List ℕ) → list_any (same_name w) names ≡ true → mention names w ≡ names
 mention_known names w h = ap (λ (b : Bool). cond b names (names ++ w ∷ [])) h
@@ -122,6 +116,10 @@ or_true : (a : Bool) → (a || true) ≡ true
 or_true true = refl
 or_true false = refl
 
+or_false : (a : Bool) → (a || false) ≡ true → a ≡ true
+or_false true h = refl
+or_false false h = h
+
 agree_all : (f : SymId → SymId) (n k : List ℕ → ℕ) (ws : List (List ℕ)) → ((w : List ℕ) → list_any (same_name w) ws ≡ true → Agrees f n k w) → Agree f n k ws
 agree_all f n k [] h = tt
 agree_all f n k (v ∷ ws) h = (
@@ -129,43 +127,211 @@ agree_all f n k (v ∷ ws) h = (
   agree_all f n k ws (λ w e. h w (ap (λ (b : Bool). same_name w v || b) e ∙ or_true (same_name w v))),
 )
 
--- the listing that an expansion gives, once its names are numbered again
+-- Names that are mentioned stand once.
+no_names : AreDistinct []
+unfolding IsDistinct
+no_names = tt
+
+mentioned-distinct : (names : List (List ℕ)) (name : List ℕ) → AreDistinct names → AreDistinct (mention names name)
+mentioned-distinct names name distinct = by (list_any (same_name name) names) refl
+  where
+    by : (b : Bool) → list_any (same_name name) names ≡ b → AreDistinct (cond b names (names ++ name ∷ []))
+    by true is = distinct
+    by false is = IsDistinct-push nat_list_eq_equiv names name distinct is
+
+all_mentioned-distinct : (names words : List (List ℕ)) → AreDistinct names → AreDistinct (all_mentioned names words)
+all_mentioned-distinct names [] distinct = distinct
+all_mentioned-distinct names (w ∷ words) distinct = all_mentioned-distinct (mention names w) words (mentioned-distinct names w distinct)
+
+pub names-distinct : (ss : List Written) → AreDistinct (names_of ss)
+names-distinct ss =
+    all_mentioned-distinct (known_names ss) (flat_map statement_words ss)
+    (all_mentioned-distinct (defined ss) (modules_name ss ∷ []) (all_mentioned-distinct [] (definitions ss) no_names))
+
+-- The modules symbol, by the name that it has or by the name `MODULES`.
+pub modules_number : (names now : List (List ℕ)) (word : List ℕ) (id : SymId) (named : Option (List ℕ)) → IsNamed names None named → IsNumber now word id → IsNumber now (unwrap_or named word) id
+modules_number names now word id None h k = k
+modules_number names now word id (Some n) h k = absurd h
+
+pub modules_mentioned : (names now : List (List ℕ)) (word : List ℕ) (named : Option (List ℕ)) → IsNamed names None named → now ≡ mention names word → now ≡ mention names (unwrap_or named word)
+modules_mentioned names now word None h k = k
+modules_mentioned names now word (Some n) h k = absurd h
+
+pub own_number : (names : List (List ℕ)) (word : List ℕ) (id : SymId) (named : Option (List ℕ)) → IsNamed names (Some id) named → IsNumber names (unwrap_or named word) id
+own_number names word id None h = absurd h
+own_number names word id (Some n) h = h
+
+pub own_mentioned : (names : List (List ℕ)) (word : List ℕ) (id : SymId) (named : Option (List ℕ)) → IsNamed names (Some id) named → names ≡ mention names (unwrap_or named word)
+own_mentioned names word id None h = absurd h
+own_mentioned names word id (Some n) h = sym (mention_known names n (is_known names n id h))
+
+-- a name that stands in the list has the number of its place, also later
+known_there : (names : List (List ℕ)) (i : ℕ) (w : List ℕ) → slice_get names i ≡ Some w → list_any (same_name w) names ≡ true
+known_there [] i w h = absurd cc
+known_there (x ∷ xs) zero w h = let same : w ≡ x = cc in ap (λ (b : Bool). b || list_any (same_name w) xs) (ap (same_name w) (sym same) ∙ same_name-refl w)
+known_there (x ∷ xs) (suc i) w h = ap (λ (b : Bool). same_name w x || b) (known_there xs i w h) ∙ or_true (same_name w x)
+
+pub number_there : (names : List (List ℕ)) (i : ℕ) (w : List ℕ) (id : SymId) → slice_get names i ≡ Some w → symbol (number_of names w) ≡ id → IsNumber names w id
+number_there names i w id h e later x =
+    sym e ∙ ap symbol (number_later names w later (x.0, x.1 ∙ ap (λ (l : List (List ℕ)). l ++ x.0) (sym (mention_known names w (known_there names i w h)))))
+
+-- The names of a front are placed, behind those that are placed.
+pub record IsPlaced (names placed : List (List ℕ)) (i : ℕ) (order ids : List SymId) : Type 0 where
+  pub order_is : AreNumbers names order (all_mentioned placed (take i names))
+  pub places : Numbers (all_mentioned placed (take i names)) ids (take i names)
+
+pub ok_then : {X E : Type 0} (r : Result X E) {P Q : X → Type 0} → IfOk r P → ((x : X) → P x → Q x) → IfOk r Q
+ok_then (Ok x) h f = f x h
+ok_then (Err e) h f = tt
+
+pub on_ok_then : {X E : Type 0} (r : Result X E) {P Q : Type 0} → OnOk r P → (P → Q) → OnOk r Q
+on_ok_then (Ok x) h f = f h
+on_ok_then (Err e) h f = tt
+
+pub placed_next : (names placed : List (List ℕ)) (i : ℕ) (order now ids more : List SymId) (w : List ℕ) (id place : SymId) → IsPlaced names placed i order ids → slice_get names i ≡ Some w → IsNumber names w id → place ≡ symbol (place_of order id) → now ≡ placed_in order id → more ≡ ids ++ place ∷ [] → IsPlaced names placed (i + 1) now more
+placed_next names placed i order now ids more w id place h there own p e m =
+    let old : List (List ℕ) = all_mentioned placed (take i names) in
+    let next : mention old w ≡ all_mentioned placed (take (i + 1) names) = again_next placed old (mention old w) names i w refl there refl in
+    let number : place ≡ symbol (number_of old w) = p ∙ ap symbol (place_is names order old w id h.order_is own) in
+    let kept : IsNumber (mention old w) w place = number_for_later old (mention old w) w place number refl in
+    record {
+      order_is = subst (λ l. AreNumbers names l (all_mentioned placed (take (i + 1) names))) (sym e) (subst (AreNumbers names (placed_in order id)) next (numbers_placed names names order old w id (extends_none names) h.order_is own));
+      places = subst (λ l. Numbers l more (take (i + 1) names)) next (numbers_next old (mention old w) names ids more i w place h.places there refl kept m);
+    }
+
+take_none : (names : List (List ℕ)) → take 0 names ≡ []
+take_none [] = refl
+take_none (w ∷ names) = refl
+
+pub placed_first : (names placed : List (List ℕ)) (order : List SymId) → AreNumbers names order placed → IsPlaced names placed 0 order []
+placed_first names placed order h =
+    let none : take 0 names ≡ [] = take_none names in
+    record {
+      order_is = subst (λ l. AreNumbers names order (all_mentioned placed l)) (sym none) h;
+      places = subst (λ l. Numbers (all_mentioned placed l) [] l) (sym none) (λ later x. refl);
+    }
+
+pub placed_end : (names placed : List (List ℕ)) (i : ℕ) (order ids : List SymId) → IsPlaced names placed i order ids → length names ≤ i → ids ≡ map (λ n. symbol (number_of (all_mentioned placed names) n)) names
+placed_end names placed i order ids h past =
+    let all : take i names ≡ names = take_all i names past in
+    let places : Numbers (all_mentioned placed names) ids names = subst (λ l. Numbers (all_mentioned placed l) ids l) all h.places in
+    places (all_mentioned placed names) (extends_none (all_mentioned placed names))
+
+-- Names with the same names in them are as many.
+both_ways : (a b : Bool) → (a ≡ true → b ≡ true) → (b ≡ true → a ≡ true) → a ≡ b
+both_ways true b f g = sym (f refl)
+both_ways false true f g = g refl
+both_ways false false f g = refl
+
+mentioned_only : (names ws : List (List ℕ)) (w : List ℕ) (goal : Type 0) → (list_any (same_name w) names ≡ true → goal) → (list_any (same_name w) ws ≡ true → goal) → list_any (same_name w) (all_mentioned names ws) ≡ true → goal
+mentioned_only names [] w goal f g h = f h
+mentioned_only names (v ∷ ws) w goal f g h =
+    mentioned_only (mention names v) ws w goal (first (list_any (same_name v) names)) (λ e. g (ap (λ (b : Bool). same_name w v || b) e ∙ or_true (same_name w v))) h
+  where
+    here : (b : Bool) → same_name w v ≡ b → (list_any (same_name w) names || (b || false)) ≡ true → goal
+    here true e k = g (ap (λ (b : Bool). b || list_any (same_name w) ws) e)
+    here false e k = f (or_false (list_any (same_name w) names) k)
+
+    first : (b : Bool) → list_any (same_name w) (cond b names (names ++ v ∷ [])) ≡ true → goal
+    first true k = f k
+    first false k = here (same_name w v) refl (sym (list_any-append (same_name w) names (v ∷ [])) ∙ k)
+
+numbers_known : (names : List (List ℕ)) (ids : List SymId) (ns : List (List ℕ)) (w : List ℕ) → AreNumbers names ids ns → list_any (same_name w) ns ≡ true → list_any (same_name w) names ≡ true
+numbers_known names ids [] w h k = absurd cc
+numbers_known names [] (n ∷ ns) w h k = absurd (let e = h names (extends_none names) in cc)
+numbers_known names (s ∷ ids) (n ∷ ns) w h k = by (same_name w n) refl k (numbers_known names ids ns w (λ later x. let f = h later x in cc))
+  where
+    by : (b : Bool) → same_name w n ≡ b → (b || list_any (same_name w) ns) ≡ true → (list_any (same_name w) ns ≡ true → list_any (same_name w) names ≡ true) → list_any (same_name w) names ≡ true
+    by true e j rest = ap (λ (u : List ℕ). list_any (same_name u) names) (same_name_eq w n e) ∙ is_known names n s (λ later x. let f = h later x in cc)
+    by false e j rest = rest j
+
+all_stand : (ts ws : List (List ℕ)) → ((w : List ℕ) → list_any (same_name w) ws ≡ true → list_any (same_name w) ts ≡ true) → map (λ (id : SymId). slice_get ts id.0) (map (λ n. symbol (number_of ts n)) ws) ≡ map Some ws
+all_stand ts [] h = refl
+all_stand ts (w ∷ ws) h =
+    let one : slice_get ts (number_of ts w) ≡ Some w = known_at ts w (h w (ap (λ (b : Bool). b || list_any (same_name w) ws) (same_name-refl w))) in
+    let rest = all_stand ts ws (λ v e. h v (ap (λ (b : Bool). same_name v w || b) e ∙ or_true (same_name v w))) in
+    λ j. one j ∷ rest j
+
+-- The listing that an expansion gives, once its names have their places.
 module _ (log : Log) (e : Expansion) (mentioned : List (List ℕ)) (unknown : SymId) (x : IsExpansion [] (Some unknown) mentioned log e) where
   abbrev all_words : List (List ℕ)
   all_words = flat_map statement_words (statements log.lines)
 
-  module _ (name : List ℕ) (known names : List (List ℕ)) (modules : SymId) (numbers : List SymId) (lines : Vec Line Global) (named : name ≡ unwrap_or (option_and_then (λ id. slice_get mentioned id.0) e.modules) (codes "MODULES")) (known_is : known ≡ mention e.defined name) (id_is : IsNumber known name modules) (names_is : names ≡ all_mentioned known mentioned) (numbers_are : numbers ≡ map (λ w. symbol (number_of names w)) mentioned) (few : length mentioned ≤ unknown.0) (renamed : map line_view lines.items ≡ map (line_renamed (final numbers modules)) (map line_view e.lines.items)) where
-    name_is : name ≡ modules_name (statements log.lines)
-    name_is = modules-is (statements log.lines) mentioned e.modules name x.modules_is named
+  abbrev word : List ℕ
+  word = modules_name (statements log.lines)
 
-    known_are : known ≡ known_names (statements log.lines)
-    known_are = known_is ∙ ap (λ (w : List ℕ). mention e.defined w) name_is ∙ ap (λ (ds : List (List ℕ)). mention ds (modules_name (statements log.lines))) x.defined_is
+  abbrev known : List (List ℕ)
+  known = known_names (statements log.lines)
 
-    names_are : names ≡ names_of (statements log.lines)
-    names_are = names_is ∙ ap (all_mentioned known) x.mentions ∙ all_again known [] all_words ∙ ap (λ (ns : List (List ℕ)). all_mentioned ns all_words) known_are
+  abbrev final_names : List (List ℕ)
+  final_names = names_of (statements log.lines)
+
+  module _ (names : List (List ℕ)) (id modules : SymId) (numbers : List SymId) (names_is : names ≡ mention mentioned word) (id_is : IsNumber names word id) (place_was : modules ≡ symbol (place_of e.defined id)) (numbers_are : (placed : List (List ℕ)) → AreNumbers names (placed_in e.defined id) placed → numbers ≡ map (λ n. symbol (number_of (all_mentioned placed names) n)) names) where
+    longer : Extends mentioned names
+    longer = mentioned_extends mentioned names (word ∷ []) names_is
+
+    defined_are : AreNumbers names e.defined (defined (statements log.lines))
+    defined_are later y = x.defined_is later (extends_on mentioned names later longer y)
+
+    known_are : AreNumbers names (placed_in e.defined id) known
+    known_are = numbers_placed names names e.defined (defined (statements log.lines)) word id (extends_none names) defined_are id_is
+
+    word_known : list_any (same_name word) final_names ≡ true
+    word_known =
+        known_longer known final_names word (all_mentioned_extends known all_words)
+        (mentioned_known (defined (statements log.lines)) (word ∷ []) word (ap (λ (b : Bool). b || false) (same_name-refl word)))
+
+    all_are : all_mentioned known names ≡ final_names
+    all_are =
+        ap (all_mentioned known) names_is
+        ∙ mention_again known mentioned word
+        ∙ ap (λ (l : List (List ℕ)). mention (all_mentioned known l) word) x.mentions
+        ∙ ap (λ (l : List (List ℕ)). mention l word) (all_again known [] all_words)
+        ∙ mention_known final_names word word_known
+
+    numbers_now : numbers ≡ map (λ w. symbol (number_of final_names w)) names
+    numbers_now = numbers_are known known_are ∙ ap (λ (l : List (List ℕ)). map (λ w. symbol (number_of l w)) names) all_are
+
+    names_there : (w : List ℕ) → list_any (same_name w) names ≡ true → list_any (same_name w) final_names ≡ true
+    names_there w h = ap (list_any (same_name w)) (sym all_are) ∙ mentioned_known known names w h
+
+    there_named : (w : List ℕ) → list_any (same_name w) final_names ≡ true → list_any (same_name w) names ≡ true
+    there_named w h =
+        mentioned_only known names w (list_any (same_name w) names ≡ true) (numbers_known names (placed_in e.defined id) known w known_are) (λ k. k) (ap (list_any (same_name w)) all_are ∙ h)
+
+    names_apart : AreDistinct names
+    names_apart = subst AreDistinct (sym (names_is ∙ ap (λ (l : List (List ℕ)). mention l word) x.mentions)) (mentioned-distinct (all_mentioned [] all_words) word (all_mentioned-distinct [] all_words no_names))
+
+    pub renumbered : IsRenumbered names numbers final_names
+    renumbered = record {
+      all = length-from_same_keys nat_list_eq_equiv final_names names (names-distinct (statements log.lines)) names_apart (λ w. both_ways (list_any (same_name w) final_names) (list_any (same_name w) names) (there_named w) (names_there w));
+      there = ap (map (λ (s : SymId). slice_get final_names s.0)) numbers_now ∙ all_stand final_names names names_there;
+    }
 
     modules_are : modules ≡ modules_id (statements log.lines)
     modules_are =
-        let longer : Extends known (names_of (statements log.lines)) = mentioned_extends known (names_of (statements log.lines)) mentioned (sym names_are ∙ names_is) in
-        id_is (names_of (statements log.lines)) longer ∙ ap (λ (w : List ℕ). symbol (number_of (names_of (statements log.lines)) w)) name_is
+        place_was
+        ∙ ap symbol (place_is names e.defined (defined (statements log.lines)) word id defined_are id_is)
+        ∙ ap symbol (number_later (defined (statements log.lines)) word final_names (all_mentioned_extends known all_words))
 
-    words_agree : Agree (final numbers modules) (number_of mentioned) (number_of names) all_words
-    words_agree = agree_all (final numbers modules) (number_of mentioned) (number_of names) all_words (λ w h. number_agrees mentioned names modules numbers numbers_are w (ap (list_any (same_name w)) x.mentions ∙ mentioned_known [] all_words w h))
+    words_agree : Agree (final numbers modules) (number_of names) (number_of final_names) all_words
+    words_agree = agree_all (final numbers modules) (number_of names) (number_of final_names) all_words (λ w h. number_agrees names final_names modules numbers numbers_now w (known_longer mentioned names w longer (ap (list_any (same_name w)) x.mentions ∙ mentioned_known [] all_words w h)))
 
-    lines_now : map line_view lines.items ≡ map (place_numbered (Some modules) (number_of names)) log.lines
-    lines_now =
-        renamed
-        ∙ ap (map (line_renamed (final numbers modules))) (x.lines mentioned (extends_none mentioned))
-        ∙ lines_are (final numbers modules) (number_of mentioned) (number_of names) (Some unknown) log.lines words_agree
-        ∙ ap (λ (id : SymId). map (place_numbered (Some id) (number_of names)) log.lines) (unknown_final mentioned names modules numbers numbers_are unknown few)
+    module _ (now : List (List ℕ)) (count : ℕ) (lines : Vec Line Global) (now_is : now ≡ final_names) (count_was : count ≡ length e.defined) (few : length names ≤ unknown.0) (renamed : map line_view lines.items ≡ map (line_renamed (final numbers modules)) (map line_view e.lines.items)) where
+      lines_now : map line_view lines.items ≡ map (place_numbered (Some modules) (number_of final_names)) log.lines
+      lines_now =
+          renamed
+          ∙ ap (map (line_renamed (final numbers modules))) (x.lines names longer)
+          ∙ lines_are (final numbers modules) (number_of names) (number_of final_names) (Some unknown) log.lines words_agree
+          ∙ ap (λ (s : SymId). map (place_numbered (Some s) (number_of final_names)) log.lines) (unknown_final names final_names modules numbers numbers_now unknown few)
 
-    pub listing-is : IsListing log (record { names = names; count = e.symbols; modules = modules; lines = lines })
-    listing-is = record {
-      names_are = names_are;
-      count_is = x.symbols;
-      modules_is = modules_are;
-      lines_are = lines_now ∙ ap (λ (ns : List (List ℕ)). map (place_numbered (Some modules) (number_of ns)) log.lines) names_are ∙ ap (λ (id : SymId). map (place_numbered (Some id) (number_of (names_of (statements log.lines)))) log.lines) modules_are;
-    }
+      pub listing-is : IsListing log (record { names = now; count = count; modules = modules; lines = lines })
+      listing-is = record {
+        names_are = now_is;
+        count_is = count_was ∙ ap length (x.defined_is mentioned (extends_none mentioned)) ∙ length-map (defined (statements log.lines)) (λ w. symbol (number_of mentioned w));
+        modules_is = modules_are;
+        lines_are = lines_now ∙ ap (λ (s : SymId). map (place_numbered (Some s) (number_of final_names)) log.lines) modules_are;
+      }
 
 -- a defined name
 defined_first : (o : Option (List ℕ)) (ns : List (List ℕ)) (n : List ℕ) → o ≡ Some n → list_any (same_name n) (cons_option o ns) ≡ true

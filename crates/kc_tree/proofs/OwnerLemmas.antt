@@ -14,8 +14,7 @@ use Rattle.kc_tree.specs.Passes.{said_by}
 use Rattle.kc_tree.specs.Warnings.{is_some_other, entry_before, begun, begun_at, owner_before, owner_at, prompt_before}
 use Rattle.kc_tree.specs.Known.{next_owner, next_prompted}
 use Rattle.kc_tree.proofs.BlockLemmas.{take-next, last-snoc}
-use Rattle.kc_tree.proofs.PlaceLemmas.{filter-next}
-use Rattle.kc_tree.proofs.OpenerLemmas.{statement_at}
+use Rattle.kc_tree.proofs.PlaceLemmas.{filter-next, statement_at}
 
 module _ (ss : List Numbered) where
   abbrev is_head : ℕ → Bool

@@ -1,10 +1,15 @@
 -- Lists over the places of a list, one place more.
-use Rattle.std.proofs.Common.{◌≡◌, ℕ, zero, suc, ◌+◌, ◌<◌, Bool, if◌then◌else◌, List, [], ◌∷◌, ◌++◌, length, filter, map, Option, Some, refl, ap, ◌∙◌, arith, add-one, length-append}
+use Rattle.std.proofs.Common.{◌≡◌, ℕ, zero, suc, ◌+◌, ◌<◌, Bool, if◌then◌else◌, List, [], ◌∷◌, ◌++◌, length, filter, map, Option, Some, refl, ap, sym, ◌∙◌, arith, add-one, get_or, length-append}
 use Rattle.std.specs.List.{slice_get, filter_map, flat_map, cons_option}
 use Rattle.std.proofs.lemmas.List.{map-append, append-nil, length-map}
 use Rattle.std.proofs.lemmas.List.Elements.{filter-append, filter_map-append}
 use Rattle.std.proofs.lemmas.Grind.{flat_map-append}
+use Rattle.std.specs.Prelude.{option_map}
+use Rattle.std.proofs.lemmas.Option.{slice_get-map, slice_get-get_or}
+use Rattle.kc_read.specs.declared.line.Line.{Line}
+use Rattle.kc_read.specs.Reads.{statement_view}
 use Rattle.kc_read.specs.Blocks.{numbers}
+use Rattle.kc_tree.specs.Passes.{said_by}
 use Rattle.kc_tree.proofs.BlockLemmas.{numbers_from, numbers-from}
 
 pub numbers-next : (i : ℕ) → numbers (i + 1) ≡ numbers i ++ i ∷ []
@@ -40,3 +45,12 @@ get-map_numbers f n k h = let e : 0 + k ≡ k = omega arith in rw (numbers-from 
 pub view_next : {A B : Type 0} (v : A → B) (f : ℕ → B) (i : ℕ) (out new : List A) (x : A) → map v out ≡ map f (numbers i) → v x ≡ f i → new ≡ out ++ x ∷ [] → map v new ≡ map f (numbers (i + 1))
 view_next v f i out new x h e n =
     ap (map v) n ∙ map-append v out (x ∷ []) ∙ map-next f i (map v out) (v x) h e
+
+-- The same of lines.
+-- the statement of a line that was read by its place
+pub statement_at : (ls : List Line) (i : ℕ) (x : Line) → i < length ls → x ≡ get_or ls i x → slice_get (said_by ls) i ≡ Some (statement_view x.statement)
+statement_at ls i x h e =
+    slice_get-map (λ (l : Line). statement_view l.statement) ls i ∙ ap (option_map (λ (l : Line). statement_view l.statement)) (slice_get-get_or ls i x h ∙ ap Some (sym e))
+
+pub length-said_by : (ls : List Line) → length (said_by ls) ≡ length ls
+length-said_by ls = length-map ls (λ (l : Line). statement_view l.statement)

@@ -23,7 +23,7 @@ use Rattle.kc_tree.proofs.LineTextLemmas.{AreOneLine, IsLineAtom, IsLineLexeme, 
 
 -- a value whose constant, where one stands alone, is one line's text
 abbrev pub IsLineValue : Disjunction → Type 0
-IsLineValue d = (number : List ℕ → ℕ) → IsLineForm (value_form None number d)
+IsLineValue d = (number : List ℕ → ℕ) → IsLineForm (value_form number d)
 
 -- the texts that a tree takes over from a statement, where V holds of a default's value
 abbrev pub HasTexts : {E L S : Type 0} → (E → Type 0) → Statement E L S → Type 0

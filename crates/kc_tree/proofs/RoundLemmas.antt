@@ -1,8 +1,10 @@
 -- What surrounds a place.
-use Rattle.std.proofs.Common.{◌≡◌, ℕ, ◌+◌, ◌<◌, ◌≤◌, Bool, true, false, cond, if◌then◌else◌, List, [], ◌∷◌, ◌++◌, length, filter, map, Option, Some, None, refl, ap, sym, ◌∙◌, arith, get_or}
+use Rattle.std.proofs.Common.{◌≡◌, ℕ, ◌+◌, ◌<◌, ◌≤◌, Bool, true, false, cond, if◌then◌else◌, List, [], ◌∷◌, ◌++◌, length, filter, map, Some, refl, ap, sym, ◌∙◌, arith, get_or}
 use Rattle.std.specs.List.{slice_get, flat_map, count_by, fold}
-use Rattle.std.specs.Option.{option_map, unwrap_or, option_and_then}
-use Rattle.std.proofs.lemmas.List.{append-nil}
+use Rattle.std.specs.Option.{option_map}
+use Rattle.std.specs.declared.alloc.Global.{Global}
+use Rattle.std.specs.declared.rc.Rc.{Rc}
+use Rattle.std.proofs.lemmas.List.{append-nil, length-map}
 use Rattle.std.proofs.lemmas.List.Elements.{filter-append}
 use Rattle.std.proofs.lemmas.Grind.{flat_map-append}
 use Rattle.kc_expr.specs.Form.{Form}
@@ -10,20 +12,22 @@ use Rattle.kc_read.specs.declared.line.Line.{Line}
 use Rattle.kc_read.specs.Reads.{statement_view}
 use Rattle.kc_read.specs.declared.statement.Block.TheVariants as block
 use Rattle.kc_read.specs.Statements.{Numbered, ChoiceLine}
-use Rattle.kc_read.specs.Blocks.{numbers, last_of, enclosing, bracket, opened}
-use Rattle.kc_tree.specs.Facts.{opener_of, of_block, block_parts, own_visible, choice_number, is_block}
+use Rattle.kc_read.specs.Blocks.{numbers, last_of, bracket, opened}
+use Rattle.kc_tree.specs.Facts.{of_block, block_parts, own_visible, choice_number, is_block}
 use Rattle.kc_tree.specs.Passes.{said_by}
-use Rattle.kc_tree.specs.Rounds.{Surroundings, nothing, next_count, block_visible, inside_from, round, inside_table, entry_of, looked_up}
-use Rattle.kc_tree.proofs.BlockLemmas.{enclosing-last, enclosing-none, round_last, last-snoc}
-use Rattle.kc_tree.proofs.PlaceLemmas.{get-map_numbers, numbers-next, length-map_numbers}
-use Rattle.kc_tree.proofs.OpenerLemmas.{statement_at, length-said_by}
+use Rattle.kc_tree.specs.Rounds.{Surroundings, next_count, block_visible, inside_from, round}
+use Rattle.kc_tree.specs.ScopeViews.{shared_view, AreScopes}
+use Rattle.kc_tree.specs.declared.scope.Scope.{Scope}
+use Rattle.kc_tree.proofs.BlockLemmas.{last-snoc}
+use Rattle.kc_tree.proofs.PlaceLemmas.{get-map_numbers, numbers-next, length-map_numbers, statement_at, length-said_by}
 
 module _ (ss : List Numbered) where
-  abbrev round_at : List ℕ → Surroundings
+  abbrev pub round_at : List ℕ → Surroundings
   round_at places = record {
     parts = flat_map (block_parts ss) places;
     visible = flat_map (own_visible ss) (filter (of_block ss block.Menu) places);
     mode = option_map (choice_number ss) (last_of (filter (of_block ss block.Choice) places));
+    opener = last_of places;
   }
 
   parts-snoc : (f : ℕ → List Form) (places : List ℕ) (k : ℕ) → flat_map f (places ++ k ∷ []) ≡ flat_map f places ++ f k
@@ -37,33 +41,12 @@ module _ (ss : List Numbered) where
   chosen true f places k = ap (option_map f) (last-snoc places k)
   chosen false f places k = rw (append-nil places) refl
 
-  round_snoc : (places : List ℕ) (k : ℕ) → round_at (places ++ k ∷ []) ≡ inside_from ss k (round_at places) (choice_number ss k)
+  pub round_snoc : (places : List ℕ) (k : ℕ) → round_at (places ++ k ∷ []) ≡ inside_from ss k (round_at places) (choice_number ss k)
   round_snoc places k =
       let p = parts-snoc (block_parts ss) places k in
       let v : flat_map (own_visible ss) (filter (of_block ss block.Menu) (places ++ k ∷ [])) ≡ flat_map (own_visible ss) (filter (of_block ss block.Menu) places) ++ block_visible ss k = ap (flat_map (own_visible ss)) (filter-append (of_block ss block.Menu) places (k ∷ [])) ∙ kept (of_block ss block.Menu k) (own_visible ss) (filter (of_block ss block.Menu) places) k in
       let m = ap (λ l. option_map (choice_number ss) (last_of l)) (filter-append (of_block ss block.Choice) places (k ∷ [])) ∙ chosen (of_block ss block.Choice k) (choice_number ss) (filter (of_block ss block.Choice) places) k in
-      λ i. record { parts = p i; visible = v i; mode = m i }
-
-  pub round_inside : (i k : ℕ) → i ≤ length ss → opener_of ss i ≡ Some k → inside_table ss k ≡ Some (round ss i)
-  round_inside i k h e =
-      let opens = (round_last ss i k h e).opener in
-      (rw opens refl) ∙ ap Some (sym (ap round_at (enclosing-last ss i k h e) ∙ round_snoc (enclosing ss k) k))
-
-  pub round_outside : (i : ℕ) → opener_of ss i ≡ None → nothing ≡ round ss i
-  round_outside i e = ap round_at (sym (enclosing-none ss i e))
-
-  by_opener : (n m i : ℕ) (o : Option ℕ) (insides : List (Option Surroundings)) → i ≤ length ss → i ≤ m → opener_of ss i ≡ o → insides ≡ map (inside_table ss) (numbers m) → unwrap_or (option_and_then (λ k. unwrap_or (slice_get insides k) None) o) nothing ≡ round ss i
-  by_opener n m i None insides h b e t = round_outside i e
-  by_opener n m i (Some k) insides h b e t =
-      let before = (round_last ss i k h e).before in
-      let at : slice_get insides k ≡ Some (inside_table ss k) = rw t (get-map_numbers (inside_table ss) m k (omega arith)) in
-      rw (at, round_inside i k h e) refl
-
-  -- what stands in the tables is what surrounds a place
-  pub looked_up-is : (n m i : ℕ) (openers : List (Option ℕ)) (insides : List (Option Surroundings)) → i ≤ length ss → i < n → i ≤ m → openers ≡ map (opener_of ss) (numbers n) → insides ≡ map (inside_table ss) (numbers m) → looked_up nothing openers insides i ≡ round ss i
-  looked_up-is n m i openers insides h b c p t =
-      let at : slice_get openers i ≡ Some (opener_of ss i) = rw p (get-map_numbers (opener_of ss) n i b) in
-      rw at (by_opener n m i (opener_of ss i) insides h c refl t)
+      λ i. record { parts = p i; visible = v i; mode = m i; opener = last-snoc places k i }
 
   by_line : (s : Numbered) (n : ℕ) → next_count s n ≡ n + cond (is_block block.Choice (opened (bracket s))) 1 0
   by_line ChoiceLine n = refl
@@ -80,11 +63,6 @@ module _ (ss : List Numbered) where
 
 -- The same for a walk over lines.
 module _ (ls : List Line) where
-  pub entry-is : (i : ℕ) (openers : List (Option ℕ)) (table : List (Option Surroundings)) (o r : Surroundings) (x : Option Surroundings) (count : ℕ) → i < length ls → openers ≡ map (opener_of (said_by ls)) (numbers (length ls)) → table ≡ map (inside_table (said_by ls)) (numbers i) → o ≡ nothing → r ≡ looked_up o openers table i → count ≡ choice_number (said_by ls) i → x ≡ entry_of (said_by ls) i r count → x ≡ inside_table (said_by ls) i
-  entry-is i openers table o r x count h p t e q n z =
-      let there : r ≡ round (said_by ls) i = q ∙ ap (λ (w : Surroundings). looked_up w openers table i) e ∙ looked_up-is (said_by ls) (length ls) i i openers table (omega (arith, length-said_by ls)) h (omega arith) p t in
-      z ∙ rw (there, n) refl
-
   pub count-is : (i count next : ℕ) (x : Line) → i < length ls → x ≡ get_or ls i x → count ≡ choice_number (said_by ls) i → next ≡ next_count (statement_view x.statement) count → next ≡ choice_number (said_by ls) (i + 1)
   count-is i count next x h at n e =
       e ∙ ap (next_count (statement_view x.statement)) n ∙ choice_number-next (said_by ls) i (statement_view x.statement) (statement_at ls i x h at)
@@ -96,12 +74,13 @@ module _ (ls : List Line) where
   pub few-is : (i count next : ℕ) (s : Numbered) → count ≤ i → next ≡ next_count s count → next ≤ i + 1
   few-is i count next s h e = rw e (few_next s count i h)
 
-  -- what is looked up in the whole tables
-  pub seen-is : (i : ℕ) (openers : List (Option ℕ)) (table : List (Option Surroundings)) (o r : Surroundings) → i < length ls → openers ≡ map (opener_of (said_by ls)) (numbers (length ls)) → table ≡ map (inside_table (said_by ls)) (numbers (length ls)) → o ≡ nothing → r ≡ looked_up o openers table i → r ≡ round (said_by ls) i
-  seen-is i openers table o r h p t e q =
-      q ∙ ap (λ (w : Surroundings). looked_up w openers table i) e ∙ looked_up-is (said_by ls) (length ls) (length ls) i openers table (omega (arith, length-said_by ls)) h (omega arith) p t
+  -- each line has its scope
+  pub scopes_reach : (i : ℕ) (scopes : List (Rc Scope Global)) → i < length ls → AreScopes (said_by ls) scopes → i < length scopes
+  scopes_reach i scopes h a =
+      let n : length scopes ≡ length (said_by ls) = sym (length-map scopes shared_view) ∙ ap length a ∙ length-map_numbers (round (said_by ls)) (length (said_by ls)) in
+      omega (arith, n, length-said_by ls)
 
-  pub openers_reach : (i : ℕ) (openers : List (Option ℕ)) → i < length ls → openers ≡ map (opener_of (said_by ls)) (numbers (length ls)) → i < length openers
-  openers_reach i openers h p =
-      let n : length openers ≡ length ls = ap length p ∙ length-map_numbers (opener_of (said_by ls)) (length ls) in
-      omega arith
+  pub scope-is : (i : ℕ) (scopes : List (Rc Scope Global)) (r : Surroundings) → i < length ls → AreScopes (said_by ls) scopes → slice_get (map shared_view scopes) i ≡ Some r → r ≡ round (said_by ls) i
+  scope-is i scopes r h a e =
+      let there : Some r ≡ Some (round (said_by ls) i) = sym e ∙ ap (λ l. slice_get l i) a ∙ get-map_numbers (round (said_by ls)) (length (said_by ls)) i (omega (arith, length-said_by ls)) in
+      cc

@@ -1,5 +1,5 @@
 -- The definitions, computed at some lists of statements.
-use Rattle.std.proofs.Common.{◌≡◌, ℕ, suc, List, [], ◌∷◌, ◌++◌, map, Option, Some, None, Ok, Err, codes, refl}
+use Rattle.std.proofs.Common.{◌≡◌, ℕ, suc, List, [], ◌∷◌, ◌++◌, length, map, Option, Some, None, Ok, Err, codes, refl}
 use Rattle.std.specs.Fmt.{digits}
 use Rattle.kc_text.specs.declared.tokens.Op.TheVariants as op
 use Rattle.kc_expr.specs.declared.expression.SymId.{SymId}
@@ -11,12 +11,12 @@ use Rattle.kc_expr.specs.Names.{symbol}
 use Rattle.kc_read.specs.declared.refusal.Code.{Code}
 use Rattle.kc_read.specs.declared.refusal.Code.TheVariants as code
 use Rattle.kc_read.specs.Statements.{Written, Numbered, Asked, Placed, ConfigLine, IfLine, EndIfLine, CommentLine, MenuLine, EndMenuLine, ChoiceLine, EndChoiceLine, MainMenuLine, TypeLine, PromptLine, DefaultLine, DefLine, DependsLine, VisibleLine, SelectLine, ImplyLine, RangeLine, ModulesLine}
-use Rattle.kc_tree.specs.TreeFacts.{Condition, Guarded, SymbolFacts, SymbolShown, MenuShown, EndShown, CommentShown}
+use Rattle.kc_tree.specs.TreeFacts.{TreeFacts, Condition, Guarded, SymbolFacts, SymbolShown, MenuShown, EndShown, CommentShown}
 use Rattle.kc_tree.specs.Facts.{symbol_facts, choices, entries}
-use Rattle.kc_read.specs.Expansion.{Refused, refused, statements}
+use Rattle.kc_read.specs.Expansion.{Refused, refused, statements, defined}
 use Rattle.kc_tree.specs.Warnings.{warnings, late_refusals}
-use Rattle.kc_read.specs.Numbering.{names_of, numbered_lines}
-use Rattle.kc_tree.specs.Trees.{tree_of_lines, facts_of_lines}
+use Rattle.kc_read.specs.Numbering.{names_of, modules_id, numbered_lines}
+use Rattle.kc_tree.specs.Trees.{tree_of_lines, facts_with}
 
 -- Short words for the rows.
 abbrev whole : Negation → Disjunction
@@ -49,6 +49,10 @@ txt t = Single (Text t)
 
 abbrev cond : List Form → Option ℕ → Condition
 cond ps m = record { parts = ps; mode = m }
+
+-- what lines say, where nothing is to be refused
+abbrev facts_of_lines : List Written → List (Placed Numbered) → TreeFacts
+facts_of_lines ss ls = facts_with (names_of ss) (length (defined ss)) (modules_id ss) ls
 
 -- A choice with a default, and its members.
 abbrev choice_default : List Written

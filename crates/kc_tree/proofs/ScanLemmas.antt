@@ -11,7 +11,7 @@ use Rattle.kc_read.specs.Statements.{Numbered}
 use Rattle.kc_read.specs.Blocks.{last_of, is_attribute, attributes}
 use Rattle.kc_tree.specs.Facts.{first_of}
 use Rattle.kc_tree.specs.Passes.{said_by}
-use Rattle.kc_tree.proofs.OpenerLemmas.{statement_at, length-said_by}
+use Rattle.kc_tree.proofs.PlaceLemmas.{statement_at, length-said_by}
 
 drop-get : {X : Type 0} (xs : List X) (i : ℕ) (x : X) → slice_get xs i ≡ Some x → drop i xs ≡ x ∷ drop (suc i) xs
 drop-get [] i x h = cc

@@ -20,9 +20,8 @@ use Rattle.kc_tree.specs.Conditions.{default_line, range_line, defined_by}
 use Rattle.kc_read.specs.declared.line.Line.{Line}
 use Rattle.kc_read.specs.Reads.{statement_view}
 use Rattle.kc_tree.specs.Passes.{said_by, change, changed, type_at}
-use Rattle.kc_tree.proofs.OpenerLemmas.{statement_at, length-said_by}
 use Rattle.kc_tree.proofs.BlockLemmas.{numbers_from, numbers-from}
-use Rattle.kc_tree.proofs.PlaceLemmas.{filter-next}
+use Rattle.kc_tree.proofs.PlaceLemmas.{filter-next, statement_at, length-said_by}
 
 same_from : {A : Type 0} (f h : ℕ → A) (p n : ℕ) → ((j : ℕ) → f (p + j) ≡ h (p + j)) → map f (numbers_from p n) ≡ map h (numbers_from p n)
 same_from f h p zero e = refl

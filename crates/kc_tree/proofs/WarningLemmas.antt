@@ -18,12 +18,11 @@ use Rattle.kc_tree.specs.Firsts.{is_first_at}
 use Rattle.kc_tree.specs.Facts.{listed, is_member, choice_of, kind_of}
 use Rattle.kc_tree.specs.Known.{IsKnown, AreMarks, IsPlace, IsMark, choice_by, member_by, said_by_mark}
 use Rattle.kc_tree.specs.Passes.{said_by}
-use Rattle.kc_tree.specs.Warnings.{owner_at, prompt_before, said, said_with, bad_members, ss, warned_at, warnings, line_of}
+use Rattle.kc_tree.specs.Warnings.{owner_at, prompt_before, said, said_with, bad_members, numbered_statements, warned_at, warnings, line_of}
 use Rattle.kc_tree.proofs.MemberLemmas.{member_is}
-use Rattle.kc_tree.proofs.OpenerLemmas.{length-said_by}
-use Rattle.kc_tree.proofs.PlaceLemmas.{flat_map-next, get-map_numbers, length-map_numbers}
+use Rattle.kc_tree.proofs.PlaceLemmas.{flat_map-next, get-map_numbers, length-map_numbers, length-said_by}
 
-pub statements-is : (names : List (List ℕ)) (ls : List Line) → ss names (map line_view ls) ≡ said_by ls
+pub statements-is : (names : List (List ℕ)) (ls : List Line) → numbered_statements (map line_view ls) ≡ said_by ls
 statements-is names [] = refl
 statements-is names (x ∷ ls) = ap (λ (l : List Numbered). statement_view x.statement ∷ l) (statements-is names ls)
 
@@ -81,5 +80,5 @@ module _ (names : List (List ℕ)) (ls : List Line) where
 
   pub warned_all : (i : ℕ) → i ≡ length ls → warned_before i ≡ warnings names (map line_view ls)
   warned_all i e =
-      let n : length (ss names (map line_view ls)) ≡ length ls = length-map (map line_view ls) (λ l. l.statement) ∙ length-map ls line_view in
+      let n : length (numbered_statements (map line_view ls)) ≡ length ls = length-map (map line_view ls) (λ l. l.statement) ∙ length-map ls line_view in
       rw (e, n) refl

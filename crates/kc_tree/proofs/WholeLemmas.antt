@@ -15,7 +15,8 @@ use Rattle.kc_read.specs.declared.refusal.Code.TheVariants as code
 use Rattle.kc_read.specs.declared.statement.Block.TheVariants as block
 use Rattle.kc_read.specs.Files.{Files}
 use Rattle.kc_read.specs.Expansion.{Expands, Log, Refused, refused, defined, statements}
-use Rattle.kc_read.specs.Lines.{is_good_name, is_name_byte}
+use Rattle.kc_expr.specs.Names.{is_name_byte}
+use Rattle.kc_read.specs.Lines.{is_good_name}
 use Rattle.kc_read.specs.Numbering.{names_of, modules_id, numbered_lines}
 use Rattle.kc_read.specs.Statements.{Written, Numbered, Placed}
 use Rattle.kc_tree.specs.TreeFacts.{Condition, EndShown, MenuShown, TreeFacts, IsSymbolName, IsWellFormed}

@@ -1,9 +1,9 @@
 -- For proofs: The conditions of an entry, by what surrounds it and by its attributes.
-use Rattle.std.specs.Prelude.{List, [], ◌∷◌, ◌++◌, Option, Some, None}
+use Rattle.std.specs.Prelude.{◌≡◌, List, [], ◌∷◌, ◌++◌, map, Option, Some, None}
 use Rattle.std.specs.Option.{option_map}
 use Rattle.std.specs.List.{filter_map}
 use Rattle.kc_expr.specs.Form.{Form}
-use Rattle.kc_read.specs.Statements.{Numbered, Asked, RangeLine}
+use Rattle.kc_read.specs.Statements.{Numbered, Asked, RangeLine, DependsLine, IgnoredLine}
 use Rattle.kc_read.specs.Blocks.{last_of}
 use Rattle.kc_tree.specs.TreeFacts.{Condition, Guarded, Bounds, SymbolFacts}
 use Rattle.kc_tree.specs.Facts.{joined, listed, depends_form, visible_form, asked_of, given_of, Given}
@@ -22,15 +22,30 @@ abbrev pub range_line : Condition → Numbered → Option (Guarded Bounds)
 range_line c (RangeLine a b w) = Some (record { what = record { low = a; high = b }; when = with_when c w })
 range_line c _ = None
 
+-- a line without what it depends on
+abbrev pub rest_of : Numbered → Numbered
+rest_of (DependsLine e) = IgnoredLine
+rest_of s = s
+
+-- nothing differs but what lines depend on
+abbrev pub AreSameBesides : List Numbered → List Numbered → Type 0
+AreSameBesides old new = map rest_of new ≡ map rest_of old
+
+-- the condition of a prompt, of an entry that depends on this
+abbrev pub prompt_by : Condition → List Form → List Numbered → Option Condition
+prompt_by c visible own =
+    option_map (λ (p : Asked Form). with_when (with_visible c visible) p.when) (last_of (filter_map asked_of own))
+
+-- what an entry depends on that asks for this
+abbrev pub dep_by : Surroundings → List Form → Condition
+dep_by r fs = record { parts = r.parts ++ fs; mode = r.mode }
+
 module _ (r : Surroundings) (own : List Numbered) where
   abbrev pub dep_of : Condition
-  dep_of = record { parts = r.parts ++ joined (filter_map depends_form own); mode = r.mode }
-
-  abbrev pub asked_by : Asked Form → Condition
-  asked_by p = with_when (with_visible dep_of r.visible) p.when
+  dep_of = dep_by r (joined (filter_map depends_form own))
 
   abbrev pub prompt_of : Option Condition
-  prompt_of = option_map asked_by (last_of (filter_map asked_of own))
+  prompt_of = prompt_by dep_of r.visible own
 
   abbrev pub shown_of : Condition
   shown_of = with_visible (with_visible dep_of r.visible) (joined (filter_map visible_form own))

@@ -1,6 +1,6 @@
 -- For proofs: The entries, line by line.
 use Rattle.std.specs.Prelude.{ℕ, ◌+◌, List, Bool, true, false, Option, Some, None, if◌then◌else◌}
-use Rattle.std.specs.Prelude.{slice_get, unwrap_or}
+use Rattle.std.specs.Prelude.{slice_get}
 use Rattle.std.specs.Option.{option_map, option_and_then}
 use Rattle.kc_tree.specs.TreeFacts.{Shown, SymbolShown, MenuShown, EndShown, CommentShown}
 use Rattle.kc_tree.specs.Rounds.{Surroundings}
@@ -18,9 +18,9 @@ is_entry_line first EndMenuLine = true
 is_entry_line first (CommentLine t) = true
 is_entry_line first _ = false
 
--- the number of the menu that a line closes, by the innermost opener and the entries before each line
-abbrev pub menu_of : List (Option ℕ) → List ℕ → ℕ → Option ℕ
-menu_of openers entry_numbers i = option_and_then (λ k. slice_get entry_numbers k) (unwrap_or (slice_get openers i) None)
+-- the number of the menu that a line closes, by its opener and the entries before each line
+abbrev pub menu_of : Option ℕ → List ℕ → Option ℕ
+menu_of opener entry_numbers = option_and_then (λ k. slice_get entry_numbers k) opener
 
 -- the entry that a line is
 abbrev pub entry_line : Surroundings → List Numbered → Bool → Option ℕ → Numbered → Option Shown

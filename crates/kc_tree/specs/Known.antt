@@ -1,5 +1,5 @@
 -- For proofs: What the passes know of symbols and lines when they look for warnings and refusals.
-use Rattle.std.specs.Prelude.{◌≡◌, ℕ, ◌<◌, List, map, length, Option, Some, slice_get, is_some, if◌then◌else◌, option_map, unwrap_or, ◌||◌, ◌&&◌, ◌==◌, Bool}
+use Rattle.std.specs.Prelude.{◌≡◌, ℕ, ◌<◌, List, map, length, Option, Some, None, slice_get, is_some, if◌then◌else◌, option_map, unwrap_or, ◌||◌, ◌&&◌, ◌==◌, Bool, false, not}
 use Rattle.std.specs.List.{list_any}
 use Rattle.std.specs.Option.{option_and_then}
 use Rattle.kc_expr.specs.declared.expression.SymId.{SymId}
@@ -13,9 +13,18 @@ use Rattle.kc_tree.specs.declared.known.Marks.{Marks}
 use Rattle.kc_tree.specs.declared.warning.Warning.{Warning}
 use Rattle.kc_tree.specs.declared.owners.Owner.{Owner}
 use Rattle.kc_tree.specs.declared.parts.ChoiceId.{ChoiceId}
-use Rattle.kc_tree.specs.Facts.{asked_of, kind_of, choice_of, listed, given_of, single_symbol}
+use Rattle.kc_tree.specs.Facts.{asked_of, kind_of, choice_of, listed, given_of, single_symbol, symbol_at}
 use Rattle.kc_tree.specs.Firsts.{is_first_at}
 use Rattle.kc_tree.specs.Warnings.{begun, owner_at, prompt_before, said_with}
+
+-- each defined symbol has a number below this one
+abbrev pub AreBelow : ℕ → List Numbered → Type 0
+AreBelow count ss = (i : ℕ) (s : SymId) → symbol_at ss i ≡ Some s → s.0 < count
+
+-- no line before this one defines the symbol that it defines, by whether each symbol was defined before
+abbrev pub first_seen : Option SymId → List Bool → Bool
+first_seen None seen = false
+first_seen (Some s) seen = not (unwrap_or (slice_get seen s.0) false)
 
 -- whose entry a line belongs to, after one of that entry and with so many choices before it
 abbrev pub next_owner : Numbered → Owner → ℕ → Owner

@@ -12,7 +12,7 @@ pub mod Numberings
 pub mod Passes
 pub mod Raises
 pub mod Renamings
-pub mod RoundViews
+pub mod ScopeViews
 pub mod Rounds
 pub mod Targets
 pub mod TreeCode

@@ -1,5 +1,5 @@
 -- For proofs: Words for the passes over the list of lines.
-use Rattle.std.specs.Prelude.{◌≡◌, ℕ, zero, suc, ◌<◌, List, [], ◌∷◌, map, Bool, true, false, Option, Some, None, slice_get, unwrap_or}
+use Rattle.std.specs.Prelude.{ℕ, zero, suc, List, [], ◌∷◌, map, Bool, true, false, Option, Some, None}
 use Rattle.std.specs.Option.{option_and_then}
 use Rattle.std.specs.Prelude.{option_map}
 use Rattle.kc_expr.specs.declared.expression.SymId.{SymId}
@@ -29,20 +29,6 @@ abbrev pub closes : Bracket → Bool
 closes Closes = true
 closes (Opens b) = false
 closes NoBracket = false
-
--- the innermost opener round an opener
-abbrev pub outer_opener : Option ℕ → List (Option ℕ) → Option ℕ
-outer_opener now openers = option_and_then (λ k. unwrap_or (slice_get openers k) None) now
-
--- the innermost opener round the next line, from that of this line at a place and those of the lines before
-abbrev pub next_opener : Bracket → ℕ → Option ℕ → List (Option ℕ) → Option ℕ
-next_opener (Opens b) i now openers = Some i
-next_opener Closes i now openers = outer_opener now openers
-next_opener NoBracket i now openers = now
-
--- each element that there is lies below a place
-abbrev pub IsBefore : ℕ → Option ℕ → Type 0
-IsBefore i o = (k : ℕ) → o ≡ Some k → k < i
 
 abbrev pub given_view : Given → spec.Given
 given_view g = record { value = form_of g.value.now; when = option_map (λ e. form_of e.now.value) g.when }

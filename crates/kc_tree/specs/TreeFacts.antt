@@ -1,10 +1,14 @@
 -- Trusted: What a tree says, without where it lies in memory.
 use Rattle.std.specs.Prelude.{◌≡◌, ℕ, true, false, ◌==◌, ◌<◌, ◌≤◌, List, length, Option, Some, None, slice_get, Contains, All}
+use Rattle.kc_text.specs.Bytes.{byte}
 use Rattle.kc_expr.specs.declared.expression.SymId.{SymId}
 use Rattle.kc_expr.specs.declared.expression.Kind.{Kind}
 use Rattle.kc_expr.specs.declared.expression.Kind.TheVariants as kind
 use Rattle.kc_expr.specs.Form.{Form, Leaf, Text, Symbol, Single, Related, Negated, Every, Some_of}
-use Rattle.kc_read.specs.Lines.{is_name_byte}
+use Rattle.kc_text.specs.Limits.{longest_line}
+use Rattle.kc_expr.specs.Limits.{longest_name}
+use Rattle.kc_expr.specs.Names.{is_name_byte}
+use Rattle.kc_read.specs.Limits.{most_symbols}
 
 -- the `&&` of its parts, and of that choice's mode
 pub record Condition : Type 0 where
@@ -56,10 +60,10 @@ pub record TreeFacts : Type 0 where
 
 -- What holds of the facts of every tree.
 
--- 1 to 255 bytes of `A` to `Z`, `a` to `z`, `0` to `9` and `_`
+-- one byte or more that may stand in a name, and not too many
 pub record IsSymbolName (name : List ℕ) : Type 0 where
   pub some : 0 < length name
-  pub short : length name ≤ 255
+  pub short : length name ≤ longest_name
   pub bytes : All (λ b. is_name_byte b ≡ true) name
 
 -- a condition names only choices that there are
@@ -100,10 +104,10 @@ IsEntrySound t i (EndShown menu) =
     (menu < i) × ((text : List ℕ) × (when : Condition) × (slice_get t.entries menu ≡ Some (MenuShown text when)))
 IsEntrySound t i (CommentShown text when) = IsModeBelow (length t.choices) when
 
--- one line of at most 8,191 bytes, as a line of a Kconfig file holds at most
+-- one line, no longer than a line of a Kconfig file
 pub record IsLineText (text : List ℕ) : Type 0 where
-  pub within : length text ≤ 8191
-  pub one_line : All (λ b. (b == 10) ≡ false) text
+  pub within : length text ≤ longest_line
+  pub one_line : All (λ b. (b == byte "\n") ≡ false) text
 
 -- of the title of a menu or comment
 abbrev pub OfTitle : (List ℕ → Type 0) → Shown → Type 0
@@ -140,7 +144,7 @@ pub record IsWellFormed (t : TreeFacts) : Type 0 where
   pub names_differ : (i j : ℕ) (name : List ℕ) → slice_get t.names i ≡ Some name → slice_get t.names j ≡ Some name → i ≡ j
   pub names_known : length t.symbols ≤ length t.names
   pub names_allowed : (i : ℕ) (name : List ℕ) → i < length t.symbols → slice_get t.names i ≡ Some name → IsSymbolName name
-  pub symbols_few : length t.symbols ≤ 65535
+  pub symbols_few : length t.symbols ≤ most_symbols
   pub lines_sound : All (AreLinesSound t) t.symbols
   pub members_listed : (i : ℕ) (f : SymbolFacts) → slice_get t.symbols i ≡ Some f → IsListed t (record { 0 = i }) f
   pub choices_sound : (k : ℕ) (c : ChoiceFacts) → slice_get t.choices k ≡ Some c → IsChoiceSound t k c

@@ -25,10 +25,6 @@ facts_with names count modules ls = record {
   modules = if nat_lt modules.0 count then Some modules else None;
 }
 
--- the same, by the statements as they are written
-abbrev pub facts_of_lines : List Written → List (Placed Numbered) → TreeFacts
-facts_of_lines ss ls = facts_with (names_of ss) (length (defined ss)) (modules_id ss) ls
-
 -- the first of these refusals, or with none the tree
 abbrev pub unless_refused : List Refused → TreeFacts → Result TreeFacts Refused
 unless_refused [] t = Ok t

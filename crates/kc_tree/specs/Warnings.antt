@@ -143,20 +143,21 @@ module _ (names : List (List ℕ)) where
   abbrev pub line_of : List ℕ → ℕ → Warning → List ℕ
   line_of file line w = file ++ codes ":" ++ decimal line ++ codes ": warning " ++ text_of w
 
-module _ (names : List (List ℕ)) (ls : List (Placed Numbered)) where
-  abbrev pub ss : List Numbered
-  ss = map (λ l. l.statement) ls
+abbrev pub numbered_statements : List (Placed Numbered) → List Numbered
+numbered_statements ls = map (λ l. l.statement) ls
 
+-- Of these lines, where names have these numbers.
+module _ (names : List (List ℕ)) (ls : List (Placed Numbered)) where
   abbrev pub warned_at : ℕ → Option (Placed Numbered) → List (List ℕ)
   warned_at i None = []
-  warned_at i (Some l) = map (line_of names l.file l.line) (said ss i l.statement)
+  warned_at i (Some l) = map (line_of names l.file l.line) (said (numbered_statements ls) i l.statement)
 
   abbrev pub warnings : List (List ℕ)
-  warnings = flat_map (λ i. warned_at i (slice_get ls i)) (places ss)
+  warnings = flat_map (λ i. warned_at i (slice_get ls i)) (places (numbered_statements ls))
 
   -- the refusal of a line, which names its entry
   abbrev pub refused_at : Code → ℕ → List Refused
-  refused_at c i = map (λ l. refused (record { code = c; detail = entry_name names (owner_symbol (owner_at ss i)) }) l.file l.line) (listed (slice_get ls i))
+  refused_at c i = map (λ l. refused (record { code = c; detail = entry_name names (owner_symbol (owner_at (numbered_statements ls) i)) }) l.file l.line) (listed (slice_get ls i))
 
   abbrev pub late_refusals : List Refused
-  late_refusals = flat_map (refused_at code.ChoiceMember) (bad_members ss) ++ flat_map (refused_at code.BadDefault) (bad_defaults ss)
+  late_refusals = flat_map (refused_at code.ChoiceMember) (bad_members (numbered_statements ls)) ++ flat_map (refused_at code.BadDefault) (bad_defaults (numbered_statements ls))

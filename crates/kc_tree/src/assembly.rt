@@ -2,19 +2,18 @@
 
 ghost use Rattle.std.specs.Prelude.{◌≡◌, length, map, nat_lt, if◌then◌else◌, IfOk, Some, None};
 ghost use Rattle.kc_read.specs.Reads.{line_view};
-ghost use Rattle.kc_tree.specs.Firsts.{AreBelow};
+ghost use Rattle.kc_tree.specs.Known.{AreBelow};
 ghost use Rattle.kc_tree.specs.Passes.{said_by};
 ghost use Rattle.kc_tree.specs.Assemblies.{assembled_view};
 ghost use Rattle.kc_tree.specs.Trees.{tree_with};
 
-use crate::blocks::openers;
 use crate::choices::choices;
 use crate::collect::{fill, known_symbols};
 use crate::diagnoses::{Diagnosis, diagnose};
 use crate::entries::{entries, main_menu};
 use crate::known::Marks;
 use crate::parts::{Choice, Entry, Symbol};
-use crate::round::insides;
+use crate::scope::scopes;
 use kc_expr::expression::SymId;
 use kc_expr::names::Names;
 use kc_read::line::Line;
@@ -59,18 +58,17 @@ pub fn assemble(
     requires { AreBelow count (said_by lines.old) }
     ensures { IfOk result (λ s. assembled_view names.now s ≡ tree_with names.now count modules (map line_view lines.old)) }
 {
-    let openers = openers(alloc, lines)?;
-    let insides = insides(alloc, lines, &openers)?;
-    let known = known_symbols(alloc, lines, &openers, &insides, count)?;
+    let scopes = scopes(alloc, lines)?;
+    let known = known_symbols(alloc, lines, &scopes, count)?;
     let marks = Marks::of(alloc, lines, count)?;
-    match diagnose(alloc, names, lines, &openers, &insides, &known, &marks)? {
+    match diagnose(alloc, names, lines, &scopes, &known, &marks)? {
         Diagnosis::Refused(refusal) => Ok(Assembled::Refused(refusal)),
         Diagnosis::Warned(warnings) => {
             let firsts = marks.into_firsts();
-            let choices = choices(alloc, lines, &openers, &insides, &known)?;
-            let entries = entries(alloc, lines, &openers, &insides, &firsts)?;
+            let choices = choices(alloc, lines, &scopes, &known)?;
+            let entries = entries(alloc, lines, &scopes, &firsts)?;
             let main_menu = main_menu(alloc, lines)?;
-            let symbols = fill(alloc, lines, &openers, &insides, &known)?;
+            let symbols = fill(alloc, lines, &scopes, &known)?;
             Ok(Assembled::Whole(TreeParts {
                 symbols,
                 choices,

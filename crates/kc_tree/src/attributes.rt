@@ -88,8 +88,8 @@ fn asks_of(statement: &Statement, asks: Asks) -> Option<&Rc<Expr>>
     }
 }
 
-// The expression of the first line that asks for it, and the lines behind that one.
-fn first_asked(attributes: &[Line], asks: Asks) -> Option<(&Rc<Expr>, &[Line])>
+/// The expression of the first line that asks for it, and the lines behind that one.
+pub fn first_asked(attributes: &[Line], asks: Asks) -> Option<(&Rc<Expr>, &[Line])>
     ensures first { IfSome result (λ r. filter_map (asks_form asks) (said_by attributes.now) ≡ form_of r.0.now.value ∷ filter_map (asks_form asks) (said_by r.1.now)) }
     ensures none { IfNone result (filter_map (asks_form asks) (said_by attributes.now) ≡ []) }
 {

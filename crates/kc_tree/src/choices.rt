@@ -7,11 +7,10 @@ ghost use Rattle.kc_read.specs.Blocks.{numbers, bracket, opened};
 ghost use Rattle.kc_read.specs.Reads.{statement_view};
 ghost use Rattle.kc_read.specs.declared.statement.Block.TheVariants as block;
 ghost use Rattle.kc_tree.specs.Choices.{named_view, named_member, member_line, choice_from, AreTheMembers};
-ghost use Rattle.kc_tree.specs.Facts.{choice_number, choices, is_block, opener_of, same_symbol};
+ghost use Rattle.kc_tree.specs.Facts.{choice_number, choices, is_block, same_symbol};
 ghost use Rattle.kc_tree.specs.Known.{IsKnown};
 ghost use Rattle.kc_tree.specs.Passes.{said_by};
-ghost use Rattle.kc_tree.specs.RoundViews.{round_view, inside_view};
-ghost use Rattle.kc_tree.specs.Rounds.{inside_table};
+ghost use Rattle.kc_tree.specs.ScopeViews.{scope_view, AreScopes};
 ghost use Rattle.kc_tree.specs.Views.{choice_facts_of, condition_of};
 ghost use Rattle.kc_tree.specs.Views as views;
 ghost use Rattle.kc_tree.specs.Warnings.{bad_members};
@@ -22,7 +21,7 @@ use crate::known::{Known, is_member};
 use crate::lines::{given_of, single_symbol};
 use crate::members::members;
 use crate::parts::{Choice, ChoiceId, Cond};
-use crate::round::{Round, around, next_count, outside};
+use crate::scope::{Scope, next_count, scope_at};
 use kc_expr::expression::{Expr, SymId};
 use kc_read::line::Line;
 use kc_read::statement::Statement;
@@ -104,14 +103,14 @@ fn member_defaults(
 fn choice(
     alloc: Global,
     own: &[Line],
-    around: &Round,
+    scope: &Scope,
     members: ChoiceMembers,
 ) -> Result<Choice, AllocError>
     requires { AreTheMembers members }
-    ensures { IfOk result (λ c. choice_facts_of c ≡ choice_from (round_view around.now) (said_by own.now) members.entry.list.now) }
+    ensures { IfOk result (λ c. choice_facts_of c ≡ choice_from (scope_view scope.now) (said_by own.now) members.entry.list.now) }
 {
-    let dep = dependency(alloc, own, around)?;
-    let prompt = prompt_condition(alloc, own, around, &dep)?;
+    let dep = dependency(alloc, own, scope)?;
+    let prompt = prompt_condition(alloc, own, scope, &dep)?;
     let defaults = member_defaults(alloc, own, &dep, members)?;
     let members = Vec::from_slice(alloc, members.list)?;
     Ok(Choice {
@@ -137,22 +136,19 @@ fn choice_count(lines: &[Line]) -> usize
 pub fn choices(
     alloc: Global,
     lines: &[Line],
-    openers: &[Option<usize>],
-    insides: &[Option<Box<Round>>],
+    scopes: &[Rc<Scope>],
     known: &[Known],
 ) -> Result<Vec<Choice>, AllocError>
-    requires openers { openers.now ≡ map (opener_of (said_by lines.now)) (numbers (length lines.now)) }
-    requires insides { map inside_view insides.now ≡ map (inside_table (said_by lines.now)) (numbers (length lines.now)) }
+    requires scopes { AreScopes (said_by lines.now) scopes.now }
     requires known { IsKnown (said_by lines.now) known.now }
     requires members { bad_members (said_by lines.now) ≡ [] }
     ensures { IfOk result (λ v. map choice_facts_of v.items ≡ choices (said_by lines.now)) }
 {
-    let lists = members(alloc, lines, openers, insides, choice_count(lines))?;
+    let lists = members(alloc, lines, scopes, choice_count(lines))?;
     let mut choices = Vec::new(alloc);
-    let outside = outside(alloc);
     for (i, line) in lines.iter().enumerate() {
         if is_choice(&line.statement) {
-            let around = around(openers, insides, &outside, i);
+            let scope = scope_at(scopes, i);
             let own = attributes(lines, i);
             let number = choices.len();
             let members = ChoiceMembers {
@@ -160,7 +156,7 @@ pub fn choices(
                 choice: ChoiceId(number),
                 known,
             };
-            choices.push(choice(alloc, own, around, members)?)?;
+            choices.push(choice(alloc, own, scope, members)?)?;
         }
     }
     Ok(choices)

@@ -4,21 +4,21 @@ ghost use Rattle.std.specs.Prelude.{◌≡◌, ◌<◌, length, map, option_map,
 ghost use Rattle.kc_expr.specs.Names.{symbol};
 ghost use Rattle.kc_read.specs.Blocks.{numbers};
 ghost use Rattle.kc_tree.specs.Definitions.{bare_from, kind_by, known_by, known_symbol};
-ghost use Rattle.kc_tree.specs.Facts.{opener_of, symbol_facts};
+ghost use Rattle.kc_tree.specs.Facts.{symbol_facts};
 ghost use Rattle.kc_tree.specs.Known.{known_view};
 ghost use Rattle.kc_tree.specs.Passes.{said_by};
-ghost use Rattle.kc_tree.specs.RoundViews.{inside_view};
-ghost use Rattle.kc_tree.specs.Rounds.{inside_table};
+ghost use Rattle.kc_tree.specs.ScopeViews.{AreScopes};
 ghost use Rattle.kc_tree.specs.Views.{facts_of};
 
 use crate::known::Known;
 use crate::parts::{ChoiceId, Symbol};
 use crate::raises::raise_all;
-use crate::round::Round;
+use crate::scope::Scope;
 use crate::symbols::{choices, define_all, types};
 use kc_expr::expression::Kind;
 use kc_read::line::Line;
 use std::alloc::{AllocError, Global};
+use std::rc::Rc;
 
 // A symbol's type: its first, and bool for a member without one.
 fn kind(first: Option<Kind>, choice: Option<ChoiceId>) -> Kind
@@ -56,16 +56,14 @@ fn known_from_tables(
 pub fn known_symbols(
     alloc: Global,
     lines: &[Line],
-    openers: &[Option<usize>],
-    insides: &[Option<Box<Round>>],
+    scopes: &[Rc<Scope>],
     count: usize,
 ) -> Result<Vec<Known>, AllocError>
-    requires openers { openers.now ≡ map (opener_of (said_by lines.now)) (numbers (length lines.now)) }
-    requires insides { map inside_view insides.now ≡ map (inside_table (said_by lines.now)) (numbers (length lines.now)) }
+    requires scopes { AreScopes (said_by lines.now) scopes.now }
     ensures { IfOk result (λ v. map known_view v.items ≡ map (known_symbol (said_by lines.now)) (numbers count)) }
 {
     let types = types(alloc, lines, count)?;
-    let choices = choices(alloc, lines, openers, insides, count)?;
+    let choices = choices(alloc, lines, scopes, count)?;
     known_from_tables(alloc, &types, &choices)
 }
 
@@ -101,17 +99,15 @@ fn bare_symbols(alloc: Global, known: &[Known]) -> Result<Vec<Symbol>, AllocErro
 pub fn fill(
     alloc: Global,
     lines: &mut [Line],
-    openers: &[Option<usize>],
-    insides: &[Option<Box<Round>>],
+    scopes: &[Rc<Scope>],
     known: &[Known],
 ) -> Result<Vec<Symbol>, AllocError>
-    requires openers { openers.now ≡ map (opener_of (said_by lines.old)) (numbers (length lines.old)) }
-    requires insides { map inside_view insides.now ≡ map (inside_table (said_by lines.old)) (numbers (length lines.old)) }
+    requires scopes { AreScopes (said_by lines.old) scopes.now }
     requires known { map known_view known.now ≡ map (known_symbol (said_by lines.old)) (numbers (length known.now)) }
     ensures { IfOk result (λ v. map facts_of v.items ≡ map (λ s. symbol_facts (said_by lines.old) (symbol s)) (numbers (length known.now))) }
 {
     let mut symbols = bare_symbols(alloc, known)?;
-    raise_all(alloc, lines, openers, insides, &mut symbols)?;
-    define_all(alloc, lines, openers, insides, &mut symbols)?;
+    raise_all(alloc, lines, scopes, &mut symbols)?;
+    define_all(alloc, lines, scopes, &mut symbols)?;
     Ok(symbols)
 }

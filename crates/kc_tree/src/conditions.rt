@@ -3,19 +3,21 @@
 ghost use Rattle.std.specs.Prelude.{◌≡◌, ◌++◌, map, option_map, IfOk, OnOk};
 ghost use Rattle.std.specs.List.{filter_map};
 ghost use Rattle.kc_expr.specs.Form.{form_of, leaf_of};
-ghost use Rattle.kc_tree.specs.Conditions.{with_when, with_visible, default_line, range_line, dep_of, prompt_of, shown_of};
+ghost use Rattle.kc_tree.specs.Conditions.{with_when, with_visible, default_line, range_line, dep_by, dep_of, prompt_by, shown_of, AreSameBesides};
 ghost use Rattle.kc_read.specs.Reads.{statement_view, when_view};
 ghost use Rattle.kc_tree.specs.Facts as facts;
+ghost use Rattle.kc_tree.specs.Facts.{listed};
 ghost use Rattle.kc_tree.specs.Passes.{said_by, taken_view};
-ghost use Rattle.kc_tree.specs.RoundViews.{round_view};
+ghost use Rattle.kc_tree.specs.ScopeViews.{scope_view};
 ghost use Rattle.kc_tree.specs.Views.{condition_of, default_view, range_view};
 
 use crate::attributes::{Asks, joined, last_prompt};
-use crate::copies::{expression_copy, operand_copy};
+use crate::copies::{operand_copy, owned};
 use crate::lines::{condition, given_of, range_of};
 use crate::lists::push_one;
 use crate::parts::Cond;
-use crate::round::{Round, add_part, added, shares, with_part};
+use crate::scope::{Scope, add_part, added, shares, with_part};
+use crate::taken::joined_taken;
 use kc_expr::expression::{Expr, Operand};
 use kc_read::line::Line;
 use kc_read::statement::Statement;
@@ -78,54 +80,59 @@ fn seen(
     })
 }
 
-/// What an entry depends on.
-pub fn dependency(alloc: Global, own: &[Line], around: &Round) -> Result<Cond, AllocError>
-    ensures { IfOk result (λ c. condition_of c ≡ dep_of (round_view around.now) (said_by own.now)) }
+// What surrounds an entry, and one more part where there is one.
+fn dependency_on(alloc: Global, scope: &Scope, more: Option<Rc<Expr>>) -> Result<Cond, AllocError>
+    ensures { IfOk result (λ c. condition_of c ≡ dep_by (scope_view scope.now) (listed (option_map (λ p. form_of p.value) more))) }
 {
-    let more = joined(alloc, own, Asks::Depends)?;
-    let parts = with_part(alloc, &around.parts, more)?;
+    let parts = with_part(alloc, &scope.parts, more)?;
     Ok(Cond {
         parts,
-        mode: around.mode,
+        mode: scope.mode,
     })
 }
 
-/// The condition of an entry's prompt, where it has one.
+/// What an entry depends on.
+pub fn dependency(alloc: Global, own: &[Line], scope: &Scope) -> Result<Cond, AllocError>
+    ensures { IfOk result (λ c. condition_of c ≡ dep_of (scope_view scope.now) (said_by own.now)) }
+{
+    let more = joined(alloc, own, Asks::Depends)?;
+    dependency_on(alloc, scope, more)
+}
+
+/// The same. Where it has more than one line `depends on`, their expressions are taken out of them.
+pub fn dependency_taken(alloc: Global, own: &mut [Line], scope: &Scope) -> Result<Cond, AllocError>
+    ensures dependency { IfOk result (λ c. condition_of c ≡ dep_of (scope_view scope.now) (said_by own.old)) }
+    ensures rest { OnOk result (AreSameBesides (said_by own.old) (said_by own.new)) }
+{
+    let more = joined_taken(alloc, own)?;
+    dependency_on(alloc, scope, more)
+}
+
+/// The condition of an entry's prompt, where it has one and depends on `dep`.
 pub fn prompt_condition(
     alloc: Global,
     own: &[Line],
-    around: &Round,
+    scope: &Scope,
     dep: &Cond,
 ) -> Result<Option<Cond>, AllocError>
-    requires { condition_of dep.now ≡ dep_of (round_view around.now) (said_by own.now) }
-    ensures { IfOk result (λ o. option_map condition_of o ≡ prompt_of (round_view around.now) (said_by own.now)) }
+    ensures { IfOk result (λ o. option_map condition_of o ≡ prompt_by (condition_of dep.now) (scope_view scope.now).visible (said_by own.now)) }
 {
     match last_prompt(own) {
         Some(prompt) => {
             let when = share(condition(&prompt.when))?;
-            Ok(Some(seen(alloc, dep, &around.visible, when)?))
+            Ok(Some(seen(alloc, dep, &scope.visible, when)?))
         }
         None => Ok(None),
     }
 }
 
 /// The condition under which a menu is shown.
-pub fn menu_condition(alloc: Global, own: &[Line], around: &Round) -> Result<Cond, AllocError>
-    ensures { IfOk result (λ c. condition_of c ≡ shown_of (round_view around.now) (said_by own.now)) }
+pub fn menu_condition(alloc: Global, own: &[Line], scope: &Scope) -> Result<Cond, AllocError>
+    ensures { IfOk result (λ c. condition_of c ≡ shown_of (scope_view scope.now) (said_by own.now)) }
 {
-    let dep = dependency(alloc, own, around)?;
+    let dep = dependency(alloc, own, scope)?;
     let more = joined(alloc, own, Asks::Visible)?;
-    seen(alloc, &dep, &around.visible, more)
-}
-
-// The expression, which is copied only where it has other owners.
-fn owned(alloc: Global, e: Rc<Expr>) -> Result<Expr, AllocError>
-    ensures { IfOk result (λ own. form_of own ≡ form_of e.value) }
-{
-    match Rc::try_unwrap(e) {
-        Ok(own) => Ok(own),
-        Err(shared) => expression_copy(alloc, &shared),
-    }
+    seen(alloc, &dep, &scope.visible, more)
 }
 
 // Takes a default out of its line, which is an attribute as before.

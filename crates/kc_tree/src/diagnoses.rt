@@ -3,21 +3,21 @@
 ghost use Rattle.std.specs.Prelude.{◌≡◌, length, map, IfOk, Some, None};
 ghost use Rattle.kc_read.specs.Blocks.{numbers};
 ghost use Rattle.kc_read.specs.Reads.{line_view};
-ghost use Rattle.kc_tree.specs.Facts.{first_of, opener_of};
+ghost use Rattle.kc_tree.specs.Facts.{first_of};
 ghost use Rattle.kc_tree.specs.Known.{AreMarks, IsKnown};
 ghost use Rattle.kc_tree.specs.Late.{IsDiagnosis};
 ghost use Rattle.kc_tree.specs.Passes.{said_by};
-ghost use Rattle.kc_tree.specs.RoundViews.{inside_view};
-ghost use Rattle.kc_tree.specs.Rounds.{inside_table};
+ghost use Rattle.kc_tree.specs.ScopeViews.{AreScopes};
 
 use crate::known::{Known, Marks};
 use crate::late::late_refusal;
-use crate::round::Round;
+use crate::scope::Scope;
 use crate::warnings::warnings;
 use kc_expr::names::Names;
 use kc_read::line::Line;
 use kc_read::refusal::Refusal;
 use std::alloc::{AllocError, Global};
+use std::rc::Rc;
 
 /// What lines that were read whole have against them: a refusal, or warnings as whole lines.
 #[derive(Debug, Drop)]
@@ -32,18 +32,16 @@ pub fn diagnose(
     alloc: Global,
     names: &Names,
     lines: &[Line],
-    openers: &[Option<usize>],
-    insides: &[Option<Box<Round>>],
+    scopes: &[Rc<Scope>],
     known: &[Known],
     marks: &Marks,
 ) -> Result<Diagnosis, AllocError>
-    requires openers { openers.now ≡ map (opener_of (said_by lines.now)) (numbers (length lines.now)) }
-    requires insides { map inside_view insides.now ≡ map (inside_table (said_by lines.now)) (numbers (length lines.now)) }
+    requires scopes { AreScopes (said_by lines.now) scopes.now }
     requires known { IsKnown (said_by lines.now) known.now }
     requires marks { AreMarks (said_by lines.now) marks.now }
     ensures { IfOk result (λ d. IsDiagnosis names.now (map line_view lines.now) d) }
 {
-    match late_refusal(alloc, names, lines, openers, insides, known, marks)? {
+    match late_refusal(alloc, names, lines, scopes, known, marks)? {
         Some(refusal) => Ok(Diagnosis::Refused(refusal)),
         None => Ok(Diagnosis::Warned(warnings(alloc, names, lines, known, marks)?)),
     }

@@ -7,20 +7,20 @@ ghost use Rattle.kc_read.specs.Blocks as blocks;
 ghost use Rattle.kc_read.specs.Reads.{statement_view};
 ghost use Rattle.kc_tree.specs.Entries.{counted, is_entry_line, menu_of, entry_line};
 ghost use Rattle.kc_tree.specs.Facts as facts;
-ghost use Rattle.kc_tree.specs.Facts.{entry_number, entries, opener_of};
+ghost use Rattle.kc_tree.specs.Facts.{entry_number, entries};
 ghost use Rattle.kc_tree.specs.Firsts.{is_first_at};
 ghost use Rattle.kc_tree.specs.Passes.{said_by};
-ghost use Rattle.kc_tree.specs.RoundViews.{round_view, inside_view};
-ghost use Rattle.kc_tree.specs.Rounds.{inside_table};
+ghost use Rattle.kc_tree.specs.ScopeViews.{scope_view, AreScopes};
 ghost use Rattle.kc_tree.specs.Views.{shown_of};
 
 use crate::attributes::attributes;
 use crate::conditions::{dependency, menu_condition};
 use crate::parts::Entry;
-use crate::round::{Round, around, outside};
+use crate::scope::{Scope, scope_at};
 use kc_read::line::Line;
 use kc_read::statement::Statement;
 use std::alloc::{AllocError, Global};
+use std::rc::Rc;
 
 // The title of a `mainmenu` line.
 fn title_of(statement: &Statement) -> Option<&Vec<u8>>
@@ -97,11 +97,10 @@ pub fn entry_numbers(
 }
 
 // The number of the menu that a line closes.
-fn menu_of(openers: &[Option<usize>], entry_numbers: &[usize], place: usize) -> Option<usize>
-    requires { place < length openers.now }
-    ensures { result ≡ menu_of openers.now entry_numbers.now place }
+fn menu_of(opener: Option<usize>, entry_numbers: &[usize]) -> Option<usize>
+    ensures { result ≡ menu_of opener entry_numbers.now }
 {
-    match openers[place] {
+    match opener {
         Some(k) => entry_numbers.get(k).copied(),
         None => None,
     }
@@ -114,12 +113,12 @@ fn entry_at(
     statement: &Statement,
     lines: &[Line],
     place: usize,
-    around: &Round,
+    scope: &Scope,
     first: bool,
     menu: Option<usize>,
 ) -> Result<Option<Entry>, AllocError>
     requires { place < length lines.now }
-    ensures { IfOk result (λ o. option_map shown_of o ≡ entry_line (round_view around.now) (blocks.attributes (said_by lines.now) place) first menu (statement_view statement.now)) }
+    ensures { IfOk result (λ o. option_map shown_of o ≡ entry_line (scope_view scope.now) (blocks.attributes (said_by lines.now) place) first menu (statement_view statement.now)) }
 {
     match statement {
         Statement::Config(s) => {
@@ -131,7 +130,7 @@ fn entry_at(
         }
         Statement::Menu(title) => {
             let text = Vec::from_slice(alloc, title)?;
-            let when = menu_condition(alloc, attributes(lines, place), around)?;
+            let when = menu_condition(alloc, attributes(lines, place), scope)?;
             Ok(Some(Entry::Menu { text, when }))
         }
         Statement::EndMenu => match menu {
@@ -140,10 +139,20 @@ fn entry_at(
         },
         Statement::Comment(comment) => {
             let text = Vec::from_slice(alloc, comment)?;
-            let when = dependency(alloc, attributes(lines, place), around)?;
+            let when = dependency(alloc, attributes(lines, place), scope)?;
             Ok(Some(Entry::Comment { text, when }))
         }
         _ => Ok(None),
+    }
+}
+
+// No entry yet, with room for all of them: those before the last line, and that line.
+fn no_entries(alloc: Global, entry_numbers: &[usize]) -> Result<Vec<Entry>, AllocError>
+    ensures { IfOk result (λ v. v.items ≡ []) }
+{
+    match entry_numbers.last() {
+        Some(before) => Vec::with_capacity(alloc, before.saturating_add(1)),
+        None => Ok(Vec::new(alloc)),
     }
 }
 
@@ -164,23 +173,20 @@ fn push_entry(entries: &mut Vec<Entry>, entry: Option<Entry>) -> Result<(), Allo
 pub fn entries(
     alloc: Global,
     lines: &[Line],
-    openers: &[Option<usize>],
-    insides: &[Option<Box<Round>>],
+    scopes: &[Rc<Scope>],
     firsts: &[bool],
 ) -> Result<Vec<Entry>, AllocError>
-    requires openers { openers.now ≡ map (opener_of (said_by lines.now)) (numbers (length lines.now)) }
-    requires insides { map inside_view insides.now ≡ map (inside_table (said_by lines.now)) (numbers (length lines.now)) }
+    requires scopes { AreScopes (said_by lines.now) scopes.now }
     requires firsts { firsts.now ≡ map (is_first_at (said_by lines.now)) (numbers (length lines.now)) }
     ensures { IfOk result (λ v. map shown_of v.items ≡ entries (said_by lines.now)) }
 {
     let entry_numbers = entry_numbers(alloc, lines, firsts)?;
-    let mut entries = Vec::new(alloc);
-    let outside = outside(alloc);
+    let mut entries = no_entries(alloc, &entry_numbers)?;
     for (i, line) in lines.iter().enumerate() {
         if is_entry(&line.statement, firsts[i]) {
-            let around = around(openers, insides, &outside, i);
-            let menu = menu_of(openers, &entry_numbers, i);
-            let entry = entry_at(alloc, &line.statement, lines, i, around, firsts[i], menu)?;
+            let scope = scope_at(scopes, i);
+            let menu = menu_of(scope.opener, &entry_numbers);
+            let entry = entry_at(alloc, &line.statement, lines, i, scope, firsts[i], menu)?;
             push_entry(&mut entries, entry)?;
         }
     }

@@ -3,7 +3,8 @@
 ghost use Rattle.std.specs.Prelude.{◌≡◌, ℕ, ◌<◌, length, map, IfOk, Some, true, false};
 ghost use Rattle.kc_expr.specs.declared.expression.SymId.{SymId};
 ghost use Rattle.kc_read.specs.Blocks.{numbers};
-ghost use Rattle.kc_tree.specs.Firsts.{first_seen, is_first_at, AreBelow};
+ghost use Rattle.kc_tree.specs.Firsts.{is_first_at};
+ghost use Rattle.kc_tree.specs.Known.{first_seen, AreBelow};
 ghost use Rattle.kc_tree.specs.Passes.{said_by, changed};
 
 use crate::lines::symbol_of;

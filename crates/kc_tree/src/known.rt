@@ -2,8 +2,7 @@
 
 ghost use Rattle.std.specs.Prelude.{◌≡◌, IfOk, option_map};
 ghost use Rattle.kc_tree.specs.Facts as facts;
-ghost use Rattle.kc_tree.specs.Firsts.{AreBelow};
-ghost use Rattle.kc_tree.specs.Known.{kind_by, choice_by, member_by, AreMarks, IsPlace, IsMark};
+ghost use Rattle.kc_tree.specs.Known.{AreBelow, kind_by, choice_by, member_by, AreMarks, IsPlace, IsMark};
 ghost use Rattle.kc_tree.specs.Passes.{said_by};
 
 use crate::firsts::firsts;

@@ -5,13 +5,12 @@ ghost use Rattle.std.specs.List.{list_any};
 ghost use Rattle.kc_read.specs.Blocks.{numbers};
 ghost use Rattle.kc_read.specs.Reads.{line_view, statement_view};
 ghost use Rattle.kc_read.specs.Steps.{refusal_view};
-ghost use Rattle.kc_tree.specs.Facts.{listed, first_of, opener_of};
+ghost use Rattle.kc_tree.specs.Facts.{listed, first_of};
 ghost use Rattle.kc_tree.specs.Facts as facts;
 ghost use Rattle.kc_tree.specs.Known.{kind_by, choice_by, IsKnown, AreMarks};
 ghost use Rattle.kc_tree.specs.Late as spec;
 ghost use Rattle.kc_tree.specs.Passes.{said_by};
-ghost use Rattle.kc_tree.specs.RoundViews.{inside_view};
-ghost use Rattle.kc_tree.specs.Rounds.{inside_table};
+ghost use Rattle.kc_tree.specs.ScopeViews.{AreScopes};
 ghost use Rattle.kc_tree.specs.Warnings as warnings;
 ghost use Rattle.kc_tree.specs.Warnings.{bad_members, bad_defaults, late_refusals};
 
@@ -19,7 +18,7 @@ use crate::known::{Known, Marks, choice_of, is_wordy, kind_of, same_kind};
 use crate::lines::{given_of, is_single, single_symbol, symbol_of};
 use crate::owners::{Owner, owner_choice, owner_symbol};
 use crate::parts::ChoiceId;
-use crate::round::{Round, around, outside};
+use crate::scope::{Scope, scope_at};
 use crate::warning::entry_name;
 use kc_expr::expression::Kind;
 use kc_expr::names::Names;
@@ -27,6 +26,7 @@ use kc_read::line::Line;
 use kc_read::refusal::{Code, Refusal};
 use kc_read::statement::Statement;
 use std::alloc::{AllocError, Global};
+use std::rc::Rc;
 
 // A second definition of a member; a definition in a choice whose type is not bool.
 fn is_bad_member(
@@ -71,24 +71,20 @@ fn is_bad_default(statement: &Statement, owner: Owner, known: &[Known]) -> bool
 
 // The first `config` line that is refused.
 fn first_bad_member(
-    alloc: Global,
     lines: &[Line],
-    openers: &[Option<usize>],
-    insides: &[Option<Box<Round>>],
+    scopes: &[Rc<Scope>],
     known: &[Known],
     marks: &Marks,
 ) -> Option<usize>
-    requires openers { openers.now ≡ map (opener_of (said_by lines.now)) (numbers (length lines.now)) }
-    requires insides { map inside_view insides.now ≡ map (inside_table (said_by lines.now)) (numbers (length lines.now)) }
+    requires scopes { AreScopes (said_by lines.now) scopes.now }
     requires known { IsKnown (said_by lines.now) known.now }
     requires marks { AreMarks (said_by lines.now) marks.now }
     ensures first { result ≡ first_of (bad_members (said_by lines.now)) }
     ensures within { IfSome result (λ i. i < length lines.now) }
 {
-    let outside = outside(alloc);
     for (i, line) in lines.iter().enumerate() {
         if symbol_of(&line.statement).is_some() {
-            let round = around(openers, insides, &outside, i).mode;
+            let round = scope_at(scopes, i).mode;
             if is_bad_member(&line.statement, marks.at(i).first, round, known) {
                 return Some(i);
             }
@@ -138,19 +134,17 @@ pub fn late_refusal(
     alloc: Global,
     names: &Names,
     lines: &[Line],
-    openers: &[Option<usize>],
-    insides: &[Option<Box<Round>>],
+    scopes: &[Rc<Scope>],
     known: &[Known],
     marks: &Marks,
 ) -> Result<Option<Refusal>, AllocError>
-    requires openers { openers.now ≡ map (opener_of (said_by lines.now)) (numbers (length lines.now)) }
-    requires insides { map inside_view insides.now ≡ map (inside_table (said_by lines.now)) (numbers (length lines.now)) }
+    requires scopes { AreScopes (said_by lines.now) scopes.now }
     requires known { IsKnown (said_by lines.now) known.now }
     requires marks { AreMarks (said_by lines.now) marks.now }
     ensures refusal { IfOk result (λ o. option_map refusal_view o ≡ first_of (late_refusals names.now (map line_view lines.now))) }
     ensures members { IfOk result (λ o. IfNone o (bad_members (said_by lines.now) ≡ [])) }
 {
-    match first_bad_member(alloc, lines, openers, insides, known, marks) {
+    match first_bad_member(lines, scopes, known, marks) {
         Some(place) => Ok(Some(refusal(
             alloc,
             names,

@@ -3,7 +3,6 @@
 
 mod assembly;
 mod attributes;
-mod blocks;
 mod build;
 mod choices;
 mod collect;
@@ -24,8 +23,9 @@ mod owners;
 pub mod parts;
 mod raises;
 mod renaming;
-mod round;
+mod scope;
 mod symbols;
+mod taken;
 pub mod tree;
 mod warning;
 mod warnings;

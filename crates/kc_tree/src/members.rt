@@ -2,18 +2,18 @@
 
 ghost use Rattle.std.specs.Prelude.{◌≡◌, ◌<◌, [], length, map, option_map, IfOk, OnOk, Some};
 ghost use Rattle.kc_read.specs.Blocks.{numbers};
-ghost use Rattle.kc_tree.specs.Facts.{opener_of, members_of};
+ghost use Rattle.kc_tree.specs.Facts.{members_of};
 ghost use Rattle.kc_tree.specs.Members.{member_added};
 ghost use Rattle.kc_tree.specs.Passes.{said_by};
-ghost use Rattle.kc_tree.specs.RoundViews.{inside_view};
-ghost use Rattle.kc_tree.specs.Rounds.{inside_table};
+ghost use Rattle.kc_tree.specs.ScopeViews.{AreScopes};
 
 use crate::lines::symbol_of;
 use crate::parts::ChoiceId;
-use crate::round::{Round, around, outside};
+use crate::scope::{Scope, scope_at};
 use kc_expr::expression::SymId;
 use kc_read::line::Line;
 use std::alloc::{AllocError, Global};
+use std::rc::Rc;
 
 // No member yet, for each choice.
 fn no_members(alloc: Global, count: usize) -> Result<Vec<Vec<SymId>>, AllocError>
@@ -46,20 +46,17 @@ fn add_member(
 pub fn members(
     alloc: Global,
     lines: &[Line],
-    openers: &[Option<usize>],
-    insides: &[Option<Box<Round>>],
+    scopes: &[Rc<Scope>],
     count: usize,
 ) -> Result<Vec<Vec<SymId>>, AllocError>
-    requires openers { openers.now ≡ map (opener_of (said_by lines.now)) (numbers (length lines.now)) }
-    requires insides { map inside_view insides.now ≡ map (inside_table (said_by lines.now)) (numbers (length lines.now)) }
+    requires scopes { AreScopes (said_by lines.now) scopes.now }
     ensures { IfOk result (λ v. map (λ l. l.items) v.items ≡ map (members_of (said_by lines.now)) (numbers count)) }
 {
     let mut members = no_members(alloc, count)?;
-    let outside = outside(alloc);
     for (i, line) in lines.iter().enumerate() {
         if let Some(symbol) = symbol_of(&line.statement) {
-            let around = around(openers, insides, &outside, i);
-            add_member(&mut members, symbol, around.mode)?;
+            let scope = scope_at(scopes, i);
+            add_member(&mut members, symbol, scope.mode)?;
         }
     }
     Ok(members)

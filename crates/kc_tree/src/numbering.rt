@@ -1,11 +1,10 @@
 //! The lines of a root file, with their names numbered.
 
-ghost use Rattle.std.specs.Prelude.{◌≡◌, ◌≢◌, ◌≤◌, ◌<◌, IfOk, IfErr, OnOk, Ok, Err, [], Some, codes, length, map, slice_get, unwrap_or};
-ghost use Rattle.std.specs.Option.{option_and_then};
-ghost use Rattle.kc_expr.specs.Names.{all_mentioned, number_of, symbol};
-ghost use Rattle.kc_read.specs.Expansion.{Log, Expands, statements};
+ghost use Rattle.std.specs.Prelude.{◌≡◌, ◌≢◌, ◌≤◌, ℕ, List, Option, IfOk, IfErr, OnOk, Ok, Err, [], Some, codes, length, map, unwrap_or};
+ghost use Rattle.kc_expr.specs.Names.{IsNumber, all_mentioned, mention, number_of, symbol};
+ghost use Rattle.kc_read.specs.Expansion.{Log, Expands};
 ghost use Rattle.kc_read.specs.Files.{bytes_in};
-ghost use Rattle.kc_read.specs.Expanded.{IsExpansion};
+ghost use Rattle.kc_read.specs.Expanded.{AreNumbers, IsExpansion, IsNamed};
 ghost use Rattle.kc_read.specs.Steps.{IsMemory, out_of_memory, refusal_view};
 ghost use Rattle.kc_read.specs.declared.refusal.Code.TheVariants.{Memory};
 ghost use Rattle.kc_tree.specs.Numberings.{IsListing};
@@ -13,6 +12,7 @@ ghost use Rattle.kc_tree.specs.Numberings.{IsListing};
 use crate::renaming::rename_lines;
 use kc_expr::expression::SymId;
 use kc_expr::names::Names;
+use kc_expr::order::SymbolOrder;
 use kc_read::expansion::{Expansion, expand};
 use kc_read::file_map::FileMap;
 use kc_read::line::Line;
@@ -41,57 +41,59 @@ pub fn memory(alloc: Global) -> Refusal
     }
 }
 
-// The name of the modules symbol: this one's, or `MODULES`.
-fn modules_name<'a>(names: &'a Names, modules: Option<SymId>) -> &'a [u8]
-    ensures { result.now ≡ unwrap_or (option_and_then (λ id. slice_get names.now id.0) modules) (codes "MODULES") }
+// The modules symbol: this one, or that of the name `MODULES`, which is then mentioned.
+fn modules_symbol(names: &mut Names, modules: Option<SymId>) -> Result<SymId, AllocError>
+    ensures number { IfOk result (λ id. (named : Option (List ℕ)) → IsNamed names.old modules named → IsNumber names.new (unwrap_or named (codes "MODULES")) id) }
+    ensures names { OnOk result ((named : Option (List ℕ)) → IsNamed names.old modules named → names.new ≡ mention names.old (unwrap_or named (codes "MODULES"))) }
 {
-    let named = match modules {
-        Some(id) => names.get(id),
-        None => None,
-    };
-    match named {
-        Some(name) => name,
-        None => b"MODULES",
+    match modules {
+        Some(id) => Ok(id),
+        None => names.id(b"MODULES"),
     }
 }
 
-// The names that were mentioned are mentioned again: the number that each has now.
-fn number_again(
-    alloc: Global,
-    mentioned: &Names,
-    names: &mut Names,
-) -> Result<Vec<SymId>, AllocError>
-    ensures names { OnOk result (names.new ≡ all_mentioned names.old mentioned.now) }
-    ensures numbers { IfOk result (λ v. v.items ≡ map (λ n. symbol (number_of names.new n)) mentioned.now) }
+// All names are placed behind the symbols that are placed: the place that each has then.
+fn place_names(alloc: Global, names: &Names, order: SymbolOrder) -> Result<Vec<SymId>, AllocError>
+    ensures few { OnOk result (length names.now ≤ usize.MAX) }
+    ensures places { IfOk result (λ v. (placed : List (List ℕ)) → AreNumbers names.now order placed → v.items ≡ map (λ n. symbol (number_of (all_mentioned placed names.now) n)) names.now) }
 {
-    let count = mentioned.count();
-    let mut numbers = Vec::with_capacity(alloc, count)?;
+    let mut order = order;
+    let count = names.count();
+    let mut places = Vec::with_capacity(alloc, count)?;
     for i in 0..count {
-        let number = names.id(mentioned.name(SymId(i)))?;
-        numbers.push(number)?;
+        let id = SymId(i);
+        // Each name has a number of its own.
+        let _name = names.name(id);
+        let place = order.place(id)?;
+        places.push(place)?;
     }
-    Ok(numbers)
+    Ok(places)
 }
 
 // The lines of an expansion, whose names are numbered by first mention, and which names `unknown` where it means the
-// modules symbol.
+// modules symbol: a number that no name has, since there are at most so many.
 fn number_lines(
     alloc: Global,
-    mentioned: &Names,
+    mentioned: Names,
     unknown: SymId,
     expansion: Expansion,
 ) -> Result<Listing, AllocError>
-    requires { length mentioned.now ≤ unknown.0 }
-    ensures { IfOk result (λ l. (log : Log) → IsExpansion [] (Some unknown) mentioned.now log expansion → IsListing log l) }
+    requires unknown { unknown.0 ≡ usize.MAX }
+    requires expanded { (log : Log) × IsExpansion [] (Some unknown) mentioned log expansion }
+    ensures { IfOk result (λ l. (log : Log) → IsExpansion [] (Some unknown) mentioned log expansion → IsListing log l) }
 {
-    let mut names = expansion.defined;
-    let modules = names.id(modules_name(mentioned, expansion.modules))?;
-    let numbers = number_again(alloc, mentioned, &mut names)?;
+    let mut names = mentioned;
+    let mut order = expansion.defined;
+    let count = order.count();
+    let symbol = modules_symbol(&mut names, expansion.modules)?;
+    let modules = order.place(symbol)?;
+    let numbers = place_names(alloc, &names, order)?;
     let mut lines = expansion.lines;
     rename_lines(alloc, &mut lines, &numbers, modules)?;
+    names.renumber(numbers);
     Ok(Listing {
         names,
-        count: expansion.symbols,
+        count,
         modules,
         lines,
     })
@@ -107,9 +109,7 @@ pub fn read_listing(alloc: Global, map: &FileMap, root: &[u8]) -> Result<Listing
     let unknown = SymId(usize::MAX);
     let mut mentioned = Names::new(alloc);
     let expansion = expand(alloc, map, root, Some(unknown), &mut mentioned)?;
-    // No name has the greatest number: there are at most so many.
-    let _count = mentioned.count();
-    match number_lines(alloc, &mentioned, unknown, expansion) {
+    match number_lines(alloc, mentioned, unknown, expansion) {
         Ok(listing) => Ok(listing),
         Err(_) => Err(memory(alloc)),
     }

@@ -9,7 +9,7 @@ ghost use Rattle.kc_tree.specs.Warnings as spec_warnings;
 
 use crate::lines::is_attribute;
 use crate::parts::ChoiceId;
-use crate::round::next_count;
+use crate::scope::next_count;
 use kc_expr::expression::SymId;
 use kc_read::line::Line;
 use kc_read::statement::Statement;

@@ -6,12 +6,11 @@ ghost use Rattle.kc_read.specs.Blocks as blocks;
 ghost use Rattle.kc_read.specs.Blocks.{numbers};
 ghost use Rattle.kc_read.specs.Reads.{statement_view};
 ghost use Rattle.kc_tree.specs.Definitions.{bare_symbol, raised_symbol};
-ghost use Rattle.kc_tree.specs.Facts.{first_of, opener_of, takes_kind};
+ghost use Rattle.kc_tree.specs.Facts.{first_of, takes_kind};
 ghost use Rattle.kc_tree.specs.Passes.{said_by, change, target_view};
 ghost use Rattle.kc_tree.specs.Targets.{target_of};
 ghost use Rattle.kc_tree.specs.Raises.{is_target, raised_by, with_raiser, raise_lines, raise_entry};
-ghost use Rattle.kc_tree.specs.RoundViews.{round_view, inside_view};
-ghost use Rattle.kc_tree.specs.Rounds.{inside_table};
+ghost use Rattle.kc_tree.specs.ScopeViews.{scope_view, AreScopes};
 ghost use Rattle.kc_tree.specs.Views.{condition_of, facts_of, named_view};
 
 use crate::attributes::attributes;
@@ -19,10 +18,11 @@ use crate::conditions::{dependency, under};
 use crate::lines::{Raise, Target, symbol_of, target_of};
 use crate::lists::push_one;
 use crate::parts::{Cond, Symbol};
-use crate::round::{Round, around, outside};
+use crate::scope::{Scope, scope_at};
 use kc_expr::expression::{Kind, SymId};
 use kc_read::line::Line;
 use std::alloc::{AllocError, Global};
+use std::rc::Rc;
 
 // A symbol of this type can be selected.
 fn takes_kind(kind: Kind) -> bool
@@ -124,16 +124,16 @@ fn raise_entry(
     lines: &[Line],
     place: usize,
     source: SymId,
-    around: &Round,
+    scope: &Scope,
     symbols: &mut Vec<Symbol>,
 ) -> Result<(), AllocError>
     requires { place < length lines.now }
-    ensures { OnOk result (map facts_of symbols.new.items ≡ raise_entry (round_view around.now) (blocks.attributes (said_by lines.now) place) (Some source) (map facts_of symbols.old.items)) }
+    ensures { OnOk result (map facts_of symbols.new.items ≡ raise_entry (scope_view scope.now) (blocks.attributes (said_by lines.now) place) (Some source) (map facts_of symbols.old.items)) }
 {
     let own = attributes(lines, place);
     match first_target(own) {
         Some(_) => {
-            let dep = dependency(alloc, own, around)?;
+            let dep = dependency(alloc, own, scope)?;
             raise_lines(alloc, own, &dep, source, symbols)
         }
         None => Ok(()),
@@ -144,20 +144,17 @@ fn raise_entry(
 pub fn raise_all(
     alloc: Global,
     lines: &[Line],
-    openers: &[Option<usize>],
-    insides: &[Option<Box<Round>>],
+    scopes: &[Rc<Scope>],
     symbols: &mut Vec<Symbol>,
 ) -> Result<(), AllocError>
-    requires openers { openers.now ≡ map (opener_of (said_by lines.now)) (numbers (length lines.now)) }
-    requires insides { map inside_view insides.now ≡ map (inside_table (said_by lines.now)) (numbers (length lines.now)) }
+    requires scopes { AreScopes (said_by lines.now) scopes.now }
     requires bare { map facts_of symbols.old.items ≡ map (bare_symbol (said_by lines.now)) (numbers (length symbols.old.items)) }
     ensures { OnOk result (map facts_of symbols.new.items ≡ map (raised_symbol (said_by lines.now)) (numbers (length symbols.old.items))) }
 {
-    let outside = outside(alloc);
     for (i, line) in lines.iter().enumerate() {
         if let Some(source) = symbol_of(&line.statement) {
-            let around = around(openers, insides, &outside, i);
-            raise_entry(alloc, lines, i, source, around, symbols)?;
+            let scope = scope_at(scopes, i);
+            raise_entry(alloc, lines, i, source, scope, symbols)?;
         }
     }
     Ok(())

@@ -27,7 +27,7 @@ fn rename_operand(operand: &mut Operand, numbers: &[SymId], modules: SymId)
     ensures { leaf_of operand.new ≡ leaf_renamed (final numbers.now modules) (leaf_of operand.old) }
 {
     match operand {
-        Operand::Const(_) => {}
+        Operand::Const(_) | Operand::Letter(_) => {}
         Operand::Sym(symbol) => *symbol = final_number(numbers, modules, *symbol),
     }
 }

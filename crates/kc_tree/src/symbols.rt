@@ -9,21 +9,21 @@ ghost use Rattle.kc_read.specs.Blocks.{numbers};
 ghost use Rattle.kc_read.specs.Reads.{statement_view};
 ghost use Rattle.kc_tree.specs.Conditions.{defined_by};
 ghost use Rattle.kc_tree.specs.Definitions.{defined_symbol, raised_symbol};
-ghost use Rattle.kc_tree.specs.Facts.{listed, first_of, type_of, attributes_of, choice_of, opener_of};
+ghost use Rattle.kc_tree.specs.Facts.{listed, first_of, type_of, attributes_of, choice_of};
 ghost use Rattle.kc_tree.specs.Passes.{said_by, changed, type_at};
-ghost use Rattle.kc_tree.specs.RoundViews.{round_view, inside_view};
-ghost use Rattle.kc_tree.specs.Rounds.{inside_table};
+ghost use Rattle.kc_tree.specs.ScopeViews.{scope_view, AreScopes};
 ghost use Rattle.kc_tree.specs.Views.{condition_of, facts_of};
 
 use crate::attributes::{attributes, entry_end, first_type};
-use crate::conditions::{add_defaults, add_ranges, dependency, prompt_condition};
+use crate::conditions::{add_defaults, add_ranges, dependency_taken, prompt_condition};
 use crate::lines::symbol_of;
 use crate::lists::push_one;
 use crate::parts::{ChoiceId, Cond, Symbol};
-use crate::round::{Round, around, outside};
+use crate::scope::{Scope, scope_at};
 use kc_expr::expression::{Kind, SymId};
 use kc_read::line::Line;
 use std::alloc::{AllocError, Global};
+use std::rc::Rc;
 
 // Adds a condition where there is one.
 fn push_condition(conditions: &mut Vec<Cond>, more: Option<Cond>) -> Result<(), AllocError>
@@ -35,17 +35,18 @@ fn push_condition(conditions: &mut Vec<Cond>, more: Option<Cond>) -> Result<(), 
     }
 }
 
-// Adds a definition to a symbol. The values of its defaults are taken out of the attributes.
+// Adds a definition to a symbol. The values of its defaults, and what it depends on by more than one line, are taken out of the
+// attributes.
 fn define(
     alloc: Global,
     own: &mut [Line],
-    around: &Round,
+    scope: &Scope,
     symbol: &mut Symbol,
 ) -> Result<(), AllocError>
-    ensures { OnOk result (facts_of symbol.new ≡ defined_by (round_view around.now) (said_by own.old) (facts_of symbol.old)) }
+    ensures { OnOk result (facts_of symbol.new ≡ defined_by (scope_view scope.now) (said_by own.old) (facts_of symbol.old)) }
 {
-    let dep = dependency(alloc, own, around)?;
-    let prompt = prompt_condition(alloc, own, around, &dep)?;
+    let dep = dependency_taken(alloc, own, scope)?;
+    let prompt = prompt_condition(alloc, own, scope, &dep)?;
     push_condition(&mut symbol.prompts, prompt)?;
     add_ranges(alloc, own, &dep, &mut symbol.ranges)?;
     add_defaults(alloc, own, &dep, &mut symbol.defaults)?;
@@ -58,13 +59,13 @@ fn define_at(
     alloc: Global,
     own: &mut [Line],
     symbol: SymId,
-    around: &Round,
+    scope: &Scope,
     symbols: &mut Vec<Symbol>,
 ) -> Result<(), AllocError>
-    ensures { OnOk result (map facts_of symbols.new.items ≡ changed (defined_by (round_view around.now) (said_by own.old)) (Some symbol) (map facts_of symbols.old.items)) }
+    ensures { OnOk result (map facts_of symbols.new.items ≡ changed (defined_by (scope_view scope.now) (said_by own.old)) (Some symbol) (map facts_of symbols.old.items)) }
 {
     if symbol.0 < symbols.len() {
-        define(alloc, own, around, &mut symbols[symbol.0])?;
+        define(alloc, own, scope, &mut symbols[symbol.0])?;
     }
     Ok(())
 }
@@ -137,20 +138,17 @@ fn no_choices(alloc: Global, count: usize) -> Result<Vec<Option<ChoiceId>>, Allo
 pub fn choices(
     alloc: Global,
     lines: &[Line],
-    openers: &[Option<usize>],
-    insides: &[Option<Box<Round>>],
+    scopes: &[Rc<Scope>],
     count: usize,
 ) -> Result<Vec<Option<ChoiceId>>, AllocError>
-    requires openers { openers.now ≡ map (opener_of (said_by lines.now)) (numbers (length lines.now)) }
-    requires insides { map inside_view insides.now ≡ map (inside_table (said_by lines.now)) (numbers (length lines.now)) }
+    requires scopes { AreScopes (said_by lines.now) scopes.now }
     ensures { IfOk result (λ v. map (option_map (λ k. k.0)) v.items ≡ map (λ s. choice_of (said_by lines.now) (symbol s)) (numbers count)) }
 {
     let mut choices = no_choices(alloc, count)?;
-    let outside = outside(alloc);
     for (i, line) in lines.iter().enumerate() {
         if let Some(symbol) = symbol_of(&line.statement) {
-            let around = around(openers, insides, &outside, i);
-            note_choice(&mut choices, symbol, around.mode);
+            let scope = scope_at(scopes, i);
+            note_choice(&mut choices, symbol, scope.mode);
         }
     }
     Ok(choices)
@@ -161,22 +159,19 @@ pub fn choices(
 pub fn define_all(
     alloc: Global,
     lines: &mut [Line],
-    openers: &[Option<usize>],
-    insides: &[Option<Box<Round>>],
+    scopes: &[Rc<Scope>],
     symbols: &mut Vec<Symbol>,
 ) -> Result<(), AllocError>
-    requires openers { openers.now ≡ map (opener_of (said_by lines.old)) (numbers (length lines.old)) }
-    requires insides { map inside_view insides.now ≡ map (inside_table (said_by lines.old)) (numbers (length lines.old)) }
+    requires scopes { AreScopes (said_by lines.old) scopes.now }
     requires raised { map facts_of symbols.old.items ≡ map (raised_symbol (said_by lines.old)) (numbers (length symbols.old.items)) }
     ensures { OnOk result (map facts_of symbols.new.items ≡ map (defined_symbol (said_by lines.old)) (numbers (length symbols.old.items))) }
 {
-    let outside = outside(alloc);
     let mut place = 0;
     'entries: while place < lines.len() {
         let end = entry_end(lines, place);
         if let Some(symbol) = symbol_of(&lines[place].statement) {
-            let around = around(openers, insides, &outside, place);
-            define_at(alloc, &mut lines[place + 1..end], symbol, around, symbols)?;
+            let scope = scope_at(scopes, place);
+            define_at(alloc, &mut lines[place + 1..end], symbol, scope, symbols)?;
         }
         place = end;
     }

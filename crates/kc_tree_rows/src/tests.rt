@@ -150,7 +150,7 @@ const PICTURES: &[(&str, &str, &str)] = &[
     (
         "config A\n\tbool \"a\"\n\tdefault y\n\nconfig B\n\tbool \"b\"\n\tdepends on A\n",
         "",
-        "Bool None\ndep []\nprompt []\ndefault One(Const([121])) []\nBool None\ndep [One(Sym(SymId(0)))]\nprompt [One(Sym(SymId(0)))]\n[0]\n[1]\n",
+        "Bool None\ndep []\nprompt []\ndefault One(Letter(Y)) []\nBool None\ndep [One(Sym(SymId(0)))]\nprompt [One(Sym(SymId(0)))]\n[0]\n[1]\n",
     ),
     // a choice
     (
@@ -162,7 +162,7 @@ const PICTURES: &[(&str, &str, &str)] = &[
     (
         "config A\ndef_bool y\nselect B\nmenu \"hidden\"\nvisible if n\nconfig B\nbool \"b\"\nconfig C\nbool \"c\"\ndefault y\nendmenu\ncomment \"end\"\n",
         "",
-        "Bool None\ndep []\ndefault One(Const([121])) []\nBool None\ndep []\nprompt [One(Const([110]))]\nselected by 0 []\nBool None\ndep []\nprompt [One(Const([110]))]\ndefault One(Const([121])) []\n[0]\n[menu of 6] [One(Const([110]))]\n[1]\n[2]\n[end of 1]\n[comment of 3] []\n",
+        "Bool None\ndep []\ndefault One(Letter(Y)) []\nBool None\ndep []\nprompt [One(Letter(N))]\nselected by 0 []\nBool None\ndep []\nprompt [One(Letter(N))]\ndefault One(Letter(Y)) []\n[0]\n[menu of 6] [One(Letter(N))]\n[1]\n[2]\n[end of 1]\n[comment of 3] []\n",
     ),
     // menus in a menu
     (
@@ -180,19 +180,19 @@ const PICTURES: &[(&str, &str, &str)] = &[
     (
         "config A\nbool \"a\"\nmenu \"m\"\ndepends on A\nconfig B\nbool \"b\"\nendmenu\nconfig B\nbool \"again\"\ndefault y\n",
         "",
-        "Bool None\ndep []\nprompt []\nBool None\ndep [One(Sym(SymId(0)))]\ndep []\nprompt [One(Sym(SymId(0)))]\nprompt []\ndefault One(Const([121])) []\n[0]\n[menu of 1] [One(Sym(SymId(0)))]\n[1]\n[end of 1]\n",
+        "Bool None\ndep []\nprompt []\nBool None\ndep [One(Sym(SymId(0)))]\ndep []\nprompt [One(Sym(SymId(0)))]\nprompt []\ndefault One(Letter(Y)) []\n[0]\n[menu of 1] [One(Sym(SymId(0)))]\n[1]\n[end of 1]\n",
     ),
     // an imply
     (
         "config MODULES\ndef_bool y\nconfig FOO\ntristate \"foo\"\ndefault y\nimply BAZ\nconfig BAR\ntristate \"bar\"\ndefault m\nconfig BAZ\ntristate \"baz\"\ndepends on BAR\n",
         "",
-        "Bool None\ndep []\ndefault One(Const([121])) []\nTristate None\ndep []\nprompt []\ndefault One(Const([121])) []\nTristate None\ndep []\nprompt []\ndefault One(Const([109])) []\nTristate None\ndep [One(Sym(SymId(2)))]\nprompt [One(Sym(SymId(2)))]\nimplied by 1 []\n[0]\n[1]\n[2]\n[3]\n",
+        "Bool None\ndep []\ndefault One(Letter(Y)) []\nTristate None\ndep []\nprompt []\ndefault One(Letter(Y)) []\nTristate None\ndep []\nprompt []\ndefault One(Letter(M)) []\nTristate None\ndep [One(Sym(SymId(2)))]\nprompt [One(Sym(SymId(2)))]\nimplied by 1 []\n[0]\n[1]\n[2]\n[3]\n",
     ),
     // a select, and a prompt with a condition
     (
         "config MODULES\ndef_bool y\nconfig T\ntristate\ndefault m\nselect A\nconfig A\ntristate \"a\" if T\ndefault y\n",
         "",
-        "Bool None\ndep []\ndefault One(Const([121])) []\nTristate None\ndep []\ndefault One(Const([109])) []\nTristate None\ndep []\nprompt [One(Sym(SymId(1)))]\ndefault One(Const([121])) []\nselected by 1 []\n[0]\n[1]\n[2]\n",
+        "Bool None\ndep []\ndefault One(Letter(Y)) []\nTristate None\ndep []\ndefault One(Letter(M)) []\nTristate None\ndep []\nprompt [One(Sym(SymId(1)))]\ndefault One(Letter(Y)) []\nselected by 1 []\n[0]\n[1]\n[2]\n",
     ),
     // a range, and a default that is not defined
     (
@@ -204,19 +204,19 @@ const PICTURES: &[(&str, &str, &str)] = &[
     (
         "config A\nbool \"a\"\ndepends on m\n",
         "",
-        "Bool None\ndep [All([One(Const([109])), One(Sym(SymId(1)))])]\nprompt [All([One(Const([109])), One(Sym(SymId(1)))])]\n[0]\n",
+        "Bool None\ndep [All([One(Letter(M)), One(Sym(SymId(1)))])]\nprompt [All([One(Letter(M)), One(Sym(SymId(1)))])]\n[0]\n",
     ),
     // a plain m before the modules symbol
     (
         "config A\nbool \"a\"\ndepends on m\nconfig LKM\nbool \"l\"\nmodules\n",
         "",
-        "Bool None\ndep [All([One(Const([109])), One(Sym(SymId(1)))])]\nprompt [All([One(Const([109])), One(Sym(SymId(1)))])]\nBool None\ndep []\nprompt []\n[0]\n[1]\n",
+        "Bool None\ndep [All([One(Letter(M)), One(Sym(SymId(1)))])]\nprompt [All([One(Letter(M)), One(Sym(SymId(1)))])]\nBool None\ndep []\nprompt []\n[0]\n[1]\n",
     ),
     // m as a value and as a condition
     (
         "config A\ntristate\ndefault m if m\n",
         "",
-        "Tristate None\ndep []\ndefault One(Const([109])) [All([One(Const([109])), One(Sym(SymId(1)))])]\n[0]\n",
+        "Tristate None\ndep []\ndefault One(Letter(M)) [All([One(Letter(M)), One(Sym(SymId(1)))])]\n[0]\n",
     ),
     // relations
     (
@@ -228,13 +228,13 @@ const PICTURES: &[(&str, &str, &str)] = &[
     (
         "config A\n\tbool \"a\"\n\thelp\n\t  text\n\n\t  config Q\ndefault y\n",
         "",
-        "Bool None\ndep []\nprompt []\ndefault One(Const([121])) []\n[0]\n",
+        "Bool None\ndep []\nprompt []\ndefault One(Letter(Y)) []\n[0]\n",
     ),
     // hidden menus, an if, and a second definition with two dependencies
     (
         "menu \"o\"\nvisible if A\nvisible if B\ndepends on C\nmenu \"i\"\nvisible if D\ncomment \"text\"\ndepends on E\nif F\nconfig X\nbool \"x\" if G\ndefault y if H\nendif\nendmenu\nendmenu\nif X\nconfig X\nprompt \"again\"\ndepends on I\ndepends on J\nendif\n",
         "",
-        "Bool None\ndep [One(Sym(SymId(4))), One(Sym(SymId(7)))]\ndep [One(Sym(SymId(0))), All([One(Sym(SymId(10))), One(Sym(SymId(11)))])]\nprompt [One(Sym(SymId(4))), One(Sym(SymId(7))), All([One(Sym(SymId(2))), One(Sym(SymId(3)))]), One(Sym(SymId(5))), One(Sym(SymId(8)))]\nprompt [One(Sym(SymId(0))), All([One(Sym(SymId(10))), One(Sym(SymId(11)))])]\ndefault One(Const([121])) [One(Sym(SymId(4))), One(Sym(SymId(7))), One(Sym(SymId(9)))]\n[menu of 1] [One(Sym(SymId(4))), All([One(Sym(SymId(2))), One(Sym(SymId(3)))])]\n[menu of 1] [One(Sym(SymId(4))), All([One(Sym(SymId(2))), One(Sym(SymId(3)))]), One(Sym(SymId(5)))]\n[comment of 4] [One(Sym(SymId(4))), One(Sym(SymId(6)))]\n[0]\n[end of 1]\n[end of 0]\n",
+        "Bool None\ndep [One(Sym(SymId(4))), One(Sym(SymId(7)))]\ndep [One(Sym(SymId(0))), All([One(Sym(SymId(10))), One(Sym(SymId(11)))])]\nprompt [One(Sym(SymId(4))), One(Sym(SymId(7))), All([One(Sym(SymId(2))), One(Sym(SymId(3)))]), One(Sym(SymId(5))), One(Sym(SymId(8)))]\nprompt [One(Sym(SymId(0))), All([One(Sym(SymId(10))), One(Sym(SymId(11)))])]\ndefault One(Letter(Y)) [One(Sym(SymId(4))), One(Sym(SymId(7))), One(Sym(SymId(9)))]\n[menu of 1] [One(Sym(SymId(4))), All([One(Sym(SymId(2))), One(Sym(SymId(3)))])]\n[menu of 1] [One(Sym(SymId(4))), All([One(Sym(SymId(2))), One(Sym(SymId(3)))]), One(Sym(SymId(5)))]\n[comment of 4] [One(Sym(SymId(4))), One(Sym(SymId(6)))]\n[0]\n[end of 1]\n[end of 0]\n",
     ),
     // choices with conditions, and a member that selects
     (
@@ -246,7 +246,7 @@ const PICTURES: &[(&str, &str, &str)] = &[
     (
         "config A\nbool \"a\"\nstring \"s\"\nconfig B\nconfig C\ndef_bool y\nselect D\nimply D\nselect E\nconfig D\nint \"d\"\nchoice\nprompt \"ch\"\ndefault C\nconfig E\nbool \"e\"\nendchoice\n",
         "",
-        "Bool None\ndep []\nprompt []\nUndefined None\ndep []\nBool None\ndep []\ndefault One(Const([121])) []\nInt None\ndep []\nprompt []\nBool Some(ChoiceId(0))\ndep [] in 0\nprompt [] in 0\nchoice of [SymId(4)]\nprompt []\n[0]\n[1]\n[2]\n[3]\n[4]\n",
+        "Bool None\ndep []\nprompt []\nUndefined None\ndep []\nBool None\ndep []\ndefault One(Letter(Y)) []\nInt None\ndep []\nprompt []\nBool Some(ChoiceId(0))\ndep [] in 0\nprompt [] in 0\nchoice of [SymId(4)]\nprompt []\n[0]\n[1]\n[2]\n[3]\n[4]\n",
     ),
     // two prompts, in one entry and in two
     (

@@ -35,19 +35,18 @@ pub(crate) fn run_with<'x>(
     run_once(alloc, files, &asked, input, outputs)
 }
 
-/// A run with header and minimal file.
+/// A run with header, minimal file and rule for make.
 pub(crate) fn run_whole(
     alloc: Global,
     files: &FileMap,
     input: MemoryInput,
     outputs: &mut MemoryOutputs,
 ) -> Result<(Status, u64), Fail> {
-    run_with(
-        alloc,
-        files,
-        Some("out.h"),
-        Some("min.config"),
-        input,
-        outputs,
-    )
+    let asked = Asked {
+        header: Some("out.h"),
+        minimal: Some("min.config"),
+        depfile: Some("out.d"),
+        ..PLAIN
+    };
+    run_once(alloc, files, &asked, input, outputs)
 }

@@ -7,6 +7,9 @@ use std::alloc::Global;
 use std::process::Abort;
 use std::test::Fail;
 
+// The rule for make of each turn: its tree is one file.
+const DEPFILE: &[u8] = b".config: \\\n ./Kconfig\n\n./Kconfig:\n";
+
 // The run in which no device fails; its outputs are those that the turn says. The answer is how many reads it made.
 fn run_faultless(
     rt: &impl Abort,
@@ -24,6 +27,7 @@ fn run_faultless(
     let header = header_text(alloc, turn.title, turn.header)?;
     is_text(rt, &whole.header.bytes, &header, turn.name);
     is_text(rt, &whole.minimal.bytes, turn.minimal, turn.name);
+    is_text(rt, &whole.depfile.bytes, DEPFILE, turn.name);
     is_text(rt, &whole.notes.bytes, turn.notes, turn.name);
     Ok(reads)
 }
@@ -34,6 +38,7 @@ fn short_outputs(alloc: Global) -> Result<MemoryOutputs, Fail> {
     outputs.config.piece = 16;
     outputs.header.piece = 16;
     outputs.minimal.piece = 5;
+    outputs.depfile.piece = 4;
     outputs.notes.piece = 7;
     Ok(outputs)
 }
@@ -78,6 +83,7 @@ fn has_begun_nothing(rt: &impl Abort, struck: &MemoryOutputs, turn: &Turn) {
     is_untouched(rt, &struck.config, turn.name);
     is_untouched(rt, &struck.header, turn.name);
     is_untouched(rt, &struck.minimal, turn.name);
+    is_untouched(rt, &struck.depfile, turn.name);
 }
 
 // The run whose read of this number fails.
@@ -125,6 +131,7 @@ fn rank(which: Which) -> u8 {
         Which::Config => 1,
         Which::Header => 2,
         Which::Minimal => 3,
+        Which::Depfile => 4,
     }
 }
 
@@ -135,6 +142,7 @@ fn line_of(which: Which) -> &'static [u8] {
         Which::Config => b"error E19: cannot write .config\n",
         Which::Header => b"error E19: cannot write out.h\n",
         Which::Minimal => b"error E19: cannot write min.config\n",
+        Which::Depfile => b"error E19: cannot write out.d\n",
     }
 }
 
@@ -144,6 +152,7 @@ fn strike(outputs: &mut MemoryOutputs, which: Which, fail_at: u64) {
         Which::Config => outputs.config.fail_at = fail_at,
         Which::Header => outputs.header.fail_at = fail_at,
         Which::Minimal => outputs.minimal.fail_at = fail_at,
+        Which::Depfile => outputs.depfile.fail_at = fail_at,
         Which::Notes => outputs.notes.fail_at = fail_at,
     }
 }
@@ -203,6 +212,7 @@ fn is_struck(
     left_behind(rt, struck, whole, Which::Config, which, name);
     left_behind(rt, struck, whole, Which::Header, which, name);
     left_behind(rt, struck, whole, Which::Minimal, which, name);
+    left_behind(rt, struck, whole, Which::Depfile, which, name);
 }
 
 // The run in which this call of the output `which` fails.
@@ -270,6 +280,12 @@ fn each_call_of_the_header_fails_in_turn(rt: HostRuntime) -> Result<(), Fail> {
 #[test]
 fn each_call_of_the_minimal_file_fails_in_turn(rt: HostRuntime) -> Result<(), Fail> {
     assert!(rt; output_fails(&rt, rt.alloc(), Which::Minimal)? > 4);
+    Ok(())
+}
+
+#[test]
+fn each_call_of_the_depfile_fails_in_turn(rt: HostRuntime) -> Result<(), Fail> {
+    assert!(rt; output_fails(&rt, rt.alloc(), Which::Depfile)? > 4);
     Ok(())
 }
 

@@ -5,15 +5,14 @@ use Rattle.std.specs.List.{Contains}
 use Rattle.std.proofs.lemmas.Bool.{cases_eq, cases_lt, false≢true, leb-true}
 use Rattle.std.proofs.lemmas.List.{get_or-replicate, get_or_past, length-replicate, length-set}
 use Rattle.kc_expr.specs.Names.{symbol}
-use Rattle.kc_expr.specs.declared.expression.SymId.{SymId}
 use Rattle.kc_expr.specs.declared.expression.Kind.{Kind}
 use Rattle.kc_expr.specs.declared.expression.Kind.TheVariants as kind
 use Rattle.kc_text.specs.Escapes.{escape}
-use Rattle.kc_tree.specs.TreeFacts.{SymbolFacts, TreeFacts}
-use Rattle.kc_user.specs.Given.{Given, Typed}
+use Rattle.kc_tree.specs.TreeFacts.{SymbolFacts}
+use Rattle.kc_user.specs.Given.{Typed}
 use Rattle.kc_user.proofs.UserLemmas.{length-escape}
 use Rattle.kc_user.specs.Laws.{EmptyArePlaces, SettingKeepsPlaces, SelectingKeepsPlaces, TextsAreShort}
-use Rattle.kc_user.specs.Places.{Places, ArePlaces, no_places, allowed, allowed_for, allowed_text, fits_quoted, is_short, members_of}
+use Rattle.kc_user.specs.Places.{allowed, allowed_for, allowed_text, fits_quoted, is_short, members_of}
 
 none_replicated : {X : Type 0} (n i : ℕ) (x : X) → slice_index_or (replicate n None) i None ≡ Some x → ⊥
 none_replicated {X} n i x e =

@@ -1,5 +1,5 @@
 -- Places that are empty or filled, and the length of an escaped text.
-use Rattle.std.proofs.Common.{◌≡◌, ℕ, ◌+◌, ◌≤◌, ◌<◌, List, [], ◌∷◌, ◌++◌, Bool, true, false, length, map, refl, sym, ap, ◌∙◌, arith, zero, suc, inl, inr, Option, Some, None, replicate, cond, count_by, leb, slice_set, length-append}
+use Rattle.std.proofs.Common.{◌≡◌, ℕ, ◌+◌, ◌<◌, List, [], ◌∷◌, false, length, map, refl, sym, ap, ◌∙◌, arith, zero, suc, inl, inr, Option, Some, None, replicate, cond, count_by, leb, slice_set, length-append}
 use Rattle.std.proofs.lemmas.Bool.{lt-leb, cases_Bool}
 use Rattle.std.proofs.lemmas.List.{map-set}
 use Rattle.std.proofs.lemmas.List.Sums.{sum_by-cons}

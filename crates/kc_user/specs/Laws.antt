@@ -1,6 +1,7 @@
 -- Trusted: What holds of the places of every tree.
 use Rattle.std.specs.Prelude.{◌≡◌, ◌≤◌, ℕ, true, List, length, None, Some, slice_get, slice_index_or, slice_set}
 use Rattle.std.specs.List.{Contains}
+use Rattle.kc_user.specs.Limits.{longest_value}
 use Rattle.kc_expr.specs.declared.expression.SymId.{SymId}
 use Rattle.kc_tree.specs.TreeFacts.{TreeFacts}
 use Rattle.kc_user.specs.Given.{Given, Typed}
@@ -22,8 +23,8 @@ SelectingKeepsPlaces =
     (tree : TreeFacts) (places : Places) (c : ℕ) (m : SymId) → ArePlaces tree places → Contains (members_of (slice_get tree.choices c)) m →
     ArePlaces tree (record { symbols = places.symbols; choices = slice_set places.choices c (Some m) })
 
--- Each text in such places has at most 65,000 bytes.
+-- No text in such places is longer than a value may be.
 abbrev pub TextsAreShort : Type 0
 TextsAreShort =
     (tree : TreeFacts) (places : Places) (i : ℕ) (text : List ℕ) → ArePlaces tree places → slice_index_or places.symbols i None ≡ Some (Typed text) →
-    length text ≤ 65000
+    length text ≤ longest_value

@@ -1,5 +1,6 @@
 pub mod Given
 pub mod Laws
+pub mod Limits
 pub mod Places
 pub mod UserView
 pub mod ValueView

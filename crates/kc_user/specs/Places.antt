@@ -1,7 +1,9 @@
 -- Trusted: What stands in the user's places, and what may stand there.
 use Rattle.std.specs.Prelude.{◌≡◌, ℕ, ◌+◌, List, [], length, Bool, true, false, not, ◌&&◌, ◌||◌, ◌==◌, nat_le, Option, Some, None, is_some, slice_get, slice_index_or, replicate}
 use Rattle.std.specs.List.{Contains, list_any}
+use Rattle.kc_text.specs.Bytes.{byte}
 use Rattle.kc_text.specs.Escapes.{escape}
+use Rattle.kc_text.specs.Lines.{is_line_feed}
 use Rattle.kc_text.specs.Numbers.{int_of, hex_of}
 use Rattle.kc_expr.specs.declared.expression.SymId.{SymId}
 use Rattle.kc_expr.specs.declared.expression.Tri.{Tri}
@@ -10,6 +12,7 @@ use Rattle.kc_expr.specs.declared.expression.Kind.{Kind}
 use Rattle.kc_expr.specs.declared.expression.Kind.TheVariants as kind
 use Rattle.kc_expr.specs.Names.{symbol}
 use Rattle.kc_tree.specs.TreeFacts.{TreeFacts, SymbolFacts, ChoiceFacts}
+use Rattle.kc_user.specs.Limits.{longest_value}
 use Rattle.kc_user.specs.Given.{Given, Chosen, Typed, Member, Slot, At, In}
 
 -- one place for each symbol and one for each choice, by their numbers
@@ -39,19 +42,16 @@ no_places tree = record {
 }
 
 -- Allowed: exactly the values that some set or unset line of a .config gives.
-abbrev pub is_line_feed : ℕ → Bool
-is_line_feed b = b == 10
-
 -- `"` and `\`
 abbrev pub is_special : ℕ → Bool
-is_special b = b == 34 || b == 92
+is_special b = b == byte "\"" || b == byte "\\"
 
--- `"TEXT"` with a `\` before each `"` and `\` has at most 65,000 bytes, and no line end stands in it
+-- `"TEXT"` with a `\` before each `"` and `\` is no longer than a value may be, and no line end stands in it
 abbrev pub fits_quoted : List ℕ → Bool
-fits_quoted text = nat_le (length (escape text) + 2) 65000 && not (list_any is_line_feed text)
+fits_quoted text = nat_le (length (escape text) + 2) longest_value && not (list_any is_line_feed text)
 
 abbrev pub is_short : List ℕ → Bool
-is_short text = nat_le (length text) 65000
+is_short text = nat_le (length text) longest_value
 
 abbrev pub is_m : Tri → Bool
 is_m N = false

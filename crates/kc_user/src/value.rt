@@ -1,6 +1,8 @@
 //! What a user may give for one symbol.
 ghost use Rattle.std.specs.Prelude.{◌≡◌, ◌+◌, length, nat_le, count_by};
 ghost use Rattle.std.specs.List.{list_any};
+ghost use Rattle.kc_text.specs.Lines.{is_line_feed};
+ghost use Rattle.kc_user.specs.Limits.{longest_value};
 ghost use Rattle.kc_text.specs.Escapes.{escape};
 ghost use Rattle.kc_user.specs.Places as spec;
 ghost use Rattle.kc_user.specs.ValueView.{given_of_value};
@@ -77,14 +79,14 @@ fn special_count(text: &[u8]) -> usize
 
 // Whether a line end stands in the text.
 fn has_line_feed(text: &[u8]) -> bool
-    ensures { result ≡ list_any spec.is_line_feed text.now }
+    ensures { result ≡ list_any is_line_feed text.now }
 {
     text.iter().any(|b| *b == b'\n')
 }
 
 // Whether the text has at most 65,000 bytes once it is quoted and escaped.
 fn is_short_quoted(text: &[u8]) -> bool
-    ensures { result ≡ nat_le (length (escape text.now) + 2) 65000 }
+    ensures { result ≡ nat_le (length (escape text.now) + 2) longest_value }
 {
     text.len() <= LONGEST && text.len() + special_count(text) + 2 <= LONGEST
 }

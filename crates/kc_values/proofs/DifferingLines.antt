@@ -9,13 +9,14 @@ use Rattle.kc_expr.specs.declared.expression.Kind.TheVariants.{Undefined, Bool a
 use Rattle.kc_expr.specs.Names.{symbol}
 use Rattle.kc_expr.specs.Value.{Known, Truth, Written}
 use Rattle.kc_tree.specs.TreeFacts.{SymbolFacts, TreeFacts}
-use Rattle.kc_values.specs.declared.intervals.Interval.{Interval}
+use Rattle.kc_values.specs.declared.numbers.Interval.{Interval}
 use Rattle.kc_values.specs.Lookups.{facts}
 use Rattle.kc_values.specs.Numbers.{is_inside, if_inside, clamped}
 use Rattle.kc_values.specs.Values as v
 use Rattle.kc_user.specs.Given.{Given, Chosen, Typed, Member, At, In}
 use Rattle.kc_user.specs.Places.{allowed_truth, allowed_text, allowed_by, allowed_for, allowed}
-use Rattle.kc_values.specs.Values.{is_n, up, names_symbol}
+use Rattle.kc_tree.specs.Facts.{is_symbol_of}
+use Rattle.kc_values.specs.Values.{is_n, up}
 use Rattle.kc_values.specs.Solution as sol
 use Rattle.kc_values.specs.Solution.{symbol_count, seen, rhs, slot, equations}
 use Rattle.kc_values.specs.Differs.{given_of, default_selection}
@@ -24,7 +25,8 @@ use Rattle.kc_values.proofs.FixedLines.{slot_cases, Sel, member_now, other_value
 use Rattle.kc_values.proofs.SettledLines.{up_allowed, is_truth_kind}
 
 -- a text is the user's, which was allowed, or is the one without it
-text_allowed : (q : List ℕ → Bool) (u : Option Given) (vis : Tri) (d : List ℕ) → ((t : List ℕ) → u ≡ Some (Typed t) → q t ≡ true) → (unwrap_or (v.typed u vis) d ≡ d) ⊎ (q (unwrap_or (v.typed u vis) d) ≡ true)
+text_allowed : (q : List ℕ → Bool) (u : Option Given) (vis : Tri) (d : List ℕ) → ((t : List ℕ) → u ≡ Some (Typed t) → q t ≡ true) →
+    (unwrap_or (v.typed u vis) d ≡ d) ⊎ (q (unwrap_or (v.typed u vis) d) ≡ true)
 text_allowed q None vis d given = inl refl
 text_allowed q (Some (Chosen t)) vis d given = inl refl
 text_allowed q (Some (Member m)) vis d given = inl refl
@@ -36,7 +38,8 @@ inside_allowed : (q : List ℕ → Bool) (b : Bool) (t d : List ℕ) → q t ≡
 inside_allowed q true t d e = inr e
 inside_allowed q false t d e = inl refl
 
-number_allowed : (kind : Kind) (range : Option Interval) (q : List ℕ → Bool) (u : Option Given) (vis : Tri) (d : List ℕ) → ((t : List ℕ) → u ≡ Some (Typed t) → q t ≡ true) → (unwrap_or (if_inside kind range (v.typed u vis)) d ≡ d) ⊎ (q (unwrap_or (if_inside kind range (v.typed u vis)) d) ≡ true)
+number_allowed : (kind : Kind) (range : Option Interval) (q : List ℕ → Bool) (u : Option Given) (vis : Tri) (d : List ℕ) → ((t : List ℕ) → u ≡ Some (Typed t) → q t ≡ true) →
+    (unwrap_or (if_inside kind range (v.typed u vis)) d ≡ d) ⊎ (q (unwrap_or (if_inside kind range (v.typed u vis)) d) ≡ true)
 number_allowed kind range q None vis d given = inl refl
 number_allowed kind range q (Some (Chosen t)) vis d given = inl refl
 number_allowed kind range q (Some (Member m)) vis d given = inl refl
@@ -85,7 +88,8 @@ module _ (tree : TreeFacts) (k : SymId → Known) where
     choice_allowed i None e = kind_allowed f.kind refl
     choice_allowed i (Some c) e = cc
 
-  facts_allowed : (s : SymId) (i : ℕ) (f : Option SymbolFacts) (u : Option Given) → sol.slot_of_facts i f ≡ At i → ((g : Given) → u ≡ Some g → allowed_for f g ≡ true) → AllowedOr (v.equation tree k s f) (allowed_for f) u
+  facts_allowed : (s : SymId) (i : ℕ) (f : Option SymbolFacts) (u : Option Given) → sol.slot_of_facts i f ≡ At i → ((g : Given) → u ≡ Some g → allowed_for f g ≡ true) →
+      AllowedOr (v.equation tree k s f) (allowed_for f) u
   facts_allowed s i None u e given = inl refl
   facts_allowed s i (Some f) u e given = choice_allowed s f u given i f.choice e
 
@@ -111,7 +115,8 @@ differing_allowed tree user V i l bools given solves t =
           ]
       | inr d ↦
           let c = d.0 in
-          let both = and_parts (names_symbol (Sel tree user V solves c) (symbol i)) (not (names_symbol (default_selection tree user V c) (symbol i))) (sym (differs-member tree user V solves i c d.1) ∙ t) in
+          let both = and_parts (is_symbol_of (symbol i) (Sel tree user V solves c)) (not (is_symbol_of (symbol i) (default_selection tree V c)))
+          (sym (differs-member tree user V solves i c d.1) ∙ t) in
           let now = member_now tree user V solves i c l d.1 ∙ ap (λ b. Truth (cond b Y N)) both.0 in
           ap (λ x. allowed tree (symbol i) (given_of x)) now ∙ member_allowed tree i c (facts tree (symbol i)) refl bools d.1
     ]

@@ -10,14 +10,15 @@ use Rattle.kc_expr.specs.declared.expression.Kind.TheVariants.{Undefined, Bool a
 use Rattle.kc_expr.specs.Value.{Known, Truth, Written, greater}
 use Rattle.kc_expr.specs.Names.{symbol}
 use Rattle.kc_tree.specs.TreeFacts.{SymbolFacts, ChoiceFacts, TreeFacts}
-use Rattle.kc_values.specs.declared.intervals.Interval.{Interval}
+use Rattle.kc_values.specs.declared.numbers.Interval.{Interval}
 use Rattle.kc_order.specs.Solution.{Solves}
 use Rattle.kc_order.specs.Minimal.{KeepsWhatDiffers}
 use Rattle.kc_values.specs.Lookups.{facts, choice_at}
 use Rattle.kc_values.specs.Numbers.{is_inside, if_inside, clamped}
 use Rattle.kc_values.specs.Values as v
 use Rattle.kc_user.specs.Given.{Given, Chosen, Typed, Member, Slot, At, In}
-use Rattle.kc_values.specs.Values.{is_n, same_symbol, names_symbol}
+use Rattle.kc_tree.specs.Facts.{is_symbol_of}
+use Rattle.kc_values.specs.Values.{is_n}
 use Rattle.kc_values.specs.Solution as sol
 use Rattle.kc_values.specs.Solution.{symbol_count, seen, rhs, slot, equations}
 use Rattle.kc_values.specs.Laws.{MembersAreTheirs}
@@ -32,7 +33,8 @@ abbrev Again : (Option Given → Known) → Known → Type 0
 Again f e = (e ≡ f None) ⊎ (f (Some (given_of e)) ≡ e)
 
 module _ (tree : TreeFacts) (k : SymId → Known) where
-  truth_again : (b : Bool) (vis rev o : Tri) (user : Option Given) → Again (λ u. Truth (raise b (greater (v.based u (raise b vis) o) (raise b rev)))) (Truth (raise b (greater (v.based user (raise b vis) o) (raise b rev))))
+  truth_again : (b : Bool) (vis rev o : Tri) (user : Option Given) →
+      Again (λ u. Truth (raise b (greater (v.based u (raise b vis) o) (raise b rev)))) (Truth (raise b (greater (v.based user (raise b vis) o) (raise b rev))))
   truth_again b vis rev o None = inl refl
   truth_again b vis rev o (Some (Typed t)) = inl refl
   truth_again b vis rev o (Some (Member m)) = inl refl
@@ -43,10 +45,12 @@ module _ (tree : TreeFacts) (k : SymId → Known) where
       ]
 
   module _ (f : SymbolFacts) where
-    truth_by_kind : (kind : Kind) (user : Option Given) (vis rev o : Tri) → Again (λ u. Truth (v.raised tree k kind (greater (v.based u (v.raised tree k kind vis) o) (v.raised tree k kind rev)))) (Truth (v.raised tree k kind (greater (v.based user (v.raised tree k kind vis) o) (v.raised tree k kind rev))))
+    truth_by_kind : (kind : Kind) (user : Option Given) (vis rev o : Tri) →
+        Again (λ u. Truth (v.raised tree k kind (greater (v.based u (v.raised tree k kind vis) o) (v.raised tree k kind rev))))
+        (Truth (v.raised tree k kind (greater (v.based user (v.raised tree k kind vis) o) (v.raised tree k kind rev))))
     truth_by_kind Undefined user vis rev o = truth_again true vis rev o user
     truth_by_kind IsBool user vis rev o = truth_again true vis rev o user
-    truth_by_kind Tristate user vis rev o = truth_again (is_n (v.modules_value tree k tree.modules)) vis rev o user
+    truth_by_kind Tristate user vis rev o = truth_again (is_n (v.modules_value k tree.modules)) vis rev o user
     truth_by_kind Str user vis rev o = truth_again true vis rev o user
     truth_by_kind Int user vis rev o = truth_again true vis rev o user
     truth_by_kind Hex user vis rev o = truth_again true vis rev o user
@@ -70,7 +74,9 @@ module _ (tree : TreeFacts) (k : SymId → Known) where
           | inr e ↦ inr (ap (Written Str) e)
         ]
 
-    number_again : (b : Bool) (kind : Kind) (range : Option Interval) (t d : List ℕ) → (unwrap_or (if_inside kind range (cond b None (Some t))) d ≡ d) ⊎ (unwrap_or (if_inside kind range (cond b None (Some (unwrap_or (if_inside kind range (cond b None (Some t))) d)))) d ≡ unwrap_or (if_inside kind range (cond b None (Some t))) d)
+    number_again : (b : Bool) (kind : Kind) (range : Option Interval) (t d : List ℕ) →
+        (unwrap_or (if_inside kind range (cond b None (Some t))) d ≡ d) ⊎
+        (unwrap_or (if_inside kind range (cond b None (Some (unwrap_or (if_inside kind range (cond b None (Some t))) d)))) d ≡ unwrap_or (if_inside kind range (cond b None (Some t))) d)
     number_again true kind range t d = inl refl
     number_again false kind range t d =
         let F = λ (x : List ℕ). unwrap_or (if_inside kind range (Some x)) d in
@@ -107,7 +113,8 @@ module _ (tree : TreeFacts) (k : SymId → Known) where
   fixed_facts s i (Some f) user e = fixed_by_choice f s i f.choice user e
 
   -- what solves is what its own line gives, or the user's place does not matter
-  pub fixed_at : (i : ℕ) (user : Option Given) (x : Known) → slot tree i ≡ At i → x ≡ v.equation tree k (symbol i) (facts tree (symbol i)) user → (x ≡ v.equation tree k (symbol i) (facts tree (symbol i)) None) ⊎ (x ≡ v.equation tree k (symbol i) (facts tree (symbol i)) (Some (given_of x)))
+  pub fixed_at : (i : ℕ) (user : Option Given) (x : Known) → slot tree i ≡ At i → x ≡ v.equation tree k (symbol i) (facts tree (symbol i)) user →
+      (x ≡ v.equation tree k (symbol i) (facts tree (symbol i)) None) ⊎ (x ≡ v.equation tree k (symbol i) (facts tree (symbol i)) (Some (given_of x)))
   fixed_at i user x at e =
       elim (fixed_facts (symbol i) i (facts tree (symbol i)) user at) [
         | inl a ↦ inl (e ∙ a)
@@ -115,15 +122,18 @@ module _ (tree : TreeFacts) (k : SymId → Known) where
       ]
 
   -- the equation of a member
-  member_choice : (s : SymId) (f : SymbolFacts) (i c : ℕ) (user : Option Given) (o : Option ℕ) → sol.slot_by i o ≡ In c → v.by_choice tree k s f o user ≡ Truth (cond (names_symbol (v.selected tree k (choice_at tree c) user) s) Y N)
+  member_choice : (s : SymId) (f : SymbolFacts) (i c : ℕ) (user : Option Given) (o : Option ℕ) → sol.slot_by i o ≡ In c →
+      v.by_choice tree k s f o user ≡ Truth (cond (is_symbol_of s (v.selected tree k (choice_at tree c) user)) Y N)
   member_choice s f i c user None e = cc
-  member_choice s f i c user (Some d) e = let h : d ≡ c = cc in ap (λ n. Truth (cond (names_symbol (v.selected tree k (choice_at tree n) user) s) Y N)) h
+  member_choice s f i c user (Some d) e = let h : d ≡ c = cc in ap (λ n. Truth (cond (is_symbol_of s (v.selected tree k (choice_at tree n) user)) Y N)) h
 
-  member_facts : (s : SymId) (f : Option SymbolFacts) (i c : ℕ) (user : Option Given) → sol.slot_of_facts i f ≡ In c → v.equation tree k s f user ≡ Truth (cond (names_symbol (v.selected tree k (choice_at tree c) user) s) Y N)
+  member_facts : (s : SymId) (f : Option SymbolFacts) (i c : ℕ) (user : Option Given) → sol.slot_of_facts i f ≡ In c →
+      v.equation tree k s f user ≡ Truth (cond (is_symbol_of s (v.selected tree k (choice_at tree c) user)) Y N)
   member_facts s None i c user e = cc
   member_facts s (Some f) i c user e = member_choice s f i c user f.choice e
 
-  pub member_at : (i c : ℕ) (user : Option Given) → slot tree i ≡ In c → v.equation tree k (symbol i) (facts tree (symbol i)) user ≡ Truth (cond (names_symbol (v.selected tree k (choice_at tree c) user) (symbol i)) Y N)
+  pub member_at : (i c : ℕ) (user : Option Given) → slot tree i ≡ In c →
+      v.equation tree k (symbol i) (facts tree (symbol i)) user ≡ Truth (cond (is_symbol_of (symbol i) (v.selected tree k (choice_at tree c) user)) Y N)
   member_at i c user e = member_facts (symbol i) (facts tree (symbol i)) i c user e
 
   reselected_to : (o : Option ChoiceFacts) (u : Option Given) (r : Option SymId) → v.selected tree k o u ≡ r → v.selected tree k o (option_map Member r) ≡ r
@@ -147,12 +157,12 @@ slot_cases tree i = slot_cases_facts i (facts tree (symbol i))
 pub slot_of_member : (tree : TreeFacts) (m : SymId) (g : SymbolFacts) (c : ℕ) → facts tree m ≡ Some g → g.choice ≡ Some c → slot tree m.0 ≡ In c
 slot_of_member tree m g c e h = ap (sol.slot_of_facts m.0) e ∙ ap (sol.slot_by m.0) h
 
-pub names_itself : (m : SymId) → names_symbol (Some m) m ≡ true
+pub names_itself : (m : SymId) → is_symbol_of m (Some m) ≡ true
 names_itself m = same_symbol_itself m
 
-pub named : (r : Option SymId) (m : SymId) → names_symbol r m ≡ true → r ≡ Some m
+pub named : (r : Option SymId) (m : SymId) → is_symbol_of m r ≡ true → r ≡ Some m
 named None m e = absurd (true≢false (sym e))
-named (Some x) m e = ap Some (same_symbol-true x m e)
+named (Some x) m e = ap Some (sym (same_symbol-true m x e))
 
 -- a symbol's own place is no other's
 own_place : (p : Slot) (j i : ℕ) → (p ≡ At j) ⊎ ((d : ℕ) × (p ≡ In d)) → p ≡ At i → j ≡ i
@@ -165,24 +175,24 @@ module _ (tree : TreeFacts) (user : Slot → Option Given) (V : ℕ → Known) (
   Sel c = selection tree user V c
 
   -- the value of a member
-  pub member_now : (i c : ℕ) → i < symbol_count tree → slot tree i ≡ In c → V i ≡ Truth (cond (names_symbol (Sel c) (symbol i)) Y N)
+  pub member_now : (i c : ℕ) → i < symbol_count tree → slot tree i ≡ In c → V i ≡ Truth (cond (is_symbol_of (symbol i) (Sel c)) Y N)
   member_now i c l d =
       solves i l
       ∙ member_at tree (seen tree V) i c (user (slot tree i)) d
-      ∙ ap (λ p. Truth (cond (names_symbol (v.selected tree (seen tree V) (choice_at tree c) (user p)) (symbol i)) Y N)) d
+      ∙ ap (λ p. Truth (cond (is_symbol_of (symbol i) (v.selected tree (seen tree V) (choice_at tree c) (user p))) Y N)) d
 
   -- the value of a member under its own line
-  member_line : (i c : ℕ) → slot tree i ≡ In c → rhs tree i (line_of tree user V (slot tree i)) V ≡ Truth (cond (names_symbol (Sel c) (symbol i)) Y N)
+  member_line : (i c : ℕ) → slot tree i ≡ In c → rhs tree i (line_of tree user V (slot tree i)) V ≡ Truth (cond (is_symbol_of (symbol i) (Sel c)) Y N)
   member_line i c d =
       ap (λ p. rhs tree i (line_of tree user V p) V) d
       ∙ member_at tree (seen tree V) i c (line_of tree user V (In c)) d
-      ∙ ap (λ r. Truth (cond (names_symbol r (symbol i)) Y N)) (reselected tree (seen tree V) (choice_at tree c) (user (In c)))
+      ∙ ap (λ r. Truth (cond (is_symbol_of (symbol i) r) Y N)) (reselected tree (seen tree V) (choice_at tree c) (user (In c)))
 
   -- a symbol outside a choice differs where its value is another
   differs-own : (i : ℕ) → slot tree i ≡ At i → differs tree user V i ≡ not (same_value (V i) (rhs tree i None V))
   differs-own i at = ap (differs_at tree user V i) at
 
-  pub differs-member : (i c : ℕ) → slot tree i ≡ In c → differs tree user V i ≡ (names_symbol (Sel c) (symbol i) && not (names_symbol (default_selection tree user V c) (symbol i)))
+  pub differs-member : (i c : ℕ) → slot tree i ≡ In c → differs tree user V i ≡ (is_symbol_of (symbol i) (Sel c) && not (is_symbol_of (symbol i) (default_selection tree V c)))
   differs-member i c d = ap (differs_at tree user V i) d
 
   pub other_value : (i : ℕ) → slot tree i ≡ At i → differs tree user V i ≡ true → V i ≡ rhs tree i None V → ⊥
@@ -210,9 +220,9 @@ module _ (tree : TreeFacts) (user : Slot → Option Given) (V : ℕ → Known) (
       ]
 
   -- a member of a choice of which no member differs
-  settled_member : (i c : ℕ) (r d : Option SymId) → (r ≡ None → d ≡ None) → ((m : SymId) → r ≡ Some m → names_symbol d m ≡ true) → names_symbol r (symbol i) ≡ names_symbol d (symbol i)
-  settled_member i c None d none some = ap (λ x. names_symbol x (symbol i)) (sym (none refl))
-  settled_member i c (Some m) d none some = ap (λ x. names_symbol x (symbol i)) (sym (named d m (some m refl)))
+  settled_member : (i c : ℕ) (r d : Option SymId) → (r ≡ None → d ≡ None) → ((m : SymId) → r ≡ Some m → is_symbol_of m d ≡ true) → is_symbol_of (symbol i) r ≡ is_symbol_of (symbol i) d
+  settled_member i c None d none some = ap (λ x. is_symbol_of (symbol i) x) (sym (none refl))
+  settled_member i c (Some m) d none some = ap (λ x. is_symbol_of (symbol i) x) (sym (named d m (some m refl)))
 
   module _ (theirs : MembersAreTheirs tree) (keep : Slot → Bool) (tells : TellsDiffering tree user V keep) where
     unkept : (i : ℕ) → i < symbol_count tree → keep (slot tree i) ≡ false → differs tree user V i ≡ false
@@ -223,28 +233,28 @@ module _ (tree : TreeFacts) (user : Slot → Option Given) (V : ℕ → Known) (
         ]
 
     -- the selected member does not differ where the choice is not kept, so it is the default one
-    default_too : (c : ℕ) (m : SymId) → keep (In c) ≡ false → Sel c ≡ Some m → names_symbol (default_selection tree user V c) m ≡ true
+    default_too : (c : ℕ) (m : SymId) → keep (In c) ≡ false → Sel c ≡ Some m → is_symbol_of m (default_selection tree V c) ≡ true
     default_too c m f e =
         let at = selected_member tree (seen tree V) (choice_at tree c) (user (In c)) m e in
         let mine = theirs c at.0 m at.1 at.2 in
         let place = slot_of_member tree m mine.1.0 c mine.1.1 mine.1.2 in
         let same = sym (differs-member m.0 c place) ∙ unkept m.0 mine.0 (ap keep place ∙ f) in
-        let sel : names_symbol (Sel c) m ≡ true = ap (λ r. names_symbol r m) e ∙ names_itself m in
-        not-false (names_symbol (default_selection tree user V c) m)
-        (sym (ap (λ b. b && not (names_symbol (default_selection tree user V c) m)) sel) ∙ same)
+        let sel : is_symbol_of m (Sel c) ≡ true = ap (λ r. is_symbol_of m r) e ∙ names_itself m in
+        not-false (is_symbol_of m (default_selection tree V c))
+        (sym (ap (λ b. b && not (is_symbol_of m (default_selection tree V c))) sel) ∙ same)
 
     same_for_member : (i c : ℕ) → i < symbol_count tree → slot tree i ≡ In c → keep (In c) ≡ false → V i ≡ rhs tree i None V
     same_for_member i c l d f =
         member_now i c l d
-        ∙ ap (λ b. Truth (cond b Y N)) (settled_member i c (Sel c) (default_selection tree user V c) (none_selected tree (seen tree V) (choice_at tree c) (user (In c))) (λ m e. default_too c m f e))
+        ∙ ap (λ b. Truth (cond b Y N)) (settled_member i c (Sel c) (default_selection tree V c) (none_selected tree (seen tree V) (choice_at tree c) (user (In c))) (λ m e. default_too c m f e))
         ∙ sym (member_at tree (seen tree V) i c None d)
 
     -- a member that differs is y, and without the user's n
     member_other : (i c : ℕ) → i < symbol_count tree → slot tree i ≡ In c → differs tree user V i ≡ true → V i ≡ rhs tree i None V → ⊥
     member_other i c l d t e =
-        let both = and_parts (names_symbol (Sel c) (symbol i)) (not (names_symbol (default_selection tree user V c) (symbol i))) (sym (differs-member i c d) ∙ t) in
+        let both = and_parts (is_symbol_of (symbol i) (Sel c)) (not (is_symbol_of (symbol i) (default_selection tree V c))) (sym (differs-member i c d) ∙ t) in
         let now = member_now i c l d ∙ ap (λ b. Truth (cond b Y N)) both.0 in
-        let then_ = member_at tree (seen tree V) i c None d ∙ ap (λ b. Truth (cond b Y N)) (not-true (names_symbol (default_selection tree user V c) (symbol i)) both.1) in
+        let then_ = member_at tree (seen tree V) i c None d ∙ ap (λ b. Truth (cond b Y N)) (not-true (is_symbol_of (symbol i) (default_selection tree V c)) both.1) in
         let z : Truth Y ≡ Truth N = sym now ∙ e ∙ then_ in
         cc
 

@@ -1,4 +1,5 @@
 pub mod Same
+pub mod Once
 pub mod OnlyNamed
 pub mod TreeNeeds
 pub mod SameValue
@@ -15,4 +16,6 @@ pub mod NumberRows
 pub mod Joined
 pub mod SmallNumbers
 pub mod SettledWrites
+pub mod NameRows
+pub mod RowMarks
 pub mod RowSteps

@@ -32,7 +32,8 @@ ranged_differ : differing ranged (at_place (Some (Typed (codes "3")) ∷ [])) te
 unfolding natural_of digits
 ranged_differ = refl
 
-ranged_warned : warned ranged (at_place (Some (Typed (codes "3")) ∷ [])) ten ≡ codes "warning K12: user value 3 of N is outside 5 to 10" ∷ (codes "warning K13: default 20 of N is outside 5 to 10, 10 is used" ∷ [])
+ranged_warned : warned ranged (at_place (Some (Typed (codes "3")) ∷ [])) ten ≡ codes "warning K12: user value 3 of N is outside 5 to 10" ∷
+    (codes "warning K13: default 20 of N is outside 5 to 10, 10 is used" ∷ [])
 unfolding natural_of digits
 ranged_warned = refl
 

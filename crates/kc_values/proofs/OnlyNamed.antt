@@ -12,16 +12,18 @@ use Rattle.kc_expr.specs.Form.{Form, Leaf, Text, Symbol, Single, Related, Negate
 use Rattle.kc_expr.specs.Value.{Known, Truth, Written, value, text, least, greatest, lesser, greater, truth_of_known, text_of_known, DependsOnSymbols}
 use Rattle.kc_tree.specs.TreeFacts.{Condition, Guarded, Bounds, SymbolFacts, ChoiceFacts, TreeFacts}
 use Rattle.kc_expr.specs.Names.{symbol}
-use Rattle.kc_values.specs.declared.intervals.Interval.{Interval}
+use Rattle.kc_values.specs.declared.numbers.Interval.{Interval}
 use Rattle.kc_values.specs.Lookups.{facts, name, choice_at, is_defined}
 use Rattle.kc_values.specs.Numbers.{counted}
 use Rattle.kc_values.specs.Values as v
 use Rattle.kc_user.specs.Given.{Given, Chosen, Typed, Member, Slot}
-use Rattle.kc_values.specs.Values.{is_n, up, names_symbol}
+use Rattle.kc_tree.specs.Facts.{same_symbol, is_symbol_of}
+use Rattle.kc_values.specs.Values.{is_n, up}
 use Rattle.kc_values.specs.Needs as n
 use Rattle.kc_values.specs.Needs.{needs_of}
 use Rattle.kc_values.specs.Solution.{slot, seen, equations}
 use Rattle.kc_order.specs.Solution.{ReadsNeeds}
+use Rattle.kc_values.proofs.Once.{has_once}
 use Rattle.kc_values.proofs.Same.{front_of, back_of, map_same, found_same, same_symbol-true}
 
 module _ (law : DependsOnSymbols) (tree : TreeFacts) (k l : SymId → Known) where
@@ -69,7 +71,9 @@ module _ (law : DependsOnSymbols) (tree : TreeFacts) (k l : SymId → Known) whe
   same_conditions cs h = ap greatest (map_same Same (n.condition_names tree) (v.condition tree k) (v.condition tree l) same_condition cs h)
 
   -- what is made of the first whose condition is not n
-  same_first : {X Z : Type 0} (names : X → List SymId) (F G : Option (Guarded X) → Z) → F None ≡ G None → ((g : Guarded X) → Sames (names g.what) → Sames (n.condition_names tree g.when) → F (Some g) ≡ G (Some g)) → (gs : List (Guarded X)) → Sames (n.guarded_names tree names gs) → F (v.first_open tree k gs) ≡ G (v.first_open tree l gs)
+  same_first : {X Z : Type 0} (names : X → List SymId) (F G : Option (Guarded X) → Z) → F None ≡ G None →
+      ((g : Guarded X) → Sames (names g.what) → Sames (n.condition_names tree g.when) → F (Some g) ≡ G (Some g)) → (gs : List (Guarded X)) → Sames (n.guarded_names tree names gs) →
+      F (v.first_open tree k gs) ≡ G (v.first_open tree l gs)
   same_first {X} names F G none each gs h =
       let both = λ (g : Guarded X). names g.what ++ n.condition_names tree g.when in
       found_same Same both (λ g. not (is_n (v.condition tree k g.when))) (λ g. not (is_n (v.condition tree l g.when))) F G none
@@ -77,7 +81,7 @@ module _ (law : DependsOnSymbols) (tree : TreeFacts) (k l : SymId → Known) whe
       (λ g hs. each g (front (names g.what) (n.condition_names tree g.when) hs) (back (names g.what) (n.condition_names tree g.when) hs))
       gs h
 
-  same_modules : (m : Option SymId) → Sames (n.modules_names m) → v.modules_value tree k m ≡ v.modules_value tree l m
+  same_modules : (m : Option SymId) → Sames (n.modules_names m) → v.modules_value k m ≡ v.modules_value l m
   same_modules None h = refl
   same_modules (Some m) h = ap truth_of_known h.0
 
@@ -102,7 +106,7 @@ module _ (law : DependsOnSymbols) (tree : TreeFacts) (k l : SymId → Known) whe
   is_n-raised : (known : SymId → Known) (kind : Kind) (t : Tri) → is_n (v.raised tree known kind t) ≡ is_n t
   is_n-raised known Undefined t = is_n-up t
   is_n-raised known IsBool t = is_n-up t
-  is_n-raised known Tristate t = is_n-if (is_n (v.modules_value tree known tree.modules)) t
+  is_n-raised known Tristate t = is_n-if (is_n (v.modules_value known tree.modules)) t
   is_n-raised known Str t = is_n-up t
   is_n-raised known Int t = is_n-up t
   is_n-raised known Hex t = is_n-up t
@@ -144,7 +148,8 @@ module _ (law : DependsOnSymbols) (tree : TreeFacts) (k l : SymId → Known) whe
   same_default_text f h =
       same_first symbols (v.default_text k) (v.default_text l) refl (λ g a b. same_single g.what a) f.defaults h
 
-  same_base : (user : Option Given) (vis vis' d d' weak weak' dir dir' rev rev' : Tri) → vis ≡ vis' → d ≡ d' → weak ≡ weak' → dir ≡ dir' → rev ≡ rev' → greater (v.based user vis (v.implied d weak dir)) rev ≡ greater (v.based user vis' (v.implied d' weak' dir')) rev'
+  same_base : (user : Option Given) (vis vis' d d' weak weak' dir dir' rev rev' : Tri) → vis ≡ vis' → d ≡ d' → weak ≡ weak' → dir ≡ dir' → rev ≡ rev' →
+      greater (v.based user vis (v.implied d weak dir)) rev ≡ greater (v.based user vis' (v.implied d' weak' dir')) rev'
   same_base None vis vis' d d' weak weak' dir dir' rev rev' a b c e g = cc
   same_base (Some (Chosen u)) vis vis' d d' weak weak' dir dir' rev rev' a b c e g = cc
   same_base (Some (Typed t)) vis vis' d d' weak weak' dir dir' rev rev' a b c e g = cc
@@ -219,19 +224,20 @@ module _ (law : DependsOnSymbols) (tree : TreeFacts) (k l : SymId → Known) whe
   same_visible : (m : SymId) → Sames (n.prompts_names tree (facts tree m)) → v.visible tree k m ≡ v.visible tree l m
   same_visible m h = same_visible_facts (facts tree m) h
 
-  same_among : (m : SymId) (ms : List SymId) → Sames (flat_map (λ m. n.prompts_names tree (facts tree m)) ms) → (list_any (v.same_symbol m) ms && v.visible tree k m) ≡ (list_any (v.same_symbol m) ms && v.visible tree l m)
+  same_among : (m : SymId) (ms : List SymId) → Sames (flat_map (λ m. n.prompts_names tree (facts tree m)) ms) →
+      (list_any (same_symbol m) ms && v.visible tree k m) ≡ (list_any (same_symbol m) ms && v.visible tree l m)
   same_among m [] h = refl
   same_among m (x ∷ ms) h =
       let here = front (n.prompts_names tree (facts tree x)) (flat_map (λ m. n.prompts_names tree (facts tree m)) ms) h in
       let there = back (n.prompts_names tree (facts tree x)) (flat_map (λ m. n.prompts_names tree (facts tree m)) ms) h in
-      elim (cases_Bool (v.same_symbol m x)) [
+      elim (cases_Bool (same_symbol m x)) [
         | inl t ↦
             let e = same_symbol-true m x t in
             let w = ap (v.visible tree k) e ∙ same_visible x here ∙ ap (v.visible tree l) (sym e) in
-            ap (λ b. (list_any (v.same_symbol m) (x ∷ ms)) && b) w
+            ap (λ b. (list_any (same_symbol m) (x ∷ ms)) && b) w
         | inr f ↦
             let r = same_among m ms there in
-            ap (λ b. (b || list_any (v.same_symbol m) ms) && v.visible tree k m) f ∙ r ∙ sym (ap (λ b. (b || list_any (v.same_symbol m) ms) && v.visible tree l m) f)
+            ap (λ b. (b || list_any (same_symbol m) ms) && v.visible tree k m) f ∙ r ∙ sym (ap (λ b. (b || list_any (same_symbol m) ms) && v.visible tree l m) f)
       ]
 
   module _ (c : ChoiceFacts) where
@@ -286,7 +292,7 @@ module _ (law : DependsOnSymbols) (tree : TreeFacts) (k l : SymId → Known) whe
   same_by_choice : (s : SymId) (f : SymbolFacts) (c : Option ℕ) (user : Option Given) → Sames (n.names_by_choice tree f c) → v.by_choice tree k s f c user ≡ v.by_choice tree l s f c user
   same_by_choice s f None user h = same_by_kind s f f.kind user h
   same_by_choice s f (Some c) user h =
-      ap (λ o. Truth (cond (v.names_symbol o s) Y N)) (same_selected (choice_at tree c) user h)
+      ap (λ o. Truth (cond (is_symbol_of s o) Y N)) (same_selected (choice_at tree c) user h)
 
   pub same_equation : (s : SymId) (f : Option SymbolFacts) (user : Option Given) → Sames (n.names_of tree f) → v.equation tree k s f user ≡ v.equation tree l s f user
   same_equation s None user h = refl
@@ -307,13 +313,19 @@ kept_more g false x t r c = c
 kept_more g true x t r c = (suc c.0, omega (arith, c.1), c.2)
 
 module _ (tree : TreeFacts) (V W : ℕ → Known) where
-  pub same_seen : (all : List SymId) → ((t : ℕ) → Contains (n.defined_numbers tree all) t → V t ≡ W t) → AllByRecursion (λ s. seen tree V s ≡ seen tree W s) all
-  same_seen [] h = tt
-  same_seen (s ∷ all) h =
+  abbrev numbers : List SymId → List ℕ
+  numbers all = map (λ (s : SymId). s.0) (filter (is_defined tree) all)
+
+  seen_alike : (all : List SymId) → ((t : ℕ) → Contains (numbers all) t → V t ≡ W t) → AllByRecursion (λ s. seen tree V s ≡ seen tree W s) all
+  seen_alike [] h = tt
+  seen_alike (s ∷ all) h =
       let number = λ (x : SymId). x.0 in (
         seen_defined (is_defined tree s) (V s.0) (W s.0) (Written Undefined (name tree s)) (λ d. h s.0 (kept_first number (is_defined tree s) s (filter (is_defined tree) all) d)),
-        same_seen all (λ t i. h t (kept_more number (is_defined tree s) s t (filter (is_defined tree) all) i)),
+        seen_alike all (λ t i. h t (kept_more number (is_defined tree s) s t (filter (is_defined tree) all) i)),
       )
+
+  pub same_seen : (all : List SymId) → ((t : ℕ) → Contains (n.defined_numbers tree all) t → V t ≡ W t) → AllByRecursion (λ s. seen tree V s ≡ seen tree W s) all
+  same_seen all h = seen_alike all (λ t c. h t (has_once (numbers all) t c))
 
 pub reads_needs : DependsOnSymbols → (tree : TreeFacts) (user : Slot → Option Given) → ReadsNeeds (needs_of tree) (equations tree user)
 reads_needs law tree user s V W h =

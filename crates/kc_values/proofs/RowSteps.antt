@@ -20,7 +20,8 @@ row_in_choice : (tree : TreeFacts) (i c : ℕ) (f : SymbolFacts) → slice_get t
 row_in_choice tree i c f e h =
     ap (λ o. defined_numbers tree (names_of tree o)) e ∙ ap (λ o. defined_numbers tree (names_by_choice tree f o)) h
 
-pub found_first : (tree : TreeFacts) (i : ℕ) (first : List (Option ℕ)) (choice : Option ChoiceId) (member : ℕ) (f : SymbolFacts) → slice_get tree.symbols i ≡ Some f → f.choice ≡ option_map (λ (k : ChoiceId). k.0) choice → AreFirst tree i first → first_of first choice ≡ Some member → IsFound tree i choice member
+pub found_first : (tree : TreeFacts) (i : ℕ) (first : List (Option ℕ)) (choice : Option ChoiceId) (member : ℕ) (f : SymbolFacts) → slice_get tree.symbols i ≡ Some f →
+    f.choice ≡ option_map (λ (k : ChoiceId). k.0) choice → AreFirst tree i first → first_of first choice ≡ Some member → IsFound tree i choice member
 found_first tree i first None member f e h old is = cc
 found_first tree i first (Some c) member f e h old is =
     let o = old c.0 member is in
@@ -35,7 +36,8 @@ one_more tree i old new row e n r =
     n ∙ ap (λ x. x ++ row ∷ []) e ∙ ap (λ x. needs_before tree i ++ x ∷ []) r
     ∙ sym (map-range_with_len_more (needs_of tree) 0 i i (omega arith))
 
-pub same_more : (tree : TreeFacts) (i : ℕ) (old new : List (List ℕ)) (member : ℕ) (choice : Option ChoiceId) → old ≡ needs_before tree i → new ≡ old ++ needs_in old member ∷ [] → IsFound tree i choice member → new ≡ needs_before tree (i + 1)
+pub same_more : (tree : TreeFacts) (i : ℕ) (old new : List (List ℕ)) (member : ℕ) (choice : Option ChoiceId) → old ≡ needs_before tree i → new ≡ old ++ needs_in old member ∷ [] →
+    IsFound tree i choice member → new ≡ needs_before tree (i + 1)
 same_more tree i old new member choice e n found =
     let row : needs_in old member ≡ needs_of tree i =
     ap (λ x. needs_in x member) e ∙ get_or-map-range_with_len (needs_of tree) 0 i member member [] found.before (omega arith) ∙ sym found.same
@@ -45,7 +47,8 @@ same_more tree i old new member choice e n found =
 pub weaker : (tree : TreeFacts) (i : ℕ) (first : List (Option ℕ)) → AreFirst tree i first → AreFirst tree (i + 1) first
 weaker tree i first old c j e = let o = old c j e in (omega (arith, o.0), o.1)
 
-pub noted_first : (tree : TreeFacts) (i : ℕ) (first : List (Option ℕ)) (choice : Option ChoiceId) (f : SymbolFacts) → slice_get tree.symbols i ≡ Some f → f.choice ≡ option_map (λ (k : ChoiceId). k.0) choice → AreFirst tree i first → AreFirst tree (i + 1) (noted first choice i)
+pub noted_first : (tree : TreeFacts) (i : ℕ) (first : List (Option ℕ)) (choice : Option ChoiceId) (f : SymbolFacts) → slice_get tree.symbols i ≡ Some f →
+    f.choice ≡ option_map (λ (k : ChoiceId). k.0) choice → AreFirst tree i first → AreFirst tree (i + 1) (noted first choice i)
 noted_first tree i first None f e h old d j is = weaker tree i first old d j is
 noted_first tree i first (Some c) f e h old d j is =
     elim (cases_eq d c.0) [

@@ -3,7 +3,7 @@ use Rattle.std.proofs.Common.{◌≡◌, Bool, true, false, List, [], ◌∷◌,
 use Rattle.std.specs.List.{AllByRecursion, flat_map, find}
 use Rattle.std.proofs.lemmas.Bool.{true≢false, eqb-true, eq-eqb}
 use Rattle.kc_expr.specs.declared.expression.SymId.{SymId}
-use Rattle.kc_values.specs.Values.{same_symbol}
+use Rattle.kc_tree.specs.Facts.{same_symbol}
 
 -- P of each element
 pub front_of : {X : Type 0} (P : X → Type 0) (xs ys : List X) → AllByRecursion P (xs ++ ys) → AllByRecursion P xs
@@ -29,7 +29,8 @@ module _ {S X Z : Type 0} (P : S → Type 0) (names : X → List S) where
   either_same F G x false true r q e s t = absurd (true≢false (sym e))
 
   -- what is made of the first that passes
-  pub found_same : (p q : X → Bool) (F G : Option X → Z) → F None ≡ G None → ((x : X) → AllByRecursion P (names x) → p x ≡ q x) → ((x : X) → AllByRecursion P (names x) → F (Some x) ≡ G (Some x)) → (xs : List X) → AllByRecursion P (flat_map names xs) → F (find p xs) ≡ G (find q xs)
+  pub found_same : (p q : X → Bool) (F G : Option X → Z) → F None ≡ G None → ((x : X) → AllByRecursion P (names x) → p x ≡ q x) →
+      ((x : X) → AllByRecursion P (names x) → F (Some x) ≡ G (Some x)) → (xs : List X) → AllByRecursion P (flat_map names xs) → F (find p xs) ≡ G (find q xs)
   found_same p q F G none test each [] h = none
   found_same p q F G none test each (x ∷ xs) h =
       let here = front_of P (names x) (flat_map names xs) h in

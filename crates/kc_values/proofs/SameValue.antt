@@ -45,7 +45,8 @@ same_written : (k : Kind) (t u : List ℕ) → same_value (Written k t) (Written
 same_written k t u e = ap (Written k) (same_text t u (sym e))
 
 module _ (tree : TreeFacts) (known : SymId → Known) where
-  same_by_kind : (s : SymId) (f : SymbolFacts) (kind : Kind) (user other : Option Given) → same_value (v.by_kind tree known s f kind user) (v.by_kind tree known s f kind other) ≡ true → v.by_kind tree known s f kind user ≡ v.by_kind tree known s f kind other
+  same_by_kind : (s : SymId) (f : SymbolFacts) (kind : Kind) (user other : Option Given) →
+      same_value (v.by_kind tree known s f kind user) (v.by_kind tree known s f kind other) ≡ true → v.by_kind tree known s f kind user ≡ v.by_kind tree known s f kind other
   same_by_kind s f Undefined user other e = refl
   same_by_kind s f IsBool user other e = same_truth _ _ e
   same_by_kind s f Tristate user other e = same_truth _ _ e
@@ -53,11 +54,13 @@ module _ (tree : TreeFacts) (known : SymId → Known) where
   same_by_kind s f Int user other e = same_written Int _ _ e
   same_by_kind s f Hex user other e = same_written Hex _ _ e
 
-  same_by_choice : (s : SymId) (f : SymbolFacts) (c : Option ℕ) (user other : Option Given) → same_value (v.by_choice tree known s f c user) (v.by_choice tree known s f c other) ≡ true → v.by_choice tree known s f c user ≡ v.by_choice tree known s f c other
+  same_by_choice : (s : SymId) (f : SymbolFacts) (c : Option ℕ) (user other : Option Given) →
+      same_value (v.by_choice tree known s f c user) (v.by_choice tree known s f c other) ≡ true → v.by_choice tree known s f c user ≡ v.by_choice tree known s f c other
   same_by_choice s f None user other e = same_by_kind s f f.kind user other e
   same_by_choice s f (Some c) user other e = same_truth _ _ e
 
   -- an equation's values under two places
-  pub same_again : (s : SymId) (f : Option SymbolFacts) (user other : Option Given) → same_value (v.equation tree known s f user) (v.equation tree known s f other) ≡ true → v.equation tree known s f user ≡ v.equation tree known s f other
+  pub same_again : (s : SymId) (f : Option SymbolFacts) (user other : Option Given) → same_value (v.equation tree known s f user) (v.equation tree known s f other) ≡ true →
+      v.equation tree known s f user ≡ v.equation tree known s f other
   same_again s None user other e = refl
   same_again s (Some f) user other e = same_by_choice s f f.choice user other e

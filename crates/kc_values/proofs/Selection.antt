@@ -5,14 +5,17 @@ use Rattle.std.proofs.lemmas.Bool.{and_parts, and_from}
 use Rattle.std.proofs.lemmas.List.Folds.{list_any_at}
 use Rattle.kc_expr.specs.declared.expression.SymId.{SymId}
 use Rattle.kc_expr.specs.Value.{Known}
+use Rattle.std.specs.Option.{option_or}
 use Rattle.kc_tree.specs.TreeFacts.{Guarded, ChoiceFacts, TreeFacts}
 use Rattle.kc_values.specs.Values as v
 use Rattle.kc_user.specs.Given.{Given, Chosen, Typed, Member}
-use Rattle.kc_values.specs.Values.{is_n, same_symbol, names_symbol}
+use Rattle.kc_tree.specs.Facts.{same_symbol}
+use Rattle.kc_values.specs.Values.{is_n}
 use Rattle.kc_values.proofs.Same.{same_symbol_itself}
 use Rattle.kc_values.proofs.TreeNeeds.{among}
 
-found_at : {X : Type 0} (p : X → Bool) (b : Bool) (x y : X) (xs : List X) → p x ≡ b → (find p xs ≡ Some y → (p y ≡ true) × Contains xs y) → cond b (Some x) (find p xs) ≡ Some y → (p y ≡ true) × Contains (x ∷ xs) y
+found_at : {X : Type 0} (p : X → Bool) (b : Bool) (x y : X) (xs : List X) → p x ≡ b → (find p xs ≡ Some y → (p y ≡ true) × Contains xs y) → cond b (Some x) (find p xs) ≡ Some y →
+    (p y ≡ true) × Contains (x ∷ xs) y
 found_at p true x y xs t rec e = let i : x ≡ y = cc in (ap p (sym i) ∙ t, (0, omega arith, i))
 found_at p false x y xs f rec e = let r = rec e in (r.0, (suc r.1.0, omega (arith, r.1.1), r.1.2))
 
@@ -24,13 +27,13 @@ pub in_list : (m : SymId) (ms : List SymId) → Contains ms m → list_any (same
 in_list m ms c = list_any_at (same_symbol m) ms c.0 m c.1 (ap (same_symbol m) c.2 ∙ same_symbol_itself m)
 
 module _ (tree : TreeFacts) (k : SymId → Known) where
-  or_else_some : (a b : Option SymId) (m : SymId) → v.or_else a b ≡ Some m → (a ≡ Some m) ⊎ (b ≡ Some m)
-  or_else_some None b m e = inr e
-  or_else_some (Some x) b m e = inl e
+  either_some : (a b : Option SymId) (m : SymId) → option_or a b ≡ Some m → (a ≡ Some m) ⊎ (b ≡ Some m)
+  either_some None b m e = inr e
+  either_some (Some x) b m e = inl e
 
-  or_else_none : (a b : Option SymId) → v.or_else a b ≡ None → b ≡ None
-  or_else_none None b e = e
-  or_else_none (Some x) b e = cc
+  neither : (a b : Option SymId) → option_or a b ≡ None → b ≡ None
+  neither None b e = e
+  neither (Some x) b e = cc
 
   unlock : {X : Type 0} (b : Bool) (x : Option X) (m : X) → cond b None x ≡ Some m → (b ≡ false) × (x ≡ Some m)
   unlock true x m e = cc
@@ -53,7 +56,7 @@ module _ (tree : TreeFacts) (k : SymId → Known) where
   unselected_visible : (c : ChoiceFacts) (m : SymId) → v.unselected tree k c ≡ Some m → v.visible_member tree k c m ≡ true
   unselected_visible c m e =
       let p = λ (g : Guarded SymId). not (is_n (v.condition tree k g.when)) && v.visible_member tree k c g.what in
-      elim (or_else_some (v.what_of (find p c.defaults)) (find (v.visible tree k) c.members) m e) [
+      elim (either_some (v.what_of (find p c.defaults)) (find (v.visible tree k) c.members) m e) [
         | inl d ↦
             let w = what_some (find p c.defaults) m d in
             let f = found p c.defaults w.0 w.1 in
@@ -67,7 +70,7 @@ module _ (tree : TreeFacts) (k : SymId → Known) where
   pub selected_visible : (c : ChoiceFacts) (user : Option Given) (m : SymId) → v.selected tree k (Some c) user ≡ Some m → v.visible_member tree k c m ≡ true
   selected_visible c user m e =
       let h = unlock (is_n (v.mode_of k (Some c))) _ m e in
-      elim (or_else_some (v.chosen_member tree k c user) (v.unselected tree k c) m h.1) [
+      elim (either_some (v.chosen_member tree k c user) (v.unselected tree k c) m h.1) [
         | inl a ↦ chosen_visible c user m a
         | inr b ↦ unselected_visible c m b
       ]
@@ -78,8 +81,8 @@ module _ (tree : TreeFacts) (k : SymId → Known) where
   selected_again (Some c) user m e =
       let h = unlock (is_n (v.mode_of k (Some c))) _ m e in
       let s = selected_visible c user m e in
-      ap (λ b. cond b None (v.or_else (v.chosen_member tree k c (Some (Member m))) (v.unselected tree k c))) h.0
-      ∙ ap (λ b. v.or_else (cond b (Some m) None) (v.unselected tree k c)) s
+      ap (λ b. cond b None (option_or (v.chosen_member tree k c (Some (Member m))) (v.unselected tree k c))) h.0
+      ∙ ap (λ b. option_or (cond b (Some m) None) (v.unselected tree k c)) s
 
   locked : (b : Bool) (x y : Option SymId) → (x ≡ None → y ≡ None) → cond b None x ≡ None → cond b None y ≡ None
   locked true x y h e = refl
@@ -89,8 +92,8 @@ module _ (tree : TreeFacts) (k : SymId → Known) where
   pub none_selected : (o : Option ChoiceFacts) (user : Option Given) → v.selected tree k o user ≡ None → v.selected tree k o None ≡ None
   none_selected None user e = e
   none_selected (Some c) user e =
-      locked (is_n (v.mode_of k (Some c))) (v.or_else (v.chosen_member tree k c user) (v.unselected tree k c)) (v.unselected tree k c)
-      (or_else_none (v.chosen_member tree k c user) (v.unselected tree k c)) e
+      locked (is_n (v.mode_of k (Some c))) (option_or (v.chosen_member tree k c user) (v.unselected tree k c)) (v.unselected tree k c)
+      (neither (v.chosen_member tree k c user) (v.unselected tree k c)) e
 
   -- what is selected is a member of a choice that is there
   pub selected_member : (o : Option ChoiceFacts) (user : Option Given) (m : SymId) → v.selected tree k o user ≡ Some m → (c : ChoiceFacts) × (o ≡ Some c) × Contains c.members m

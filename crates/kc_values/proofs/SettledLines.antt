@@ -11,14 +11,15 @@ use Rattle.kc_expr.specs.declared.expression.Kind.TheVariants.{Undefined, Bool a
 use Rattle.kc_expr.specs.Value.{Known, Truth, Written, greater, lesser, truth_of_known}
 use Rattle.kc_expr.specs.Names.{symbol}
 use Rattle.kc_tree.specs.TreeFacts.{SymbolFacts, ChoiceFacts, TreeFacts}
-use Rattle.kc_values.specs.declared.intervals.Interval.{Interval}
+use Rattle.kc_values.specs.declared.numbers.Interval.{Interval}
 use Rattle.kc_order.specs.Solution.{Solves}
 use Rattle.kc_values.specs.Lookups.{facts, choice_at}
 use Rattle.kc_values.specs.Numbers.{is_inside, if_inside, clamped}
 use Rattle.kc_values.specs.Values as v
 use Rattle.kc_user.specs.Given.{Given, Chosen, Typed, Member, Slot, At, In}
 use Rattle.kc_user.specs.Places.{is_m, allowed_truth, allowed_text, allowed_by, allowed_for, allowed, members_of}
-use Rattle.kc_values.specs.Values.{is_n, up, same_symbol, names_symbol}
+use Rattle.kc_tree.specs.Facts.{is_symbol_of}
+use Rattle.kc_values.specs.Values.{is_n, up}
 use Rattle.kc_values.specs.Solution as sol
 use Rattle.kc_values.specs.Solution.{symbol_count, seen, rhs, slot, equations}
 use Rattle.kc_values.specs.Written as ls
@@ -47,14 +48,20 @@ module _ (tree : TreeFacts) (k : SymId → Known) where
   abbrev Line : Bool → Bool → Tri → Option Given
   Line w a t = cond (w && a) (Some (Chosen t)) None
 
-  raise_settles : (b : Bool) (allow : Tri → Bool) (u : Option Given) (vis rev o : Tri) (w : Bool) → (is_n (raise b vis) ≡ false → w ≡ true) → ((y : Tri) → allow (raise b y) ≡ true) → Settles (Truth (Out b vis rev o u)) (Truth (Out b vis rev o (Line w (allow (Out b vis rev o u)) (Out b vis rev o u)))) (not b && (not (is_n (raise b vis)) && (above (Out b vis rev o u) (raise b vis) && above (Out b vis rev o u) (raise b rev))))
+  raise_settles : (b : Bool) (allow : Tri → Bool) (u : Option Given) (vis rev o : Tri) (w : Bool) → (is_n (raise b vis) ≡ false → w ≡ true) → ((y : Tri) → allow (raise b y) ≡ true) →
+      Settles (Truth (Out b vis rev o u)) (Truth (Out b vis rev o (Line w (allow (Out b vis rev o u)) (Out b vis rev o u))))
+      (not b && (not (is_n (raise b vis)) && (above (Out b vis rev o u) (raise b vis) && above (Out b vis rev o u) (raise b rev))))
   raise_settles b allow u vis rev o w shown allowed =
       let t = Out b vis rev o u in
       let R = λ (x : Tri). raise b (greater x (raise b rev)) in
       elim (cases_Bool (is_n (raise b vis))) [
         | inl hidden ↦
             let e = ap R (based_hidden u (raise b vis) o hidden) ∙ sym (ap R (based_hidden (Line w (allow t) t) (raise b vis) o hidden)) in
-            inl (ap Truth e, and_right (not b) (not (is_n (raise b vis)) && (above t (raise b vis) && above t (raise b rev))) (ap (λ h. not h && (above t (raise b vis) && above t (raise b rev))) hidden))
+            inl (
+              ap Truth e,
+              and_right (not b) (not (is_n (raise b vis)) && (above t (raise b vis) && above t (raise b rev)))
+                  (ap (λ h. not h && (above t (raise b vis) && above t (raise b rev))) hidden),
+            )
         | inr seen_now ↦
             let base = v.based u (raise b vis) o in
             let place : Line w (allow t) t ≡ Some (Chosen t) =
@@ -86,9 +93,12 @@ module _ (tree : TreeFacts) (k : SymId → Known) where
   abbrev OutBy : Kind → Tri → Tri → Tri → Option Given → Tri
   OutBy kind vis rev o u = v.raised tree k kind (greater (v.based u (v.raised tree k kind vis) o) (v.raised tree k kind rev))
 
-  truth_settles : (kind : Kind) → is_truth_kind kind ≡ true → (u : Option Given) (vis rev o : Tri) (w : Bool) → (is_n (v.raised tree k kind vis) ≡ false → w ≡ true) → Settles (Truth (OutBy kind vis rev o u)) (Truth (OutBy kind vis rev o (Line w (allowed_truth kind (OutBy kind vis rev o u)) (OutBy kind vis rev o u)))) (ls.is_tristate tree k kind && (not (is_n (v.raised tree k kind vis)) && (above (OutBy kind vis rev o u) (v.raised tree k kind vis) && above (OutBy kind vis rev o u) (v.raised tree k kind rev))))
+  truth_settles : (kind : Kind) → is_truth_kind kind ≡ true → (u : Option Given) (vis rev o : Tri) (w : Bool) → (is_n (v.raised tree k kind vis) ≡ false → w ≡ true) →
+      Settles (Truth (OutBy kind vis rev o u)) (Truth (OutBy kind vis rev o (Line w (allowed_truth kind (OutBy kind vis rev o u)) (OutBy kind vis rev o u))))
+      (ls.is_tristate tree k kind &&
+      (not (is_n (v.raised tree k kind vis)) && (above (OutBy kind vis rev o u) (v.raised tree k kind vis) && above (OutBy kind vis rev o u) (v.raised tree k kind rev))))
   truth_settles IsBool e u vis rev o w shown = raise_settles true (allowed_truth IsBool) u vis rev o w shown up_allowed
-  truth_settles Tristate e u vis rev o w shown = raise_settles (is_n (v.modules_value tree k tree.modules)) (allowed_truth Tristate) u vis rev o w shown (λ y. refl)
+  truth_settles Tristate e u vis rev o w shown = raise_settles (is_n (v.modules_value k tree.modules)) (allowed_truth Tristate) u vis rev o w shown (λ y. refl)
   truth_settles Undefined e u vis rev o w shown = absurd (true≢false (sym e))
   truth_settles Str e u vis rev o w shown = absurd (true≢false (sym e))
   truth_settles Int e u vis rev o w shown = absurd (true≢false (sym e))
@@ -104,7 +114,8 @@ module _ (tree : TreeFacts) (k : SymId → Known) where
   unused_text true Y d = refl
   unused_text false vis d = refl
 
-  text_settles : (q : List ℕ → Bool) (u : Option Given) (vis : Tri) (d : List ℕ) (w : Bool) → (is_n vis ≡ false → w ≡ true) → ((t : List ℕ) → u ≡ Some (Typed t) → q t ≡ true) → unwrap_or (v.typed u vis) d ≡ unwrap_or (v.typed (TextLine w (q (unwrap_or (v.typed u vis) d)) (unwrap_or (v.typed u vis) d)) vis) d
+  text_settles : (q : List ℕ → Bool) (u : Option Given) (vis : Tri) (d : List ℕ) (w : Bool) → (is_n vis ≡ false → w ≡ true) → ((t : List ℕ) → u ≡ Some (Typed t) → q t ≡ true) →
+      unwrap_or (v.typed u vis) d ≡ unwrap_or (v.typed (TextLine w (q (unwrap_or (v.typed u vis) d)) (unwrap_or (v.typed u vis) d)) vis) d
   text_settles q None vis d w shown given = unused_text (w && q d) vis d
   text_settles q (Some (Chosen t)) vis d w shown given = unused_text (w && q d) vis d
   text_settles q (Some (Member m)) vis d w shown given = unused_text (w && q d) vis d
@@ -126,7 +137,9 @@ module _ (tree : TreeFacts) (k : SymId → Known) where
     unused_number true Y d = either_way (is_inside kind range d) d
     unused_number false vis d = refl
 
-    shown_number : (q : List ℕ → Bool) (t d : List ℕ) (w : Bool) → w ≡ true → q t ≡ true → unwrap_or (cond (is_inside kind range t) (Some t) None) d ≡ Ranged Y d (TextLine w (q (unwrap_or (cond (is_inside kind range t) (Some t) None) d)) (unwrap_or (cond (is_inside kind range t) (Some t) None) d))
+    shown_number : (q : List ℕ → Bool) (t d : List ℕ) (w : Bool) → w ≡ true → q t ≡ true →
+        unwrap_or (cond (is_inside kind range t) (Some t) None) d ≡ Ranged Y d
+        (TextLine w (q (unwrap_or (cond (is_inside kind range t) (Some t) None) d)) (unwrap_or (cond (is_inside kind range t) (Some t) None) d))
     shown_number q t d w shown given =
         let T = λ (b : Bool). unwrap_or (cond b (Some t) None) d in
         let F = λ (x : List ℕ). Ranged Y d (TextLine w (q x) x) in
@@ -144,7 +157,8 @@ module _ (tree : TreeFacts) (k : SymId → Known) where
     as_m d true x = refl
     as_m d false x = refl
 
-    pub number_settles : (q : List ℕ → Bool) (u : Option Given) (vis : Tri) (d : List ℕ) (w : Bool) → (is_n vis ≡ false → w ≡ true) → ((t : List ℕ) → u ≡ Some (Typed t) → q t ≡ true) → Ranged vis d u ≡ Ranged vis d (TextLine w (q (Ranged vis d u)) (Ranged vis d u))
+    pub number_settles : (q : List ℕ → Bool) (u : Option Given) (vis : Tri) (d : List ℕ) (w : Bool) → (is_n vis ≡ false → w ≡ true) → ((t : List ℕ) → u ≡ Some (Typed t) → q t ≡ true) →
+        Ranged vis d u ≡ Ranged vis d (TextLine w (q (Ranged vis d u)) (Ranged vis d u))
     number_settles q None vis d w shown given = unused_number (w && q d) vis d
     number_settles q (Some (Chosen t)) vis d w shown given = unused_number (w && q d) vis d
     number_settles q (Some (Member m)) vis d w shown given = unused_number (w && q d) vis d
@@ -166,37 +180,46 @@ module _ (tree : TreeFacts) (k : SymId → Known) where
         ap (λ x. ls.is_tristate tree k x && (ls.is_shown tree k f && (above t (v.visibility tree k f) && above t (v.rev tree k f)))) (sym h)
         ∙ ap (λ b. b && (ls.is_shown tree k f && (above t (v.visibility tree k f) && above t (v.rev tree k f)))) n
 
-    truth_line : (u : Option Given) → is_truth_kind f.kind ≡ true → Settling (λ p. Truth (v.truth_equation tree k f p)) (ls.written_truth tree k f) (allowed_by f.kind) (ls.unsettled_truth tree k f) (Truth (v.truth_equation tree k f u))
+    truth_line : (u : Option Given) → is_truth_kind f.kind ≡ true →
+        Settling (λ p. Truth (v.truth_equation tree k f p)) (ls.written_truth tree k f) (allowed_by f.kind) (ls.unsettled_truth tree k f) (Truth (v.truth_equation tree k f u))
     truth_line u e =
         truth_settles f.kind e u (v.conditions tree k f.prompts) (v.pulled tree k f.selectors)
         (v.implied (v.default_value tree k (v.first_open tree k f.defaults)) (v.weak tree k f) (v.direct tree k f))
         (ls.written_truth tree k f) (λ h. shown_first (is_n (v.visibility tree k f)) _ h)
 
-    settles_by_kind : (kind : Kind) (u : Option Given) → kind ≡ f.kind → ((g : Given) → u ≡ Some g → allowed_by f.kind g ≡ true) → Settling (v.by_kind tree k s f kind) (ls.written_by_kind tree k f kind) (allowed_by f.kind) (ls.unsettled_truth tree k f) (v.by_kind tree k s f kind u)
+    settles_by_kind : (kind : Kind) (u : Option Given) → kind ≡ f.kind → ((g : Given) → u ≡ Some g → allowed_by f.kind g ≡ true) →
+        Settling (v.by_kind tree k s f kind) (ls.written_by_kind tree k f kind) (allowed_by f.kind) (ls.unsettled_truth tree k f) (v.by_kind tree k s f kind u)
     settles_by_kind Undefined u h given = inl (refl, not_tristate Undefined N refl h)
     settles_by_kind IsBool u h given = truth_line u (ap is_truth_kind (sym h))
     settles_by_kind Tristate u h given = truth_line u (ap is_truth_kind (sym h))
     settles_by_kind Str u h given =
         inl (
-          ap (Written Str) (text_settles (allowed_text f.kind) u (v.visibility tree k f) (v.default_text k (v.first_open tree k f.defaults)) (ls.written_text tree k f) (λ e. shown_first (is_n (v.visibility tree k f)) _ e) (λ t e. given (Typed t) e)),
+          ap (Written Str) (text_settles (allowed_text f.kind) u (v.visibility tree k f) (v.default_text k (v.first_open tree k f.defaults)) (ls.written_text tree k f)
+              (λ e. shown_first (is_n (v.visibility tree k f)) _ e) (λ t e. given (Typed t) e)),
           not_tristate Str N refl h,
         )
     settles_by_kind Int u h given =
         inl (
-          ap (Written Int) (number_settles f.kind (v.active_range tree k f) (allowed_text f.kind) u (v.visibility tree k f) (clamped f.kind (v.active_range tree k f) (v.default_text k (v.first_open tree k f.defaults))) (ls.written_text tree k f) (λ e. shown_first (is_n (v.visibility tree k f)) _ e) (λ t e. given (Typed t) e)),
+          ap (Written Int) (number_settles f.kind (v.active_range tree k f) (allowed_text f.kind) u (v.visibility tree k f)
+              (clamped f.kind (v.active_range tree k f) (v.default_text k (v.first_open tree k f.defaults))) (ls.written_text tree k f)
+              (λ e. shown_first (is_n (v.visibility tree k f)) _ e) (λ t e. given (Typed t) e)),
           not_tristate Int N refl h,
         )
     settles_by_kind Hex u h given =
         inl (
-          ap (Written Hex) (number_settles f.kind (v.active_range tree k f) (allowed_text f.kind) u (v.visibility tree k f) (clamped f.kind (v.active_range tree k f) (v.default_text k (v.first_open tree k f.defaults))) (ls.written_text tree k f) (λ e. shown_first (is_n (v.visibility tree k f)) _ e) (λ t e. given (Typed t) e)),
+          ap (Written Hex) (number_settles f.kind (v.active_range tree k f) (allowed_text f.kind) u (v.visibility tree k f)
+              (clamped f.kind (v.active_range tree k f) (v.default_text k (v.first_open tree k f.defaults))) (ls.written_text tree k f)
+              (λ e. shown_first (is_n (v.visibility tree k f)) _ e) (λ t e. given (Typed t) e)),
           not_tristate Hex N refl h,
         )
 
-    settles_by_choice : (i : ℕ) (c : Option ℕ) (u : Option Given) → sol.slot_by i c ≡ At i → ((g : Given) → u ≡ Some g → allowed_by f.kind g ≡ true) → Settling (v.by_choice tree k s f c) (ls.written_by_choice tree k f c) (allowed_by f.kind) (ls.unsettled_by tree k f c) (v.by_choice tree k s f c u)
+    settles_by_choice : (i : ℕ) (c : Option ℕ) (u : Option Given) → sol.slot_by i c ≡ At i → ((g : Given) → u ≡ Some g → allowed_by f.kind g ≡ true) →
+        Settling (v.by_choice tree k s f c) (ls.written_by_choice tree k f c) (allowed_by f.kind) (ls.unsettled_by tree k f c) (v.by_choice tree k s f c u)
     settles_by_choice i None u at given = settles_by_kind f.kind u refl given
     settles_by_choice i (Some c) u at given = cc
 
-  settles_facts : (s : SymId) (i : ℕ) (f : Option SymbolFacts) (u : Option Given) → sol.slot_of_facts i f ≡ At i → ((g : Given) → u ≡ Some g → allowed_for f g ≡ true) → Settling (v.equation tree k s f) (ls.written_facts tree k f) (allowed_for f) (ls.unsettled_facts tree k f) (v.equation tree k s f u)
+  settles_facts : (s : SymId) (i : ℕ) (f : Option SymbolFacts) (u : Option Given) → sol.slot_of_facts i f ≡ At i → ((g : Given) → u ≡ Some g → allowed_for f g ≡ true) →
+      Settling (v.equation tree k s f) (ls.written_facts tree k f) (allowed_for f) (ls.unsettled_facts tree k f) (v.equation tree k s f u)
   settles_facts s i None u at given = inl (refl, refl)
   settles_facts s i (Some f) u at given = settles_by_choice s f i f.choice u at given
 
@@ -221,7 +244,7 @@ module _ (tree : TreeFacts) (k : SymId → Known) where
   is_n-raised : (kind : Kind) (t : Tri) → is_n (v.raised tree k kind t) ≡ is_n t
   is_n-raised Undefined t = is_n-up t
   is_n-raised IsBool t = is_n-up t
-  is_n-raised Tristate t = is_n-if (is_n (v.modules_value tree k tree.modules)) t
+  is_n-raised Tristate t = is_n-if (is_n (v.modules_value k tree.modules)) t
   is_n-raised Str t = is_n-up t
   is_n-raised Int t = is_n-up t
   is_n-raised Hex t = is_n-up t
@@ -239,7 +262,8 @@ yes_if : (b : Bool) → is_yes (Truth (cond b Y N)) ≡ true → b ≡ true
 yes_if true e = refl
 yes_if false e = e
 
-missing_at : {X : Type 0} (p : X → Bool) (b : Bool) (x y : X) (xs : List X) → p x ≡ b → (find p xs ≡ None → Contains xs y → p y ≡ false) → cond b (Some x) (find p xs) ≡ None → Contains (x ∷ xs) y → p y ≡ false
+missing_at : {X : Type 0} (p : X → Bool) (b : Bool) (x y : X) (xs : List X) → p x ≡ b → (find p xs ≡ None → Contains xs y → p y ≡ false) → cond b (Some x) (find p xs) ≡ None →
+    Contains (x ∷ xs) y → p y ≡ false
 missing_at p true x y xs t rec e c = cc
 missing_at p false x y xs t rec e (zero, l, i) = ap p (sym i) ∙ t
 missing_at p false x y xs t rec e (suc n, l, i) = rec e (n, omega arith, i)
@@ -258,7 +282,7 @@ module _ (tree : TreeFacts) (user : Slot → Option Given) (V : ℕ → Known) (
   abbrev Selected : ℕ → Option SymId
   Selected c = Sel tree user V solves c
 
-  value_of_member : (c : ℕ) (f : ChoiceFacts) (m : SymId) → choice_at tree c ≡ Some f → Contains f.members m → V m.0 ≡ Truth (cond (names_symbol (Selected c) m) Y N)
+  value_of_member : (c : ℕ) (f : ChoiceFacts) (m : SymId) → choice_at tree c ≡ Some f → Contains f.members m → V m.0 ≡ Truth (cond (is_symbol_of m (Selected c)) Y N)
   value_of_member c f m e i =
       let mine = theirs c f m e i in
       member_now tree user V solves m.0 c mine.0 (slot_of_member tree m mine.1.0 c mine.1.1 mine.1.2)
@@ -269,7 +293,7 @@ module _ (tree : TreeFacts) (user : Slot → Option Given) (V : ℕ → Known) (
   found_one c r x (Some f) at e d =
       let h = found Wrote f.members x d in
       let now = value_of_member c f x at h.1 in
-      let sel = named (Selected c) x (yes_if (names_symbol (Selected c) x) (sym (ap is_yes now) ∙ (and_parts (ls.written tree K x) (is_yes (V x.0)) h.0).1)) in
+      let sel = named (Selected c) x (yes_if (is_symbol_of x (Selected c)) (sym (ap is_yes now) ∙ (and_parts (ls.written tree K x) (is_yes (V x.0)) h.0).1)) in
       selected_again tree K (Some f) (user (In c)) x (sym (ap (λ o. v.selected tree K o (user (In c))) at) ∙ sel) ∙ sym sel ∙ e
 
   again_to : (c : ℕ) (r w : Option SymId) → Selected c ≡ r → find Wrote (members_of (choice_at tree c)) ≡ w → v.selected tree K (choice_at tree c) (option_map Member w) ≡ r
@@ -281,18 +305,19 @@ module _ (tree : TreeFacts) (user : Slot → Option Given) (V : ℕ → Known) (
       let vis = selected_visible tree K f (user (In c)) m (sym (ap (λ o. v.selected tree K o (user (In c))) at.1) ∙ e) in
       let shown = (and_parts _ (v.visible tree K m) vis).1 in
       let w = member_written tree K m mine.1.0 c mine.1.1 mine.1.2 shown in
-      let now = value_of_member c f m at.1 at.2 ∙ ap (λ r. Truth (cond (names_symbol r m) Y N)) e in
+      let now = value_of_member c f m at.1 at.2 ∙ ap (λ r. Truth (cond (is_symbol_of m r) Y N)) e in
       let y : is_yes (V m.0) ≡ true = ap is_yes now ∙ ap (λ b. is_yes (Truth (cond b Y N))) (names_itself m) in
       absurd (true≢false (sym (and_from (ls.written tree K m) (is_yes (V m.0)) w y) ∙ missing Wrote f.members m (sym (ap (λ o. find Wrote (members_of o)) at.1) ∙ d) at.2))
   again_to c r (Some x) e d = found_one c r x (choice_at tree c) refl e d
 
-  one_settles : AllowedPlaces tree user V → (i : ℕ) → i < symbol_count tree → Settles (V i) (equations tree (again tree V) i V) (is_unsettled tree V i)
+  one_settles : AllowedPlaces tree user → (i : ℕ) → i < symbol_count tree → Settles (V i) (equations tree (again tree V) i V) (is_unsettled tree V i)
   one_settles given i l =
       elim (slot_cases tree i) [
         | inl at ↦
             let e = solves i l ∙ ap (λ p. rhs tree i (user p) V) at in
             let z = settles_facts tree K (symbol i) i (facts tree (symbol i)) (user (At i)) at (given i) in
-            let P = λ (x : Known). Settling tree K (v.equation tree K (symbol i) (facts tree (symbol i))) (ls.written tree K (symbol i)) (allowed tree (symbol i)) (ls.unsettled_facts tree K (facts tree (symbol i))) x in
+            let P = λ (x : Known). Settling tree K (v.equation tree K (symbol i) (facts tree (symbol i))) (ls.written tree K (symbol i)) (allowed tree (symbol i))
+            (ls.unsettled_facts tree K (facts tree (symbol i))) x in
             let y : P (V i) = subst P (sym e) z in
             subst (λ p. Settles (V i) (rhs tree i (again tree V p) V) (is_unsettled tree V i)) (sym at) y
         | inr d ↦
@@ -300,7 +325,7 @@ module _ (tree : TreeFacts) (user : Slot → Option Given) (V : ℕ → Known) (
             let now = member_now tree user V solves i c l d.1 in
             let then_ = ap (λ p. rhs tree i (again tree V p) V) d.1 ∙ member_at tree K i c (again tree V (In c)) d.1 in
             let same = again_to c (Selected c) _ refl refl in
-            inl (now ∙ ap (λ r. Truth (cond (names_symbol r (symbol i)) Y N)) (sym same) ∙ sym then_, member_settled tree K i c (facts tree (symbol i)) (truth_of_known (V i)) d.1)
+            inl (now ∙ ap (λ r. Truth (cond (is_symbol_of (symbol i) r) Y N)) (sym same) ∙ sym then_, member_settled tree K i c (facts tree (symbol i)) (truth_of_known (V i)) d.1)
       ]
 
 pub settled_where : SettledWhere

@@ -12,7 +12,8 @@ use Rattle.kc_values.specs.Selections.{AreSettled, OnlySettles, member_given}
 some_same : {X : Type 0} (a b : X) → Some a ≡ Some b → a ≡ b
 some_same a b e = cc
 
-pub settled_write : (tree : TreeFacts) (k : SymId → Known) (users : List (Option SymId)) (settled : List (Option (Option SymId))) (c : ℕ) (x : Option SymId) → c < length settled → AreSettled tree k users settled → x ≡ selected tree k (choice_at tree c) (member_given users c) → AreSettled tree k users (slice_set settled c (Some x))
+pub settled_write : (tree : TreeFacts) (k : SymId → Known) (users : List (Option SymId)) (settled : List (Option (Option SymId))) (c : ℕ) (x : Option SymId) → c < length settled →
+    AreSettled tree k users settled → x ≡ selected tree k (choice_at tree c) (member_given users c) → AreSettled tree k users (slice_set settled c (Some x))
 settled_write tree k users settled c x l old new d y e =
     elim (cases_eq d c) [
       | inl at ↦

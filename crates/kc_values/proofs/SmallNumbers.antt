@@ -28,7 +28,8 @@ of_negated None = refl
 of_negated (Some zero) = refl
 of_negated (Some (suc n)) = refl
 
-int_below : (b : Bool) (text : List ℕ) → unsigned_abs (unwrap_or (cond b (option_map negated (natural_of 10 (2 ^ 63 + 1) (drop 1 text))) (option_map pos (natural_of 10 (2 ^ 63) text))) (pos 0)) < 2 ^ 64
+int_below : (b : Bool) (text : List ℕ) →
+    unsigned_abs (unwrap_or (cond b (option_map negated (natural_of 10 (2 ^ 63 + 1) (drop 1 text))) (option_map pos (natural_of 10 (2 ^ 63) text))) (pos 0)) < 2 ^ 64
 int_below true text =
     let l = natural_below 10 (2 ^ 63 + 1) (drop 1 text) (omega arith) in
     let e = of_negated (natural_of 10 (2 ^ 63 + 1) (drop 1 text)) in

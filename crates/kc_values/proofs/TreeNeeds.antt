@@ -13,21 +13,26 @@ use Rattle.kc_tree.specs.TreeFacts.{TreeFacts}
 use Rattle.kc_values.specs.Lookups.{is_defined}
 use Rattle.kc_user.specs.Given.{Slot, Given}
 use Rattle.kc_values.specs.Solution.{symbol_count, equations}
-use Rattle.kc_values.specs.Values.{same_symbol}
+use Rattle.kc_tree.specs.Facts.{same_symbol}
 use Rattle.kc_values.specs.Needs.{needs, needs_of, names_of, defined_numbers}
+use Rattle.kc_values.proofs.Once.{from_once}
 use Rattle.kc_values.proofs.Same.{same_symbol-true}
 use Rattle.kc_values.proofs.OnlyNamed.{reads_needs}
 
-within_kept : {X : Type 0} (p : X → Bool) (g : X → ℕ) (b : Bool) (x : X) (n t : ℕ) (r : List X) → p x ≡ b → (p x ≡ true → g x < n) → (Contains (map g r) t → t < n) → Contains (map g (cond b (x ∷ r) r)) t → t < n
+within_kept : {X : Type 0} (p : X → Bool) (g : X → ℕ) (b : Bool) (x : X) (n t : ℕ) (r : List X) → p x ≡ b → (p x ≡ true → g x < n) → (Contains (map g r) t → t < n) →
+    Contains (map g (cond b (x ∷ r) r)) t → t < n
 within_kept p g false x n t r e here more c = more c
 within_kept p g true x n t r e here more (zero, l, i) = let h : g x < n = here e in rw i at h
 within_kept p g true x n t r e here more (suc m, l, i) = more (m, omega arith, i)
 
-pub defined_below : (tree : TreeFacts) (ss : List SymId) (t : ℕ) → Contains (defined_numbers tree ss) t → t < symbol_count tree
-defined_below tree [] t c = absurd (omega (arith, c.1))
-defined_below tree (s ∷ ss) t c =
+numbers_below : (tree : TreeFacts) (ss : List SymId) (t : ℕ) → Contains (map (λ (s : SymId). s.0) (filter (is_defined tree) ss)) t → t < symbol_count tree
+numbers_below tree [] t c = absurd (omega (arith, c.1))
+numbers_below tree (s ∷ ss) t c =
     within_kept (is_defined tree) (λ (x : SymId). x.0) (is_defined tree s) s (symbol_count tree) t (filter (is_defined tree) ss) refl
-    (λ d. ltb-true s.0 (symbol_count tree) d) (defined_below tree ss t) c
+    (λ d. ltb-true s.0 (symbol_count tree) d) (numbers_below tree ss t) c
+
+pub defined_below : (tree : TreeFacts) (ss : List SymId) (t : ℕ) → Contains (defined_numbers tree ss) t → t < symbol_count tree
+defined_below tree ss t c = numbers_below tree ss t (from_once _ t c)
 
 pub needs_length : (tree : TreeFacts) → length (needs tree) ≡ symbol_count tree
 needs_length tree = length-map-range_with_len (needs_of tree) 0 (symbol_count tree)

@@ -18,7 +18,8 @@ abbrev pub outcome : Bool → Tri → Tri → Tri
 outcome b base rev = raise b (greater base (raise b rev))
 
 -- either the user's is not read, or the value as the user's gives it again
-pub line_fixed : (b : Bool) (u vis rev o : Tri) → (outcome b (base_of u (raise b vis) o) rev ≡ outcome b o rev) ⊎ (outcome b (base_of (outcome b (base_of u (raise b vis) o) rev) (raise b vis) o) rev ≡ outcome b (base_of u (raise b vis) o) rev)
+pub line_fixed : (b : Bool) (u vis rev o : Tri) →
+    (outcome b (base_of u (raise b vis) o) rev ≡ outcome b o rev) ⊎ (outcome b (base_of (outcome b (base_of u (raise b vis) o) rev) (raise b vis) o) rev ≡ outcome b (base_of u (raise b vis) o) rev)
 line_fixed true N N N o = inl refl
 line_fixed true N N M o = inl refl
 line_fixed true N N Y o = inl refl
@@ -75,7 +76,11 @@ line_fixed false Y Y M o = inr refl
 line_fixed false Y Y Y o = inr refl
 
 -- where it is visible, the value of any base gives itself again unless it is over both
-pub line_settles : (b : Bool) (base vis rev o : Tri) → is_n (raise b vis) ≡ false → ((outcome b base rev ≡ outcome b (base_of (outcome b base rev) (raise b vis) o) rev) × ((not b && (above (outcome b base rev) (raise b vis) && above (outcome b base rev) (raise b rev))) ≡ false)) ⊎ (((outcome b base rev ≡ outcome b (base_of (outcome b base rev) (raise b vis) o) rev) → ⊥) × ((not b && (above (outcome b base rev) (raise b vis) && above (outcome b base rev) (raise b rev))) ≡ true))
+pub line_settles : (b : Bool) (base vis rev o : Tri) → is_n (raise b vis) ≡ false →
+    ((outcome b base rev ≡ outcome b (base_of (outcome b base rev) (raise b vis) o) rev) ×
+    ((not b && (above (outcome b base rev) (raise b vis) && above (outcome b base rev) (raise b rev))) ≡ false)) ⊎
+    (((outcome b base rev ≡ outcome b (base_of (outcome b base rev) (raise b vis) o) rev) → ⊥) ×
+    ((not b && (above (outcome b base rev) (raise b vis) && above (outcome b base rev) (raise b rev))) ≡ true))
 line_settles true N N N o e = absurd (true≢false e)
 line_settles true N N M o e = absurd (true≢false e)
 line_settles true N N Y o e = absurd (true≢false e)

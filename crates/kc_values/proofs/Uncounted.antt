@@ -30,7 +30,8 @@ typed_uncounted (Some (Typed t)) M e = absurd (true≢false e)
 typed_uncounted (Some (Typed t)) Y e = absurd (true≢false e)
 
 module _ (tree : TreeFacts) (known : SymId → Known) where
-  truth_uncounted : (f : SymbolFacts) (user : Option Given) → (is_some user && not (v.is_n (v.visibility tree known f))) ≡ false → v.truth_equation tree known f user ≡ v.truth_equation tree known f None
+  truth_uncounted : (f : SymbolFacts) (user : Option Given) → (is_some user && not (v.is_n (v.visibility tree known f))) ≡ false →
+      v.truth_equation tree known f user ≡ v.truth_equation tree known f None
   truth_uncounted f user e =
       ap (λ b. v.raised tree known f.kind (greater b (v.rev tree known f)))
       (based_uncounted user (v.visibility tree known f) (v.implied (v.default_value tree known (v.first_open tree known f.defaults)) (v.weak tree known f) (v.direct tree known f)) e)
@@ -39,13 +40,15 @@ module _ (tree : TreeFacts) (known : SymId → Known) where
   text_uncounted f user e =
       ap (λ t. unwrap_or t (v.default_text known (v.first_open tree known f.defaults))) (typed_uncounted user (v.visibility tree known f) e)
 
-  number_uncounted : (f : SymbolFacts) (user : Option Given) → (is_some user && not (v.is_n (v.visibility tree known f))) ≡ false → v.number_equation tree known f user ≡ v.number_equation tree known f None
+  number_uncounted : (f : SymbolFacts) (user : Option Given) → (is_some user && not (v.is_n (v.visibility tree known f))) ≡ false →
+      v.number_equation tree known f user ≡ v.number_equation tree known f None
   number_uncounted f user e =
       ap (λ t. unwrap_or (if_inside f.kind (v.active_range tree known f) t) (clamped f.kind (v.active_range tree known f) (v.default_text known (v.first_open tree known f.defaults))))
       (typed_uncounted user (v.visibility tree known f) e)
 
   -- the equation of a symbol outside a choice gives the same without it
-  pub uncounted : (s : SymId) (f : SymbolFacts) (kind : Kind) (user : Option Given) → (is_some user && not (v.is_n (v.visibility tree known f))) ≡ false → v.by_kind tree known s f kind user ≡ v.by_kind tree known s f kind None
+  pub uncounted : (s : SymId) (f : SymbolFacts) (kind : Kind) (user : Option Given) → (is_some user && not (v.is_n (v.visibility tree known f))) ≡ false →
+      v.by_kind tree known s f kind user ≡ v.by_kind tree known s f kind None
   uncounted s f Undefined user e = refl
   uncounted s f IsBool user e = ap Truth (truth_uncounted f user e)
   uncounted s f Tristate user e = ap Truth (truth_uncounted f user e)

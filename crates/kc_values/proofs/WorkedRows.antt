@@ -58,7 +58,7 @@ selects_differ = refl
 selects_warned : warned selects nothing selects_V ≡ codes "warning K11: B is selected to y while its dependency is n" ∷ []
 selects_warned = refl
 
-selects_needs : needed selects nothing selects_V ≡ [] ∷ ((2 ∷ (2 ∷ (0 ∷ []))) ∷ ([] ∷ []))
+selects_needs : needed selects nothing selects_V ≡ [] ∷ ((2 ∷ (0 ∷ [])) ∷ ([] ∷ []))
 selects_needs = refl
 
 -- An imply stays within the direct dependency: FOO implies BAZ, which depends on BAR, which is m.
@@ -113,7 +113,7 @@ choosing_values = refl
 choosing_differ : differing choosing (in_first (symbol 2)) chosen_C ≡ false ∷ (false ∷ (true ∷ []))
 choosing_differ = refl
 
-choosing_default : default_selection choosing (in_first (symbol 2)) (λ i. Truth N) 0 ≡ Some (symbol 1)
+choosing_default : default_selection choosing (λ i. Truth N) 0 ≡ Some (symbol 1)
 choosing_default = refl
 
 -- the user's member is not visible: the default one is selected, and no symbol differs

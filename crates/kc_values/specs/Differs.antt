@@ -13,7 +13,8 @@ use Rattle.kc_tree.specs.TreeFacts.{TreeFacts}
 use Rattle.kc_values.specs.Lookups.{facts, choice_at}
 use Rattle.kc_user.specs.Given.{Given, Chosen, Typed, Member, Slot, At, In}
 use Rattle.kc_user.specs.Places.{allowed, members_of}
-use Rattle.kc_values.specs.Values.{selected, names_symbol}
+use Rattle.kc_tree.specs.Facts.{is_symbol_of}
+use Rattle.kc_values.specs.Values.{selected}
 use Rattle.kc_values.specs.Solution.{symbol_count, seen, slot, rhs}
 use Rattle.kc_values.specs.Written.{written, unsettled_facts}
 
@@ -46,19 +47,23 @@ is_yes (Truth M) = false
 is_yes (Truth Y) = true
 is_yes (Written k bytes) = false
 
--- Under places U and values V.
+-- What was given was allowed.
+abbrev pub AllowedPlaces : TreeFacts → (Slot → Option Given) → Type 0
+AllowedPlaces tree user = (i : ℕ) (g : Given) → user (At i) ≡ Some g → allowed tree (symbol i) g ≡ true
+
+-- The selection of a choice under values V, without the user's member.
+abbrev pub default_selection : TreeFacts → (ℕ → Known) → ℕ → Option SymId
+default_selection tree V c = selected tree (seen tree V) (choice_at tree c) None
+
+-- Under the user's places and values V.
 module _ (tree : TreeFacts) (user : Slot → Option Given) (V : ℕ → Known) where
   -- The selection of a choice.
   abbrev pub selection : ℕ → Option SymId
   selection c = selected tree (seen tree V) (choice_at tree c) (user (In c))
 
-  -- The selection without the user's member.
-  abbrev pub default_selection : ℕ → Option SymId
-  default_selection c = selected tree (seen tree V) (choice_at tree c) None
-
   abbrev pub differs_at : ℕ → Slot → Bool
   differs_at i (At j) = not (same_value (V i) (rhs tree i None V))
-  differs_at i (In c) = names_symbol (selection c) (symbol i) && not (names_symbol (default_selection c) (symbol i))
+  differs_at i (In c) = is_symbol_of (symbol i) (selection c) && not (is_symbol_of (symbol i) (default_selection tree V c))
 
   -- Whether a symbol differs: its value is not what its equation gives without its user value; a member is selected and is
   -- not the default selection (our own).
@@ -75,10 +80,7 @@ module _ (tree : TreeFacts) (user : Slot → Option Given) (V : ℕ → Known) w
   line_of (At i) = Some (given_of (V i))
   line_of (In c) = option_map Member (selection c)
 
-  -- what was given was allowed
-  abbrev pub AllowedPlaces : Type 0
-  AllowedPlaces = (i : ℕ) (g : Given) → user (At i) ≡ Some g → allowed tree (symbol i) g ≡ true
-
+-- Under values V alone.
 module _ (tree : TreeFacts) (V : ℕ → Known) where
   abbrev pub line_again : ℕ → Option Given
   line_again i =

@@ -75,14 +75,14 @@ MinimalHasNothingToSpare =
 abbrev pub DifferingAreAllowed : Type 0
 DifferingAreAllowed =
     (tree : TreeFacts) (user : Slot → Option Given) (V : ℕ → Known) (i : ℕ) → i < symbol_count tree →
-    MembersAreBools tree → AllowedPlaces tree user V → Solves (symbol_count tree) (equations tree user) V →
+    MembersAreBools tree → AllowedPlaces tree user → Solves (symbol_count tree) (equations tree user) V →
     differs tree user V i ≡ true → allowed tree (symbol i) (given_of (V i)) ≡ true
 
 -- With the written values as the user's, the values solve again exactly where no symbol is unsettled.
 abbrev pub SettledWhere : Type 0
 SettledWhere =
     (tree : TreeFacts) (user : Slot → Option Given) (V : ℕ → Known) →
-    MembersAreTheirs tree → AllowedPlaces tree user V → Solves (symbol_count tree) (equations tree user) V →
+    MembersAreTheirs tree → AllowedPlaces tree user → Solves (symbol_count tree) (equations tree user) V →
     Solves (symbol_count tree) (equations tree (again tree V)) V ↔ ((i : ℕ) → i < symbol_count tree → is_unsettled tree V i ≡ false)
 
 -- Choices don't nest: the prompt of a choice has no mode of another, so its mode is y exactly where its prompt is visible.

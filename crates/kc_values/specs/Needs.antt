@@ -1,5 +1,5 @@
 -- Trusted: What the equation of a symbol reads: the symbols that it needs.
-use Rattle.std.specs.Prelude.{ℕ, List, [], ◌∷◌, ◌++◌, map, length, Option, Some, None}
+use Rattle.std.specs.Prelude.{ℕ, ◌==◌, not, List, [], ◌∷◌, ◌++◌, map, length, Option, Some, None}
 use Rattle.std.specs.List.{filter, flat_map, range_with_len}
 use Rattle.kc_expr.specs.Form.{symbols, leaf_symbols}
 use Rattle.kc_expr.specs.Names.{symbol}
@@ -30,6 +30,11 @@ prompt_names (Some c) = parts_names c.prompt
 abbrev pub modules_names : Option SymId → List SymId
 modules_names None = []
 modules_names (Some m) = m ∷ []
+
+-- each number once, where it stands first
+abbrev pub once : List ℕ → List ℕ
+once [] = []
+once (n ∷ ns) = n ∷ filter (λ m. not (n == m)) (once ns)
 
 module _ (tree : TreeFacts) where
   abbrev pub mode_names : Option ℕ → List SymId
@@ -91,11 +96,11 @@ module _ (tree : TreeFacts) where
   names_of None = []
   names_of (Some f) = names_by_choice f f.choice
 
-  -- the numbers of the defined symbols in a list
+  -- the numbers of the defined symbols in a list, each once
   abbrev pub defined_numbers : List SymId → List ℕ
-  defined_numbers ss = map (λ (s : SymId). s.0) (filter (is_defined tree) ss)
+  defined_numbers ss = once (map (λ (s : SymId). s.0) (filter (is_defined tree) ss))
 
-  -- What the symbol of a number needs: the defined symbols among what its equation names.
+  -- What the symbol of a number needs: the defined symbols among what its equation names, each once.
   abbrev pub needs_of : ℕ → List ℕ
   needs_of i = defined_numbers (names_of (facts tree (symbol i)))
 

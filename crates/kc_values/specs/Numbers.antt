@@ -4,7 +4,7 @@ use Rattle.std.specs.Fmt.{signed_decimal, digits}
 use Rattle.kc_text.specs.Numbers.{int_of, hex_of}
 use Rattle.kc_expr.specs.declared.expression.Kind.{Kind}
 use Rattle.kc_expr.specs.declared.expression.Kind.TheVariants.{Undefined, Bool as IsBool, Tristate, Str, Int, Hex}
-use Rattle.kc_values.specs.declared.intervals.Interval.{Interval}
+use Rattle.kc_values.specs.declared.numbers.Interval.{Interval}
 
 -- The number that a text writes, read by the type (our own: decimal for int, hexadecimal for hex).
 abbrev pub number_as : Kind → List ℕ → Option ℤ

@@ -1,8 +1,9 @@
 -- Trusted: Numbers of 64 bits and a sign.
-use Rattle.std.specs.Prelude.{◌<◌, ◌^◌, unsigned_abs}
-use Rattle.kc_values.specs.declared.intervals.Interval.{Interval}
+use Rattle.std.specs.Prelude.{◌<◌, unsigned_abs}
+use Rattle.kc_text.specs.Limits.{hex_limit}
+use Rattle.kc_values.specs.declared.numbers.Interval.{Interval}
 
--- both bounds are below 2^64 without their sign
+-- both bounds are hexes without their sign
 pub record IsSmall (r : Interval) : Type 0 where
-  pub low : unsigned_abs r.low < 2 ^ 64
-  pub high : unsigned_abs r.high < 2 ^ 64
+  pub low : unsigned_abs r.low < hex_limit
+  pub high : unsigned_abs r.high < hex_limit

@@ -1,8 +1,9 @@
 -- Trusted: What the symbols of a tree are worth: the equations of the language.
 -- Public sources: the kernel's kconfig-language document ("Menu attributes", "Menu dependencies", choices) and
 -- kconfiglib's documentation (visibility, `tri_value`, `str_value`, `selection`). What is our own is marked so.
-use Rattle.std.specs.Prelude.{ℕ, ◌==◌, ◌&&◌, Bool, true, false, not, if◌then◌else◌, List, [], map, Option, Some, None, unwrap_or}
+use Rattle.std.specs.Prelude.{ℕ, ◌&&◌, Bool, true, false, not, if◌then◌else◌, List, [], map, Option, Some, None, unwrap_or}
 use Rattle.std.specs.List.{find, list_any}
+use Rattle.std.specs.Option.{option_or}
 use Rattle.kc_expr.specs.Form.{Form, Single, Related, Negated, Every, Some_of}
 use Rattle.kc_expr.specs.Value.{Known, Truth, Written, value, text, least, greatest, lesser, greater, truth_of_known}
 use Rattle.kc_expr.specs.declared.expression.SymId.{SymId}
@@ -10,11 +11,12 @@ use Rattle.kc_expr.specs.declared.expression.Tri.{Tri}
 use Rattle.kc_expr.specs.declared.expression.Tri.TheVariants.{N, M, Y}
 use Rattle.kc_expr.specs.declared.expression.Kind.{Kind}
 use Rattle.kc_expr.specs.declared.expression.Kind.TheVariants.{Undefined, Bool as IsBool, Tristate, Str, Int, Hex}
+use Rattle.kc_tree.specs.Facts.{same_symbol, is_symbol_of}
 use Rattle.kc_tree.specs.TreeFacts.{Condition, Guarded, Bounds, SymbolFacts, ChoiceFacts, TreeFacts}
 use Rattle.kc_user.specs.Given.{Given, Chosen, Typed, Member}
 use Rattle.kc_values.specs.Lookups.{facts, name, choice_at}
 use Rattle.kc_values.specs.Numbers.{counted, clamped, if_inside}
-use Rattle.kc_values.specs.declared.intervals.Interval.{Interval}
+use Rattle.kc_values.specs.declared.numbers.Interval.{Interval}
 
 abbrev pub is_n : Tri → Bool
 is_n N = true
@@ -27,20 +29,9 @@ up N = N
 up M = Y
 up Y = Y
 
-abbrev pub same_symbol : SymId → SymId → Bool
-same_symbol a b = a.0 == b.0
-
-abbrev pub names_symbol : Option SymId → SymId → Bool
-names_symbol None s = false
-names_symbol (Some t) s = same_symbol t s
-
 abbrev pub what_of : Option (Guarded SymId) → Option SymId
 what_of None = None
 what_of (Some g) = Some g.what
-
-abbrev pub or_else : Option SymId → Option SymId → Option SymId
-or_else None b = b
-or_else (Some a) b = Some a
 
 -- A visible user value counts up to the visibility (kconfiglib).
 abbrev pub based : Option Given → Tri → Tri → Tri
@@ -91,6 +82,11 @@ module _ (known : SymId → Known) where
   default_text None = []
   default_text (Some g) = single_text g.what
 
+  -- the value of the modules symbol
+  abbrev pub modules_value : Option SymId → Tri
+  modules_value None = N
+  modules_value (Some m) = truth_of_known (known m)
+
   -- the bounds of a range as numbers
   abbrev pub interval : Kind → Option (Guarded Bounds) → Option Interval
   interval kind None = None
@@ -113,15 +109,11 @@ module _ (tree : TreeFacts) (known : SymId → Known) where
   abbrev pub first_open : {X : Type 0} → List (Guarded X) → Option (Guarded X)
   first_open gs = find (λ g. not (is_n (condition g.when))) gs
 
-  abbrev pub modules_value : Option SymId → Tri
-  modules_value None = N
-  modules_value (Some m) = truth_of_known (known m)
-
   -- m counts as y where the type is not tristate under the values: bool, or the modules symbol is n (kconfiglib).
   abbrev pub raised : Kind → Tri → Tri
   raised Undefined t = up t
   raised IsBool t = up t
-  raised Tristate t = if is_n (modules_value tree.modules) then up t else t
+  raised Tristate t = if is_n (modules_value known tree.modules) then up t else t
   raised Str t = up t
   raised Int t = up t
   raised Hex t = up t
@@ -193,7 +185,7 @@ module _ (tree : TreeFacts) (known : SymId → Known) where
 
   -- The default selection: that default, else the first visible member (the document's "choices").
   abbrev pub unselected : ChoiceFacts → Option SymId
-  unselected c = or_else (first_default c c.defaults) (first_visible c.members)
+  unselected c = option_or (first_default c c.defaults) (first_visible c.members)
 
   abbrev pub chosen_member : ChoiceFacts → Option Given → Option SymId
   chosen_member c (Some (Member m)) = if visible_member c m then Some m else None
@@ -205,11 +197,11 @@ module _ (tree : TreeFacts) (known : SymId → Known) where
   abbrev pub selected : Option ChoiceFacts → Option Given → Option SymId
   selected None user = None
   selected (Some c) user =
-      if is_n (mode_of known (Some c)) then None else or_else (chosen_member c user) (unselected c)
+      if is_n (mode_of known (Some c)) then None else option_or (chosen_member c user) (unselected c)
 
   -- A member is y where it is selected, which is visible, else n; its own defaults have no effect.
   abbrev pub member_equation : SymId → ℕ → Option Given → Tri
-  member_equation s c user = if names_symbol (selected (choice_at tree c) user) s then Y else N
+  member_equation s c user = if is_symbol_of s (selected (choice_at tree c) user) then Y else N
 
   -- The equation of one symbol; without a type it is worth its own name.
   abbrev pub by_kind : SymId → SymbolFacts → Kind → Option Given → Known

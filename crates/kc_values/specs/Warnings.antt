@@ -15,7 +15,7 @@ use Rattle.kc_user.specs.Given.{Given, Slot, At}
 use Rattle.kc_values.specs.Values.{first_open, direct, rev, visibility, typed, single_text, active_range}
 use Rattle.kc_values.specs.Written.{above}
 use Rattle.kc_values.specs.Solution.{seen, symbol_count}
-use Rattle.kc_values.specs.declared.intervals.Interval.{Interval}
+use Rattle.kc_values.specs.declared.numbers.Interval.{Interval}
 
 -- `NAME is selected to REV while its dependency is DIRECT`
 abbrev pub selected_line : List ℕ → Tri → Tri → List ℕ
@@ -49,23 +49,24 @@ default_warnings kind name None None d = []
 default_warnings kind name (Some r) None None = []
 default_warnings kind name (Some r) None (Some t) = if is_inside kind (Some r) t then [] else default_line kind r name t ∷ []
 
+-- the text of the default that counts, if there is one
+abbrev pub open_text : (SymId → Known) → Option (Guarded Form) → Option (List ℕ)
+open_text known None = None
+open_text known (Some g) = Some (single_text known g.what)
+
+-- Under a tree and what is known of its symbols.
 module _ (tree : TreeFacts) (known : SymId → Known) where
   -- selected above its dependency
   abbrev pub select_warnings : List ℕ → SymbolFacts → List (List ℕ)
   select_warnings name f =
       if above (rev tree known f) (direct tree known f) then selected_line name (rev tree known f) (direct tree known f) ∷ [] else []
 
-  -- the text of the default that counts, if there is one
-  abbrev pub open_text : Option (Guarded Form) → Option (List ℕ)
-  open_text None = None
-  open_text (Some g) = Some (single_text known g.what)
-
   abbrev pub range_warnings : List ℕ → SymbolFacts → Option Given → List (List ℕ)
   range_warnings name f user =
       let range = active_range tree known f in
       let given = typed user (visibility tree known f) in
       user_warnings f.kind name range given
-      ++ default_warnings f.kind name range (if_inside f.kind range given) (open_text (first_open tree known f.defaults))
+      ++ default_warnings f.kind name range (if_inside f.kind range given) (open_text known (first_open tree known f.defaults))
 
   abbrev pub warnings_by_kind : List ℕ → SymbolFacts → Kind → Option Given → List (List ℕ)
   warnings_by_kind name f Undefined user = []

@@ -61,7 +61,7 @@ module _ (tree : TreeFacts) (known : SymId → Known) where
   abbrev pub is_tristate : Kind → Bool
   is_tristate Undefined = false
   is_tristate IsBool = false
-  is_tristate Tristate = not (is_n (modules_value tree known tree.modules))
+  is_tristate Tristate = not (is_n (modules_value known tree.modules))
   is_tristate Str = false
   is_tristate Int = false
   is_tristate Hex = false

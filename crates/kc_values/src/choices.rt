@@ -2,6 +2,7 @@
 
 ghost use Rattle.std.specs.Prelude.{◌≡◌};
 ghost use Rattle.std.specs.List.{list_any};
+ghost use Rattle.kc_tree.specs.Facts.{same_symbol};
 ghost use Rattle.kc_tree.specs.Views.{choice_facts_of};
 ghost use Rattle.kc_values.specs.Values as spec;
 ghost use Rattle.kc_user.specs.Places.{member_place};
@@ -33,7 +34,7 @@ fn visible_member<V: Values>(tree: &Tree, choice: &Choice, id: SymId, values: &V
 }
 
 fn is_among(id: SymId, members: &[SymId]) -> bool
-    ensures { result ≡ list_any (spec.same_symbol id) members.now }
+    ensures { result ≡ list_any (same_symbol id) members.now }
 {
     members.iter().any(|member| id.0 == member.0)
 }

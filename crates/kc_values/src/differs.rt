@@ -2,6 +2,7 @@
 
 ghost use Rattle.std.specs.Prelude.{◌≡◌, ◌&&◌, not, IfOk};
 ghost use Rattle.std.specs.Option.{is_some};
+ghost use Rattle.kc_tree.specs.Facts.{is_symbol_of};
 ghost use Rattle.kc_tree.specs.Views.{facts_of};
 ghost use Rattle.kc_values.specs.Differs.{same_value};
 ghost use Rattle.kc_expr.specs.Value.{known_by};
@@ -61,7 +62,7 @@ pub fn can_count(user: Option<&UserValue>, shown: Tri) -> bool
 
 // Whether a selection is the symbol.
 fn selects(selection: Option<SymId>, id: SymId) -> bool
-    ensures { result ≡ value.names_symbol selection id }
+    ensures { result ≡ is_symbol_of id selection }
 {
     match selection {
         Some(member) => member.0 == id.0,
@@ -71,7 +72,7 @@ fn selects(selection: Option<SymId>, id: SymId) -> bool
 
 /// Whether a member is selected, and is not the default selection (our own rule of the minimal file).
 pub fn member_differs(selection: Option<SymId>, default: Option<SymId>, id: SymId) -> bool
-    ensures { result ≡ (value.names_symbol selection id && not (value.names_symbol default id)) }
+    ensures { result ≡ (is_symbol_of id selection && not (is_symbol_of id default)) }
 {
     selects(selection, id) && !selects(default, id)
 }

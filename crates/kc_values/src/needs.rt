@@ -1,8 +1,8 @@
 //! What the equation of each symbol names: its needs.
 
-ghost use Rattle.std.specs.Prelude.{◌≡◌, ◌+◌, ◌++◌, [], map, slice_get, Some, IfOk, OnOk};
+ghost use Rattle.std.specs.Prelude.{◌≡◌, ◌+◌, ◌++◌, length, map, slice_get, Some, IfOk, OnOk};
 ghost use Rattle.std.specs.List.{flat_map};
-ghost use Rattle.kc_expr.specs.Form.{form_of, symbols};
+ghost use Rattle.kc_expr.specs.Form.{form_of, leaf_of, leaf_symbols, symbols};
 ghost use Rattle.kc_tree.specs.Views.{condition_of, facts_of, choice_facts_of, default_view, range_view, named_view};
 ghost use Rattle.kc_values.specs.Lookups as lookup;
 ghost use Rattle.kc_values.specs.Needs as spec;
@@ -10,27 +10,55 @@ ghost use Rattle.kc_values.specs.NeedRows as rows;
 ghost use Rattle.kc_values.specs.NeedRows.{AreFirst};
 
 use crate::lookups::{choice, facts};
+use crate::row::Row;
 use kc_expr::expression::{Expr, Kind, Operand, SymId};
-use kc_expr::values::{name_into, names_into};
+use kc_expr::values::names_into;
 use kc_order::Needs;
 use kc_tree::parts::{Choice, ChoiceId, Cond, Symbol};
 use kc_tree::tree::Tree;
 use std::alloc::{AllocError, Global};
 use std::rc::Rc;
 
+// The row of one symbol, and room for the names of one expression, so that it is made once for all symbols.
+#[derive(Drop)]
+struct Scratch {
+    names: Vec<SymId>,
+    row: Row,
+}
+
+// The names in an expression.
+fn expression_into(expression: &Expr, out: &mut Scratch) -> Result<(), AllocError>
+    ensures { OnOk result (out.new.row ≡ rows.with_names out.old.row (symbols (form_of expression.now))) }
+{
+    out.names.clear();
+    names_into(expression, &mut out.names)?;
+    out.row.meet_all(&out.names)
+}
+
+// The name in a bound of a range.
+fn bound_into(bound: &Operand, out: &mut Scratch) -> Result<(), AllocError>
+    ensures { OnOk result (out.new.row ≡ rows.with_names out.old.row (leaf_symbols (leaf_of bound.now))) }
+{
+    match bound {
+        Operand::Sym(id) => out.row.meet(*id),
+        _ => Ok(()),
+    }
+}
+
 // The names in the parts of a condition.
-fn parts_into(parts: &[Rc<Expr>], out: &mut Vec<SymId>) -> Result<(), AllocError>
-    ensures { OnOk result (out.new.items ≡ out.old.items ++ flat_map symbols (map (λ p. form_of p.value) parts.now)) }
+#[tactic(auto, using(crate::proofs::NameRows::name_steps))]
+fn parts_into(parts: &[Rc<Expr>], out: &mut Scratch) -> Result<(), AllocError>
+    ensures { OnOk result (out.new.row ≡ rows.with_names out.old.row (flat_map symbols (map (λ p. form_of p.value) parts.now))) }
 {
     for part in parts {
-        names_into(part, out)?;
+        expression_into(part, out)?;
     }
     Ok(())
 }
 
 // The names in the prompt's condition of a choice.
-fn prompt_into(choice: &Choice, out: &mut Vec<SymId>) -> Result<(), AllocError>
-    ensures { OnOk result (out.new.items ≡ out.old.items ++ spec.parts_names (choice_facts_of choice.now).prompt) }
+fn prompt_into(choice: &Choice, out: &mut Scratch) -> Result<(), AllocError>
+    ensures { OnOk result (out.new.row ≡ rows.with_names out.old.row (spec.parts_names (choice_facts_of choice.now).prompt)) }
 {
     match &choice.prompt {
         Some(prompt) => parts_into(&prompt.parts, out),
@@ -39,8 +67,8 @@ fn prompt_into(choice: &Choice, out: &mut Vec<SymId>) -> Result<(), AllocError>
 }
 
 // The names in the mode that a condition asks for.
-fn mode_into(tree: &Tree, when: &Cond, out: &mut Vec<SymId>) -> Result<(), AllocError>
-    ensures { OnOk result (out.new.items ≡ out.old.items ++ spec.mode_names tree.now (condition_of when.now).mode) }
+fn mode_into(tree: &Tree, when: &Cond, out: &mut Scratch) -> Result<(), AllocError>
+    ensures { OnOk result (out.new.row ≡ rows.with_names out.old.row (spec.mode_names tree.now (condition_of when.now).mode)) }
 {
     let Some(id) = when.mode else {
         return Ok(());
@@ -52,16 +80,18 @@ fn mode_into(tree: &Tree, when: &Cond, out: &mut Vec<SymId>) -> Result<(), Alloc
 }
 
 // The names in a condition: those of its parts, and of the mode.
-fn condition_into(tree: &Tree, when: &Cond, out: &mut Vec<SymId>) -> Result<(), AllocError>
-    ensures { OnOk result (out.new.items ≡ out.old.items ++ spec.condition_names tree.now (condition_of when.now)) }
+#[tactic(auto, using(crate::proofs::NameRows::name_steps))]
+fn condition_into(tree: &Tree, when: &Cond, out: &mut Scratch) -> Result<(), AllocError>
+    ensures { OnOk result (out.new.row ≡ rows.with_names out.old.row (spec.condition_names tree.now (condition_of when.now))) }
 {
     parts_into(&when.parts, out)?;
     mode_into(tree, when, out)
 }
 
 // The names in conditions.
-fn conditions_into(tree: &Tree, all: &[Cond], out: &mut Vec<SymId>) -> Result<(), AllocError>
-    ensures { OnOk result (out.new.items ≡ out.old.items ++ flat_map (spec.condition_names tree.now) (map condition_of all.now)) }
+#[tactic(auto, using(crate::proofs::NameRows::name_steps))]
+fn conditions_into(tree: &Tree, all: &[Cond], out: &mut Scratch) -> Result<(), AllocError>
+    ensures { OnOk result (out.new.row ≡ rows.with_names out.old.row (flat_map (spec.condition_names tree.now) (map condition_of all.now))) }
 {
     for when in all {
         condition_into(tree, when, out)?;
@@ -70,54 +100,58 @@ fn conditions_into(tree: &Tree, all: &[Cond], out: &mut Vec<SymId>) -> Result<()
 }
 
 // The names in the values and conditions of defaults.
+#[tactic(auto, using(crate::proofs::NameRows::name_steps))]
 fn defaults_into(
     tree: &Tree,
     defaults: &[(Expr, Cond)],
-    out: &mut Vec<SymId>,
+    out: &mut Scratch,
 ) -> Result<(), AllocError>
-    ensures { OnOk result (out.new.items ≡ out.old.items ++ spec.guarded_names tree.now symbols (map default_view defaults.now)) }
+    ensures { OnOk result (out.new.row ≡ rows.with_names out.old.row (spec.guarded_names tree.now symbols (map default_view defaults.now))) }
 {
     for default in defaults {
-        names_into(&default.0, out)?;
+        expression_into(&default.0, out)?;
         condition_into(tree, &default.1, out)?;
     }
     Ok(())
 }
 
 // The names in the bounds and conditions of ranges.
+#[tactic(auto, using(crate::proofs::NameRows::name_steps))]
 fn ranges_into(
     tree: &Tree,
     ranges: &[(Operand, Operand, Cond)],
-    out: &mut Vec<SymId>,
+    out: &mut Scratch,
 ) -> Result<(), AllocError>
-    ensures { OnOk result (out.new.items ≡ out.old.items ++ spec.guarded_names tree.now spec.bounds_names (map range_view ranges.now)) }
+    ensures { OnOk result (out.new.row ≡ rows.with_names out.old.row (spec.guarded_names tree.now spec.bounds_names (map range_view ranges.now))) }
 {
     for range in ranges {
-        name_into(&range.0, out)?;
-        name_into(&range.1, out)?;
+        bound_into(&range.0, out)?;
+        bound_into(&range.1, out)?;
         condition_into(tree, &range.2, out)?;
     }
     Ok(())
 }
 
 // The symbols that select or imply, and the names in the conditions of those lines.
-fn lines_into(tree: &Tree, lines: &[(SymId, Cond)], out: &mut Vec<SymId>) -> Result<(), AllocError>
-    ensures { OnOk result (out.new.items ≡ out.old.items ++ spec.guarded_names tree.now spec.one_name (map named_view lines.now)) }
+#[tactic(auto, using(crate::proofs::NameRows::name_steps))]
+fn lines_into(tree: &Tree, lines: &[(SymId, Cond)], out: &mut Scratch) -> Result<(), AllocError>
+    ensures { OnOk result (out.new.row ≡ rows.with_names out.old.row (spec.guarded_names tree.now spec.one_name (map named_view lines.now))) }
 {
     for line in lines {
-        out.push(line.0)?;
+        out.row.meet(line.0)?;
         condition_into(tree, &line.1, out)?;
     }
     Ok(())
 }
 
 // The names in the conditions of a choice's defaults.
+#[tactic(auto, using(crate::proofs::NameRows::name_steps))]
 fn choice_defaults_into(
     tree: &Tree,
     defaults: &[(SymId, Cond)],
-    out: &mut Vec<SymId>,
+    out: &mut Scratch,
 ) -> Result<(), AllocError>
-    ensures { OnOk result (out.new.items ≡ out.old.items ++ spec.guarded_names tree.now spec.no_name (map named_view defaults.now)) }
+    ensures { OnOk result (out.new.row ≡ rows.with_names out.old.row (spec.guarded_names tree.now spec.no_name (map named_view defaults.now))) }
 {
     for default in defaults {
         condition_into(tree, &default.1, out)?;
@@ -126,8 +160,9 @@ fn choice_defaults_into(
 }
 
 // The names in the prompts of the members of a choice.
-fn members_into(tree: &Tree, members: &[SymId], out: &mut Vec<SymId>) -> Result<(), AllocError>
-    ensures { OnOk result (out.new.items ≡ out.old.items ++ flat_map (λ m. spec.prompts_names tree.now (lookup.facts tree.now m)) members.now) }
+#[tactic(auto, using(crate::proofs::NameRows::name_steps))]
+fn members_into(tree: &Tree, members: &[SymId], out: &mut Scratch) -> Result<(), AllocError>
+    ensures { OnOk result (out.new.row ≡ rows.with_names out.old.row (flat_map (λ m. spec.prompts_names tree.now (lookup.facts tree.now m)) members.now)) }
 {
     for member in members {
         if let Some(symbol) = facts(tree, *member) {
@@ -138,8 +173,9 @@ fn members_into(tree: &Tree, members: &[SymId], out: &mut Vec<SymId>) -> Result<
 }
 
 // What the selection of a choice names.
-fn choice_into(tree: &Tree, choice: &Choice, out: &mut Vec<SymId>) -> Result<(), AllocError>
-    ensures { OnOk result (out.new.items ≡ out.old.items ++ spec.names_of_choice tree.now (Some (choice_facts_of choice.now))) }
+#[tactic(auto, using(crate::proofs::NameRows::name_steps))]
+fn choice_into(tree: &Tree, choice: &Choice, out: &mut Scratch) -> Result<(), AllocError>
+    ensures { OnOk result (out.new.row ≡ rows.with_names out.old.row (spec.names_of_choice tree.now (Some (choice_facts_of choice.now)))) }
 {
     members_into(tree, &choice.members, out)?;
     prompt_into(choice, out)?;
@@ -147,32 +183,31 @@ fn choice_into(tree: &Tree, choice: &Choice, out: &mut Vec<SymId>) -> Result<(),
 }
 
 // What every equation names: the conditions of the prompts, the values and conditions of the defaults.
-fn common_into(tree: &Tree, symbol: &Symbol, out: &mut Vec<SymId>) -> Result<(), AllocError>
-    ensures { OnOk result (out.new.items ≡ out.old.items ++ spec.names_of_all tree.now (facts_of symbol.now)) }
+#[tactic(auto, using(crate::proofs::NameRows::name_steps))]
+fn common_into(tree: &Tree, symbol: &Symbol, out: &mut Scratch) -> Result<(), AllocError>
+    ensures { OnOk result (out.new.row ≡ rows.with_names out.old.row (spec.names_of_all tree.now (facts_of symbol.now))) }
 {
     conditions_into(tree, &symbol.prompts, out)?;
     defaults_into(tree, &symbol.defaults, out)
 }
 
 // The modules symbol, which a tristate names.
-fn modules_into(tree: &Tree, kind: Kind, out: &mut Vec<SymId>) -> Result<(), AllocError>
-    ensures { OnOk result (out.new.items ≡ out.old.items ++ spec.kind_names tree.now kind) }
+fn modules_into(tree: &Tree, kind: Kind, out: &mut Scratch) -> Result<(), AllocError>
+    ensures { OnOk result (out.new.row ≡ rows.with_names out.old.row (spec.kind_names tree.now kind)) }
 {
     if kind != Kind::Tristate {
         return Ok(());
     }
     match tree.modules_symbol() {
-        Some(id) => {
-            out.push(id)?;
-            Ok(())
-        }
+        Some(id) => out.row.meet(id),
         None => Ok(()),
     }
 }
 
 // The symbols that select and imply a symbol, with the conditions of those lines, and the modules symbol of a tristate.
-fn pulls_into(tree: &Tree, symbol: &Symbol, out: &mut Vec<SymId>) -> Result<(), AllocError>
-    ensures { OnOk result (out.new.items ≡ out.old.items ++ (spec.guarded_names tree.now spec.one_name (facts_of symbol.now).selectors ++ (spec.guarded_names tree.now spec.one_name (facts_of symbol.now).impliers ++ spec.kind_names tree.now (facts_of symbol.now).kind))) }
+#[tactic(auto, using(crate::proofs::NameRows::name_steps))]
+fn pulls_into(tree: &Tree, symbol: &Symbol, out: &mut Scratch) -> Result<(), AllocError>
+    ensures { OnOk result (out.new.row ≡ rows.with_names out.old.row (spec.guarded_names tree.now spec.one_name (facts_of symbol.now).selectors ++ (spec.guarded_names tree.now spec.one_name (facts_of symbol.now).impliers ++ spec.kind_names tree.now (facts_of symbol.now).kind))) }
 {
     lines_into(tree, &symbol.selectors, out)?;
     lines_into(tree, &symbol.impliers, out)?;
@@ -180,8 +215,9 @@ fn pulls_into(tree: &Tree, symbol: &Symbol, out: &mut Vec<SymId>) -> Result<(), 
 }
 
 // What the equation of a bool or tristate symbol outside a choice names.
-fn truth_into(tree: &Tree, symbol: &Symbol, out: &mut Vec<SymId>) -> Result<(), AllocError>
-    ensures { OnOk result (out.new.items ≡ out.old.items ++ spec.names_of_truth tree.now (facts_of symbol.now)) }
+#[tactic(auto, using(crate::proofs::NameRows::name_steps))]
+fn truth_into(tree: &Tree, symbol: &Symbol, out: &mut Scratch) -> Result<(), AllocError>
+    ensures { OnOk result (out.new.row ≡ rows.with_names out.old.row (spec.names_of_truth tree.now (facts_of symbol.now))) }
 {
     common_into(tree, symbol, out)?;
     conditions_into(tree, &symbol.deps, out)?;
@@ -189,16 +225,17 @@ fn truth_into(tree: &Tree, symbol: &Symbol, out: &mut Vec<SymId>) -> Result<(), 
 }
 
 // What the equation of an int or hex symbol names.
-fn number_into(tree: &Tree, symbol: &Symbol, out: &mut Vec<SymId>) -> Result<(), AllocError>
-    ensures { OnOk result (out.new.items ≡ out.old.items ++ spec.names_of_number tree.now (facts_of symbol.now)) }
+#[tactic(auto, using(crate::proofs::NameRows::name_steps))]
+fn number_into(tree: &Tree, symbol: &Symbol, out: &mut Scratch) -> Result<(), AllocError>
+    ensures { OnOk result (out.new.row ≡ rows.with_names out.old.row (spec.names_of_number tree.now (facts_of symbol.now))) }
 {
     common_into(tree, symbol, out)?;
     ranges_into(tree, &symbol.ranges, out)
 }
 
 // What the equation of a symbol names.
-fn symbol_into(tree: &Tree, symbol: &Symbol, out: &mut Vec<SymId>) -> Result<(), AllocError>
-    ensures { OnOk result (out.new.items ≡ out.old.items ++ spec.names_by_choice tree.now (facts_of symbol.now) (facts_of symbol.now).choice) }
+fn symbol_into(tree: &Tree, symbol: &Symbol, out: &mut Scratch) -> Result<(), AllocError>
+    ensures { OnOk result (out.new.row ≡ rows.with_names out.old.row (spec.names_by_choice tree.now (facts_of symbol.now) (facts_of symbol.now).choice)) }
 {
     if let Some(id) = symbol.choice {
         return match choice(tree, id) {
@@ -216,50 +253,19 @@ fn symbol_into(tree: &Tree, symbol: &Symbol, out: &mut Vec<SymId>) -> Result<(),
     }
 }
 
-// The numbers of the defined symbols among names.
-fn defined_numbers(alloc: Global, tree: &Tree, names: &[SymId]) -> Result<Vec<u32>, AllocError>
-    ensures { IfOk result (λ v. v.items ≡ spec.defined_numbers tree.now names.now) }
+// What the symbol of a number needs, as the row of the scratch: the defined symbols that its equation names, each once, in the
+// order in which it names them first (our own; the kernel's kconfig-language document forbids recursive dependencies and does
+// not say which count).
+#[tactic(auto, using(crate::proofs::NameRows::row_of_names))]
+fn needs_of(tree: &Tree, id: SymId, out: &mut Scratch) -> Result<(), AllocError>
+    requires { out.old.row.0 ≡ length tree.now.symbols }
+    ensures { OnOk result (out.new.row ≡ (length tree.now.symbols, spec.needs_of tree.now id.0)) }
 {
-    let count = tree.symbol_count();
-    let mut numbers = Vec::with_capacity(alloc, names.len())?;
-    for name in names {
-        if name.0 < count {
-            numbers.push(name.0 as u32)?;
-        }
+    out.row.clear();
+    match facts(tree, id) {
+        Some(symbol) => symbol_into(tree, symbol, out),
+        None => Ok(()),
     }
-    Ok(numbers)
-}
-
-// Room for so many names is kept for the next symbol; where there was more, it is given back.
-const ROOM: usize = 4096;
-
-// Makes a list of names empty.
-fn empty(alloc: Global, names: &mut Vec<SymId>)
-    ensures { names.new.items ≡ [] }
-{
-    if names.len() > ROOM {
-        *names = Vec::new(alloc);
-    }
-    names.clear();
-}
-
-// What the symbol of a number needs: the numbers of the defined symbols that its equation names, each as often as it
-// stands there (our own; the kernel's kconfig-language document forbids recursive dependencies and does not say which
-// count). `names` is room for those names, whatever it holds, so that it is made once for all symbols.
-fn needs_of(
-    alloc: Global,
-    tree: &Tree,
-    id: SymId,
-    names: &mut Vec<SymId>,
-) -> Result<Vec<u32>, AllocError>
-    ensures { IfOk result (λ v. v.items ≡ spec.needs_of tree.now id.0) }
-{
-    empty(alloc, names);
-    if let Some(symbol) = facts(tree, id) {
-        symbol_into(tree, symbol, names)?;
-    }
-    let numbers = defined_numbers(alloc, tree, names)?;
-    Ok(numbers)
 }
 
 // The first member of a choice among the symbols so far.
@@ -288,43 +294,52 @@ fn note_first(first: &mut Vec<Option<u32>>, choice: Option<ChoiceId>, symbol: u3
 
 // The needs of the next symbol: a choice's members share the row of the first.
 fn add_needs(
-    alloc: Global,
     tree: &Tree,
     symbol: u32,
     facts: &Symbol,
     needs: &mut Needs,
     first: &mut Vec<Option<u32>>,
-    names: &mut Vec<SymId>,
+    scratch: &mut Scratch,
 ) -> Result<(), AllocError>
     requires facts { slice_get tree.now.symbols symbol ≡ Some (facts_of facts.now) }
     requires needs { needs.old ≡ rows.needs_before tree.now symbol }
     requires first { AreFirst tree.now symbol first.old.items }
+    requires room { scratch.old.row.0 ≡ length tree.now.symbols }
     ensures needs { OnOk result (needs.new ≡ rows.needs_before tree.now (symbol + 1)) }
     ensures first { OnOk result (AreFirst tree.now (symbol + 1) first.new.items) }
+    ensures room { OnOk result (scratch.new.row.0 ≡ length tree.now.symbols) }
 {
     if let Some(member) = first_of(first, facts.choice) {
         needs.add_same(member)?;
         return Ok(());
     }
-    let row = needs_of(alloc, tree, SymId(symbol as usize), names)?;
-    needs.add(row)?;
+    needs_of(tree, SymId(symbol as usize), scratch)?;
+    needs.add(scratch.row.numbers())?;
     note_first(first, facts.choice, symbol);
     Ok(())
 }
 
-/// What each symbol of a tree needs, by number. The members of a choice share one row, so that nothing grows with the
-/// square of them (our own). Fails only when it is out of memory.
+/// What each symbol of a tree needs, by number: each need once. The members of a choice share one row, so that nothing grows
+/// with the square of them (our own). Fails only when it is out of memory.
 pub fn tree_needs(alloc: Global, tree: &Tree) -> Result<Needs, AllocError>
     ensures { IfOk result (λ n. n ≡ spec.needs tree.now) }
 {
     let count = tree.symbol_count();
     let mut needs = Needs::with_room(alloc, count)?;
     let mut first = vec![in alloc; None; tree.choices().len()]?;
-    let mut names = Vec::new(alloc);
+    let mut scratch = Scratch {
+        names: Vec::new(alloc),
+        row: Row::new(alloc, count)?,
+    };
     for i in 0..count {
         match tree.facts(tree.symbol(i)) {
             Some(symbol) => add_needs(
-                alloc, tree, i as u32, symbol, &mut needs, &mut first, &mut names,
+                tree,
+                i as u32,
+                symbol,
+                &mut needs,
+                &mut first,
+                &mut scratch,
             )?,
             None => unreachable!(),
         }

@@ -1,4 +1,4 @@
-//! The equation of an int or hex symbol.
+//! Ranges of numbers, and the equation of an int or hex symbol.
 
 ghost use Rattle.std.specs.Prelude.{◌≡◌, ◌<◌, ◌^◌, map, unsigned_abs, Option, Some, None, IfOk, IfSome, unwrap_or};
 ghost use Rattle.kc_tree.specs.Views.{facts_of, range_view};
@@ -9,7 +9,6 @@ ghost use Rattle.kc_expr.specs.Value.{known_by};
 ghost use Rattle.kc_values.specs.User.{place, text_at};
 
 use crate::conditions::{condition, is_n};
-use crate::intervals::Interval;
 use crate::texts::{default_text, typed_in};
 use kc_expr::expression::{Kind, Operand};
 use kc_expr::values::{Values, text};
@@ -18,6 +17,16 @@ use kc_tree::parts::{Cond, Symbol};
 use kc_tree::tree::Tree;
 use kc_user::value::UserValue;
 use std::alloc::{AllocError, Global};
+
+/// The bounds of a range, both of them inside (the kernel's kconfig-language document, "Menu attributes": numerical
+/// ranges). Nothing asks that the low one is below the high one.
+#[derive(Clone, Copy, Debug)]
+pub struct Interval {
+    /// The least number inside.
+    pub low: i128,
+    /// The greatest number inside.
+    pub high: i128,
+}
 
 /// The number that a text writes, read by the type: decimal for int, with or without `0x` for hex; none for another type or
 /// text (our own limits, 64 bits each).

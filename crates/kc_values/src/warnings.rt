@@ -12,9 +12,8 @@ ghost use Rattle.kc_values.specs.Warnings as spec;
 ghost use Rattle.kc_values.specs.Written.{above};
 
 use crate::conditions::{condition, is_n};
-use crate::intervals::Interval;
 use crate::lookups::name;
-use crate::numbers::{active_range, clamped, if_inside, is_inside, number_text};
+use crate::numbers::{Interval, active_range, clamped, if_inside, is_inside, number_text};
 use crate::texts::{single_text, typed};
 use crate::truths::{direct, reverse};
 use kc_expr::expression::{Expr, Kind, SymId, Tri};
@@ -203,7 +202,7 @@ fn open_text<'a, V: Values>(
     defaults: &'a [(Expr, Cond)],
     values: &'a V,
 ) -> Option<&'a [u8]>
-    ensures { text_at result ≡ spec.open_text tree.now (known_by (V.kind_of values.now) (V.tri_of values.now) (V.text_of values.now)) (value.first_open tree.now (known_by (V.kind_of values.now) (V.tri_of values.now) (V.text_of values.now)) (map default_view defaults.now)) }
+    ensures { text_at result ≡ spec.open_text (known_by (V.kind_of values.now) (V.tri_of values.now) (V.text_of values.now)) (value.first_open tree.now (known_by (V.kind_of values.now) (V.tri_of values.now) (V.text_of values.now)) (map default_view defaults.now)) }
 {
     for default in defaults {
         if !is_n(condition(tree, &default.1, values)) {

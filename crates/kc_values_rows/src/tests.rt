@@ -9,8 +9,7 @@ use kc_expr::values::Values;
 use kc_tree::parts::{Choice, Cond};
 use kc_values::conditions::{all_hold, mode_of};
 use kc_values::differs::member_differs;
-use kc_values::intervals::Interval;
-use kc_values::numbers::{clamped, if_inside, is_inside, number_text};
+use kc_values::numbers::{Interval, clamped, if_inside, is_inside, number_text};
 use kc_values::texts::single_text;
 use std::alloc::{AllocError, Global};
 use std::rc::Rc;
@@ -109,6 +108,8 @@ fn a_default_is_one_operand(rt: HostRuntime) {
     let text = Vec::from_slice(rt.alloc(), b"a b").expect(&rt, "memory");
     let constant = Expr::One(Operand::Const(text));
     assert_eq!(rt; single_text(&constant, &Alike(Tri::N)), b"a b".as_slice());
+    let letter = Expr::One(Operand::Letter(Tri::Y));
+    assert_eq!(rt; single_text(&letter, &Alike(Tri::N)), b"y".as_slice());
     let symbol = Expr::One(Operand::Sym(SymId(0)));
     assert_eq!(rt; single_text(&symbol, &Alike(Tri::M)), b"m".as_slice());
 }

@@ -50,3 +50,31 @@ exists = refl
 absent : is_given (codes "must-exist") (matches_of kconf_app (codes "Kconfig" ∷ [])) ≡ false
 unfolding clap_on_literals kconf_app with_options
 absent = refl
+
+strict : is_given (codes "strict") (matches_of kconf_app (codes "--strict" ∷ codes "Kconfig" ∷ [])) ≡ true
+unfolding clap_on_literals kconf_app with_options
+strict = refl
+
+lenient : is_given (codes "strict") (matches_of kconf_app (codes "--must-exist" ∷ codes "Kconfig" ∷ [])) ≡ false
+unfolding clap_on_literals kconf_app with_options
+lenient = refl
+
+warned : is_given (codes "warn-lost") (matches_of kconf_app (codes "--warn-lost" ∷ codes "Kconfig" ∷ [])) ≡ true
+unfolding clap_on_literals kconf_app with_options
+warned = refl
+
+unwarned : is_given (codes "warn-lost") (matches_of kconf_app (codes "--strict" ∷ codes "Kconfig" ∷ [])) ≡ false
+unfolding clap_on_literals kconf_app with_options
+unwarned = refl
+
+replaced : is_given (codes "replace") (matches_of kconf_app (codes "--replace" ∷ codes "Kconfig" ∷ [])) ≡ true
+unfolding clap_on_literals kconf_app with_options
+replaced = refl
+
+written : is_given (codes "replace") (matches_of kconf_app (codes "--strict" ∷ codes "Kconfig" ∷ [])) ≡ false
+unfolding clap_on_literals kconf_app with_options
+written = refl
+
+rule_for_make : first_of (codes "depfile") (matches_of kconf_app (codes "--depfile=d" ∷ codes "Kconfig" ∷ [])) ≡ Some (codes "d")
+unfolding clap_on_literals kconf_app with_options
+rule_for_make = refl

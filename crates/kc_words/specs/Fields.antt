@@ -19,6 +19,10 @@ pub record Holds (rows : List Row) (options : Options) : Type 0 where
   pub kconfig : string_bytes options.kconfig ≡ unwrap_or (first_of (codes "KCONFIG") rows) []
   pub header : option_map string_bytes options.header ≡ first_of (codes "header") rows
   pub minimal : option_map string_bytes options.minimal ≡ first_of (codes "savedefconfig") rows
+  pub depfile : option_map string_bytes options.depfile ≡ first_of (codes "depfile") rows
   pub fragments : map string_bytes options.fragments.items ≡ unwrap_or (all_of (codes "FRAGMENT") rows) []
   pub prefix : options.prefix ≡ prefix_word rows
   pub must_exist : options.must_exist ≡ is_given (codes "must-exist") rows
+  pub strict : options.strict ≡ is_given (codes "strict") rows
+  pub warn_lost : options.warn_lost ≡ is_given (codes "warn-lost") rows
+  pub replace : options.replace ≡ is_given (codes "replace") rows

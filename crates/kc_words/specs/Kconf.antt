@@ -25,17 +25,21 @@ fragment_rule = record (new_rule (codes "FRAGMENT")) { action = Some Append }
 abbrev pub bare_app : App
 bare_app = on_top (λ s. record s { no_binary_name = true; has_version = true }) (new_app (codes "kconf"))
 
--- [--root DIR] [--config FILE] [--out FILE] [--header FILE] [--savedefconfig FILE] [--prefix TEXT] [--must-exist]
+-- [--root DIR] [--config FILE] [--out FILE] [--header FILE] [--savedefconfig FILE] [--depfile FILE] [--prefix TEXT] [--must-exist] [--strict] [--warn-lost] [--replace]
 unfoldable pub with_options : App → App
 with_options app =
-    with_rule (with_rule (with_rule (with_rule (with_rule (with_rule (with_rule app
+    with_rule (with_rule (with_rule (with_rule (with_rule (with_rule (with_rule (with_rule (with_rule (with_rule (with_rule app
     (option_rule (codes "root")))
     (option_rule (codes "config")))
     (option_rule (codes "out")))
     (option_rule (codes "header")))
     (option_rule (codes "savedefconfig")))
+    (option_rule (codes "depfile")))
     (option_rule (codes "prefix")))
-    (flag_rule (codes "must-exist"))
+    (flag_rule (codes "must-exist")))
+    (flag_rule (codes "strict")))
+    (flag_rule (codes "warn-lost")))
+    (flag_rule (codes "replace"))
 
 -- the options, and then KCONFIG [FRAGMENT ..]
 unfoldable pub kconf_app : App

@@ -17,7 +17,7 @@ Example: bring .config up to date with a fragment, and write the lines that are 
 
 Exit status:
   0  done: every file is whole
-  1  the tree was refused, or a .config line is too long: no file was begun
+  1  the tree was refused, a .config line is too long, or --strict refused a warning: no file was begun
   2  the command line is wrong
   3  a device failed or there was no memory: what was begun holds a beginning
 
@@ -55,12 +55,23 @@ const MINIMAL: Said = Said {
     help: "The minimal .config to write",
 };
 
+const DEPFILE: Said = Said {
+    value: "FILE",
+    help: "The rule for make to write: what the file of --out was made of",
+};
+
 const PREFIX: Said = Said {
     value: "TEXT",
     help: "What stands before each symbol's name [default: CONFIG_]",
 };
 
 const MUST_EXIST: &str = "Refuse to run where the file of --config does not exist";
+
+const STRICT: &str = "Refuse to write where any warning was told";
+
+const WARN_LOST: &str = "Warn of each value read that is not the symbol's value";
+
+const REPLACE: &str = "Replace each file in one step, at the end and only where its text changes";
 
 // Adds `--NAME VALUE`.
 fn with_option<'a>(
@@ -139,8 +150,12 @@ fn with_options<'a>(alloc: Global, command: Command<'a>) -> Result<Command<'a>, 
     let command = with_option(alloc, command, "out", OUT)?;
     let command = with_option(alloc, command, "header", HEADER)?;
     let command = with_option(alloc, command, "savedefconfig", MINIMAL)?;
+    let command = with_option(alloc, command, "depfile", DEPFILE)?;
     let command = with_option(alloc, command, "prefix", PREFIX)?;
-    with_flag(alloc, command, "must-exist", MUST_EXIST)
+    let command = with_flag(alloc, command, "must-exist", MUST_EXIST)?;
+    let command = with_flag(alloc, command, "strict", STRICT)?;
+    let command = with_flag(alloc, command, "warn-lost", WARN_LOST)?;
+    with_flag(alloc, command, "replace", REPLACE)
 }
 
 // The command line of the program.

@@ -29,12 +29,20 @@ pub struct Options {
     pub header: Option<String>,
     /// The minimal `.config` to write.
     pub minimal: Option<String>,
+    /// The rule for make to write.
+    pub depfile: Option<String>,
     /// The files to read after the `.config`, in this order.
     pub fragments: Vec<String>,
     /// What stands before each symbol's name.
     pub prefix: Prefix,
     /// Whether the `.config` to read has to exist, as a fragment has to.
     pub must_exist: bool,
+    /// Whether a warning is refused.
+    pub strict: bool,
+    /// Whether a value that was given and is not the symbol's is warned of.
+    pub warn_lost: bool,
+    /// Whether each file is replaced in one step at the end, and only where its text changes.
+    pub replace: bool,
 }
 
 // The value of the argument, or what stands for an absent one.
@@ -115,10 +123,14 @@ fn read_options(alloc: Global, matches: &ArgMatches<'_>) -> Result<Options, Usag
     let kconfig = text_or(alloc, matches, "KCONFIG", "")?;
     let header = text_of(alloc, matches, "header")?;
     let minimal = text_of(alloc, matches, "savedefconfig")?;
+    let depfile = text_of(alloc, matches, "depfile")?;
     let fragments = texts_of(alloc, matches, "FRAGMENT")?;
     let prefix = text_or(alloc, matches, "prefix", "CONFIG_")?;
     let prefix = prefix_of(alloc, prefix.as_str())?;
     let must_exist = flag_of(matches, "must-exist");
+    let strict = flag_of(matches, "strict");
+    let warn_lost = flag_of(matches, "warn-lost");
+    let replace = flag_of(matches, "replace");
     Ok(Options {
         root,
         config,
@@ -126,9 +138,13 @@ fn read_options(alloc: Global, matches: &ArgMatches<'_>) -> Result<Options, Usag
         kconfig,
         header,
         minimal,
+        depfile,
         fragments,
         prefix,
         must_exist,
+        strict,
+        warn_lost,
+        replace,
     })
 }
 
@@ -148,12 +164,12 @@ fn usage_of(alloc: Global, error: &Error) -> Usage
 }
 
 /// Reads the words after the program's name, as the command line
-/// `[--root DIR] [--config FILE] [--out FILE] [--header FILE] [--savedefconfig FILE] [--prefix TEXT] [--must-exist] KCONFIG [FRAGMENT ..]`,
+/// `[--root DIR] [--config FILE] [--out FILE] [--header FILE] [--savedefconfig FILE] [--depfile FILE] [--prefix TEXT] [--must-exist] [--strict] [--warn-lost] [--replace] KCONFIG [FRAGMENT ..]`,
 /// `--help`, `-h`, `--version` or `-V`
 /// (our own; the reading of the words is that of Rust's `clap`, whose documentation has the rules).
 ///
 /// Each field is what the words hold, or for an absent option: root `.`, config `.config`, out the file of
-/// `--config`, prefix `CONFIG_`, header and minimal none, `--must-exist` false.
+/// `--config`, prefix `CONFIG_`, header, minimal and depfile none, `--must-exist`, `--strict`, `--warn-lost` and `--replace` false.
 /// The errors are those of `Usage`. They leave nothing behind.
 pub fn options_of(alloc: Global, words: &[String]) -> Result<Options, Usage>
     // Each field is what the words hold, or what an absent option means.

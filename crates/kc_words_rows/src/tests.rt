@@ -30,8 +30,21 @@ fn shown(rt: &HostRuntime, options: &Options) -> Result<String, Fail> {
         text.push('|')?;
         text.push_str(fragment.as_str())?;
     }
+    if let Some(depfile) = &options.depfile {
+        text.push_str(" depfile=")?;
+        text.push_str(depfile.as_str())?;
+    }
     if options.must_exist {
         text.push_str(" must-exist")?;
+    }
+    if options.strict {
+        text.push_str(" strict")?;
+    }
+    if options.warn_lost {
+        text.push_str(" warn-lost")?;
+    }
+    if options.replace {
+        text.push_str(" replace")?;
     }
     Ok(text)
 }
@@ -60,6 +73,10 @@ fn each_option_has_its_value_or_what_stands_for_none(rt: HostRuntime) -> Result<
             "--header|h|--savedefconfig|m|K",
             ".|.config|.config|K|h|m|CONFIG_",
         ),
+        (
+            "--depfile|d|--header=h|K",
+            ".|.config|.config|K|h|-|CONFIG_ depfile=d",
+        ),
         ("--prefix|BR2_|K", ".|.config|.config|K|-|-|BR2_"),
         ("--prefix=|K", ".|.config|.config|K|-|-|"),
         (
@@ -80,6 +97,27 @@ fn each_option_has_its_value_or_what_stands_for_none(rt: HostRuntime) -> Result<
             "--|--must-exist",
             ".|.config|.config|--must-exist|-|-|CONFIG_",
         ),
+        ("--strict|K", ".|.config|.config|K|-|-|CONFIG_ strict"),
+        (
+            "K|a|--strict|--must-exist",
+            ".|.config|.config|K|-|-|CONFIG_|a must-exist strict",
+        ),
+        ("--|--strict", ".|.config|.config|--strict|-|-|CONFIG_"),
+        ("--warn-lost|K", ".|.config|.config|K|-|-|CONFIG_ warn-lost"),
+        (
+            "K|a|--warn-lost|--strict",
+            ".|.config|.config|K|-|-|CONFIG_|a strict warn-lost",
+        ),
+        (
+            "--|--warn-lost",
+            ".|.config|.config|--warn-lost|-|-|CONFIG_",
+        ),
+        ("--replace|K", ".|.config|.config|K|-|-|CONFIG_ replace"),
+        (
+            "K|a|--replace|--strict",
+            ".|.config|.config|K|-|-|CONFIG_|a strict replace",
+        ),
+        ("--|--replace", ".|.config|.config|--replace|-|-|CONFIG_"),
     ];
     for (row, want) in rows {
         assert_eq!(rt; given(&rt, row)?.as_str(), want);
@@ -111,6 +149,14 @@ fn other_words_are_bad_or_ask_for_help_or_the_version(rt: HostRuntime) -> Result
         ("--version=1", "bad"),
         ("--must-exist=1|K", "bad"),
         ("--must-exist|--must-exist|K", "bad"),
+        ("--strict=1|K", "bad"),
+        ("--strict|--strict|K", "bad"),
+        ("--warn-lost=1|K", "bad"),
+        ("--warn-lost|--warn-lost|K", "bad"),
+        ("--depfile|K", "bad"),
+        ("--depfile=a|--depfile=b|K", "bad"),
+        ("--replace=1|K", "bad"),
+        ("--replace|--replace|K", "bad"),
     ];
     for (row, want) in rows {
         assert_eq!(rt; given(&rt, row)?.as_str(), want);

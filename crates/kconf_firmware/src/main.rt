@@ -57,6 +57,11 @@ fn main(rt: HostRuntime) -> io::Result<()> {
     show(&rt, "none.defconfig")?;
     run(
         &rt,
+        "--config none.config --out rule.config --depfile rule.d Kconfig site.config",
+    )?;
+    show(&rt, "rule.d")?;
+    run(
+        &rt,
         "--root rows --config rows/a.config --out ab.config --savedefconfig ab.defconfig Kconfig rows/x.cfg rows/y.cfg",
     )?;
     show(&rt, "ab.config")?;

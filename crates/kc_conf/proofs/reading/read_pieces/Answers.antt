@@ -2,21 +2,18 @@
 use Rattle.std.proofs.Common.{refl, ap, ◌∙◌}
 use Rattle.kc_dot.specs.ReaderState.{ReaderState}
 use Rattle.kc_dot.specs.declared.fault.DotFault.TheVariants.{Sink, Memory}
-use Rattle.kc_conf.specs.Places.{Only-same, Only-only}
-use Rattle.kc_conf.specs.declared.outputs.Which.TheVariants.{Notes}
 use Rattle.kc_conf.proofs.ReadsLemmas.{TakenSoFar-nothing, TakenSoFar-piece, TakesPieces-long, BreaksPieces-piece, BreaksPieces-so_far, begins_at_sink, begins_at_memory}
 use Rattle.kc_conf.proofs.reading.read_pieces.Goals as goal
 
 pub pieces-init : goal.pieces-init
 pieces-init g c =
     let reader = c.args.reader.now in
-    let seen = g.O.Outputs.seen c.args.outputs.now in
     record {
-      taken = TakenSoFar-nothing reader.tree reader.prefix reader.name (g.I.Input.remaining c.args.input.now) reader.spot c.args.user.now seen.notes.text;
+      taken = TakenSoFar-nothing reader.tree reader.prefix reader.name (g.I.Input.remaining c.args.input.now) reader.spot c.args.user.now (g.S.Sink.taken c.args.sink.now);
       stands = refl;
       quiet = refl;
       quiet_input = refl;
-      only = Only-same Notes seen;
+      keeps = g.met.S.Sink.stays c.args.sink.now;
       user = c.requires.user;
     }
 
@@ -39,7 +36,7 @@ pieces-preserved g c =
       stands = ensures.stands ∙ ap (λ (r : ReaderState). let s : ReaderState = record r { spot = c.feed_piece.new.reader.spot } in s) invariant.stands;
       quiet = ensures.quiet ∙ invariant.quiet;
       quiet_input = c.in-Ok.ensures.quiet ∙ invariant.quiet_input;
-      only = Only-only Notes (g.O.Outputs.seen c.args.outputs.now) (g.O.Outputs.seen c.pieces.outputs) (g.O.Outputs.seen c.feed_piece.new.outputs) invariant.only ensures.only;
+      keeps = g.met.S.Sink.goes_on _ _ _ invariant.keeps ensures.keeps;
       user = rw tree at ensures.user;
     }
 

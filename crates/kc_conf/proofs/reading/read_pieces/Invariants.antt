@@ -1,22 +1,21 @@
 -- The input gave these bytes so far, and the reader took them.
 use Rattle.std.proofs.Common.{◌≡◌}
 use Rattle.kc_user.specs.Places.{IsUserOf}
-use Rattle.kc_conf.specs.Places.{Only}
 use Rattle.kc_conf.specs.Reads.{TakenSoFar}
-use Rattle.kc_conf.specs.declared.outputs.Which.TheVariants.{Notes}
 use Rattle.kc_conf.proofs.reading.read_pieces.Given as goal
 
 abbrev pub invariant-pieces : goal.invariant-pieces
 invariant-pieces g l =
-    let seen = g.O.Outputs.seen in
+    let taken = g.S.Sink.taken in
+    let faults = g.S.Sink.failures in
     let remaining = g.I.Input.remaining in
     let failures = g.I.Input.failures in
     record {
-      taken : TakenSoFar l.fn.reader.tree l.fn.reader.prefix l.fn.reader.name (remaining l.fn.input) (remaining l.input) l.fn.reader.spot l.reader.spot l.fn.user l.user (seen l.fn.outputs).notes.text (seen l.outputs).notes.text;
+      taken : TakenSoFar l.fn.reader.tree l.fn.reader.prefix l.fn.reader.name (remaining l.fn.input) (remaining l.input) l.fn.reader.spot l.reader.spot l.fn.user l.user (taken l.fn.sink) (taken l.sink);
       stands : l.reader ≡ record l.fn.reader { spot = l.reader.spot };
-      quiet : (seen l.outputs).notes.failures ≡ (seen l.fn.outputs).notes.failures;
+      quiet : faults l.sink ≡ faults l.fn.sink;
       quiet_input : failures l.input ≡ failures l.fn.input;
-      only : Only Notes (seen l.fn.outputs) (seen l.outputs);
+      keeps : g.S.Sink.goes_to l.fn.sink l.sink;
       user : IsUserOf l.fn.reader.tree l.user;
     }
 

@@ -2,8 +2,6 @@
 use Rattle.std.proofs.Common.{◌<◌, ◌∙◌, arith, length, map, slice_set}
 use Rattle.std.proofs.lemmas.List.{length-set}
 use Rattle.kc_conf.specs.Outcome.{names_of}
-use Rattle.kc_conf.specs.Places.{Only-only}
-use Rattle.kc_conf.specs.declared.outputs.Which.TheVariants.{Notes}
 use Rattle.kc_conf.proofs.ListLemmas.{drop-changed, map-unchanged}
 use Rattle.kc_conf.proofs.StreamLemmas.{names_count, ReadSoFar-next, ReadsStreams-stop, BreaksStreams-stop, ReadsStreams-all, CountsInputs-stream}
 use Rattle.kc_conf.proofs.reading.read_streams.Goals as goal
@@ -50,7 +48,7 @@ loop-at-preserved g c =
       count = length-set c.loop-at.inputs c.loop-at.at c.read_stream.new.input ∙ invariant.count;
       quiet = ensures.quiet ∙ invariant.quiet;
       quiet_inputs = map-unchanged g.I.Input.failures c.loop-at.inputs c.loop-at.at c.read_stream.new.input c.index-inputs-at.result within ensures.quiet_input ∙ invariant.quiet_inputs;
-      only = Only-only Notes (g.O.Outputs.seen c.args.outputs.now) (g.O.Outputs.seen c.loop-at.outputs) (g.O.Outputs.seen c.read_stream.new.outputs) invariant.only ensures.only;
+      keeps = g.met.S.Sink.goes_on _ _ _ invariant.keeps ensures.keeps;
       user = rw c.new-reader.ensures at ensures.user;
     }
 

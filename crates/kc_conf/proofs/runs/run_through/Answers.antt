@@ -8,28 +8,15 @@ use Rattle.kc_values.specs.Needs.{needs}
 use Rattle.kc_conf.specs.Kept.{Holds}
 use Rattle.kc_conf.specs.declared.cause.Cause.{Cause}
 use Rattle.kc_conf.specs.declared.options.Status.{Status}
-use Rattle.kc_conf.specs.Outcome.{accepted_tree, refused_tree, IsAcceptedTree, IsRefusedTree, root_of, refused}
+use Rattle.kc_conf.specs.Outcome.{refused_tree, IsAcceptedTree, IsRefusedTree, root_of, refused}
 use Rattle.kc_conf.specs.ErrorLines.{refusal_line}
 use Rattle.kc_conf.proofs.OutcomeLemmas.{Broken-nothing}
 use Rattle.kc_conf.proofs.ReadsLemmas.{left_of, AreAllToCome-self}
-use Rattle.kc_conf.proofs.RunLemmas.{Broken-outcome_of_tree, Broken-refused_tree, CountsInputs-outputs}
+use Rattle.kc_conf.proofs.RunLemmas.{Broken-refused_tree, CountsInputs-outputs}
 use Rattle.kc_conf.proofs.runs.run_through.Goals as goal
 
-pub returns-in-Ok-clause-ok : goal.returns-in-Ok-clause-ok
-returns-in-Ok-clause-ok g c =
-    let files = bytes_in c.args.files.now in
-    let accepted = subst (λ root. IsAcceptedTree files root c.in-Ok.tree) c.as_bytes.ensures.value c.in-Ok.ensures.ok in
-    IfOk-weaker c.run_tree-ended.result _ _ (λ status. λ (all, are, (outcome, is, finishes)). (all, are, (outcome, accepted_tree c.in-Ok.tree accepted is, finishes))) c.run_tree-ended.ensures.ok
-
-pub returns-in-Ok-clause-err : goal.returns-in-Ok-clause-err
-returns-in-Ok-clause-err g c =
-    let files = bytes_in c.args.files.now in
-    let accepted = subst (λ root. IsAcceptedTree files root c.in-Ok.tree) c.as_bytes.ensures.value c.in-Ok.ensures.ok in
-    IfErr-weaker c.run_tree-ended.result _ _ (λ cause. λ (all, are, broken). (
-      all,
-      are,
-      Broken-outcome_of_tree c.one_answer.ensures files c.args.options.now c.in-Ok.tree all cause (g.O.Outputs.seen c.args.outputs.now) (g.O.Outputs.seen c.run_tree-ended.new.outputs) accepted broken,
-    )) c.run_tree-ended.ensures.err
+pub run_accepted-ended-requires-clause-accepted : goal.run_accepted-ended-requires-clause-accepted
+run_accepted-ended-requires-clause-accepted g c = subst (λ root. IsAcceptedTree (bytes_in c.args.files.now) root c.in-Ok.tree) c.as_bytes.ensures.value c.in-Ok.ensures.ok
 
 pub returns-in-Ok-clause-refused_inputs : goal.returns-in-Ok-clause-refused_inputs
 returns-in-Ok-clause-refused_inputs g c = λ r refused.
@@ -53,11 +40,12 @@ returns-clause-ok g c =
     let given = map g.I.Input.remaining c.args.inputs.now in
     let files = bytes_in c.args.files.now in
     let line = refusal_line (refusal_view c.in-Err.refusal) in
+    let (opened, are) = c.opened_are_one_list.ensures.there files (root_of c.args.options.now) in
     let is_refused = subst (λ root. IsRefusedTree files root (refusal_view c.in-Err.refusal)) c.as_bytes.ensures.value (c.in-Err.ensures.refused c.in_default.not-Memory) in
     IfOk-weaker c.refuse_tree.result _ _ (λ status finishes. (
       map left_of given,
       AreAllToCome-self given,
-      (refused line, refused_tree (refusal_view c.in-Err.refusal) is_refused refl, finishes),
+      (refused line, (refused line, opened, refused_tree (refusal_view c.in-Err.refusal) is_refused refl, are, refl), finishes),
     )) c.refuse_tree.ensures.ok
 
 pub returns-clause-err : goal.returns-clause-err
@@ -76,7 +64,7 @@ returns-clause-counted_inputs g c =
     IfErr-weaker c.refuse_tree.result _ _ (λ cause is. CountsInputs-outputs cause (map g.I.Input.failures c.args.inputs.now) is) c.refuse_tree.ensures.cause
 
 pub returns-in-Ok-clause-kept : goal.returns-in-Ok-clause-kept
-returns-in-Ok-clause-kept g c = holds c.run_tree-ended.result
+returns-in-Ok-clause-kept g c = holds c.run_accepted-ended.result
   where
     accepted : IsAcceptedTree (bytes_in c.args.files.now) (root_of c.args.options.now) c.in-Ok.tree
     accepted = subst (λ root. IsAcceptedTree (bytes_in c.args.files.now) root c.in-Ok.tree) c.as_bytes.ensures.value c.in-Ok.ensures.ok

@@ -16,6 +16,7 @@ loop-name-init g c = record {
   on_way = subst (λ (s : State). IsOnWay (g.F.Folder.files c.args.folder.now) c.args.root.now c.args.kconfig.now s) (sym c.in_ok-loading.ensures) (walk_begins _ c.args.root.now c.args.kconfig.now);
   within = let none : c.in_ok-loading.loading.lines ≡ 0 = ap (λ s. s.lines) c.in_ok-loading.ensures in omega arith;
   stays = refl;
+  failing_stays = refl;
   quiet = refl;
 }
 
@@ -23,7 +24,8 @@ pub returns-in_err-visit-clause-fault : goal.returns-in_err-visit-clause-fault
 returns-in_err-visit-clause-fault g c =
     let i = c.loop-name.invariant in
     let p = err_from_is_err_and c.from_residual-in_err-visit.result c.from_residual-in_err-visit.ensures.1 in
-    rw (p.1, p.2) (at_fault _ _ _ (state_of c.loop-name.loading) i.ongoing i.within _ c.in-Some.name.items (popped_last (λ (v : Vec ℕ Global). v.items) c.pop.new.self.items c.in-Some.name _ c.in-Some.ensures.items) c.in_err-visit.field-0.0 c.in_err-visit.ensures.err)
+    rw (p.1, p.2) (at_fault _ _ _ (state_of c.loop-name.loading) i.ongoing i.within (g.F.Folder.failing c.args.folder.now) (g.F.Folder.failing c.loop-name.folder) i.failing_stays _ c.in-Some.name.items
+    (popped_last (λ (v : Vec ℕ Global). v.items) c.pop.new.self.items c.in-Some.name _ c.in-Some.ensures.items) c.in_err-visit.field-0.0 c.in_err-visit.ensures.err)
 
 pub returns-then-is_over-clause-loaded : goal.returns-then-is_over-clause-loaded
 returns-then-is_over-clause-loaded g c =
@@ -50,6 +52,7 @@ loop-name-preserved g c =
       on_way = walk_turned _ _ _ _ (state_of c.loop-name.loading) i.on_way i.stays _ c.in-Some.name.items (popped_last (λ (v : Vec ℕ Global). v.items) c.pop.new.self.items c.in-Some.name _ c.in-Some.ensures.items) (state_of c.visit.new.self) c.in_ok-visit.ensures.ok;
       within = not_over _ c.if-is_over.ensures;
       stays = c.in_ok-visit.ensures.stays ∙ i.stays;
+      failing_stays = c.in_ok-visit.ensures.failing_stays ∙ i.failing_stays;
       quiet = c.in_ok-visit.ensures.quiet ∙ i.quiet;
     }
 

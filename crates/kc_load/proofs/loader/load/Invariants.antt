@@ -1,5 +1,5 @@
 use Rattle.std.proofs.Common.{◌≡◌, ◌≤◌}
-use Rattle.kc_load.specs.Loaded.{line_limit}
+use Rattle.kc_read.specs.Limits.{most_lines}
 use Rattle.kc_load.specs.Steps.{state_of}
 use Rattle.kc_load.proofs.EndLemmas.{still_left}
 use Rattle.kc_load.proofs.Ongoing.{Ongoing}
@@ -10,8 +10,9 @@ abbrev pub invariant-loop-name : goal.invariant-loop-name
 invariant-loop-name g l = record {
   ongoing : Ongoing (g.F.Folder.files l.fn.folder) l.root l.kconfig (state_of l.loading);
   on_way : IsOnWay (g.F.Folder.files l.fn.folder) l.root l.kconfig (state_of l.loading);
-  within : l.loading.lines ≤ line_limit;
+  within : l.loading.lines ≤ most_lines;
   stays : g.F.Folder.files l.folder ≡ g.F.Folder.files l.fn.folder;
+  failing_stays : g.F.Folder.failing l.folder ≡ g.F.Folder.failing l.fn.folder;
   quiet : g.F.Folder.failures l.folder ≡ g.F.Folder.failures l.fn.folder;
 }
 

@@ -2,7 +2,7 @@ use Rattle.std.proofs.Common.{arith, ap, sym, ◌∙◌, ◌≡◌, true, false,
 use Rattle.std.proofs.Math.ListN.{set}
 use Rattle.std.specs.List.{list_any}
 use Rattle.std.proofs.lemmas.List.{length_push, take_rest, get_or_read}
-use Rattle.kc_order.specs.Rows.{needs_of, AreMarks}
+use Rattle.kc_order.specs.RowLists.{needs_of, AreMarks}
 use Rattle.kc_order.proofs.Held.{needs_below}
 use Rattle.kc_order.proofs.Walks.{sets_out, goes_further, has_room, comes_back, IsOnTheWay, met_push, not_met, is_met, none_met}
 use Rattle.kc_order.proofs.named_loop.named_loop.Goals.{After-index, After-next_stuck-at}
@@ -11,7 +11,8 @@ use Rattle.kc_order.proofs.named_loop.named_loop.Goals as goal
 pub loop-met-init : goal.loop-met-init
 loop-met-init c = record {
   walks = rw c.new-walk.ensures.items (sets_out _ (needs_of c.args.rows.now c.args.row_of.now) c.args.first c.requires.first);
-  marked = subst (λ w. AreMarks (length c.args.row_of.now) (λ s. list_any (eqb s) w) c.in_ok-met.met.items) (sym c.new-walk.ensures.items) (none_met (length c.args.row_of.now) c.in_ok-met.met.items c.in_ok-met.ensures);
+  marked = subst (λ w. AreMarks (length c.args.row_of.now) (λ s. list_any (eqb s) w) c.in_ok-met.met.items) (sym c.new-walk.ensures.items)
+      (none_met (length c.args.row_of.now) c.in_ok-met.met.items c.in_ok-met.ensures);
 }
 
 -- what is read tells whether the symbol is on the walk
@@ -22,7 +23,8 @@ on_walk c =
     ∙ sym (get_or_read c.loop-met.met.items c.loop-met.at c.index.result.now (omega (arith, below, c.loop-met.invariant.marked.length_is)) c.index.ensures false)
 
 -- the walk after the push, and what comes next
-further : (c : After-next_stuck-at) → list_any (eqb c.loop-met.at) c.loop-met.walk.items ≡ false → IsOnTheWay (length c.args.row_of.now) (needs_of c.args.rows.now c.args.row_of.now) (c.loop-met.walk.items ++ c.loop-met.at ∷ []) c.next_stuck-at.result
+further : (c : After-next_stuck-at) → list_any (eqb c.loop-met.at) c.loop-met.walk.items ≡ false →
+    IsOnTheWay (length c.args.row_of.now) (needs_of c.args.rows.now c.args.row_of.now) (c.loop-met.walk.items ++ c.loop-met.at ∷ []) c.next_stuck-at.result
 further c new =
     goes_further _ (needs_of c.args.rows.now c.args.row_of.now) c.loop-met.walk.items c.loop-met.at c.next_stuck-at.result
     (needs_below c.args.rows.now c.args.row_of.now c.requires.rows_below) c.loop-met.invariant.walks (not_met c.loop-met.walk.items c.loop-met.at new) c.next_stuck-at.ensures.next

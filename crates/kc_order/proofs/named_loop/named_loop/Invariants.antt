@@ -1,6 +1,6 @@
 use Rattle.std.proofs.Common.{◌-◌, length, eqb}
 use Rattle.std.specs.List.{list_any}
-use Rattle.kc_order.specs.Rows.{needs_of, AreMarks}
+use Rattle.kc_order.specs.RowLists.{needs_of, AreMarks}
 use Rattle.kc_order.proofs.Walks.{IsOnTheWay}
 use Rattle.kc_order.proofs.named_loop.named_loop.Given as goal
 

@@ -4,7 +4,7 @@ use Rattle.std.proofs.lemmas.List.{length-set, get_or_read}
 use Rattle.std.proofs.lemmas.List.Sums.{sum_by-set}
 use Rattle.std.proofs.lemmas.List.Elements.{Contains-get_or}
 use Rattle.kc_order.specs.declared.search.Mark.TheVariants.{New}
-use Rattle.kc_order.specs.Rows.{needs_of}
+use Rattle.kc_order.specs.RowLists.{needs_of}
 use Rattle.kc_order.specs.Search.{IsSearch}
 use Rattle.kc_order.proofs.Held.{needs_below}
 use Rattle.kc_order.proofs.SearchSteps.{opens_sound, opens_less, closes_sound, closes_less, gives_up_sound, gives_up_less, passed_one, row_passes_one, found, needs_stuck, last_is}
@@ -32,8 +32,10 @@ need_in c =
 need_below : (c : After-row_of_symbol) → need c < length c.args.row_of.now
 need_below c = needs_below c.args.rows.now c.args.row_of.now c.requires.rows_below c.args.top (need c) c.requires.below (need_in c)
 
-mark_is : (c : After-index) → get_or c.row_of_symbol.result.now (c.index-left.result.now - 1) 0 < length c.args.row_of.now → get_or c.args.search.now.marks.items (get_or c.row_of_symbol.result.now (c.index-left.result.now - 1) 0) New ≡ c.index.result.now
-mark_is c below = sym (get_or_read c.args.search.now.marks.items (get_or c.row_of_symbol.result.now (c.index-left.result.now - 1) 0) c.index.result.now (omega (arith, c.requires.sound.marks_len, below)) c.index.ensures New)
+mark_is : (c : After-index) → get_or c.row_of_symbol.result.now (c.index-left.result.now - 1) 0 < length c.args.row_of.now →
+    get_or c.args.search.now.marks.items (get_or c.row_of_symbol.result.now (c.index-left.result.now - 1) 0) New ≡ c.index.result.now
+mark_is c below = sym (get_or_read c.args.search.now.marks.items (get_or c.row_of_symbol.result.now (c.index-left.result.now - 1) 0) c.index.result.now
+    (omega (arith, c.requires.sound.marks_len, below)) c.index.ensures New)
 
 pub index-requires : goal.index-requires
 index-requires c = omega (arith, need_below (goal.at.index-requires c).After-row_of_symbol, c.requires.sound.marks_len, c.args.search.now.marks.ok.0)
@@ -82,7 +84,8 @@ returns-in-Done-clause-sound c =
     record {
       marks_len = h.marks_len;
       left_len = length-set s.left.items row j ∙ h.left_len;
-      keeps = passed_one _ (needs_of c.args.rows.now c.args.row_of.now) (λ t. get_or s.marks.items t New) (λ t. get_or s.left.items (get_or c.args.row_of.now t 0) 0) _ s.path.items s.order.items c.args.top j h.keeps c.requires.below (omega (arith, left_is a))
+      keeps = passed_one _ (needs_of c.args.rows.now c.args.row_of.now) (λ t. get_or s.marks.items t New)
+          (λ t. get_or s.left.items (get_or c.args.row_of.now t 0) 0) _ s.path.items s.order.items c.args.top j h.keeps c.requires.below (omega (arith, left_is a))
           (ap (λ xs. get_or s.marks.items (get_or xs j 0) New) (sym c.row_of_symbol.ensures) ∙ mark_is i (need_below a) ∙ c.in-Done.is)
           (row_passes_one c.args.rows.now c.args.row_of.now s.left.items c.args.top j c.requires.below (row_in a));
     }
@@ -96,19 +99,22 @@ returns-in-Done-clause-less c =
 -- the search, its path split at its last
 abbrev split : After-row_of_symbol → Type 0
 split c =
-    IsSearch (length c.args.row_of.now) (needs_of c.args.rows.now c.args.row_of.now) (λ t. get_or c.args.search.now.marks.items t New) (λ t. get_or c.args.search.now.left.items (get_or c.args.row_of.now t 0) 0)
+    IsSearch (length c.args.row_of.now) (needs_of c.args.rows.now c.args.row_of.now) (λ t. get_or c.args.search.now.marks.items t New)
+    (λ t. get_or c.args.search.now.left.items (get_or c.args.row_of.now t 0) 0)
     (take (vec_len c.args.search.now.path - 1) c.args.search.now.path.items ++ c.args.top ∷ []) c.args.search.now.order.items
 
 is_split : (c : After-row_of_symbol) → split c
 is_split c =
-    subst (λ p. IsSearch (length c.args.row_of.now) (needs_of c.args.rows.now c.args.row_of.now) (λ t. get_or c.args.search.now.marks.items t New) (λ t. get_or c.args.search.now.left.items (get_or c.args.row_of.now t 0) 0) p c.args.search.now.order.items) c.requires.last c.requires.sound.keeps
+    subst (λ p. IsSearch (length c.args.row_of.now) (needs_of c.args.rows.now c.args.row_of.now) (λ t. get_or c.args.search.now.marks.items t New)
+    (λ t. get_or c.args.search.now.left.items (get_or c.args.row_of.now t 0) 0) p c.args.search.now.order.items) c.requires.last c.requires.sound.keeps
 
 pub returns-in-Open-clause-sound : goal.returns-in-Open-clause-sound
 returns-in-Open-clause-sound c =
     let s = c.args.search.now in
     let a = (goal.at.returns-in-Open-clause-sound c).After-row_of_symbol in
     let i = (goal.at.returns-in-Open-clause-sound c).After-index in
-    let stuck = found _ (needs_of c.args.rows.now c.args.row_of.now) (λ t. get_or s.marks.items t New) (λ t. get_or s.left.items (get_or c.args.row_of.now t 0) 0) (take (vec_len s.path - 1) s.path.items) s.order.items c.args.top (need a)
+    let stuck = found _ (needs_of c.args.rows.now c.args.row_of.now) (λ t. get_or s.marks.items t New) (λ t. get_or s.left.items (get_or c.args.row_of.now t 0) 0)
+    (take (vec_len s.path - 1) s.path.items) s.order.items c.args.top (need a)
     (is_split a) (need_in a) (need_below a) (mark_is i (need_below a) ∙ c.in-Open.is) in
     gives_up_sound c.args.rows.now c.args.row_of.now s c.give_up.new.search c.args.top c.requires.sound c.requires.below stuck c.give_up.ensures
 
@@ -121,7 +127,8 @@ returns-in-Stuck-clause-sound c =
     let s = c.args.search.now in
     let a = (goal.at.returns-in-Stuck-clause-sound c).After-row_of_symbol in
     let i = (goal.at.returns-in-Stuck-clause-sound c).After-index in
-    let stuck = needs_stuck _ (needs_of c.args.rows.now c.args.row_of.now) (λ t. get_or s.marks.items t New) (λ t. get_or s.left.items (get_or c.args.row_of.now t 0) 0) s.path.items s.order.items c.args.top (need a)
+    let stuck = needs_stuck _ (needs_of c.args.rows.now c.args.row_of.now) (λ t. get_or s.marks.items t New)
+    (λ t. get_or s.left.items (get_or c.args.row_of.now t 0) 0) s.path.items s.order.items c.args.top (need a)
     c.requires.sound.keeps (need_in a) (need_below a) (mark_is i (need_below a) ∙ c.in-Stuck.is) in
     gives_up_sound c.args.rows.now c.args.row_of.now s c.give_up-in-Stuck.new.search c.args.top c.requires.sound c.requires.below stuck c.give_up-in-Stuck.ensures
 

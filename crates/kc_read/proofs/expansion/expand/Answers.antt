@@ -1,4 +1,4 @@
-use Rattle.std.proofs.Common.{◌≢◌, Ok, Err, ap, ◌∙◌, length}
+use Rattle.std.proofs.Common.{◌≢◌, Ok, Err}
 use Rattle.kc_read.specs.Expansion.{Expands, nothing_read, opening, root_around}
 use Rattle.kc_read.specs.Files.{bytes_in}
 use Rattle.kc_read.specs.LineReads.{cause_of}
@@ -34,7 +34,6 @@ returns-clause-expanded c =
         lines = read.progress.lines;
         mentions = read.progress.mentions;
         defined_is = read.progress.defined_is;
-        symbols = c.in_ok-read_file.ensures.bounded.symbols.count ∙ ap length read.progress.defined_is;
         modules_is = read.progress.modules_is;
       },
     )

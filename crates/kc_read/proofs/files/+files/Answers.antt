@@ -1,4 +1,4 @@
-use Rattle.std.proofs.Common.{◌≡◌, [], None, Ok, sym, ap, ◌∙◌, subst, refl, map, rules, arith}
+use Rattle.std.proofs.Common.{◌≡◌, [], None, Ok, sym, ap, ◌∙◌, subst, refl, map, arith}
 use Rattle.kc_expr.specs.Names.{all_mentioned}
 use Rattle.kc_text.specs.Lines.{left}
 use Rattle.kc_read.specs.Expansion.{NextStatement, context_of, inside, opening}
@@ -10,7 +10,7 @@ use Rattle.kc_read.specs.Statements.{SourceLine, statement_words}
 use Rattle.kc_expr.specs.Names.{number_of}
 use Rattle.kc_expr.proofs.NamesLemmas.{extends_on}
 use Rattle.kc_read.proofs.NameLemmas.{extends_none}
-use Rattle.kc_read.proofs.RestLemmas.{blank_goes, effect_refused, end_refused, ended, file_read, file_refused, goes_on, inside_refused, known_made, next_less, next_clear, next_passed, no_memory, popped, reading_passed, source_goes, source_refused, statement_goes, statement_passed, step_refused}
+use Rattle.kc_read.proofs.RestLemmas.{blank_goes, effect_refused, end_refused, ended, file_read, file_refused, goes_on, inside_refused, next_less, next_clear, next_passed, no_memory, popped, reading_passed, source_goes, source_refused, statement_goes, statement_passed, step_refused}
 use Rattle.kc_read.proofs.ShapeLemmas.{made_no_source, source_is}
 use Rattle.kc_read.proofs.StateLemmas.{context_same, state_inside}
 use Rattle.kc_read.proofs.files.+files.Goals as goal
@@ -84,11 +84,6 @@ read_next-returns-in-Blank-clause-less t c = λ more. let step = rw c.in-Blank.i
 
 pub read_next-returns-in-Blank-clause-clear : goal.read_next-returns-in-Blank-clause-clear
 read_next-returns-in-Blank-clause-clear t c = λ more. let step = rw c.in-Blank.is at c.in_ok-next_step.ensures.step in next_clear c.args.lines.now c.next_step.new.lines [] None step.0
-
-pub read_next-read_statement-requires : goal.read_next-read_statement-requires
-read_next-read_statement-requires t c =
-    let step = rw c.in-Next.is at c.in_ok-next_step.ensures.step in
-    (search rules, (search rules, (search rules, known_made c.args.reader.now.modules c.args.names.now c.next_step.new.names c.in-Next.statement step.0 step.3)))
 
 pub read_next-returns-in_err-read_statement-in-Next-clause-read : goal.read_next-returns-in_err-read_statement-in-Next-clause-read
 read_next-returns-in_err-read_statement-in-Next-clause-read t c = λ first a own log i.

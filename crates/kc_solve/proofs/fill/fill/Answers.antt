@@ -27,7 +27,8 @@ next_value-requires-clause-there c =
 pub index_mut-requires : goal.index_mut-requires
 index_mut-requires c =
     let bools = (c.choices_stand_alone.ensures.members c.args.tree.now c.symbol_count-count.ensures.formed).1 in
-    let below = id_below c.args.tree.now c.args.given.now c.args.chosen.now c.args.symbols.now c.value_depends_on_symbols.ensures bools c.requires.order c.loop-symbol.symbol-index c.loop-symbol-test.true in
+    let below = id_below c.args.tree.now c.args.given.now c.args.chosen.now c.args.symbols.now c.value_depends_on_symbols.ensures bools c.requires.order c.loop-symbol.symbol-index
+    c.loop-symbol-test.true in
     let count = c.loop-symbol.invariant.2.count in
     omega (arith, below, count, c.loop-symbol.table.values.ok.0)
 
@@ -46,8 +47,14 @@ loop-symbol-preserved c =
     let x = c.in_ok-value.value in
     let settled = c.next_value.new.selections.settled.items in
     let right = subst (λ (u : TreeFacts). AreSettled u (known_in u values) chosen settled) same c.in_ok-value.ensures.settled in
-    let value = subst (λ (u : TreeFacts). known_value f.kind x ≡ by_choice u (known_in u values) (symbol id) f f.choice (given_for facts.choice (P (At id)) chosen)) same c.in_ok-value.ensures.value in
-    (same, c.in_ok-value.ensures.count ∙ c.loop-symbol.invariant.1, step t c.args.given.now chosen c.args.symbols.now c.value_depends_on_symbols.ensures bools c.requires.order i values c.loop-symbol.selections.settled.items c.loop-symbol.invariant.2 c.loop-symbol-test.true f c.symbol_facts-facts.ensures.facts x settled facts.choice refl right c.in_ok-value.ensures.only value)
+    let value = subst (λ (u : TreeFacts). known_value f.kind x ≡ by_choice u (known_in u values) (symbol id) f f.choice (given_for facts.choice (P (At id)) chosen))
+    same c.in_ok-value.ensures.value in (
+      same,
+      c.in_ok-value.ensures.count ∙ c.loop-symbol.invariant.1,
+      step t c.args.given.now chosen c.args.symbols.now c.value_depends_on_symbols.ensures bools c.requires.order i values
+          c.loop-symbol.selections.settled.items c.loop-symbol.invariant.2 c.loop-symbol-test.true f c.symbol_facts-facts.ensures.facts x settled facts.choice refl right
+          c.in_ok-value.ensures.only value,
+    )
 
 pub returns-clause-solves : goal.returns-clause-solves
 returns-clause-solves c =

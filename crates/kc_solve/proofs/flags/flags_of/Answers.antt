@@ -26,13 +26,14 @@ symbol_differs-requires-clause-selections c =
 pub symbol_differs-requires-clause-defaults : goal.symbol_differs-requires-clause-defaults
 symbol_differs-requires-clause-defaults c =
     let t = c.args.table.now.tree.now in
-    let f = default_selection t (place_at c.args.user.now) (valuation t c.args.table.now.values.items) in
+    let f = default_selection t (valuation t c.args.table.now.values.items) in
     let count = ap length c.requires.defaults ∙ length-map-range_with_len f 0 (length t.choices) in
     subst (λ n. IfSome c.symbol_facts-symbol.result.now.choice (λ k. k.0 < n)) (sym count) c.symbol_facts-symbol.ensures.choice
 
 pub symbol_differs-requires-clause-solved : goal.symbol_differs-requires-clause-solved
 symbol_differs-requires-clause-solved c =
-    solved_here c.args.table.now.tree.now c.args.table.now.values.items c.requires.full (place_at c.args.user.now) c.loop-i.i (facts_of c.symbol_facts-symbol.result.now) c.symbol_facts-symbol.ensures.facts c.args.selections.now c.args.defaults.now c.requires.selections c.requires.defaults
+    solved_here c.args.table.now.tree.now c.args.table.now.values.items c.requires.full (place_at c.args.user.now) c.loop-i.i
+    (facts_of c.symbol_facts-symbol.result.now) c.symbol_facts-symbol.ensures.facts c.args.selections.now c.args.defaults.now c.requires.selections c.requires.defaults
     c.requires.solves (omega arith) (place c.get-own.result) (place_mapped c.get-own.result ∙ c.get-own.ensures)
 
 pub loop-i-preserved : goal.loop-i-preserved

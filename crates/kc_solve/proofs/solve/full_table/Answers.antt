@@ -15,7 +15,8 @@ fill-requires-clause-chosen c = ap length c.choices-chosen.ensures ∙ c.require
 pub returns-clause-solves : goal.returns-clause-solves
 returns-clause-solves c =
     let t = c.args.tree.now in
-    solves_as_shown t c.symbols-given.result.now c.choices-chosen.result.now c.args.user.now (valuation t c.in_ok-table.table.values.items) c.symbols-given.ensures c.choices-chosen.ensures c.in_ok-table.ensures.solves
+    solves_as_shown t c.symbols-given.result.now c.choices-chosen.result.now c.args.user.now
+    (valuation t c.in_ok-table.table.values.items) c.symbols-given.ensures c.choices-chosen.ensures c.in_ok-table.ensures.solves
 
 pub returns-clause-only : goal.returns-clause-only
 returns-clause-only c =

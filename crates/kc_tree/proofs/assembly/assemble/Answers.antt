@@ -38,7 +38,7 @@ returns c =
     let said : IsDiagnosis c.args.names.now (map line_view c.args.lines.now) (diagnosis.Warned c.in-Warned.warnings) = (rw c.in-Warned.is at c.in_ok-refusal.ensures) in
     let ss = said_by c.args.lines.now in
     let n = sized known_view c.in_ok-known.known.items (known_symbol ss) c.args.count c.in_ok-known.ensures in
-    let filled = c.in_ok-symbols-in-Warned.ensures ∙ ap (λ (k : ℕ). map (λ s. symbol_facts ss (symbol s)) (numbers k)) (ap length c.deref-in-Warned-9.ensures.value ∙ n) in
+    let filled = c.in_ok-symbols-in-Warned.ensures ∙ ap (λ (k : ℕ). map (λ s. symbol_facts ss (symbol s)) (numbers k)) (ap length c.deref-in-Warned-6.ensures.value ∙ n) in
     whole c.args.names.now c.args.count c.args.modules c.args.lines.now (record {
       symbols = c.in_ok-symbols-in-Warned.symbols;
       choices = c.in_ok-choices-in-Warned.choices;

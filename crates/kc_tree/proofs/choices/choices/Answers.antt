@@ -1,17 +1,17 @@
-use Rattle.std.proofs.Common.{◌≡◌, ◌∙◌, ap, arith, length, map, sym, true, false}
+use Rattle.std.proofs.Common.{◌≡◌, ◌∙◌, ap, arith, length, sym, true, false}
 use Rattle.std.specs.declared.vec.Vec.{Vec}
 use Rattle.std.specs.declared.alloc.Global.{Global}
 use Rattle.kc_expr.specs.declared.expression.SymId.{SymId}
 use Rattle.kc_tree.specs.Facts.{members_of}
 use Rattle.kc_tree.specs.Passes.{said_by}
-use Rattle.kc_tree.specs.RoundViews.{round_view, inside_view}
+use Rattle.kc_tree.specs.ScopeViews.{scope_view}
 use Rattle.kc_tree.proofs.ChoiceLemmas.{listed_is, so_far, members_fit, members_are, choice_next, none_more, opens_choice}
-use Rattle.kc_tree.proofs.RoundLemmas.{seen-is, openers_reach}
+use Rattle.kc_tree.proofs.RoundLemmas.{scope-is, scopes_reach}
 use Rattle.kc_tree.proofs.choices.choices.Goals as goal
 use Rattle.kc_tree.proofs.choices.choices.Goals.{then-is_choice+in_ok-choice+in_ok-push, else-is_choice}
 
-pub around-around-requires : goal.around-around-requires
-around-around-requires c = openers_reach c.args.lines.now c.loop-i.i c.args.openers.now c.loop-i-test.true c.requires.openers
+pub scope_at-scope-requires : goal.scope_at-scope-requires
+scope_at-scope-requires c = scopes_reach c.args.lines.now c.loop-i.i c.args.scopes.now c.loop-i-test.true c.requires.scopes
 
 pub index-requires : goal.index-requires
 index-requires c =
@@ -42,9 +42,9 @@ loop-i-preserved c =
           let many = so_far ls i c.loop-i.choices.items c.loop-i.invariant in
           let k : w.len-number.result ≡ length c.loop-i.choices.items = omega (arith, w.len-number.ensures, c.loop-i.choices.ok) in
           let opens = opens_choice ls i c.index-lines-i.result true c.loop-i-test.true c.index-lines-i.is w.if-is_choice.ensures in
-          let seen = seen-is ls i c.args.openers.now (map inside_view c.args.insides.now) (round_view c.outside-outside.result) (round_view w.around-around.result.now) c.loop-i-test.true c.requires.openers c.requires.insides c.outside-outside.ensures w.around-around.ensures in
+          let seen = scope-is ls i c.args.scopes.now (scope_view w.scope_at-scope.result.now) c.loop-i-test.true c.requires.scopes w.scope_at-scope.ensures in
           let own = members_are ls (λ (v : Vec SymId Global). v.items) c.in_ok-lists.lists.items i w.len-number.result c.choice_count.result w.index.result.now c.in_ok-lists.ensures c.choice_count.ensures c.loop-i-test.true opens (k ∙ many) w.index.ensures in
-          rw w.choices-is (choice_next ls i c.loop-i.choices.items w.push.new.self.items w.in_ok-choice.field-0 (round_view w.around-around.result.now) (said_by w.attributes-own.result.now) w.deref.result.now c.loop-i.invariant opens seen w.attributes-own.ensures (w.deref.ensures.value ∙ own) w.in_ok-choice.ensures w.in_ok-push.ensures.items)
+          rw w.choices-is (choice_next ls i c.loop-i.choices.items w.push.new.self.items w.in_ok-choice.field-0 (scope_view w.scope_at-scope.result.now) (said_by w.attributes-own.result.now) w.deref.result.now c.loop-i.invariant opens seen w.attributes-own.ensures (w.deref.ensures.value ∙ own) w.in_ok-choice.ensures w.in_ok-push.ensures.items)
       | else-is_choice w ↦
           let none = opens_choice ls i c.index-lines-i.result false c.loop-i-test.true c.index-lines-i.is w.if-is_choice.ensures in
           rw w.choices-is (c.loop-i.invariant ∙ none_more (said_by ls) i none)

@@ -3,20 +3,17 @@ use Rattle.kc_read.specs.Blocks.{attributes}
 use Rattle.std.specs.Option.{option_map}
 use Rattle.kc_tree.specs.Firsts.{is_first_at}
 use Rattle.kc_tree.specs.Passes.{said_by}
-use Rattle.kc_tree.specs.RoundViews.{round_view, inside_view}
+use Rattle.kc_tree.specs.Rounds.{Surroundings}
+use Rattle.kc_tree.specs.ScopeViews.{scope_view}
 use Rattle.kc_tree.specs.Views.{shown_of}
-use Rattle.kc_tree.proofs.OpenerLemmas.{length-said_by}
-use Rattle.kc_tree.proofs.PlaceLemmas.{length-map_numbers}
-use Rattle.kc_tree.proofs.RoundLemmas.{seen-is, openers_reach}
+use Rattle.kc_tree.proofs.PlaceLemmas.{length-map_numbers, length-said_by}
+use Rattle.kc_tree.proofs.RoundLemmas.{scope-is, scopes_reach}
 use Rattle.kc_tree.proofs.EntryLemmas.{read_at, menu-is, entries_next, no_entry_next}
 use Rattle.kc_tree.proofs.entries.entries.Goals as goal
 use Rattle.kc_tree.proofs.entries.entries.Goals.{then-is_entry+in_ok-entry+in_ok-push_entry, else-is_entry}
 
-pub around-around-requires : goal.around-around-requires
-around-around-requires c = openers_reach c.args.lines.now c.loop-i.i c.args.openers.now c.loop-i-test.true c.requires.openers
-
-pub menu_of-menu-requires : goal.menu_of-menu-requires
-menu_of-menu-requires c = openers_reach c.args.lines.now c.loop-i.i c.args.openers.now c.loop-i-test.true c.requires.openers
+pub scope_at-scope-requires : goal.scope_at-scope-requires
+scope_at-scope-requires c = scopes_reach c.args.lines.now c.loop-i.i c.args.scopes.now c.loop-i-test.true c.requires.scopes
 
 pub bounds-firsts-i : goal.bounds-firsts-i
 bounds-firsts-i c =
@@ -36,9 +33,9 @@ loop-i-preserved c =
     let out = map shown_of c.loop-i.entries.items in
     elim c.if-is_entry.branch [
       | then-is_entry+in_ok-entry+in_ok-push_entry w ↦
-          let r = round_view w.around-around.result.now in
-          let seen = seen-is ls i c.args.openers.now (map inside_view c.args.insides.now) (round_view c.outside-outside.result) r c.loop-i-test.true c.requires.openers c.requires.insides c.outside-outside.ensures w.around-around.ensures in
-          let menu = w.menu_of-menu.ensures ∙ menu-is ss (length ls) i c.args.openers.now w.deref.result.now c.loop-i-test.true (omega (arith, length-said_by ls)) c.requires.openers (w.deref.ensures.value ∙ c.in_ok-entry_numbers.ensures) in
+          let r = scope_view w.scope_at-scope.result.now in
+          let seen = scope-is ls i c.args.scopes.now r c.loop-i-test.true c.requires.scopes w.scope_at-scope.ensures in
+          let menu = w.menu_of-menu.ensures ∙ menu-is ss (length ls) i w.scope_at-scope.result.now.opener w.deref-then-is_entry.result.now c.loop-i-test.true (omega (arith, length-said_by ls)) (ap (λ (s : Surroundings). s.opener) seen) (w.deref-then-is_entry.ensures.value ∙ c.in_ok-entry_numbers.ensures) in
           rw w.entries-is (entries_next ls i c.index-lines-i.result r (attributes ss i) _ w.menu_of-menu.result out (map shown_of w.push_entry.new.entries.items) (option_map shown_of w.in_ok-entry.entry) c.loop-i-test.true c.index-lines-i.is seen refl (read_at (is_first_at ss) (length ls) i c.args.firsts.now _ c.loop-i-test.true c.requires.firsts) menu w.in_ok-entry.ensures c.loop-i.invariant w.in_ok-push_entry.ensures)
       | else-is_entry w ↦ rw w.entries-is (no_entry_next ls i c.index-lines-i.result _ out c.loop-i-test.true c.index-lines-i.is (read_at (is_first_at ss) (length ls) i c.args.firsts.now _ c.loop-i-test.true c.requires.firsts) w.if-is_entry.ensures c.loop-i.invariant)
     ]

@@ -1,8 +1,7 @@
 use Rattle.std.proofs.Common.{◌≡◌, ap, sym, ◌∙◌, arith, length}
 use Rattle.kc_tree.specs.Firsts.{is_first_at}
 use Rattle.kc_tree.specs.Passes.{said_by}
-use Rattle.kc_tree.proofs.OpenerLemmas.{length-said_by}
-use Rattle.kc_tree.proofs.PlaceLemmas.{map-next, length-map_numbers}
+use Rattle.kc_tree.proofs.PlaceLemmas.{map-next, length-map_numbers, length-said_by}
 use Rattle.kc_tree.proofs.TableLemmas.{symbol-at}
 use Rattle.kc_tree.proofs.FirstLemmas.{seen_at, seen_next, first_next}
 use Rattle.kc_tree.proofs.firsts.firsts.Goals as goal

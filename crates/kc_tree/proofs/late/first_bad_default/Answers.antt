@@ -1,7 +1,7 @@
 use Rattle.std.proofs.Common.{◌∙◌, arith, length}
 use Rattle.kc_tree.specs.Passes.{said_by}
 use Rattle.kc_tree.proofs.LateLemmas.{from_start, from_next, from_here, from_end, is_bad_given, bad_given-is}
-use Rattle.kc_tree.proofs.OpenerLemmas.{length-said_by}
+use Rattle.kc_tree.proofs.PlaceLemmas.{length-said_by}
 use Rattle.kc_tree.proofs.WarningLemmas.{is_place}
 use Rattle.kc_tree.proofs.late.first_bad_default.Goals as goal
 

@@ -2,7 +2,7 @@ use Rattle.std.proofs.Common.{arith}
 use Rattle.kc_read.specs.Steps.{refusal_view}
 use Rattle.kc_tree.specs.Passes.{said_by}
 use Rattle.kc_tree.proofs.LateLemmas.{member_first, default_first, neither}
-use Rattle.kc_tree.proofs.OpenerLemmas.{length-said_by}
+use Rattle.kc_tree.proofs.PlaceLemmas.{length-said_by}
 use Rattle.kc_tree.proofs.WarningLemmas.{is_place}
 use Rattle.kc_tree.proofs.late.late_refusal.Goals as goal
 

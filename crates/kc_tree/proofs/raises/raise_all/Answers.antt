@@ -5,16 +5,16 @@ use Rattle.kc_tree.specs.Definitions.{raised_from}
 use Rattle.kc_tree.specs.Passes.{said_by}
 use Rattle.kc_tree.specs.Raises.{raise_entry}
 use Rattle.kc_tree.specs.Rounds.{round}
-use Rattle.kc_tree.specs.RoundViews.{round_view, inside_view}
+use Rattle.kc_tree.specs.ScopeViews.{scope_view}
 use Rattle.kc_tree.specs.Views.{facts_of}
 use Rattle.kc_tree.proofs.RaiseLemmas.{raised_next}
-use Rattle.kc_tree.proofs.RoundLemmas.{seen-is, openers_reach}
+use Rattle.kc_tree.proofs.RoundLemmas.{scope-is, scopes_reach}
 use Rattle.kc_tree.proofs.TableLemmas.{all_passed, symbol-at}
 use Rattle.kc_tree.proofs.raises.raise_all.Goals as goal
 use Rattle.kc_tree.proofs.raises.raise_all.Goals.{in-Some+in_ok-raise_entry, in_default}
 
-pub around-around-requires : goal.around-around-requires
-around-around-requires c = openers_reach c.args.lines.now c.loop-i.i c.args.openers.now c.loop-i-test.true c.requires.openers
+pub scope_at-scope-requires : goal.scope_at-scope-requires
+scope_at-scope-requires c = scopes_reach c.args.lines.now c.loop-i.i c.args.scopes.now c.loop-i-test.true c.requires.scopes
 
 pub loop-i-preserved : goal.loop-i-preserved
 loop-i-preserved c =
@@ -24,8 +24,8 @@ loop-i-preserved c =
     let table = map facts_of c.loop-i.symbols.items in
     elim c.match-symbol_of.branch [
       | in-Some+in_ok-raise_entry w ↦
-          let r = round_view w.around-around.result.now in
-          let seen = seen-is ls i c.args.openers.now (map inside_view c.args.insides.now) (round_view c.outside-outside.result) r c.loop-i-test.true c.requires.openers c.requires.insides c.outside-outside.ensures w.around-around.ensures in
+          let r = scope_view w.scope_at-scope.result.now in
+          let seen = scope-is ls i c.args.scopes.now r c.loop-i-test.true c.requires.scopes w.scope_at-scope.ensures in
           let at = symbol-at ls i c.index-lines-i.result (Some w.in-Some.source) c.loop-i-test.true c.index-lines-i.is w.in-Some.ensures in
           rw w.symbols-is (raised_next ss i (length c.args.symbols.now.items) table (map facts_of w.raise_entry.new.symbols.items) r c.loop-i.invariant seen (w.in_ok-raise_entry.ensures ∙ ap (λ (o : Option SymId). raise_entry r (attributes ss i) o table) at))
       | in_default w ↦

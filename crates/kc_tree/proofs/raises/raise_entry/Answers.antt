@@ -5,7 +5,7 @@ use Rattle.kc_tree.specs.Facts.{first_of}
 use Rattle.kc_tree.specs.Conditions.{dep_of}
 use Rattle.kc_tree.specs.Passes.{said_by, target_view}
 use Rattle.kc_tree.specs.Targets.{target_of}
-use Rattle.kc_tree.specs.RoundViews.{round_view}
+use Rattle.kc_tree.specs.ScopeViews.{scope_view}
 use Rattle.kc_tree.specs.Views.{facts_of}
 use Rattle.kc_tree.proofs.RaiseLemmas.{none_raised}
 use Rattle.kc_tree.proofs.raises.raise_entry.Goals as goal
@@ -14,4 +14,4 @@ pub returns-in-None : goal.returns-in-None
 returns-in-None c =
     let own = attributes (said_by c.args.lines.now) c.args.place in
     let none : first_of (filter_map target_of own) ≡ None = (rw c.attributes-own.ensures at (sym c.first_target.ensures ∙ ap (option_map target_view) c.in-None.is)) in
-    none_raised (dep_of (round_view c.args.around.now) own) c.args.source own (map facts_of c.args.symbols.now.items) none
+    none_raised (dep_of (scope_view c.args.scope.now) own) c.args.source own (map facts_of c.args.symbols.now.items) none

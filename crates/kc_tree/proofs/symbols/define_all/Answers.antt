@@ -8,10 +8,10 @@ use Rattle.kc_tree.specs.Conditions.{defined_by}
 use Rattle.kc_tree.specs.Definitions.{raised_symbol}
 use Rattle.kc_tree.specs.Passes.{said_by, changed}
 use Rattle.kc_tree.specs.Rounds.{round}
-use Rattle.kc_tree.specs.RoundViews.{round_view, inside_view}
+use Rattle.kc_tree.specs.ScopeViews.{scope_view}
 use Rattle.kc_tree.specs.Views.{facts_of}
 use Rattle.kc_tree.proofs.EntryWalkLemmas.{line_left, own_left, left_behind, left_as_is, rest_said, entry_passed}
-use Rattle.kc_tree.proofs.RoundLemmas.{seen-is, openers_reach}
+use Rattle.kc_tree.proofs.RoundLemmas.{scope-is, scopes_reach}
 use Rattle.kc_tree.proofs.TableLemmas.{facts_next, facts_so_far, same_numbers, symbol-at, all_passed}
 use Rattle.kc_tree.proofs.symbols.define_all.Goals as goal
 
@@ -20,11 +20,11 @@ entries-init c =
     let ss = said_by c.args.lines.now in
     (record { behind = refl; long = refl; within = omega arith }, c.requires.raised ∙ same_numbers (raised_symbol ss) (facts_so_far ss 0) (length c.args.symbols.now.items) (λ s. refl))
 
-pub around-around-requires : goal.around-around-requires
-around-around-requires c =
+pub scope_at-scope-requires : goal.scope_at-scope-requires
+scope_at-scope-requires c =
     let long = c.entries.invariant.0.long in
     let within : c.entries.place < length c.args.lines.now = omega (arith, c.entries-test.true, long) in
-    openers_reach c.args.lines.now c.entries.place c.args.openers.now within c.requires.openers
+    scopes_reach c.args.lines.now c.entries.place c.args.scopes.now within c.requires.scopes
 
 pub entries-preserved-in_ok-define_at : goal.entries-preserved-in_ok-define_at
 entries-preserved-in_ok-define_at c =
@@ -38,8 +38,8 @@ entries-preserved-in_ok-define_at c =
     let n = length c.args.symbols.now.items in
     let long = left.long in
     let within : i < length all = omega (arith, c.entries-test.true, long) in
-    let r = round_view c.around-around.result.now in
-    let seen = seen-is all i c.args.openers.now (map inside_view c.args.insides.now) (round_view c.outside-outside.result) r within c.requires.openers c.requires.insides c.outside-outside.ensures c.around-around.ensures in
+    let r = scope_view c.scope_at-scope.result.now in
+    let seen = scope-is all i c.args.scopes.now r within c.requires.scopes c.scope_at-scope.ensures in
     let x = get_or ls i c.index-lines-place.result in
     let here : x ≡ get_or ls i x = ap (λ (l : Line). get_or ls i l) c.index-lines-place.is in
     let at = symbol-at all i x (Some c.in-Some.symbol) within (line_left all ls i x left here) c.in-Some.ensures in

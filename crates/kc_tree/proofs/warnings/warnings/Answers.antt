@@ -1,6 +1,6 @@
 use Rattle.std.proofs.Common.{◌∙◌, arith}
 use Rattle.kc_tree.specs.Passes.{said_by}
-use Rattle.kc_tree.proofs.OpenerLemmas.{length-said_by}
+use Rattle.kc_tree.proofs.PlaceLemmas.{length-said_by}
 use Rattle.kc_tree.proofs.WarningLemmas.{is_place, warned-is, warned_all}
 use Rattle.kc_tree.proofs.warnings.warnings.Goals as goal
 

@@ -10,7 +10,8 @@ use Rattle.kc_values.proofs.laws.accepted_have_one_solution.Goals as goal
 
 pub returns-clause-exists : goal.returns-clause-exists
 returns-clause-exists c tree user free =
-    exists (Truth N) (symbol_count tree) (needs_in (needs tree)) (equations tree user) (below_count tree (c.needs_are_defined.ensures tree)) (c.equations_read_needs.ensures tree user) (free_count tree free)
+    exists (Truth N) (symbol_count tree) (needs_in (needs tree)) (equations tree user) (below_count tree (c.needs_are_defined.ensures tree)) (c.equations_read_needs.ensures tree user)
+    (free_count tree free)
 
 pub returns-clause-agree : goal.returns-clause-agree
 returns-clause-agree c tree user free V v =

@@ -7,7 +7,8 @@ use Rattle.kc_values.proofs.members.settle.Goals as goal
 pub returns-clause-settled : goal.returns-clause-settled
 returns-clause-settled g c =
     let k = known_by (g.V.Values.kind_of c.args.values.now) (g.V.Values.tri_of c.args.values.now) (g.V.Values.text_of c.args.values.now) in
-    settled_write c.args.tree.now k c.args.users.now c.args.selections.now.settled.items c.args.choice.0 c.selected_in-selection.result c.requires.there c.requires.settled c.selected_in-selection.ensures
+    settled_write c.args.tree.now k c.args.users.now c.args.selections.now.settled.items c.args.choice.0 c.selected_in-selection.result c.requires.there c.requires.settled
+    c.selected_in-selection.ensures
 
 pub returns-clause-only : goal.returns-clause-only
 returns-clause-only g c = settled_only c.args.selections.now.settled.items c.args.choice.0 c.selected_in-selection.result

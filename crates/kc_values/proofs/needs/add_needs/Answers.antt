@@ -1,4 +1,4 @@
-use Rattle.std.proofs.Common.{◌≡◌, ◌+◌, Some, sym, refl, subst, arith}
+use Rattle.std.proofs.Common.{◌≡◌, ◌+◌, ◌∙◌, ℕ, List, Some, ap, sym, refl, subst, arith}
 use Rattle.kc_tree.specs.Views.{facts_of}
 use Rattle.kc_values.specs.NeedRows.{first_of, AreFirst}
 use Rattle.kc_values.proofs.RowSteps.{found_first, before_length, one_more, same_more, noted_first}
@@ -20,7 +20,8 @@ returns-in-Some-clause-needs c =
 
 pub returns-clause-needs : goal.returns-clause-needs
 returns-clause-needs c =
-    one_more c.args.tree.now c.args.symbol c.args.needs.now c.add.new.self c.in_ok-row.row.items c.requires.needs c.in_ok-add.ensures.added c.in_ok-row.ensures
+    one_more c.args.tree.now c.args.symbol c.args.needs.now c.add.new.self c.numbers.result.now c.requires.needs c.in_ok-add.ensures.added
+    (c.numbers.ensures ∙ ap (λ (r : ℕ × List ℕ). r.1) c.in_ok-needs_of.ensures)
 
 pub returns-clause-first : goal.returns-clause-first
 returns-clause-first c =

@@ -16,5 +16,9 @@ returns c =
     let three = c.in_ok-command-3.ensures ∙ ap (λ a. with_rule a (option_rule (codes "out"))) two in
     let four = c.in_ok-command-4.ensures ∙ ap (λ a. with_rule a (option_rule (codes "header"))) three in
     let five = c.in_ok-command-5.ensures ∙ ap (λ a. with_rule a (option_rule (codes "savedefconfig"))) four in
-    let six = c.in_ok-command-6.ensures ∙ ap (λ a. with_rule a (option_rule (codes "prefix"))) five in
-    last_rule c.with_flag.result _ _ (flag_rule (codes "must-exist")) six c.with_flag.ensures
+    let six = c.in_ok-command-6.ensures ∙ ap (λ a. with_rule a (option_rule (codes "depfile"))) five in
+    let seven = c.in_ok-command-7.ensures ∙ ap (λ a. with_rule a (option_rule (codes "prefix"))) six in
+    let eight = c.in_ok-command-8.ensures ∙ ap (λ a. with_rule a (flag_rule (codes "must-exist"))) seven in
+    let nine = c.in_ok-command-9.ensures ∙ ap (λ a. with_rule a (flag_rule (codes "strict"))) eight in
+    let ten = c.in_ok-command-10.ensures ∙ ap (λ a. with_rule a (flag_rule (codes "warn-lost"))) nine in
+    last_rule c.with_flag-4.result _ _ (flag_rule (codes "replace")) ten c.with_flag-4.ensures

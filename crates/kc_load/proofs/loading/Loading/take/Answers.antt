@@ -1,8 +1,9 @@
 use Rattle.std.proofs.Common.{ℕ, List, min, ◌+◌, Some, ap, subst, ◌∙◌, if◌then◌else◌}
 use Rattle.kc_expr.specs.Names.{same_name}
 use Rattle.kc_read.specs.Files.{Files}
-use Rattle.kc_load.specs.Loaded.{AreSources, lines_of}
-use Rattle.kc_load.specs.Steps.{most}
+use Rattle.kc_read.specs.Expansion.{lines_of}
+use Rattle.kc_load.specs.Loaded.{AreSources}
+use Rattle.kc_text.specs.Limits.{last_count}
 use Rattle.kc_load.proofs.loading.Loading.take.Goals as goal
 
 pub returns : goal.returns
@@ -14,5 +15,5 @@ returns c =
       waiting_is = lists.waiting_is;
       puts = λ other. c.in_ok-insert.ensures.ok other ∙ ap (λ (files : Files). if same_name other c.args.name.items then Some c.args.bytes.items else files other) lists.files_are;
       asked_are = lists.asked_are;
-      lines_are = c.lines_with-lines.ensures ∙ ap (λ bytes. min (c.args.self.now.lines + lines_of bytes) most) c.deref.ensures.value;
+      lines_are = c.lines_with-lines.ensures ∙ ap (λ bytes. min (c.args.self.now.lines + lines_of bytes) last_count) c.deref.ensures.value;
     }

@@ -1,15 +1,12 @@
-use Rattle.std.proofs.Common.{length, ◌≡◌, arith}
 use Rattle.kc_order.proofs.Held.{theirs_push, held_push}
 use Rattle.kc_order.proofs.needs.Needs.add.Goals as goal
 
 pub invariant_of-self-in_default : goal.invariant_of-self-in_default
 invariant_of-self-in_default c =
-    let rows = c.self.inside.rows.items in
-    let number : c.len-number.result ≡ length rows = omega (arith, c.self.inside.rows.ok.0) in
-    rw (c.in_ok-push.ensures.items, c.in_default.ensures.items, number) (theirs_push rows c.self.inside.row_of.items c.args.row c.self.invariant)
+    rw (c.in_default.ensures.added, c.in_ok-push.ensures.items, c.count-number.ensures)
+    (theirs_push c.self.inside.rows c.self.inside.row_of.items c.args.row.now c.self.invariant)
 
 pub returns-clause-added : goal.returns-clause-added
 returns-clause-added c =
-    let rows = c.self.inside.rows.items in
-    let number : c.len-number.result ≡ length rows = omega (arith, c.self.inside.rows.ok.0) in
-    rw (c.in_ok-push.ensures.items, c.in_default.ensures.items, number, ← c.self.view_is) (held_push rows c.self.inside.row_of.items c.args.row c.self.invariant.there)
+    rw (c.in_default.ensures.added, c.in_ok-push.ensures.items, c.count-number.ensures, ← c.self.view_is)
+    (held_push c.self.inside.rows c.self.inside.row_of.items c.args.row.now c.self.invariant.there)

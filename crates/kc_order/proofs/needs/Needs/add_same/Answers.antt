@@ -5,7 +5,7 @@ use Rattle.kc_order.proofs.needs.Needs.add_same.Goals as goal
 
 pub invariant_of-self-2 : goal.invariant_of-self-2
 invariant_of-self-2 c =
-    let rows = c.self.inside.rows.items in
+    let rows = c.self.inside.rows in
     let row_of = c.self.inside.row_of.items in
     let below : c.args.symbol < length row_of = omega (arith, c.requires, ap length c.self.view_is, held_len rows row_of) in
     let row : c.index-number.result.now ≡ get_or row_of c.args.symbol 0 = get_or_read row_of c.args.symbol c.index-number.result.now below c.index-number.ensures 0 in

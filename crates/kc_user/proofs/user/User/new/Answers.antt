@@ -1,4 +1,4 @@
-use Rattle.std.proofs.Common.{ap, length, sym, ◌∙◌, map}
+use Rattle.std.proofs.Common.{ap, length, sym, ◌∙◌}
 use Rattle.std.proofs.lemmas.List.{length-map}
 use Rattle.kc_tree.specs.Views.{choice_facts_of}
 use Rattle.kc_user.proofs.UserLemmas.{empties}

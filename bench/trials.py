@@ -1,0 +1,256 @@
+#!/usr/bin/python3
+"""Tries the built program as somebody new to it would: trials.py [KCONF]
+
+Runs at once into one log, full disks, a closed standard error, folders and files that may not be written or read, names that are
+folders, readers that go away, limits of a file's size, and 2,000,000 warnings. Each run has to end with the status and the line
+of docs/formats.md, and to leave what is said there. Root may write everywhere, so where root starts this it goes on as nobody.
+
+Each trial has a folder of its own. The script ends with status 1 where one does not end so, and names it.
+"""
+
+import os
+import pathlib
+import pwd
+import resource
+import shutil
+import signal
+import subprocess
+import sys
+import tempfile
+
+TOP = pathlib.Path(__file__).resolve().parent.parent
+TREE = 'config A\n\tbool "a"\n\nconfig S\n\tstring "s"\n\tdefault "x"\n'
+CONFIG = '#\n# Automatically generated file; DO NOT EDIT.\n# Main menu\n#\n# CONFIG_A is not set\nCONFIG_S="x"\n'
+HEADER = '/*\n * Automatically generated file; DO NOT EDIT.\n * Main menu\n */\n#define CONFIG_S "x"\n'
+FILES = {"--out": "config", "--header": "header", "--savedefconfig": "minimal", "--depfile": "rule"}
+OLD = "from the run before\n"
+RUNS = 8  # at once
+LINES = 300  # of warnings of each of them
+MOST = 2_000_000  # warnings of one run
+SECONDS = 2.0  # of processor time for them
+
+
+class Wrong(Exception):
+    """What was found, where it is not what is wanted."""
+
+
+def want(what, found, wanted):
+    if found != wanted:
+        raise Wrong(f"{what}: {found!r}, not {wanted!r}")
+
+
+class Place:
+    """A folder with a tree, and the program."""
+
+    def __init__(self, path, kconf):
+        self.path, self.kconf = pathlib.Path(path), kconf
+        self.put("Kconfig", TREE)
+
+    def put(self, name, text):
+        (self.path / name).write_text(text)
+
+    def get(self, name):
+        """A file's text; None where it is not there."""
+        path = self.path / name
+        return path.read_text() if path.exists() else None
+
+    def run(self, *words, **more):
+        """A run with these words: its status, and what it said on standard error."""
+        ran = subprocess.run([self.kconf, *words], cwd=self.path, stdin=subprocess.DEVNULL, capture_output=True, text=True, **more)
+        return ran.returncode, ran.stderr
+
+    def left(self):
+        """What stands beside a place."""
+        return sorted(str(it) for it in self.path.rglob("*.kconf-*"))
+
+
+def want_lines(what, found, names):
+    """Each line of each run has to be there, whole."""
+    lines = [f"dot.config:{n}: warning K7: unknown symbol {name}\n" for n, name in enumerate(names, 1)]
+    torn = [line for line in found if line not in lines]
+    want(f"{what}: torn lines ({len(torn)})", torn[:3], [])
+    want(f"{what}: how often each came", {found.count(line) for line in lines}, {RUNS})
+
+
+def runs_at_once_tear_no_line(place):
+    names = [f"UNKNOWN_{n}_{'X' * (n % 80)}" for n in range(LINES)]
+    place.put("dot.config", "".join(f"CONFIG_{name}=y\n" for name in names))
+    words = [place.kconf, "--config", "dot.config", "--out"]
+    for mode in ("a", "w"):  # as 2>>log and 2>log of a shell make it
+        with open(place.path / "log", mode) as log:
+            for run in [subprocess.Popen([*words, f"o{n}", "Kconfig"], cwd=place.path, stderr=log) for n in range(RUNS)]:
+                want("status", run.wait(), 0)
+        want_lines("the log", place.get("log").splitlines(keepends=True), names)
+        os.unlink(place.path / "log")
+    reader, writer = os.pipe()
+    runs = [subprocess.Popen([*words, f"o{n}", "Kconfig"], cwd=place.path, stderr=writer) for n in range(RUNS)]
+    os.close(writer)
+    with open(reader) as pipe:
+        want_lines("the pipe", list(pipe), names)
+    want("statuses", [run.wait() for run in runs], [0] * RUNS)
+
+
+def a_full_disk_is_told(place):
+    for flags in ([], ["--replace"]):
+        for at, full in enumerate(FILES):
+            for name in FILES.values():
+                place.put(name, OLD)
+            words = [word for option, name in FILES.items() for word in (option, "/dev/full" if option == full else name)]
+            said = place.run(*flags, *words, "Kconfig")
+            # The minimal file of this tree is empty, so nothing of it is refused.
+            if full == "--savedefconfig":
+                want(f"{full} full", said, (0, ""))
+                continue
+            want(f"{full} full", said, (3, "error E19: cannot write /dev/full\n"))
+            before = [CONFIG, HEADER, ""][:at] if not flags else [OLD] * at
+            want(f"before {full}", [place.get(name) for name in FILES.values()][:at], before)
+            want(f"behind {full}", [place.get(name) for name in FILES.values()][at + 1 :], [OLD] * (3 - at))
+    place.put("dot.config", "CONFIG_A=y\n")
+    words = ["--config", "dot.config", "--out", "config", "--savedefconfig", "/dev/full", "Kconfig"]
+    want("a minimal file with a line", place.run(*words), (3, "error E19: cannot write /dev/full\n"))
+
+
+def a_closed_standard_error_gets_into_no_file(place):
+    place.put("config", OLD)
+    place.put("dot.config", "CONFIG_Q=y\n")
+    for flags in ([], ["--replace"], ["--strict"]):
+        status, _ = place.run(*flags, "--config", "dot.config", "--out", "config", "Kconfig", preexec_fn=lambda: os.close(2))
+        want("with a warning", (status, place.get("config")), (3, OLD))
+        status, _ = place.run(*flags, "--config", "none", "--out", f"other{len(flags)}", "Kconfig", preexec_fn=lambda: os.close(2))
+        want("without one", (status, place.get(f"other{len(flags)}")), (0, CONFIG))
+    status, _ = place.run("--config", "none", "--out", "/dev/full", "Kconfig", preexec_fn=lambda: os.close(2))
+    want("with a full disk", status, 3)
+
+
+def what_may_not_be_written_or_read_is_named(place):
+    (place.path / "shut").mkdir()
+    place.put("shut/there", OLD)
+    place.put("mine", OLD)
+    os.chmod(place.path / "shut", 0o555)
+    os.chmod(place.path / "mine", 0o444)
+    for flags in ([], ["--replace"]):
+        want("a new file", place.run(*flags, "--out", "shut/new", "Kconfig"), (3, "error E19: cannot write shut/new\n"))
+        want("it", place.get("shut/new"), None)
+    want("a file that may not be written", place.run("--out", "mine", "Kconfig"), (3, "error E19: cannot write mine\n"))
+    want("its text", place.get("mine"), OLD)
+    want("a file of a shut folder, replaced", place.run("--replace", "--out", "shut/there", "Kconfig"), (3, "error E19: cannot write shut/there\n"))
+    want("its text", place.get("shut/there"), OLD)
+    want("the same, written", place.run("--out", "shut/there", "Kconfig"), (0, ""))
+    want("its new text", place.get("shut/there"), CONFIG)
+    for name in ("Kconfig", "dot.config", "part"):
+        place.put(name, {"Kconfig": TREE}.get(name, ""))
+        os.chmod(place.path / name, 0)
+        want(f"unreadable {name}", place.run("--config", "dot.config", "--out", "o", "Kconfig", "part"), (3, f"error E18: cannot read {name}\n"))
+        os.chmod(place.path / name, 0o644)
+    os.chmod(place.path / "shut", 0o755)
+
+
+def a_name_that_is_a_folder_is_named(place):
+    (place.path / "folder").mkdir()
+    for flags in ([], ["--replace"]):
+        want("--out", place.run(*flags, "--out", "folder", "Kconfig"), (3, "error E19: cannot write folder\n"))
+        want("--header", place.run(*flags, "--out", "o", "--header", "folder", "Kconfig"), (3, "error E19: cannot write folder\n"))
+        want("the file before it", place.get("o"), None if flags else CONFIG)
+        (place.path / "o").unlink(missing_ok=True)
+    want("--config", place.run("--config", "folder", "--out", "o", "Kconfig"), (3, "error E18: cannot read folder\n"))
+    want("a fragment", place.run("Kconfig", "folder"), (3, "error E18: cannot read folder\n"))
+    want("the root file", place.run("folder"), (3, "error E18: cannot read folder\n"))
+    place.put("Kconfig", 'source "folder"\n')
+    want("a sourced file", place.run("Kconfig"), (3, "error E18: cannot read folder\n"))
+    want("an output", place.get(".config"), None)
+
+
+def a_missing_name_is_told(place):
+    want("no words", place.run()[0], 2)
+    want("another option", place.run("--frobnicate", "Kconfig")[0], 2)
+    want("the root file", place.run("none"), (1, "none:0: error E1: no file none\n"))
+    want("a fragment", place.run("Kconfig", "none"), (3, "error E18: cannot read none\n"))
+    want("a .config that has to exist", place.run("--must-exist", "Kconfig"), (3, "error E18: cannot read .config\n"))
+    want("a folder of an output", place.run("--out", "none/o", "Kconfig"), (3, "error E19: cannot write none/o\n"))
+    want("an output", place.get(".config"), None)
+    want("a file that is named -", place.run("--out", "-", "Kconfig"), (0, ""))
+    want("its text", place.get("-"), CONFIG)
+
+
+def a_reader_that_goes_away_is_told(place):
+    for flags in ([], ["--replace"]):
+        reader, writer = os.pipe()
+        os.close(reader)
+        run = subprocess.run([place.kconf, *flags, "--out", "/dev/stdout", "Kconfig"], cwd=place.path, stdout=writer, stderr=subprocess.PIPE, text=True)
+        os.close(writer)
+        want("it", (run.returncode, run.stderr), (3, "error E19: cannot write /dev/stdout\n"))
+
+
+def a_limit_of_file_sizes_ends_the_run(place):
+    place.put("Kconfig", TREE + "".join(f'config B_{n}\n\tbool "b"\n' for n in range(1000)))
+    for flags in ([], ["--replace"]):
+        place.put("config", OLD)
+        limit = lambda: resource.setrlimit(resource.RLIMIT_FSIZE, (4096, 4096))
+        said = place.run(*flags, "--config", "none", "--out", "config", "Kconfig", preexec_fn=limit)
+        want("it", said, (-signal.SIGXFSZ, ""))
+        text = place.get("config")
+        want("the file", text == OLD if flags else text.startswith(CONFIG.split("\n# CONFIG_A")[0]) and len(text) <= 4096, True)
+        for name in place.left():  # it was ended, so nobody takes this away
+            os.unlink(name)
+
+
+def many_warnings_cost_little(place):
+    with open(place.path / "dot.config", "w") as file:
+        file.writelines(f"CONFIG_U_{n}=y\n" for n in range(MOST))
+    spent = []
+    for _ in range(3):
+        with open(place.path / "log", "w") as log:
+            run = subprocess.Popen([place.kconf, "--config", "dot.config", "--out", "o", "Kconfig"], cwd=place.path, stderr=log)
+            _, status, usage = os.wait4(run.pid, 0)
+        want("status", status, 0)
+        spent.append(usage.ru_utime + usage.ru_stime)
+    with open(place.path / "log") as log:
+        right = [line == f"dot.config:{n}: warning K7: unknown symbol U_{n - 1}\n" for n, line in enumerate(log, 1)]
+    want("lines, and right ones", (len(right), sum(right)), (MOST, MOST))
+    print(f"  {MOST:,} warnings took {min(spent):.2f} s of processor time, least of three")
+    want(f"under {SECONDS} s", min(spent) < SECONDS, True)
+
+
+def become_nobody(folder):
+    """Goes on as nobody, who then owns the folder."""
+    nobody = pwd.getpwnam("nobody")
+    os.chown(folder, nobody.pw_uid, nobody.pw_gid)
+    os.setgroups([])
+    os.setgid(nobody.pw_gid)
+    os.setuid(nobody.pw_uid)
+
+
+def main():
+    kconf = pathlib.Path(sys.argv[1] if len(sys.argv) > 1 else TOP / "crates/kconf/out/kconf").resolve()
+    wrong = 0
+    folder = tempfile.mkdtemp()
+    shutil.copy(kconf, folder)
+    os.chmod(f"{folder}/{kconf.name}", 0o755)
+    if os.geteuid() == 0:
+        become_nobody(folder)
+    for trial in (
+        runs_at_once_tear_no_line,
+        a_full_disk_is_told,
+        a_closed_standard_error_gets_into_no_file,
+        what_may_not_be_written_or_read_is_named,
+        a_name_that_is_a_folder_is_named,
+        a_missing_name_is_told,
+        a_reader_that_goes_away_is_told,
+        a_limit_of_file_sizes_ends_the_run,
+        many_warnings_cost_little,
+    ):
+        with tempfile.TemporaryDirectory(dir=folder) as path:
+            place = Place(path, f"{folder}/{kconf.name}")
+            try:
+                trial(place)
+                want("files left beside", place.left(), [])
+                print(f"ok {trial.__name__}")
+            except Wrong as it:
+                wrong += 1
+                print(f"WRONG {trial.__name__}: {it}")
+    shutil.rmtree(folder)
+    sys.exit(wrong > 0)
+
+
+if __name__ == "__main__":
+    main()

@@ -1,0 +1,5 @@
+use Rattle.kc_conf.proofs.HeardLemmas.{nothing_lost}
+use Rattle.kc_conf.proofs.laws.nothing_is_lost.Goals as goal
+
+pub returns : goal.returns
+returns c = nothing_lost c.written_are_whole.ensures

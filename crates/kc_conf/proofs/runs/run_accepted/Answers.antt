@@ -1,0 +1,43 @@
+-- A run over an accepted tree ends with its rule for make, or breaks off before it or in it.
+use Rattle.std.proofs.Common.{map, subst, sym}
+use Rattle.std.proofs.lemmas.Result.{IfOk-weaker, IfErr-weaker}
+use Rattle.std.proofs.Common.{List, ℕ}
+use Rattle.kc_read.specs.Files.{bytes_in}
+use Rattle.kc_conf.specs.Faults.{CountsInputs}
+use Rattle.kc_conf.proofs.RunLemmas.{Broken-accepted, Broken-accepted_rule, CountsInputs-outputs, Finishes-accepted}
+use Rattle.kc_conf.proofs.runs.run_accepted.Goals as goal
+
+pub returns-in-Ok-clause-ok : goal.returns-in-Ok-clause-ok
+returns-in-Ok-clause-ok g c =
+    let (all, are, part) = c.in-Ok.ensures.ok in
+    IfOk-weaker c.end_run.result _ _ (λ ended ends. (
+      all,
+      are,
+      Finishes-accepted (bytes_in c.args.files.now) c.args.options.now c.args.tree.now all c.in-Ok.status ended
+          (g.O.Outputs.seen c.args.outputs.now) (g.O.Outputs.seen c.run_tree.new.outputs) (g.O.Outputs.seen c.end_run.new.outputs) c.requires.accepted part ends,
+    )) c.end_run.ensures.ok
+
+pub returns-in-Ok-clause-err : goal.returns-in-Ok-clause-err
+returns-in-Ok-clause-err g c =
+    let (all, are, part) = c.in-Ok.ensures.ok in
+    IfErr-weaker c.end_run.result _ _ (λ cause breaks. (
+      all,
+      are,
+      Broken-accepted_rule c.one_answer.ensures c.opened_are_one_list.ensures.one (bytes_in c.args.files.now) c.args.options.now c.args.tree.now all c.in-Ok.status cause
+          (g.O.Outputs.seen c.args.outputs.now) (g.O.Outputs.seen c.run_tree.new.outputs) (g.O.Outputs.seen c.end_run.new.outputs) c.requires.accepted part breaks,
+    )) c.end_run.ensures.err
+
+pub returns-in-Ok-clause-counted_inputs : goal.returns-in-Ok-clause-counted_inputs
+returns-in-Ok-clause-counted_inputs g c =
+    IfErr-weaker c.end_run.result _ _ (λ cause is.
+    subst (λ (counts : List ℕ). CountsInputs cause (map g.I.Input.failures c.args.inputs.now) counts) (sym c.in-Ok.ensures.quiet_inputs)
+    (CountsInputs-outputs cause (map g.I.Input.failures c.args.inputs.now) is)) c.end_run.ensures.cause
+
+pub returns-in-Err-clause-err : goal.returns-in-Err-clause-err
+returns-in-Err-clause-err g c =
+    let (all, are, broken) = c.in-Err.ensures.err in (
+      all,
+      are,
+      Broken-accepted c.one_answer.ensures (bytes_in c.args.files.now) c.args.options.now c.args.tree.now all c.in-Err.cause
+          (g.O.Outputs.seen c.args.outputs.now) (g.O.Outputs.seen c.run_tree.new.outputs) c.requires.accepted broken,
+    )

@@ -1,0 +1,206 @@
+//! The values that were given and are not the symbols'.
+ghost use Rattle.std.specs.Prelude.{◌≡◌, ◌++◌, ◌<◌, length, map, IfOk, OnOk};
+ghost use Rattle.kc_expr.specs.Value.{known_of};
+ghost use Rattle.kc_solve.specs.Solved.{known};
+ghost use Rattle.kc_tree.specs.Views.{facts_of};
+ghost use Rattle.kc_user.specs.Given.{At};
+ghost use Rattle.kc_user.specs.Places.{place_at};
+ghost use Rattle.kc_user.specs.ValueView.{given_of_value};
+ghost use Rattle.kc_values.specs.Differs.{given_of};
+ghost use Rattle.kc_values.specs.Solution.{symbol_count};
+ghost use Rattle.kc_values.specs.User.{place};
+ghost use Rattle.kc_conf.specs.Lost as spec;
+ghost use Rattle.kc_conf.specs.LostView.{given_by};
+ghost use Rattle.kc_conf.specs.Outcome.{lost_told};
+
+use kc_expr::expression::{Kind, SymId, Tri};
+use kc_expr::values::{Values, tri_text};
+use kc_solve::solved::Solved;
+use kc_text::escape_into;
+use kc_tree::parts::Symbol;
+use kc_user::user::User;
+use kc_user::value::UserValue;
+use kc_values::lookups::{facts, name};
+use kc_words::Options;
+use std::alloc::{AllocError, Global};
+
+// Adds a text as a `.config` writes it.
+fn add_text(kind: Kind, text: &[u8], line: &mut Vec<u8>) -> Result<(), AllocError>
+    ensures { OnOk result (line.new.items ≡ line.old.items ++ spec.written_text kind text.now) }
+{
+    match kind {
+        Kind::Str => {
+            line.extend_from_slice(b"\"")?;
+            escape_into(text, line)?;
+            line.extend_from_slice(b"\"")
+        }
+        Kind::Undefined | Kind::Bool | Kind::Tristate | Kind::Int | Kind::Hex => {
+            line.extend_from_slice(text)
+        }
+    }
+}
+
+// A value: of a bool or tristate, or a text.
+#[derive(Clone, Copy)]
+enum Shown<'a> {
+    Truth(Tri),
+    Text(&'a [u8]),
+}
+
+// What was given.
+fn shown_given<'a>(given: &'a UserValue) -> Shown<'a>
+    ensures { given_by result ≡ given_of_value given.now }
+{
+    match given {
+        UserValue::Tri(tri) => Shown::Truth(*tri),
+        UserValue::Text(text) => Shown::Text(text),
+    }
+}
+
+// The value of a symbol of this type.
+fn shown_by<'a>(kind: Kind, tri: Tri, text: &'a [u8]) -> Shown<'a>
+    ensures { given_by result ≡ given_of (known_of kind tri text.now) }
+{
+    match kind {
+        Kind::Bool | Kind::Tristate => Shown::Truth(tri),
+        Kind::Undefined | Kind::Str | Kind::Int | Kind::Hex => Shown::Text(text),
+    }
+}
+
+// A symbol's value.
+fn shown_value<'a>(solved: &'a Solved<'_>, id: SymId) -> Shown<'a>
+    ensures { given_by result ≡ given_of (known solved.now id) }
+{
+    solved.tells_known();
+    shown_by(solved.kind(id), solved.tri(id), solved.text(id))
+}
+
+// Adds a value.
+fn add_shown(kind: Kind, shown: Shown<'_>, line: &mut Vec<u8>) -> Result<(), AllocError>
+    ensures { OnOk result (line.new.items ≡ line.old.items ++ spec.value_text kind (given_by shown.entry)) }
+{
+    match shown {
+        Shown::Truth(tri) => line.extend_from_slice(tri_text(tri)),
+        Shown::Text(text) => add_text(kind, text, line),
+    }
+}
+
+// Whether the two are one value.
+fn is_same(given: Shown<'_>, value: Shown<'_>) -> bool
+    ensures { result ≡ spec.same_given (given_by given.entry) (given_by value.entry) }
+{
+    match (given, value) {
+        (Shown::Truth(given), Shown::Truth(tri)) => given == tri,
+        (Shown::Text(given), Shown::Text(text)) => given == text,
+        (Shown::Truth(_), Shown::Text(_)) => false,
+        (Shown::Text(_), Shown::Truth(_)) => false,
+    }
+}
+
+// The line of a value that was given and is not the symbol's.
+fn lost_line(
+    alloc: Global,
+    name: &[u8],
+    kind: Kind,
+    given: Shown<'_>,
+    value: Shown<'_>,
+) -> Result<Vec<u8>, AllocError>
+    ensures { IfOk result (λ line. line.items ≡ spec.lost_line name.now kind (given_by given.entry) (given_by value.entry)) }
+{
+    let mut line = Vec::from_slice(alloc, b"warning K14: ")?;
+    line.extend_from_slice(name)?;
+    line.extend_from_slice(b" was given ")?;
+    add_shown(kind, given, &mut line)?;
+    line.extend_from_slice(b" and is ")?;
+    add_shown(kind, value, &mut line)?;
+    Ok(line)
+}
+
+// The line of a symbol, behind those that are there.
+fn lost_by(
+    alloc: Global,
+    name: &[u8],
+    kind: Kind,
+    given: Option<&UserValue>,
+    value: Shown<'_>,
+    lines: &mut Vec<Vec<u8>>,
+) -> Result<(), AllocError>
+    ensures { OnOk result (map (λ l. l.items) lines.new.items ≡ map (λ l. l.items) lines.old.items ++ spec.lost_by name.now kind (place given.entry) (given_by value.entry)) }
+{
+    let Some(given) = given else {
+        return Ok(());
+    };
+    let given = shown_given(given);
+    if is_same(given, value) {
+        return Ok(());
+    }
+    let line = lost_line(alloc, name, kind, given, value)?;
+    lines.push(line)?;
+    Ok(())
+}
+
+// Whether a symbol has a prompt.
+fn has_prompt(symbol: &Symbol) -> bool
+    ensures { result ≡ spec.has_prompt (facts_of symbol.now).prompts }
+{
+    !symbol.prompts.is_empty()
+}
+
+// What stands in the symbol's place.
+fn given_at<'a>(user: &'a User, id: SymId) -> Option<&'a UserValue>
+    requires { id.0 < length user.now.symbols }
+    ensures { place result ≡ place_at user.now (At id.0) }
+{
+    user.get(id)
+}
+
+// The line of the symbol of a number, behind those that are there.
+fn lost_into(
+    alloc: Global,
+    solved: &Solved<'_>,
+    id: SymId,
+    lines: &mut Vec<Vec<u8>>,
+) -> Result<(), AllocError>
+    requires { id.0 < symbol_count solved.now.tree }
+    ensures { OnOk result (map (λ l. l.items) lines.new.items ≡ map (λ l. l.items) lines.old.items ++ spec.lost_at solved.now id.0) }
+{
+    solved.is_solution();
+    let tree = solved.tree();
+    let Some(symbol) = facts(tree, id) else {
+        return Ok(());
+    };
+    if !has_prompt(symbol) {
+        return Ok(());
+    }
+    let given = given_at(solved.user(), id);
+    let value = shown_value(solved, id);
+    lost_by(alloc, name(tree, id), symbol.kind, given, value, lines)
+}
+
+// The lines of all symbols.
+fn lost_lines(alloc: Global, solved: &Solved<'_>) -> Result<Vec<Vec<u8>>, AllocError>
+    ensures { IfOk result (λ lines. map (λ l. l.items) lines.items ≡ spec.lost_lines solved.now) }
+{
+    let mut lines = Vec::new(alloc);
+    let count = solved.tree().symbol_count();
+    for i in 0..count {
+        lost_into(alloc, solved, SymId(i), &mut lines)?;
+    }
+    Ok(lines)
+}
+
+/// The lines of the values that were given and are not the symbols', where they are asked for: whole lines without their
+/// end, in the order of the symbols' first definitions. Fails only where it is out of memory.
+pub fn lost_told(
+    alloc: Global,
+    options: &Options,
+    solved: &Solved<'_>,
+) -> Result<Vec<Vec<u8>>, AllocError>
+    ensures { IfOk result (λ lines. map (λ l. l.items) lines.items ≡ lost_told options.now solved.now) }
+{
+    if options.warn_lost {
+        lost_lines(alloc, solved)
+    } else {
+        Ok(Vec::new(alloc))
+    }
+}

@@ -1,0 +1,38 @@
+-- What is taken of the notes waits until its line ends.
+use Rattle.std.proofs.Common.{◌≡◌, ◌<◌, false, length, take, sym, ◌∙◌}
+use Rattle.std.proofs.lemmas.List.{length-take-le}
+use Rattle.kc_disk.specs.Lines.{ends_line}
+use Rattle.kc_disk.proofs.LineLemmas.{ends-chunk, noted-none, noted-places, noted-some}
+use Rattle.kc_disk.proofs.outputs.FileOutputs.note.Goals as goal
+
+pub invariant_of-self-then-not-ends_with-clause-line_waits : goal.invariant_of-self-then-not-ends_with-clause-line_waits
+invariant_of-self-then-not-ends_with-clause-line_waits g c = λ none.
+    let count = c.in-Ok.count in
+    let text = c.args.bytes.now in
+    let counted = length-take-le count text c.in-Ok.ensures.within in
+    let some : 0 < length (take count text) = rw counted c.in-Ok.ensures.some in
+    let not : ends_line (take count text) ≡ false = sym c.ends_with.ensures.value ∙ c.if-not-ends_with.true in
+    rw c.in-Ok.ensures.ok.2 (ends-chunk c.in-Ok.ensures.ok.0 (take count text) some not)
+
+pub returns-in-0-clause-err : goal.returns-in-0-clause-err
+returns-in-0-clause-err g c =
+    let before = g.M.Maker.told c.args.self.now.maker in
+    let after = g.M.Maker.told c.flush.new.maker in
+    let now = c.args.self.now in
+    let old = now.line.bytes.items in
+    let new = c.give_back.new.self.bytes.items in
+    let text = c.args.bytes.now in
+    noted-none now.options.now before after now.current now.buffer.bytes.items now.records c.fail-in-0.new.self old new text c.give_back.result
+    (λ s. noted-places now.options.now before (g.M.Maker.told c.take.new.maker) after now.current now.buffer.bytes.items s old c.take.new.self.bytes.items text c.flush.new.self.bytes.items new c.in-Ok.count c.give_back.result c.in-Ok.ensures.within c.in-Ok.ensures.ok c.flush.ensures.moves c.give_back.ensures.items c.give_back.ensures.gone)
+    c.in-0.is c.fail-in-0.ensures
+
+pub returns-in_default-give_back-clause-ok : goal.returns-in_default-give_back-clause-ok
+returns-in_default-give_back-clause-ok g c =
+    let before = g.M.Maker.told c.args.self.now.maker in
+    let after = g.M.Maker.told c.flush.new.maker in
+    let now = c.args.self.now in
+    let old = now.line.bytes.items in
+    let new = c.give_back.new.self.bytes.items in
+    let text = c.args.bytes.now in
+    noted-some now.options.now before after now.current now.buffer.bytes.items now.records old new text c.give_back.result
+    (noted-places now.options.now before (g.M.Maker.told c.take.new.maker) after now.current now.buffer.bytes.items now.records old c.take.new.self.bytes.items text c.flush.new.self.bytes.items new c.in-Ok.count c.give_back.result c.in-Ok.ensures.within c.in-Ok.ensures.ok c.flush.ensures.moves c.give_back.ensures.items c.give_back.ensures.gone)

@@ -1,0 +1,7 @@
+-- The first files are moved.
+use Rattle.std.proofs.Common.{◌≡◌, option_map}
+use Rattle.kc_disk.specs.Texts.{moved_times}
+use Rattle.kc_disk.proofs.settle.move_all.Given as goal
+
+abbrev pub invariant-loop-moved : goal.invariant-loop-moved
+invariant-loop-moved g l = g.M.Mover.told l.mover ≡ option_map (moved_times l.moved) (g.M.Mover.told l.initial.mover)

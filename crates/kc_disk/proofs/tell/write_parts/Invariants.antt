@@ -1,0 +1,9 @@
+-- The parts so far are written.
+use Rattle.std.proofs.Common.{◌≡◌, take, option_map}
+use Rattle.std.specs.Prelude.{flat_map}
+use Rattle.kc_conf.specs.declared.outputs.Which.TheVariants.{Notes}
+use Rattle.kc_disk.specs.Makers.{appended}
+use Rattle.kc_disk.proofs.tell.write_parts.Given as goal
+
+abbrev pub invariant-loop-part : goal.invariant-loop-part
+invariant-loop-part g l = g.M.Maker.told l.maker ≡ option_map (appended Notes (flat_map (λ part. part.now) (take l.part-index l.parts))) (g.M.Maker.told l.initial.maker)

@@ -1,0 +1,24 @@
+-- For proofs: What drafts tell.
+use Rattle.std.specs.Prelude.{ℕ, true, false, List, [], ◌++◌, Option, option_map, string_bytes}
+use Rattle.kc_disk.specs.Makers.{Made, Told}
+use Rattle.kc_disk.specs.declared.drafts.Draft.{Draft}
+
+abbrev pub made_from : Draft → Made
+made_from d = record { name = string_bytes d.name; bytes = d.bytes.items; is_open = d.is_open }
+
+-- a draft of which nothing was made
+abbrev pub unmade : Made
+unmade = record { name = []; bytes = []; is_open = false }
+
+abbrev pub opened_as : List ℕ → Made
+opened_as name = record { name = name; bytes = []; is_open = true }
+
+abbrev pub longer : List ℕ → Made → Made
+longer bytes made = record { name = made.name; bytes = made.bytes ++ bytes; is_open = made.is_open }
+
+abbrev pub shut : Made → Made
+shut made = record { name = made.name; bytes = made.bytes; is_open = false }
+
+-- the drafts of the files, and the notes of a maker
+abbrev pub drafted : Draft → Draft → Draft → Draft → Option Told → Option Told
+drafted config header minimal depfile = option_map (λ t. record { config = made_from config; header = made_from header; minimal = made_from minimal; depfile = made_from depfile; notes = t.notes })

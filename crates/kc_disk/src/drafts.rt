@@ -1,0 +1,140 @@
+//! The files of a run, kept in memory until all of them are whole.
+ghost use Rattle.std.specs.Prelude.{◌≡◌, ◌≤◌, length, take, IfOk, OnOk, OnErr};
+
+use crate::maker::Maker;
+use kc_conf::Which;
+use kc_dot::Fault;
+use std::alloc::Global;
+
+/// A file that is being made, or was.
+#[derive(Drop)]
+pub(crate) struct Draft {
+    name: String,
+    /// What it took.
+    pub(crate) bytes: Vec<u8>,
+    is_open: bool,
+}
+
+impl Draft {
+    ghost use Rattle.kc_disk.specs.Drafted.{longer, made_from, opened_as, shut, unmade};
+
+    fn new(alloc: Global) -> Draft
+        ensures { made_from result ≡ unmade }
+    {
+        Draft {
+            name: String::new(alloc),
+            bytes: Vec::new(alloc),
+            is_open: false,
+        }
+    }
+
+    fn begin(&mut self, alloc: Global, name: &str) -> Result<(), Fault>
+        ensures ok { OnOk result (made_from self.new ≡ opened_as name.now) }
+        ensures err { OnErr result (self.new ≡ self.old) }
+    {
+        match String::from_str(alloc, name) {
+            Ok(name) => {
+                self.name = name;
+                self.bytes.clear();
+                self.is_open = true;
+                Ok(())
+            }
+            Err(_) => Err(Fault),
+        }
+    }
+
+    // Takes all of the bytes, or none where there is no memory.
+    fn take(&mut self, bytes: &[u8]) -> Result<usize, Fault>
+        ensures within { IfOk result (λ count. count ≤ length bytes.now) }
+        ensures ok { IfOk result (λ count. made_from self.new ≡ longer (take count bytes.now) (made_from self.old)) }
+        ensures err { OnErr result (made_from self.new ≡ made_from self.old) }
+    {
+        match self.bytes.extend_from_slice(bytes) {
+            Ok(()) => Ok(bytes.len()),
+            Err(_) => Err(Fault),
+        }
+    }
+
+    fn end(&mut self)
+        ensures { made_from self.new ≡ shut (made_from self.old) }
+    {
+        self.is_open = false;
+    }
+}
+
+/// The files of a run in memory, and a maker that takes its notes.
+#[derive(Drop)]
+pub(crate) struct Drafts<M: Maker + Drop> {
+    alloc: Global,
+    pub(crate) config: Draft,
+    pub(crate) header: Draft,
+    pub(crate) minimal: Draft,
+    pub(crate) depfile: Draft,
+    pub(crate) notes: M,
+}
+
+impl<M: Maker + Drop> Drafts<M> {
+    ghost use Rattle.kc_disk.specs.Drafted.{made_from, unmade};
+
+    /// Nothing was made. The notes are those of this maker.
+    pub(crate) fn new(alloc: Global, notes: M) -> Drafts<M>
+        ensures config { made_from result.config ≡ unmade }
+        ensures header { made_from result.header ≡ unmade }
+        ensures minimal { made_from result.minimal ≡ unmade }
+        ensures depfile { made_from result.depfile ≡ unmade }
+        ensures notes { result.notes ≡ notes }
+    {
+        Drafts {
+            alloc,
+            config: Draft::new(alloc),
+            header: Draft::new(alloc),
+            minimal: Draft::new(alloc),
+            depfile: Draft::new(alloc),
+            notes,
+        }
+    }
+
+    /// The maker of the notes.
+    pub(crate) fn into_notes(self) -> M
+        ensures { result ≡ self.notes }
+    {
+        self.notes
+    }
+}
+
+impl<M: Maker + Drop> Maker for Drafts<M> {
+    ghost use Rattle.kc_disk.specs.Drafted.{drafted};
+
+    ghost told = { λ s. drafted s.config s.header s.minimal s.depfile (M.told s.notes) };
+
+    fn create(&mut self, which: Which, name: &str) -> Result<(), Fault> {
+        match which {
+            Which::Config => self.config.begin(self.alloc, name),
+            Which::Header => self.header.begin(self.alloc, name),
+            Which::Minimal => self.minimal.begin(self.alloc, name),
+            Which::Depfile => self.depfile.begin(self.alloc, name),
+            Which::Notes => Err(Fault),
+        }
+    }
+
+    fn write(&mut self, which: Which, bytes: &[u8]) -> Result<usize, Fault> {
+        match which {
+            Which::Config => self.config.take(bytes),
+            Which::Header => self.header.take(bytes),
+            Which::Minimal => self.minimal.take(bytes),
+            Which::Depfile => self.depfile.take(bytes),
+            Which::Notes => self.notes.write(Which::Notes, bytes),
+        }
+    }
+
+    fn close(&mut self, which: Which) -> Result<(), Fault> {
+        match which {
+            Which::Config => self.config.end(),
+            Which::Header => self.header.end(),
+            Which::Minimal => self.minimal.end(),
+            Which::Depfile => self.depfile.end(),
+            Which::Notes => return Err(Fault),
+        }
+        Ok(())
+    }
+}

@@ -1,0 +1,32 @@
+//! The inputs of a run.
+ghost use Rattle.std.specs.Prelude.{◌≡◌, ◌∷◌, false, not, map, IfOk};
+ghost use Rattle.kc_conf.specs.Outcome.{names_of};
+ghost use Rattle.kc_disk.specs.Openers.{held};
+ghost use Rattle.kc_disk.specs.Stages.{left};
+
+use crate::input::FileInput;
+use crate::opener::Opener;
+use kc_words::Options;
+use std::alloc::{AllocError, Global};
+
+/// The `.config`, which may be missing where `--must-exist` was not given, and then the fragments in order, each of which has
+/// to be there.
+pub(crate) fn inputs_of<'a, P: Opener>(
+    alloc: Global,
+    opener: &'a P,
+    options: &'a Options,
+) -> Result<Vec<FileInput<'a, P>>, AllocError>
+    ensures names { IfOk result (λ inputs. map (λ i. i.name.now) inputs.items ≡ names_of options.now) }
+    ensures missing { IfOk result (λ inputs. map (λ i. i.may_be_missing) inputs.items ≡ not options.now.must_exist ∷ map (λ _. false) options.now.fragments.items) }
+    // Each gives what the file of its name holds, from its beginning on.
+    ensures unread { IfOk result (λ inputs. map (λ i. left P.rest (P.files i.opener.now) i.name.now i.stage) inputs.items ≡ map (held (P.files opener.now)) (names_of options.now)) }
+    ensures quiet { IfOk result (λ inputs. map (λ i. i.failures) inputs.items ≡ map (λ _. 0) (names_of options.now)) }
+{
+    let mut inputs = Vec::new(alloc);
+    let config = FileInput::new(opener, options.config.as_str(), !options.must_exist);
+    inputs.push(config)?;
+    for fragment in &options.fragments {
+        inputs.push(FileInput::new(opener, fragment.as_str(), false))?;
+    }
+    Ok(inputs)
+}

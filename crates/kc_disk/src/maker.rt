@@ -1,0 +1,40 @@
+//! What makes files and takes their bytes.
+ghost use Rattle.std.specs.Prelude.{◌≡◌, ◌≤◌, Option, length, take, option_map, IfOk, OnOk, OnErr};
+ghost use Rattle.kc_disk.specs.Makers.{AreClosed, IsOpen, Tells, Told, appended, closed, opened};
+
+use kc_conf::Which;
+use kc_dot::Fault;
+
+/// Makes the files of a run and takes their bytes, and those of standard error, which are the notes (our own).
+///
+/// One over memory tells what it made; the system tells nothing. Each call is about one output, and changes nothing of
+/// another.
+pub trait Maker {
+    /// The files that were made and their bytes, or nothing told.
+    ghost told: { Self → Option Told };
+
+    /// Makes the file of this name for an output: it is empty, and open.
+    ///
+    /// The caller owes that no file is open. On `Fault` nothing was made.
+    fn create(&mut self, which: Which, name: &str) -> Result<(), Fault>
+        requires { Tells (told self.old) AreClosed }
+        ensures ok { OnOk result (told self.new ≡ option_map (opened which name.now) (told self.old)) }
+        ensures err { OnErr result (told self.new ≡ told self.old) };
+
+    /// Takes a beginning of the bytes, and answers how many it took.
+    ///
+    /// The caller owes that the output's file is open. On `Fault` nothing was taken.
+    fn write(&mut self, which: Which, bytes: &[u8]) -> Result<usize, Fault>
+        requires { Tells (told self.old) (IsOpen which) }
+        ensures within { IfOk result (λ count. count ≤ length bytes.now) }
+        ensures ok { IfOk result (λ count. told self.new ≡ option_map (appended which (take count bytes.now)) (told self.old)) }
+        ensures err { OnErr result (told self.new ≡ told self.old) };
+
+    /// Closes the file of an output. On `Fault` nothing is changed.
+    ///
+    /// The caller owes that it is open.
+    fn close(&mut self, which: Which) -> Result<(), Fault>
+        requires { Tells (told self.old) (IsOpen which) }
+        ensures ok { OnOk result (told self.new ≡ option_map (closed which) (told self.old)) }
+        ensures err { OnErr result (told self.new ≡ told self.old) };
+}

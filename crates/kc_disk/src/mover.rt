@@ -1,0 +1,42 @@
+//! What makes files beside their places and moves them there.
+ghost use Rattle.std.specs.Prelude.{◌≡◌, ◌≤◌, Option, length, take, option_map, IfOk, OnOk, OnErr};
+ghost use Rattle.kc_disk.specs.Placing.{Shelf, Shows, cleared, finished, grown_by, is_held, moved, started};
+
+use kc_dot::Fault;
+
+/// Makes files beside the places that they are to take, and moves them there, each in one step (our own).
+///
+/// One over memory tells what its places hold; the system tells nothing. Only `move_first` changes what a place holds.
+pub trait Mover {
+    /// What the places hold and what stands beside them, or nothing told.
+    ghost told: { Self → Option Shelf };
+
+    /// Whether the file of this name holds these bytes and no others.
+    fn holds(&self, name: &str, bytes: &[u8]) -> bool
+        ensures { Shows (told self.now) (λ s. result ≡ is_held s.held name.now bytes.now) };
+
+    /// Makes an empty file beside the place of this name. On `Fault` none was made.
+    fn start(&mut self, name: &str) -> Result<(), Fault>
+        ensures ok { OnOk result (told self.new ≡ option_map (started name.now) (told self.old)) }
+        ensures err { OnErr result (told self.new ≡ told self.old) };
+
+    /// Takes a beginning of the bytes for the file that was started, and answers how many it took. On `Fault` none was.
+    fn write(&mut self, bytes: &[u8]) -> Result<usize, Fault>
+        ensures within { IfOk result (λ count. count ≤ length bytes.now) }
+        ensures ok { IfOk result (λ count. told self.new ≡ option_map (grown_by (take count bytes.now)) (told self.old)) }
+        ensures err { OnErr result (told self.new ≡ told self.old) };
+
+    /// Waits until the disk has the file that was started, which is whole from then on. On `Fault` nothing is changed.
+    fn finish(&mut self) -> Result<(), Fault>
+        ensures ok { OnOk result (told self.new ≡ option_map finished (told self.old)) }
+        ensures err { OnErr result (told self.new ≡ told self.old) };
+
+    /// Moves the first of the whole files to its place. On `Fault` nothing is changed.
+    fn move_first(&mut self) -> Result<(), Fault>
+        ensures ok { OnOk result (told self.new ≡ option_map moved (told self.old)) }
+        ensures err { OnErr result (told self.new ≡ told self.old) };
+
+    /// Removes each file that stands beside a place.
+    fn clear(&mut self)
+        ensures { told self.new ≡ option_map cleared (told self.old) };
+}

@@ -1,0 +1,100 @@
+//! A run from a folder of files on, over what opens the streams, to the files that a maker makes.
+ghost use Rattle.std.specs.Prelude.{◌≡◌, [], string_bytes, IfErr, IfOk, OnErr};
+ghost use Rattle.kc_load.specs.Faults.{IsLoadFault};
+ghost use Rattle.kc_conf.specs.Outcome.{root_of};
+ghost use Rattle.kc_disk.specs.Openers.{source};
+ghost use Rattle.kc_disk.specs.Makers.{Tells, none_made};
+ghost use Rattle.kc_disk.specs.Program.{Ends, Ran};
+
+use crate::buffer::Buffer;
+use crate::inputs::inputs_of;
+use crate::maker::Maker;
+use crate::opener::Opener;
+use crate::outputs::FileOutputs;
+use crate::tell::tell_fault;
+use kc_conf::{FileMap, Kept, Options, Status};
+use kc_configure::configure;
+use kc_load::{Folder, LoadFault};
+use std::alloc::{AllocError, Global};
+
+// The two buffers of the outputs.
+fn buffers(alloc: Global) -> Result<(Buffer, Buffer), AllocError>
+    ensures { IfOk result (λ both. (both.0.bytes.items ≡ []) × (both.1.bytes.items ≡ [])) }
+{
+    Ok((Buffer::new(alloc)?, Buffer::new(alloc)?))
+}
+
+/// `configure` of kc_configure with inputs and outputs that are files: the streams are what the opener holds under the
+/// options' names, and what the run hands out reaches the files that the options name, and standard error, by way of the
+/// maker, which is handed back (our own).
+///
+/// The caller owes a maker that has made nothing. The `.config` and then each fragment is opened at its first read; only the
+/// `.config` may be missing, and only without `--must-exist`. Where the run ended a file, all that it handed out for it is in
+/// the file of that output's name; a file that it did not end holds a beginning of it. Of the notes all is out but a line
+/// that has not ended, where none of them failed. A fault of a byte that waited is one of its own file, and `Done` is
+/// answered only where each file is whole.
+///
+/// An error is a fault of loading, or E20 where there is no memory for the inputs and the buffers. No file was made then, and
+/// nothing was written.
+pub fn configure_over<F: Folder, P: Opener, M: Maker + Drop>(
+    alloc: Global,
+    folder: &mut F,
+    opener: &P,
+    options: &Options,
+    maker: M,
+    files: &mut FileMap,
+    kept: &mut Option<Kept>,
+) -> (Result<Status, LoadFault>, M)
+    requires { Tells (M.told maker) (λ t. t ≡ none_made) }
+    // The run leaves the outcome of the folder's files and of the streams by their names, or a part of it and a cause, and
+    // what it handed out reached the files.
+    ensures ran { IfOk result.0 (λ status. Ran (source (F.files folder.old) (F.failing folder.old)) (P.files opener.now) options.now status (M.told maker) (M.told result.1)) }
+    // A file of the tree that could not be read is one whose turn it was.
+    ensures fault { IfErr result.0 (IsLoadFault (F.files folder.old) (F.failing folder.old) (string_bytes options.now.root) (root_of options.now)) }
+    // After a fault of loading nothing was made.
+    ensures untouched { OnErr result.0 (M.told result.1 ≡ M.told maker) }
+{
+    let Ok((buffer, line)) = buffers(alloc) else {
+        return (Err(LoadFault::Memory), maker);
+    };
+    let Ok(mut inputs) = inputs_of(alloc, opener, options) else {
+        return (Err(LoadFault::Memory), maker);
+    };
+    let mut outputs = FileOutputs::new(maker, options, buffer, line);
+    match configure(
+        alloc,
+        folder,
+        options,
+        &mut inputs,
+        &mut outputs,
+        files,
+        kept,
+    ) {
+        Ok(status) => (Ok(status), outputs.into_maker()),
+        Err(fault) => (Err(fault), outputs.into_maker()),
+    }
+}
+
+/// The same, and a fault of loading is told on standard error: E18 with the name of the file, or E20. The status is then
+/// `Faulted`.
+pub fn run_over<F: Folder, P: Opener, M: Maker + Drop>(
+    alloc: Global,
+    folder: &mut F,
+    opener: &P,
+    options: &Options,
+    maker: M,
+    files: &mut FileMap,
+    kept: &mut Option<Kept>,
+) -> (Status, M)
+    requires { Tells (M.told maker) (λ t. t ≡ none_made) }
+    ensures { Ends (source (F.files folder.old) (F.failing folder.old)) (P.files opener.now) options.now result.0 (M.told maker) (M.told result.1) }
+{
+    let (ended, mut maker) = configure_over(alloc, folder, opener, options, maker, files, kept);
+    match ended {
+        Ok(status) => (status, maker),
+        Err(fault) => {
+            tell_fault(alloc, &mut maker, &fault);
+            (Status::Faulted, maker)
+        }
+    }
+}

@@ -1,0 +1,159 @@
+//! A run whose files take their places at the end.
+ghost use Rattle.std.specs.Prelude.{◌≡◌, ◌++◌, string_bytes, IfErr, IfOk, OnErr, OnOk};
+ghost use Rattle.kc_load.specs.Faults.{IsLoadFault};
+ghost use Rattle.kc_conf.specs.Outcome.{root_of};
+ghost use Rattle.kc_disk.specs.Openers.{source};
+ghost use Rattle.kc_disk.specs.Makers.{Tells, none_made};
+ghost use Rattle.kc_disk.specs.Placing.{IsClear, Shows};
+ghost use Rattle.kc_disk.specs.Replacing.{EndsReplacing, RanReplacing, Replaces, SameNotes, text_at, wanted_texts};
+ghost use Rattle.kc_disk.specs.Texts.{texts_of};
+
+use crate::drafts::Drafts;
+use crate::maker::Maker;
+use crate::mover::Mover;
+use crate::opener::Opener;
+use crate::over::configure_over;
+use crate::settle::{Stop, Text, settle};
+use crate::tell::{tell_fault, tell_stop};
+use kc_conf::{FileMap, Kept, Options, Status};
+use kc_load::{Folder, LoadFault};
+use std::alloc::{AllocError, Global};
+
+// Adds the text of a file, where it is wanted.
+fn add<'n, 'b>(
+    texts: &mut Vec<Text<'n, 'b>>,
+    name: &'n Option<String>,
+    bytes: &'b [u8],
+) -> Result<(), AllocError>
+    ensures { OnOk result (texts_of texts.new.items ≡ texts_of texts.old.items ++ text_at name.now bytes.now) }
+{
+    let Some(name) = name else {
+        return Ok(());
+    };
+    texts.push(Text {
+        name: name.as_str(),
+        bytes,
+    })?;
+    Ok(())
+}
+
+// The texts of the files that are wanted, in the order of the outputs.
+fn wanted<'n, 'b>(
+    alloc: Global,
+    options: &'n Options,
+    config: &'b [u8],
+    header: &'b [u8],
+    minimal: &'b [u8],
+    depfile: &'b [u8],
+) -> Result<Vec<Text<'n, 'b>>, AllocError>
+    ensures { IfOk result (λ texts. texts_of texts.items ≡ wanted_texts options.now config.now header.now minimal.now depfile.now) }
+{
+    let mut texts = Vec::new(alloc);
+    texts.push(Text {
+        name: options.out.as_str(),
+        bytes: config,
+    })?;
+    add(&mut texts, &options.header, header)?;
+    add(&mut texts, &options.minimal, minimal)?;
+    add(&mut texts, &options.depfile, depfile)?;
+    Ok(texts)
+}
+
+// Puts the drafts of a run that is done in their places.
+fn place<'n, N: Maker + Drop, M: Mover>(
+    alloc: Global,
+    options: &'n Options,
+    ran: Status,
+    drafts: &Drafts<N>,
+    mover: &mut M,
+) -> Result<Status, Stop<'n>>
+    requires { Shows (M.told mover.old) IsClear }
+    ensures { Replaces (wanted_texts options.now drafts.now.config.bytes.items drafts.now.header.bytes.items drafts.now.minimal.bytes.items drafts.now.depfile.bytes.items) ran result (M.told mover.old) (M.told mover.new) }
+{
+    let Status::Done = ran else {
+        return Ok(ran);
+    };
+    let texts = wanted(
+        alloc,
+        options,
+        &drafts.config.bytes,
+        &drafts.header.bytes,
+        &drafts.minimal.bytes,
+        &drafts.depfile.bytes,
+    )?;
+    settle(alloc, &texts, mover)?;
+    Ok(Status::Done)
+}
+
+/// `configure_over` with files that take their places in one step each, at the end of a run that is done, and only where
+/// their text is not there already (our own). The maker takes the notes alone, and is handed back.
+///
+/// The caller owes a maker that has made nothing, and a mover beside whose places nothing stands. After a run that is done
+/// each place holds its file's text; after any other, and after an error, every place is as it was. A `Stop` says that the run
+/// was done and a text could not take its place: what it leaves is as `settle` says. Nothing stands beside a place in the
+/// end.
+pub fn replace_over<'n, F: Folder, P: Opener, N: Maker + Drop, M: Mover>(
+    alloc: Global,
+    folder: &mut F,
+    opener: &P,
+    options: &'n Options,
+    notes: N,
+    mover: &mut M,
+    files: &mut FileMap,
+    kept: &mut Option<Kept>,
+) -> (Result<Result<Status, Stop<'n>>, LoadFault>, N)
+    requires notes { Tells (N.told notes) (λ t. t ≡ none_made) }
+    requires clear { Shows (M.told mover.old) IsClear }
+    // The run leaves the outcome of the folder's files and of the streams by their names, or a part of it and a cause; what it
+    // handed out was made, and took its places where it is done.
+    ensures ran { IfOk result.0 (λ ended. RanReplacing (source (F.files folder.old) (F.failing folder.old)) (P.files opener.now) options.now ended (N.told notes) (N.told result.1) (M.told mover.old) (M.told mover.new)) }
+    // A file of the tree that could not be read is one whose turn it was.
+    ensures fault { IfErr result.0 (IsLoadFault (F.files folder.old) (F.failing folder.old) (string_bytes options.now.root) (root_of options.now)) }
+    // After a fault of loading nothing was told or moved.
+    ensures silent { OnErr result.0 (SameNotes (N.told notes) (N.told result.1)) }
+    ensures untouched { OnErr result.0 (M.told mover.new ≡ M.told mover.old) }
+{
+    let drafts = Drafts::new(alloc, notes);
+    let (ran, drafts) = configure_over(alloc, folder, opener, options, drafts, files, kept);
+    match ran {
+        Ok(ran) => {
+            let ended = place(alloc, options, ran, &drafts, mover);
+            (Ok(ended), drafts.into_notes())
+        }
+        Err(fault) => (Err(fault), drafts.into_notes()),
+    }
+}
+
+/// The same, and what went wrong is told on standard error: a text that could not take its place (E19 with the name of the
+/// file, or E20), or a fault of loading (E18 with the name of the file, or E20). The status is then `Faulted`.
+pub fn run_replacing<F: Folder, P: Opener, N: Maker + Drop, M: Mover>(
+    alloc: Global,
+    folder: &mut F,
+    opener: &P,
+    options: &Options,
+    notes: N,
+    mover: &mut M,
+    files: &mut FileMap,
+    kept: &mut Option<Kept>,
+) -> (Status, N)
+    requires notes { Tells (N.told notes) (λ t. t ≡ none_made) }
+    requires clear { Shows (M.told mover.old) IsClear }
+    ensures { EndsReplacing (source (F.files folder.old) (F.failing folder.old)) (P.files opener.now) options.now result.0 (N.told notes) (N.told result.1) (M.told mover.old) (M.told mover.new) }
+{
+    let (ended, mut notes) = replace_over(
+        alloc, folder, opener, options, notes, mover, files, kept,
+    );
+    match ended {
+        Ok(placed) => match placed {
+            Ok(status) => (status, notes),
+            Err(stop) => {
+                tell_stop(alloc, &mut notes, &stop);
+                (Status::Faulted, notes)
+            }
+        },
+        Err(fault) => {
+            tell_fault(alloc, &mut notes, &fault);
+            (Status::Faulted, notes)
+        }
+    }
+}

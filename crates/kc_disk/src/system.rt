@@ -1,0 +1,106 @@
+//! The calls of the system that open files, make them, read and write.
+ghost use Rattle.std.specs.Prelude.{[], None};
+
+use crate::maker::Maker;
+use crate::opener::{OpenFault, Opener};
+use kc_conf::Which;
+use kc_dot::Fault;
+use std::fs::File;
+use std::io::{ErrorKind, Read, Write};
+use std::os::fd::AsFd;
+
+// What the system answers where a descriptor is not open.
+const NOT_OPEN: i32 = 9;
+
+/// The files of a disk, and standard error for the notes. It tells nothing.
+///
+/// Where standard error was closed when this was made, the notes fail: its descriptor may be that of a file that was opened
+/// since.
+#[derive(Drop)]
+pub(crate) struct System<'a> {
+    rt: &'a HostRuntime,
+    file: Option<File>,
+    has_notes: bool,
+}
+
+impl<'a> System<'a> {
+    /// No file is open. This is made before any other file is open.
+    pub(crate) fn new(rt: &'a HostRuntime) -> System<'a> {
+        let has_notes = match rt.stderr().as_fd().try_clone_to_owned() {
+            Ok(_) => true,
+            Err(error) => error.raw_os_error() != Some(NOT_OPEN),
+        };
+        System {
+            rt,
+            file: None,
+            has_notes,
+        }
+    }
+}
+
+impl<'a> Maker for System<'a> {
+    ghost told = { λ _. None };
+
+    fn create(&mut self, _which: Which, name: &str) -> Result<(), Fault> {
+        match File::create(self.rt, name) {
+            Ok(file) => {
+                self.file = Some(file);
+                Ok(())
+            }
+            Err(_) => Err(Fault),
+        }
+    }
+
+    fn write(&mut self, which: Which, bytes: &[u8]) -> Result<usize, Fault> {
+        let written = match (which, &mut self.file) {
+            (Which::Notes, _) if self.has_notes => self.rt.stderr().write(bytes),
+            (Which::Config | Which::Header | Which::Minimal | Which::Depfile, Some(file)) =>
+                file.write(bytes),
+            _ => return Err(Fault),
+        };
+        match written {
+            Ok(count) => Ok(count),
+            Err(_) => Err(Fault),
+        }
+    }
+
+    fn close(&mut self, _which: Which) -> Result<(), Fault> {
+        self.file = None;
+        Ok(())
+    }
+}
+
+/// The files of a disk, to be read. It tells nothing.
+#[derive(Drop)]
+pub(crate) struct SystemFiles<'a> {
+    rt: &'a HostRuntime,
+}
+
+impl<'a> SystemFiles<'a> {
+    pub(crate) fn new(rt: &'a HostRuntime) -> SystemFiles<'a> {
+        SystemFiles { rt }
+    }
+}
+
+impl<'a> Opener for SystemFiles<'a> {
+    type File = File;
+
+    ghost files = { λ _. None };
+
+    ghost rest = { λ _. [] };
+
+    fn open(&self, name: &str) -> Result<File, OpenFault> {
+        match File::open(self.rt, name) {
+            Ok(file) => Ok(file),
+            Err(error) if error.kind() == ErrorKind::NotFound => Err(OpenFault::Missing),
+            Err(_) => Err(OpenFault::Device),
+        }
+    }
+
+    fn read(&self, file: &mut File, buffer: &mut [u8]) -> Result<usize, Fault> {
+        match file.read(buffer) {
+            Ok(count) => Ok(count),
+            Err(_) => Err(Fault),
+        }
+    }
+}

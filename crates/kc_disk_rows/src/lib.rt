@@ -1,0 +1,24 @@
+//! Worked rows of whole runs of the program over devices in memory that tell what they hold: tests alone, in a crate of
+//! their own so that they do not have kc_disk proved once more.
+#![tactic(auto)]
+
+#[cfg(test)]
+mod faults;
+#[cfg(test)]
+mod files;
+#[cfg(test)]
+mod loads;
+#[cfg(test)]
+mod maker;
+#[cfg(test)]
+mod mover;
+#[cfg(test)]
+mod replaced;
+#[cfg(test)]
+mod row;
+#[cfg(test)]
+mod runs;
+#[cfg(test)]
+mod turns;
+#[cfg(test)]
+mod warnings;

@@ -1,0 +1,165 @@
+//! Runs whose files take their places at the end.
+use crate::mover::{MemoryMover, bytes_of};
+use crate::row::{DONE, Row};
+use crate::runs::{is_so, run_into};
+use kc_conf::Status;
+use std::test::Fail;
+
+// A run, what the places hold before and after it, and which of them were taken.
+#[derive(Clone, Copy)]
+struct Replaced {
+    name: &'static str,
+    words: &'static str,
+    root: &'static [u8],
+    // The mover's call that fails, counted from 1; 0 for none.
+    fail_at: u64,
+    before: &'static [(&'static str, &'static [u8])],
+    config: Option<&'static [u8]>,
+    header: Option<&'static [u8]>,
+    rule: Option<&'static [u8]>,
+    moved: &'static str,
+    notes: &'static [u8],
+    status: Status,
+}
+
+const CONFIG: &[u8] = b"#\n# Automatically generated file; DO NOT EDIT.\n# Main menu\n#\n";
+
+const HEADER: &[u8] = b"/*\n * Automatically generated file; DO NOT EDIT.\n * Main menu\n */\n";
+
+// An empty tree, whose `.config` and header take their places.
+const NEW: Replaced = Replaced {
+    name: "both are new",
+    words: "--replace --header h Kconfig",
+    root: b"",
+    fail_at: 0,
+    before: &[],
+    config: Some(CONFIG),
+    header: Some(HEADER),
+    rule: None,
+    moved: ".config\nh\n",
+    notes: b"",
+    status: Status::Done,
+};
+
+// The same, where the `.config` was another before and cannot be made.
+const BROKEN: Replaced = Replaced {
+    name: "the .config cannot be made",
+    before: &[(".config", b"# old\n")],
+    config: Some(b"# old\n"),
+    header: None,
+    moved: "",
+    notes: b"error E19: cannot write .config\n",
+    status: Status::Faulted,
+    ..NEW
+};
+
+// The same, where the header cannot be made.
+const NO_HEADER: Replaced = Replaced {
+    name: "the header cannot be made",
+    notes: b"error E19: cannot write h\n",
+    ..BROKEN
+};
+
+const ROWS: &[Replaced] = &[
+    NEW,
+    Replaced {
+        name: "the .config was the same",
+        before: &[(".config", CONFIG), ("h", b"")],
+        moved: "h\n",
+        ..NEW
+    },
+    Replaced {
+        name: "both were the same",
+        before: &[(".config", CONFIG), ("h", HEADER)],
+        moved: "",
+        ..NEW
+    },
+    Replaced {
+        name: "the rule for make takes its place last",
+        words: "--replace --header h --depfile d Kconfig",
+        rule: Some(b".config: \\\n ./Kconfig\n\n./Kconfig:\n"),
+        moved: ".config\nh\nd\n",
+        ..NEW
+    },
+    Replaced {
+        name: "of two outputs of one name the later stays",
+        words: "--replace --header h --savedefconfig h Kconfig",
+        header: Some(b""),
+        moved: ".config\nh\nh\n",
+        ..NEW
+    },
+    Replaced {
+        name: "a refused tree",
+        root: b"source \"a\"\n",
+        notes: b"Kconfig:1: error E1: no file a\n",
+        status: Status::Refused,
+        ..BROKEN
+    },
+    Replaced {
+        name: "a stream that cannot be read",
+        words: "--replace --header h --must-exist Kconfig",
+        notes: b"error E18: cannot read .config\n",
+        ..BROKEN
+    },
+    Replaced {
+        name: "the header cannot be moved",
+        fail_at: 8,
+        config: Some(CONFIG),
+        moved: ".config\n",
+        ..NO_HEADER
+    },
+];
+
+// The calls are those that start, write and finish the `.config`, those of the header, and two moves.
+const CALLS: &[(u64, Replaced)] = &[
+    (1, BROKEN),
+    (2, BROKEN),
+    (3, BROKEN),
+    (4, NO_HEADER),
+    (5, NO_HEADER),
+    (6, NO_HEADER),
+    (7, BROKEN),
+];
+
+// Whether the places hold what the row says, and nothing stands beside one.
+fn holds(row: &Replaced, mover: &MemoryMover) -> bool {
+    bytes_of(&mover.held, ".config") == row.config
+        && bytes_of(&mover.held, "h") == row.header
+        && bytes_of(&mover.held, "d") == row.rule
+        && mover.is_clear()
+        && mover.moved.as_str() == row.moved
+}
+
+// The run gives what the row says where this call fails, and the maker made no file.
+fn gives_at(rt: &HostRuntime, row: &Replaced, fail_at: u64) -> Result<(), Fail> {
+    let asked = Row {
+        name: row.name,
+        words: row.words,
+        ..DONE
+    };
+    let tree = [("./Kconfig", row.root)];
+    let mut mover = MemoryMover::new(rt.alloc(), row.before, fail_at)?;
+    let (status, maker) = run_into(rt, &asked, &tree, &mut mover)?;
+    let is_told = maker.notes.bytes.as_slice() == row.notes && maker.log.is_empty();
+    drop(maker);
+    is_so(
+        is_told && status == row.status && holds(row, &mover),
+        row.name,
+    )
+}
+
+#[test]
+fn files_take_their_places_at_the_end(rt: HostRuntime) -> Result<(), Fail> {
+    for row in ROWS {
+        gives_at(&rt, row, row.fail_at)?;
+    }
+    Ok(())
+}
+
+#[test]
+fn each_call_of_the_mover_fails_in_turn(rt: HostRuntime) -> Result<(), Fail> {
+    for (fail_at, row) in CALLS {
+        gives_at(&rt, row, *fail_at)?;
+    }
+    Ok(())
+}

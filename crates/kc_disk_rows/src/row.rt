@@ -1,0 +1,68 @@
+//! What a worked row says.
+
+use kc_conf::Status;
+
+/// A command line over some files, and what must come out.
+#[derive(Clone, Copy)]
+pub(crate) struct Row {
+    /// What the row shows.
+    pub name: &'static str,
+    /// The words, between blanks.
+    pub words: &'static str,
+    /// The files of the tree, by path.
+    pub tree: &'static [(&'static str, &'static [u8])],
+    /// The streams, by name.
+    pub streams: &'static [(&'static str, &'static [u8])],
+    /// The path of the tree whose file cannot be read.
+    pub failing: &'static str,
+    /// The stream that cannot be opened.
+    pub shut: &'static str,
+    /// The stream that fails behind its last byte.
+    pub broken: &'static str,
+    /// The status.
+    pub status: Status,
+    /// The files that were made and closed, in order.
+    pub log: &'static str,
+    /// Standard error.
+    pub notes: &'static [u8],
+    /// The full `.config`.
+    pub config: &'static [u8],
+    /// The header.
+    pub header: &'static [u8],
+    /// The minimal file.
+    pub minimal: &'static [u8],
+    /// The rule for make.
+    pub depfile: &'static [u8],
+}
+
+/// An empty tree and no `.config`, without header and minimal file.
+pub(crate) const DONE: Row = Row {
+    name: "",
+    words: "Kconfig",
+    tree: &[("./Kconfig", b"")],
+    streams: &[],
+    failing: "-",
+    shut: "-",
+    broken: "-",
+    status: Status::Done,
+    log: "make .config\nclose config\n",
+    notes: b"",
+    config: b"#\n# Automatically generated file; DO NOT EDIT.\n# Main menu\n#\n",
+    header: b"",
+    minimal: b"",
+    depfile: b"",
+};
+
+/// The same, which ends after a fault and makes no file.
+pub(crate) const FAULTED: Row = Row {
+    status: Status::Faulted,
+    log: "",
+    config: b"",
+    ..DONE
+};
+
+/// The same, which is refused.
+pub(crate) const REFUSED: Row = Row {
+    status: Status::Refused,
+    ..FAULTED
+};

@@ -1,0 +1,9 @@
+-- For proofs: That an entry's symbol has a name.
+use Rattle.std.specs.Prelude.{◌<◌, length}
+use Rattle.kc_tree.specs.TreeFacts.{TreeFacts, Shown, SymbolShown, MenuShown, EndShown, CommentShown}
+
+abbrev pub HasName : TreeFacts → Shown → Type 0
+HasName tree (SymbolShown s) = s.0 < length tree.names
+HasName tree (MenuShown text when) = Unit {0}
+HasName tree (EndShown menu) = Unit {0}
+HasName tree (CommentShown text when) = Unit {0}

@@ -1,0 +1,95 @@
+//! The text of a rule for make.
+
+ghost use Rattle.std.specs.Prelude.{◌≡◌, ◌++◌, OnOk, flat_map};
+ghost use Rattle.kc_make.specs.Rules.{empty_rule, escaped, escaped_byte, is_mark, is_marked, prerequisite, rule_text};
+
+use kc_expr::expression::SymId;
+use kc_expr::names::Names;
+use std::alloc::AllocError;
+
+// Whether make reads this byte as more than a part of a name, if no `\` stands before it.
+fn is_mark(byte: u8) -> bool
+    ensures { result ≡ is_mark byte }
+{
+    matches!(byte, b' ' | b'\t' | b'#' | b':')
+}
+
+// Whether a `\` is written before the first of these bytes.
+fn is_marked(bytes: &[u8]) -> bool
+    ensures { result ≡ is_marked bytes.now }
+{
+    let mut rest = bytes;
+    'along: while let [byte, behind @ ..] = rest {
+        if *byte != b'\\' {
+            return is_mark(*byte);
+        }
+        rest = behind;
+    }
+    true
+}
+
+// Adds one byte of a name.
+fn add_byte(byte: u8, marked: bool, text: &mut Vec<u8>) -> Result<(), AllocError>
+    ensures { OnOk result (text.new.items ≡ text.old.items ++ escaped_byte marked byte) }
+{
+    if marked {
+        text.push(b'\\')?;
+    }
+    if byte == b'$' {
+        text.push(b'$')?;
+    }
+    text.push(byte)?;
+    Ok(())
+}
+
+// Adds a name as make reads it.
+fn add_escaped(name: &[u8], text: &mut Vec<u8>) -> Result<(), AllocError>
+    ensures { OnOk result (text.new.items ≡ text.old.items ++ escaped name.now) }
+{
+    let mut rest = name;
+    'along: while let [byte, behind @ ..] = rest {
+        add_byte(*byte, is_marked(rest), text)?;
+        rest = behind;
+    }
+    Ok(())
+}
+
+// Adds the files that the rule names, each on a line of its own.
+fn add_prerequisites(files: &Names, text: &mut Vec<u8>) -> Result<(), AllocError>
+    ensures { OnOk result (text.new.items ≡ text.old.items ++ flat_map prerequisite files.now) }
+{
+    for i in 0..files.count() {
+        text.extend_from_slice(b" \\\n ")?;
+        add_escaped(files.name(SymId(i)), text)?;
+    }
+    Ok(())
+}
+
+// Adds an empty rule for each file.
+fn add_empty_rules(files: &Names, text: &mut Vec<u8>) -> Result<(), AllocError>
+    ensures { OnOk result (text.new.items ≡ text.old.items ++ flat_map empty_rule files.now) }
+{
+    for i in 0..files.count() {
+        text.extend_from_slice(b"\n")?;
+        add_escaped(files.name(SymId(i)), text)?;
+        text.extend_from_slice(b":\n")?;
+    }
+    Ok(())
+}
+
+/// Adds the rule that makes `out` anew where one of the files is newer, and an empty rule for each file, so that make goes
+/// on where one of them went away.
+///
+/// A `\` stands before each blank, tab, `#` and `:` of a name, and before each `\` of a run that ends before one of them or
+/// at the name's end; a `$` is doubled. So GNU make reads each name as it is, but for one with a line feed, `=`, `;`, `|` or
+/// a blank at its end, which no escape tells it. A name with `%` is read among the files, but its empty rule is a pattern.
+pub fn add_rule(out: &[u8], files: &Names, text: &mut Vec<u8>) -> Result<(), AllocError>
+    ensures { OnOk result (text.new.items ≡ text.old.items ++ rule_text out.now files.now) }
+{
+    add_escaped(out, text)?;
+    text.extend_from_slice(b":")?;
+    add_prerequisites(files, text)?;
+    text.extend_from_slice(b"\n")?;
+    add_empty_rules(files, text)?;
+    Ok(())
+}

@@ -1,0 +1,32 @@
+-- For proofs: Rows one behind the other in one list, and what a search asks of rows.
+use Rattle.std.specs.Prelude.{◌≡◌, ℕ, ◌<◌, ◌≤◌, ◌-◌, zero, suc, Bool, false, List, [], ◌∷◌, length, All, slice_index, slice_index_or, take, drop}
+use Rattle.kc_order.specs.Needs.{needs_in}
+use Rattle.kc_order.specs.Rows.{held}
+
+-- the rows of a list of numbers, given where each ends: the first begins at `from`, each further one where the one before it ends
+abbrev pub rows_of : List ℕ → ℕ → List ℕ → List (List ℕ)
+rows_of numbers from [] = []
+rows_of numbers from (end ∷ ends) = take (end - from) (drop from numbers) ∷ rows_of numbers end ends
+
+-- where row r begins
+abbrev pub begin : ℕ → List ℕ → ℕ → ℕ
+begin from ends zero = from
+begin from ends (suc r) = slice_index ends r
+
+-- the ends go up from `from`, and the last is `to`
+abbrev pub GoUp : ℕ → ℕ → List ℕ → Type 0
+GoUp from to [] = from ≡ to
+GoUp from to (end ∷ ends) = (from ≤ end) × GoUp end to ends
+
+-- the needs of symbol s
+abbrev pub needs_of : List (List ℕ) → List ℕ → ℕ → List ℕ
+needs_of rows row_of s = needs_in (held rows row_of) s
+
+-- each row holds numbers below n
+abbrev pub RowsBelow : ℕ → List (List ℕ) → Type 0
+RowsBelow n rows = All (λ row. All (λ t. t < n) row) rows
+
+-- mark s, for each s below n, is the test of s
+pub record AreMarks (n : ℕ) (test : ℕ → Bool) (marks : List Bool) : Type 0 where
+  pub length_is : length marks ≡ n
+  pub each : (s : ℕ) → s < n → slice_index_or marks s false ≡ test s

@@ -1,0 +1,113 @@
+//! What the values of the plain slow solver tell, as lines.
+
+use crate::trial::{Told, choice_count, choice_into, symbol_into, warnings_into};
+use kc_expr::expression::{Kind, SymId};
+use kc_expr::values::{Values, tri_text};
+use kc_tree::parts::{ChoiceId, Symbol};
+use kc_user::user::User;
+use kc_user::value::UserValue;
+use kc_values::differs::member_differs;
+use kc_values::equation::own_equation;
+use kc_values::lookups::name;
+use kc_values::members::selected_in;
+use kc_values::table::{Table, Value, found};
+use kc_values::truths::visibility;
+use kc_values::warnings;
+use kc_values::written::written;
+use std::alloc::{AllocError, Global};
+
+// What was given for the symbol.
+fn given(user: &User, id: SymId) -> Option<&UserValue> {
+    match user.symbols().get(id.0) {
+        Some(Some(value)) => Some(value),
+        _ => None,
+    }
+}
+
+// The member that was chosen.
+fn chosen(user: &User, choice: ChoiceId) -> Option<SymId> {
+    match user.choices().get(choice.0) {
+        Some(Some(member)) => Some(*member),
+        _ => None,
+    }
+}
+
+// Whether a place holds the value.
+fn holds(place: Option<&Value>, value: &Value) -> bool {
+    match (place, value) {
+        (Some(Value::Truth(a)), Value::Truth(b)) => *a == *b,
+        (Some(Value::Text(a)), Value::Text(b)) => a.as_slice() == b.as_slice(),
+        _ => false,
+    }
+}
+
+// Whether the symbol's value is another one without what was given for it.
+fn differs(
+    alloc: Global,
+    table: &Table<'_>,
+    user: &User,
+    id: SymId,
+    symbol: &Symbol,
+) -> Result<bool, AllocError> {
+    if let Some(choice) = symbol.choice {
+        let selection = selected_in(table.tree, choice, chosen(user, choice), table);
+        let default = selected_in(table.tree, choice, None, table);
+        return Ok(member_differs(selection, default, id));
+    }
+    let without = own_equation(alloc, table.tree, id, symbol, None, table)?;
+    Ok(!holds(found(&table.values, id), &without))
+}
+
+// The value as a text.
+fn text_of<'t>(table: &'t Table<'_>, id: SymId) -> &'t [u8] {
+    match table.kind(id) {
+        Kind::Bool | Kind::Tristate => tri_text(table.tri(id)),
+        _ => table.text(id),
+    }
+}
+
+// The line of a symbol, and its warnings.
+fn symbol_line(
+    alloc: Global,
+    table: &Table<'_>,
+    user: &User,
+    id: SymId,
+    out: &mut Vec<u8>,
+    lines: &mut Vec<Vec<u8>>,
+) -> Result<(), AllocError> {
+    let Some(symbol) = table.tree.facts(id) else {
+        return Ok(());
+    };
+    let shown = visibility(table.tree, symbol, table);
+    let told = Told {
+        name: name(table.tree, id),
+        value: text_of(table, id),
+        visibility: shown,
+        is_written: written(table.tree, symbol, shown, table),
+        differs: differs(alloc, table, user, id, symbol)?,
+    };
+    symbol_into(&told, out)?;
+    let own = given(user, id);
+    warnings::warnings_into(alloc, table.tree, id, symbol, shown, own, table, lines)
+}
+
+/// What the values in a table tell.
+pub(crate) fn lines_of(
+    alloc: Global,
+    table: &Table<'_>,
+    user: &User,
+) -> Result<Vec<u8>, AllocError> {
+    let mut out = Vec::new(alloc);
+    let mut lines = Vec::new(alloc);
+    for i in 0..table.tree.symbol_count() {
+        symbol_line(alloc, table, user, SymId(i), &mut out, &mut lines)?;
+    }
+    for c in 0..choice_count(table.tree) {
+        let choice = ChoiceId(c);
+        let selection = selected_in(table.tree, choice, chosen(user, choice), table);
+        let default = selected_in(table.tree, choice, None, table);
+        choice_into(table.tree, selection, default, &mut out)?;
+    }
+    warnings_into(&lines, &mut out)?;
+    Ok(out)
+}
