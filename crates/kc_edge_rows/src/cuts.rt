@@ -1,5 +1,5 @@
 //! A tree that is cut after each byte.
-use crate::runs::{ROOM, run_whole};
+use crate::one_input::{ROOM, run_whole};
 use crate::trees::menus;
 use kc_conf::Status;
 use kc_memory::{MemoryInput, MemoryOutputs, files};

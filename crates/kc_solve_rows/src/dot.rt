@@ -1,4 +1,4 @@
-//! Worked rows.
+//! Worked rows of prefixes, of lines and of values of a `.config`.
 use kc_dot::line::{ConfigLine, config_line};
 use kc_dot::prefix::Prefix;
 use kc_dot::value::line_value;

@@ -1,5 +1,5 @@
 //! Each read, each begin and each write fails in turn.
-use crate::runs::{ROOM, is_so, is_text, run_whole};
+use crate::one_input::{ROOM, is_so, is_text, run_whole};
 use crate::trees::{Turn, turns};
 use kc_conf::{FileMap, Status, Which};
 use kc_memory::{MemoryInput, MemoryOutputs, Slot, config_text, files, header_text};

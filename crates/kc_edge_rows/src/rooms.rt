@@ -1,5 +1,5 @@
 //! Single faults, with the texts that are left.
-use crate::runs::{ROOM, is_so, is_text, run_whole, run_with};
+use crate::one_input::{ROOM, is_so, is_text, run_whole, run_with};
 use crate::trees::two;
 use kc_conf::Status;
 use kc_memory::{MemoryInput, MemoryOutputs, config_text, files};
