@@ -40,12 +40,12 @@ abbrev pub may_miss : Told → List ℕ → Bool
 may_miss None name = true
 may_miss (Some files) name = is_none (files name)
 
--- whether these are more bytes than there are reads, where they are told
+-- whether there are no fewer bytes than reads, where they are told
 abbrev pub may_be_endless : Option (List ℕ) → Bool
 may_be_endless None = true
 may_be_endless (Some bytes) = nat_le most_reads (length bytes)
 
--- whether a stream may fail: the opener may at its name, or there is no such file and there has to be one, or it has no end
+-- whether a stream may fail: the opener may at its name, or there is no file and there has to be one, or it may have no end
 abbrev pub may_fail : Source → Stream → Bool
 may_fail opened s = opened.failing s.name || (not s.may_be_missing && may_miss opened.files s.name) || may_be_endless (held opened.files s.name)
 

@@ -1,5 +1,5 @@
 //! A run from a folder of files on, over what opens the streams, to the files that a maker makes.
-ghost use Rattle.std.specs.Prelude.{◌≡◌, ◌≢◌, [], string_bytes, IfErr, IfOk, OnErr};
+ghost use Rattle.std.specs.Prelude.{◌≡◌, [], string_bytes, IfErr, IfOk, OnErr};
 ghost use Rattle.kc_load.specs.Faults.{IsLoadFault};
 ghost use Rattle.kc_conf.specs.Outcome.{root_of};
 ghost use Rattle.kc_conf.specs.declared.outputs.Which.TheVariants.{Notes};

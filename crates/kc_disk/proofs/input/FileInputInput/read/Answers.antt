@@ -1,5 +1,5 @@
 -- The reads are counted, and a fault is one of the stream.
-use Rattle.std.proofs.Common.{ℕ, ◌≤◌, length, take, arith}
+use Rattle.std.proofs.Common.{◌≤◌, length, take, arith}
 use Rattle.std.proofs.lemmas.List.{length-take-le}
 use Rattle.kc_disk.proofs.StreamLemmas.{counted-more, endless-of, or-right}
 use Rattle.kc_disk.proofs.input.FileInputInput.read.Goals as goal
