@@ -1,5 +1,5 @@
 //! A maker of files in memory, of which a call of choice fails.
-ghost use Rattle.std.specs.Prelude.{◌≡◌, ◌≤◌, ◌++◌, [], true, false, length, take, string_bytes, Some, IfOk, OnOk, OnErr};
+ghost use Rattle.std.specs.Prelude.{◌≡◌, ◌<◌, ◌≤◌, ◌++◌, [], true, false, length, take, string_bytes, Some, IfOk, OnOk, OnErr};
 
 use kc_conf::Which;
 use kc_disk::Maker;
@@ -41,6 +41,8 @@ impl MemoryFile {
     }
 
     fn write(&mut self, bytes: &[u8]) -> Result<usize, Fault>
+        requires { 0 < length bytes.now }
+        ensures some { IfOk result (λ count. 0 < count) }
         ensures within { IfOk result (λ count. count ≤ length bytes.now) }
         ensures bytes { IfOk result (λ count. self.new.bytes.items ≡ self.old.bytes.items ++ take count bytes.now) }
         ensures name { self.new.name ≡ self.old.name }
@@ -129,6 +131,9 @@ impl Maker for MemoryMaker {
     ghost use Rattle.kc_disk_rows.specs.Memory.{told_by};
 
     ghost told = { λ s. Some (told_by s) };
+
+    // Memory may be refused.
+    ghost failing = { λ _ _. true };
 
     fn create(&mut self, which: Which, name: &str) -> Result<(), Fault> {
         if self.fails() || self.note("make ", name).is_err() {
