@@ -17,6 +17,7 @@ use kc_expr::expression::{Kind, SymId, Tri};
 use kc_expr::values::{Values, tri_text};
 use kc_solve::solved::Solved;
 use kc_text::escape_into;
+use kc_tree::layout::Layout;
 use kc_tree::parts::Symbol;
 use kc_user::user::User;
 use kc_user::value::UserValue;
@@ -140,10 +141,19 @@ fn lost_by(
 }
 
 // Whether a symbol has a prompt.
-fn has_prompt(symbol: &Symbol) -> bool
-    ensures { result ≡ spec.has_prompt (facts_of symbol.now).prompts }
+fn has_prompt(layout: &Layout, symbol: &Symbol) -> bool
+    ensures { result ≡ spec.has_prompt (facts_in layout.now symbol.now).prompts }
 {
-    !symbol.prompts.is_empty()
+    for i in 0..symbol.definition_count() {
+        if let Some(id) = symbol.definition(i) {
+            if let Some(definition) = layout.definition(id) {
+                if definition.prompt.is_some() {
+                    return true;
+                }
+            }
+        }
+    }
+    false
 }
 
 // What stands in the symbol's place.
@@ -169,7 +179,7 @@ fn lost_into(
     let Some(symbol) = facts(tree, id) else {
         return Ok(());
     };
-    if !has_prompt(symbol) {
+    if !has_prompt(tree.layout(), symbol) {
         return Ok(());
     }
     let given = given_at(solved.user(), id);

@@ -21,7 +21,7 @@ use crate::sink::{Sink, put};
 use crate::symbol_line::{add_config_line, symbol_value};
 use kc_expr::expression::{SymId, Tri};
 use kc_solve::solved::Solved;
-use kc_tree::parts::{Cond, Entry};
+use kc_tree::parts::{Entry, TitleId};
 use kc_tree::tree::Tree;
 use std::alloc::{AllocError, Global};
 
@@ -33,13 +33,6 @@ fn is_shown(tri: Tri) -> bool
         Tri::N => false,
         Tri::M | Tri::Y => true,
     }
-}
-
-// Whether the condition is worth more than n.
-fn is_met(solved: &Solved<'_>, when: &Cond) -> bool
-    ensures { result ≡ is_shown ((told_of solved.now).truth (condition_of when.now)) }
-{
-    is_shown(solved.truth(when))
 }
 
 // Adds an empty line, the title and the lines around it, where it is shown.
@@ -72,18 +65,27 @@ fn add_gap(after_end: bool, page: &mut Vec<u8>) -> Result<(), AllocError>
     page.extend_from_slice(b"\n")
 }
 
+// The text of a title.
+fn text_of(tree: &Tree, title: TitleId) -> &[u8]
+{
+    match tree.layout().title(title) {
+        Some(found) => &found.text,
+        None => b"",
+    }
+}
+
 // The title of the menu at this place among the entries, where it is shown.
 fn shown_title<'a>(tree: &'a Tree, solved: &Solved<'_>, menu: usize) -> Option<&'a [u8]>
     ensures { option_copied result ≡ shown_title (told_of solved.now) (slice_get tree.now.entries menu) }
 {
     match tree.entries().get(menu) {
-        Some(Entry::Menu { text, when }) => {
-            if is_met(solved, when) {
-                return Some(text);
+        Some(Entry::Menu(title)) => {
+            if is_shown(solved.shown(menu)) {
+                return Some(text_of(tree, *title));
             }
             None
         }
-        Some(Entry::Symbol(_) | Entry::End { .. } | Entry::Comment { .. }) => None,
+        Some(Entry::Symbol(_) | Entry::End(_) | Entry::Comment(_)) => None,
         None => None,
     }
 }
@@ -110,18 +112,16 @@ fn add_symbol_if(
     Ok(false)
 }
 
-// Adds the title where its condition is met. Answers whether the last line is an end line now.
+// Adds the title where it is shown. Answers whether the last line is an end line now.
 fn add_title(
-    solved: &Solved<'_>,
-    when: &Cond,
+    shown: bool,
     text: &[u8],
     after_end: bool,
     page: &mut Vec<u8>,
 ) -> Result<bool, AllocError>
-    ensures text { OnOk result (page.new.items ≡ page.old.items ++ title_if (is_shown ((told_of solved.now).truth (condition_of when.now))) text.now) }
-    ensures next { IfOk result (λ next. next ≡ (if is_shown ((told_of solved.now).truth (condition_of when.now)) then false else after_end)) }
+    ensures text { OnOk result (page.new.items ≡ page.old.items ++ title_if shown text.now) }
+    ensures next { IfOk result (λ next. next ≡ (if shown then false else after_end)) }
 {
-    let shown = is_met(solved, when);
     add_title_if(shown, text, page)?;
     Ok(!shown && after_end)
 }
@@ -140,6 +140,7 @@ fn add_entry(
     tree: &Tree,
     solved: &Solved<'_>,
     prefix: &Prefix,
+    place: usize,
     entry: &Entry,
     after_end: bool,
     page: &mut Vec<u8>,
@@ -150,9 +151,11 @@ fn add_entry(
 {
     match entry {
         Entry::Symbol(id) => add_symbol_if(tree, solved, prefix, *id, after_end, page),
-        Entry::Menu { text, when } => add_title(solved, when, text, after_end, page),
-        Entry::Comment { text, when } => add_title(solved, when, text, after_end, page),
-        Entry::End { menu } => add_end(shown_title(tree, solved, *menu), after_end, page),
+        Entry::Menu(title) | Entry::Comment(title) => {
+            let shown = is_shown(solved.shown(place));
+            add_title(shown, text_of(tree, *title), after_end, page)
+        }
+        Entry::End(menu) => add_end(shown_title(tree, solved, *menu as usize), after_end, page),
     }
 }
 
@@ -174,8 +177,8 @@ fn put_entries<S: Sink>(
     let _ = tree.symbol_count();
     let entries = tree.entries();
     let mut after_end = false;
-    for entry in entries {
-        after_end = add_entry(tree, solved, prefix, entry, after_end, page)?;
+    for (place, entry) in entries.iter().enumerate() {
+        after_end = add_entry(tree, solved, prefix, place, entry, after_end, page)?;
         put_full(page, sink)?;
     }
     put(page, sink)?;

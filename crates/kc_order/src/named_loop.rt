@@ -1,50 +1,78 @@
 //! The loop that is named where some symbol is stuck.
 
-ghost use Rattle.std.specs.Prelude.{◌≡◌, ◌<◌, length, IfOk, MatchOption, slice_index_or, slice_index, All, filter, true, false, ◌≢◌, replicate};
-ghost use Rattle.kc_order.specs.Needs.{stuck_after};
-ghost use Rattle.kc_order.specs.Rows.{RowsAreThere};
-ghost use Rattle.kc_order.specs.RowLists.{needs_of, RowsBelow, AreMarks};
-ghost use Rattle.kc_order.specs.Loop.{IsLeast, IsFirstStuck, IsNext, IsNamedLoop};
-
-use crate::rows::{Rows, row_of_symbol};
+use crate::rows::Rows;
+use crate::search::{Mark, is_stuck};
 use std::alloc::{AllocError, Global};
 
-// The first marked symbol among those in a row.
-fn first_marked(row: &[u32], marks: &[bool]) -> Option<u32>
-    requires { All (λ t. t < length marks.now) row.now }
-    ensures { MatchOption result (length (filter (λ t. slice_index_or marks.now t false) row.now) ≡ 0) (IsLeast (filter (λ t. slice_index_or marks.now t false) row.now)) }
-{
-    row.iter().copied().filter(|t| marks[*t as usize]).min()
+// The lesser of two symbols, if there are any.
+fn lesser(a: Option<u32>, b: Option<u32>) -> Option<u32> {
+    match (a, b) {
+        (Some(s), Some(t)) => Some(s.min(t)),
+        (Some(s), None) => Some(s),
+        (None, other) => other,
+    }
+}
+
+// The first stuck symbol that a node stands for: a symbol for itself, a group for what it needs.
+fn stuck_at(node: u32, symbols: usize, marks: &[Mark], firsts: &[Option<u32>]) -> Option<u32> {
+    let place = node as usize;
+    if place < symbols {
+        is_stuck(marks[place]).then_some(node)
+    } else {
+        firsts[place - symbols]
+    }
+}
+
+// The first stuck symbol that a row leads to, itself or through groups.
+fn first_in_row(
+    row: &[u32],
+    symbols: usize,
+    marks: &[Mark],
+    firsts: &[Option<u32>],
+) -> Option<u32> {
+    let mut first = None;
+    for node in row {
+        first = lesser(first, stuck_at(*node, symbols, marks, firsts));
+    }
+    first
+}
+
+// The first stuck symbol that each group leads to.
+fn firsts_of_groups(
+    alloc: Global,
+    rows: &Rows,
+    symbols: usize,
+    marks: &[Mark],
+) -> Result<Vec<Option<u32>>, AllocError> {
+    let mut firsts = Vec::with_capacity(alloc, rows.count() - symbols)?;
+    for group in symbols..rows.count() {
+        let first = first_in_row(rows.row(group), symbols, marks, &firsts);
+        firsts.push(first)?;
+    }
+    Ok(firsts)
 }
 
 // The first stuck symbol that a stuck symbol needs.
-fn next_stuck(rows: &Rows, row_of: &[usize], stuck: &[bool], symbol: u32) -> u32
-    requires rows_below { RowsBelow (length row_of.now) rows.now }
-    requires there { RowsAreThere rows.now row_of.now }
-    requires marks { AreMarks (length row_of.now) (stuck_after (needs_of rows.now row_of.now) (length row_of.now)) stuck.now }
-    requires symbol { symbol < length row_of.now }
-    requires is_stuck { stuck_after (needs_of rows.now row_of.now) (length row_of.now) symbol ≡ true }
-    ensures next { IsNext (length row_of.now) (needs_of rows.now row_of.now) symbol result }
-    ensures below { result < length row_of.now }
-    ensures is_stuck { stuck_after (needs_of rows.now row_of.now) (length row_of.now) result ≡ true }
-{
-    match first_marked(row_of_symbol(rows, row_of, symbol), stuck) {
+fn next_stuck(
+    rows: &Rows,
+    symbols: usize,
+    marks: &[Mark],
+    firsts: &[Option<u32>],
+    symbol: u32,
+) -> u32 {
+    match first_in_row(rows.row(symbol as usize), symbols, marks, firsts) {
         Some(next) => next,
         None => unreachable!(),
     }
 }
 
 // Where a symbol stands on a walk.
-fn place_of(walk: &[u32], symbol: u32) -> Option<usize>
-    ensures { MatchOption result (All (λ s. s ≢ symbol) walk.now) (λ i. (i < length walk.now) × (slice_index walk.now i ≡ symbol)) }
-{
+fn place_of(walk: &[u32], symbol: u32) -> Option<usize> {
     walk.iter().position(|met| *met == symbol)
 }
 
 // Marks of symbols, none of them marked.
-fn no_marks(alloc: Global, count: usize) -> Result<Vec<bool>, AllocError>
-    ensures { IfOk result (λ v. v.items ≡ replicate count false) }
-{
+fn no_marks(alloc: Global, count: usize) -> Result<Vec<bool>, AllocError> {
     let marks = vec![in alloc; false; count]?;
     Ok(marks)
 }
@@ -53,23 +81,18 @@ fn no_marks(alloc: Global, count: usize) -> Result<Vec<bool>, AllocError>
 pub fn named_loop(
     alloc: Global,
     rows: &Rows,
-    row_of: &[usize],
-    stuck: &[bool],
+    symbols: usize,
+    marks: &[Mark],
     first: u32,
-) -> Result<Vec<u32>, AllocError>
-    requires rows_below { RowsBelow (length row_of.now) rows.now }
-    requires there { RowsAreThere rows.now row_of.now }
-    requires marks { AreMarks (length row_of.now) (stuck_after (needs_of rows.now row_of.now) (length row_of.now)) stuck.now }
-    requires first { IsFirstStuck (length row_of.now) (needs_of rows.now row_of.now) first }
-    ensures { IfOk result (λ v. IsNamedLoop (length row_of.now) (needs_of rows.now row_of.now) v.items) }
-{
-    let mut met = no_marks(alloc, row_of.len())?;
+) -> Result<Vec<u32>, AllocError> {
+    let firsts = firsts_of_groups(alloc, rows, symbols, marks)?;
+    let mut met = no_marks(alloc, symbols)?;
     let mut walk = Vec::new(alloc);
     let mut at = first;
     while !met[at as usize] {
         met[at as usize] = true;
         walk.push(at)?;
-        at = next_stuck(rows, row_of, stuck, at);
+        at = next_stuck(rows, symbols, marks, &firsts, at);
     }
     match place_of(&walk, at) {
         None => unreachable!(),

@@ -1,11 +1,6 @@
-//! Rows of numbers in one list, and the row of a symbol.
-
-ghost use Rattle.std.specs.Prelude.{◌≡◌, ◌<◌, ◌≤◌, [], ◌∷◌, ◌++◌, ◌↔◌, ◌-◌, length, IfOk, OnOk, OnErr, IsTrue, All, take, drop};
-ghost use Rattle.kc_order.specs.Rows.{in_row, RowsAreThere};
-ghost use Rattle.kc_order.specs.RowLists.{needs_of, RowsBelow, begin};
+//! Rows of numbers in one list.
 
 use std::alloc::{AllocError, Global};
-use std::marker::Model;
 
 /// Rows of numbers, one behind the other in one list, with the place where each ends.
 #[derive(Drop)]
@@ -14,37 +9,20 @@ pub struct Rows {
     ends: Vec<usize>,
 }
 
-impl Model for Rows {
-    ghost use Rattle.std.specs.Prelude.{ℕ, List, length};
-    ghost use Rattle.kc_order.specs.RowLists.{rows_of, GoUp};
-
-    ghost Value = { List (List ℕ) };
-
-    ghost view = { λ r. rows_of r.numbers.items 0 r.ends.items };
-
-    ghost invariant = { λ r. GoUp 0 (length r.numbers.items) r.ends.items };
-}
-
 // Where a row begins: the first at 0, each further one where the one before it ends.
 fn beginning(ends: &[usize], row: usize) -> usize
-    requires { row < length ends.now }
-    ensures { result ≡ begin 0 ends.now row }
 {
     if row == 0 { 0 } else { ends[row - 1] }
 }
 
 // The numbers between two places.
 fn between(numbers: &[u32], begin: usize, end: usize) -> &[u32]
-    requires goes_up { begin ≤ end }
-    requires within { end ≤ length numbers.now }
-    ensures { result.now ≡ take (end - begin) (drop begin numbers.now) }
 {
     &numbers[begin..end]
 }
 
 // Whether all numbers are below a bound.
 fn all_below(numbers: &[u32], bound: usize) -> bool
-    ensures { IsTrue result ↔ All (λ t. t < bound) numbers.now }
 {
     numbers.iter().all(|number| (*number as usize) < bound)
 }
@@ -52,7 +30,6 @@ fn all_below(numbers: &[u32], bound: usize) -> bool
 impl Rows {
     /// No rows yet.
     pub fn new(alloc: Global) -> Rows
-        ensures { result ≡ [] }
     {
         Rows {
             numbers: Vec::new(alloc),
@@ -62,7 +39,6 @@ impl Rows {
 
     /// No rows yet, with room for so many of them. Fails only when it is out of memory.
     pub fn with_room(alloc: Global, count: usize) -> Result<Rows, AllocError>
-        ensures { IfOk result (λ r. r ≡ []) }
     {
         let ends = Vec::with_capacity(alloc, count)?;
         Ok(Rows {
@@ -73,15 +49,12 @@ impl Rows {
 
     /// How many rows there are.
     pub fn count(&self) -> usize
-        ensures { result ≡ length self.now }
     {
         self.ends.len()
     }
 
     /// What a row holds.
     pub fn row(&self, row: usize) -> &[u32]
-        requires { row < length self.now }
-        ensures { result.now ≡ in_row self.now row }
     {
         let begin = beginning(&self.ends, row);
         between(&self.numbers, begin, self.ends[row])
@@ -89,15 +62,17 @@ impl Rows {
 
     /// Whether each row holds numbers below a bound.
     pub fn are_below(&self, bound: usize) -> bool
-        ensures { IsTrue result ↔ RowsBelow bound self.now }
     {
         all_below(&self.numbers, bound)
     }
 
+    /// Whether each row from one on holds numbers below that row's own, or below a bound.
+    pub fn go_down(&self, bound: usize) -> bool {
+        (bound..self.ends.len()).all(|row| all_below(self.row(row), row))
+    }
+
     /// Adds a row. Where it is out of memory, nothing changes.
     pub fn push(&mut self, row: &[u32]) -> Result<(), AllocError>
-        ensures added { OnOk result (self.new ≡ self.old ++ row.now ∷ []) }
-        ensures unchanged { OnErr result (self.new ≡ self.old) }
     {
         let end = self.numbers.len() + row.len();
         self.ends.push(end)?;
@@ -107,13 +82,4 @@ impl Rows {
         }
         Ok(())
     }
-}
-
-/// What a symbol needs.
-pub fn row_of_symbol<'a>(rows: &'a Rows, row_of: &[usize], symbol: u32) -> &'a [u32]
-    requires there { RowsAreThere rows.now row_of.now }
-    requires symbol { symbol < length row_of.now }
-    ensures { result.now ≡ needs_of rows.now row_of.now symbol }
-{
-    rows.row(row_of[symbol as usize])
 }

@@ -1,18 +1,5 @@
 //! What each choice selects, and what is said of each symbol, under the values of a full table.
 
-ghost use Rattle.std.specs.Prelude.{◌≡◌, ◌<◌, false, length, map, slice_get, slice_index_or, Some, None, IfOk, IfSome};
-ghost use Rattle.std.specs.List.{range_with_len};
-ghost use Rattle.kc_order.specs.Solution.{Solves};
-ghost use Rattle.kc_solve.specs.Flags as flag;
-ghost use Rattle.kc_solve.specs.Flags.{IsSolvedOwn};
-ghost use Rattle.kc_solve.specs.Places.{known_in, valuation};
-ghost use Rattle.kc_user.specs.Places.{IsUserOf, place_at};
-ghost use Rattle.kc_tree.specs.Views.{facts_of};
-ghost use Rattle.kc_values.specs.Differs as spec;
-ghost use Rattle.kc_values.specs.Solution.{symbol_count, equations};
-ghost use Rattle.kc_values.specs.User.{place};
-ghost use Rattle.kc_values.specs.Values as value;
-ghost use Rattle.kc_values.specs.Warnings.{value_warnings};
 
 use crate::fill::symbol_facts;
 use kc_expr::expression::{SymId, Tri};
@@ -21,7 +8,7 @@ use kc_tree::tree::Tree;
 use kc_user::user::User;
 use kc_user::value::UserValue;
 use kc_values::differs::{can_count, member_differs, own_differs};
-use kc_values::members::selected_in;
+use kc_values::choices::selected_in;
 use kc_values::table::Table;
 use kc_values::truths::visibility;
 use kc_values::warnings::warnings_into;
@@ -29,9 +16,7 @@ use kc_values::written::written as is_written;
 use std::alloc::{AllocError, Global};
 
 // How many choices a tree has.
-fn choice_count(tree: &Tree) -> usize
-    ensures { result ≡ length tree.now.choices }
-{
+fn choice_count(tree: &Tree) -> usize {
     tree.choices().len()
 }
 
@@ -40,45 +25,33 @@ pub fn selections(
     alloc: Global,
     table: &Table,
     user: &User,
-) -> Result<Vec<Option<SymId>>, AllocError>
-    requires full { length table.now.values.items ≡ symbol_count table.now.tree.now }
-    requires user { IsUserOf table.now.tree.now user.now }
-    ensures { IfOk result (λ v. v.items ≡ map (spec.selection table.now.tree.now (place_at user.now) (valuation table.now.tree.now table.now.values.items)) (range_with_len 0 (length table.now.tree.now.choices))) }
-{
+) -> Result<Vec<Option<SymId>>, AllocError> {
     let count = choice_count(table.tree);
     let mut selected = Vec::with_capacity(alloc, count)?;
     for c in 0..count {
         let choice = ChoiceId(c);
-        selected.push(selected_in(table.tree, choice, user.selected(choice), table))?;
+        selected.push(selected_in(table, choice, user.selected(choice)))?;
     }
     Ok(selected)
 }
 
 /// The default selection of each choice under the values of a full table: that without the user's member.
-pub fn default_selections(alloc: Global, table: &Table) -> Result<Vec<Option<SymId>>, AllocError>
-    requires full { length table.now.values.items ≡ symbol_count table.now.tree.now }
-    ensures { IfOk result (λ v. v.items ≡ map (spec.default_selection table.now.tree.now (valuation table.now.tree.now table.now.values.items)) (range_with_len 0 (length table.now.tree.now.choices))) }
-{
+pub fn default_selections(alloc: Global, table: &Table) -> Result<Vec<Option<SymId>>, AllocError> {
     let count = choice_count(table.tree);
     let mut selected = Vec::with_capacity(alloc, count)?;
     for c in 0..count {
-        selected.push(selected_in(table.tree, ChoiceId(c), None, table))?;
+        selected.push(selected_in(table, ChoiceId(c), None))?;
     }
     Ok(selected)
 }
 
 /// The selection at the place of a choice.
-pub(crate) fn at_choice(selections: &[Option<SymId>], choice: ChoiceId) -> Option<SymId>
-    requires { choice.0 < length selections.now }
-    ensures { result ≡ slice_index_or selections.now choice.0 None }
-{
+pub(crate) fn at_choice(selections: &[Option<SymId>], choice: ChoiceId) -> Option<SymId> {
     selections[choice.0]
 }
 
 /// The flag at the place of a symbol, or false where there is none.
-pub(crate) fn at_symbol(flags: &[bool], id: SymId) -> bool
-    ensures { result ≡ slice_index_or flags.now id.0 false }
-{
+pub(crate) fn at_symbol(flags: &[bool], id: SymId) -> bool {
     id.0 < flags.len() && flags[id.0]
 }
 
@@ -93,14 +66,7 @@ fn symbol_differs(
     shown: Tri,
     selections: &[Option<SymId>],
     defaults: &[Option<SymId>],
-) -> Result<bool, AllocError>
-    requires facts { slice_get table.now.tree.now.symbols id.0 ≡ Some (facts_of symbol.now) }
-    requires selections { IfSome symbol.now.choice (λ c. c.0 < length selections.now) }
-    requires defaults { IfSome symbol.now.choice (λ c. c.0 < length defaults.now) }
-    requires shown { shown ≡ value.visibility table.now.tree.now (known_in table.now.tree.now table.now.values.items) (facts_of symbol.now) }
-    requires solved { IsSolvedOwn table.now.tree.now (known_in table.now.tree.now table.now.values.items) id (facts_of symbol.now) (facts_of symbol.now).choice (place user) }
-    ensures { IfOk result (λ b. b ≡ flag.differs_by table.now.tree.now (known_in table.now.tree.now table.now.values.items) id (facts_of symbol.now) (facts_of symbol.now).choice selections.now defaults.now) }
-{
+) -> Result<bool, AllocError> {
     match symbol.choice {
         Some(choice) => Ok(member_differs(
             at_choice(selections, choice),
@@ -109,7 +75,7 @@ fn symbol_differs(
         )),
         None => {
             if can_count(user, shown) {
-                own_differs(alloc, table.tree, id, symbol, table)
+                own_differs(alloc, table, id, symbol)
             } else {
                 Ok(false)
             }
@@ -137,16 +103,7 @@ pub fn flags_of(
     user: &User,
     selections: &[Option<SymId>],
     defaults: &[Option<SymId>],
-) -> Result<Flags, AllocError>
-    requires full { length table.now.values.items ≡ symbol_count table.now.tree.now }
-    requires user { IsUserOf table.now.tree.now user.now }
-    requires solves { Solves (symbol_count table.now.tree.now) (equations table.now.tree.now (place_at user.now)) (valuation table.now.tree.now table.now.values.items) }
-    requires selections { selections.now ≡ map (spec.selection table.now.tree.now (place_at user.now) (valuation table.now.tree.now table.now.values.items)) (range_with_len 0 (length table.now.tree.now.choices)) }
-    requires defaults { defaults.now ≡ map (spec.default_selection table.now.tree.now (valuation table.now.tree.now table.now.values.items)) (range_with_len 0 (length table.now.tree.now.choices)) }
-    ensures differing { IfOk result (λ f. f.differing.items ≡ map (spec.differs table.now.tree.now (place_at user.now) (valuation table.now.tree.now table.now.values.items)) (range_with_len 0 (symbol_count table.now.tree.now))) }
-    ensures written { IfOk result (λ f. f.written.items ≡ map (flag.is_written table.now.tree.now (valuation table.now.tree.now table.now.values.items)) (range_with_len 0 (symbol_count table.now.tree.now))) }
-    ensures warnings { IfOk result (λ f. map (λ w. w.items) f.warnings.items ≡ value_warnings table.now.tree.now (place_at user.now) (valuation table.now.tree.now table.now.values.items)) }
-{
+) -> Result<Flags, AllocError> {
     let count = table.tree.symbol_count();
     let mut differing = Vec::with_capacity(alloc, count)?;
     let mut written = Vec::with_capacity(alloc, count)?;
@@ -155,20 +112,11 @@ pub fn flags_of(
         let id = SymId(i);
         let symbol = symbol_facts(table.tree, id);
         let own = user.get(id);
-        let shown = visibility(table.tree, symbol, table);
+        let shown = visibility(table, symbol);
         let differs = symbol_differs(alloc, table, id, symbol, own, shown, selections, defaults)?;
         differing.push(differs)?;
-        written.push(is_written(table.tree, symbol, shown, table))?;
-        warnings_into(
-            alloc,
-            table.tree,
-            id,
-            symbol,
-            shown,
-            own,
-            table,
-            &mut warnings,
-        )?;
+        written.push(is_written(table, id, symbol, shown))?;
+        warnings_into(alloc, table, id, symbol, shown, own, &mut warnings)?;
     }
     Ok(Flags {
         differing,

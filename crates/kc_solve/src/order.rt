@@ -1,15 +1,5 @@
 //! An order of a tree's symbols, or the dependency loop that is named.
 
-ghost use Rattle.std.specs.Prelude.{◌≡◌, ◌≢◌, ◌++◌, length, IfOk, IfErr, OnOk};
-ghost use Rattle.kc_order.specs.Needs.{needs_in, SomeStuck};
-ghost use Rattle.kc_order.specs.Order.{Orders};
-ghost use Rattle.kc_read.specs.Steps.{IsMemory, out_of_memory, refusal_view};
-ghost use Rattle.kc_read.specs.declared.refusal.Code.TheVariants.{Memory};
-ghost use Rattle.kc_solve.specs.LoopText.{arrows, loop_text};
-ghost use Rattle.kc_solve.specs.Refused as refused;
-ghost use Rattle.kc_solve.specs.Refused.{IsNamed, NamesLoop};
-ghost use Rattle.kc_values.specs.Laws.{IsAccepted};
-ghost use Rattle.kc_values.specs.Needs.{needs};
 
 use kc_expr::expression::SymId;
 use kc_order::{NoOrder, order_of};
@@ -19,21 +9,12 @@ use kc_values::laws::needs_are_defined;
 use kc_values::lookups::name;
 use kc_values::needs::tree_needs;
 use std::alloc::{AllocError, Global};
-use std::marker::Model;
 
 /// All symbols of a tree in an order in which what each needs stands before it. What it shows is the needs that it was
 /// made for (our own; the kernel's kconfig-language document asks of a tree that its dependencies don't recur).
 #[derive(Drop)]
 pub struct Order {
     inner: kc_order::Order,
-}
-
-impl Model for Order {
-    ghost use Rattle.std.specs.Prelude.{ℕ, List};
-
-    ghost Value = { List (List ℕ) };
-
-    ghost view = { λ o. o.inner };
 }
 
 impl Order {
@@ -45,13 +26,7 @@ impl Order {
     /// detail is the loop that is named: the names of its symbols and its first again, joined by ` -> `, where the walk
     /// goes from the first stuck symbol always on to the first stuck symbol that is needed (our own rule). `Memory`
     /// where no memory was to be had.
-    pub fn of(alloc: Global, tree: &Tree) -> Result<Order, Refusal>
-        ensures same { IfOk result (λ o. o ≡ needs tree.now) }
-        ensures accepted { OnOk result (IsAccepted tree.now) }
-        ensures stuck { IfErr result (λ r. r.code ≢ Memory → SomeStuck (length (needs tree.now)) (needs_in (needs tree.now))) }
-        ensures refused { IfErr result (NamesLoop tree.now) }
-        ensures memory { IfErr result IsMemory }
-    {
+    pub fn of(alloc: Global, tree: &Tree) -> Result<Order, Refusal> {
         match tree_order(alloc, tree) {
             Ok(inner) => Ok(Order { inner }),
             Err(LoopFault::Loop(text)) => Err(loop_refusal(text)),
@@ -59,18 +34,14 @@ impl Order {
         }
     }
 
-    /// The symbols in order, by number.
-    pub fn symbols(&self) -> &[u32]
-        ensures { Orders self.now result.now }
-    {
-        self.inner.symbols()
+    /// The nodes of the graph of needs in order, by number: the symbols, and the contexts and choices between them.
+    pub fn nodes(&self) -> &[u32] {
+        self.inner.nodes()
     }
 }
 
 // The refusal for a loop.
-fn loop_refusal(text: Vec<u8>) -> Refusal
-    ensures { refusal_view result ≡ refused.loop_refused text.items }
-{
+fn loop_refusal(text: Vec<u8>) -> Refusal {
     Refusal {
         code: Code::Loop,
         place: None,
@@ -79,9 +50,7 @@ fn loop_refusal(text: Vec<u8>) -> Refusal
 }
 
 // Memory ran out.
-fn memory(alloc: Global) -> Refusal
-    ensures { refusal_view result ≡ out_of_memory }
-{
+fn memory(alloc: Global) -> Refusal {
     Refusal {
         code: Code::Memory,
         place: None,
@@ -110,9 +79,7 @@ impl From<AllocError> for LoopFault {
 }
 
 // ` -> NAME` for each symbol, behind what stands in the text.
-fn arrows_into(tree: &Tree, symbols: &[u32], text: &mut Vec<u8>) -> Result<(), AllocError>
-    ensures { OnOk result (text.new.items ≡ text.old.items ++ arrows tree.now symbols.now) }
-{
+fn arrows_into(tree: &Tree, symbols: &[u32], text: &mut Vec<u8>) -> Result<(), AllocError> {
     for symbol in symbols {
         text.extend_from_slice(b" -> ")?;
         text.extend_from_slice(name(tree, SymId(*symbol as usize)))?;
@@ -121,9 +88,7 @@ fn arrows_into(tree: &Tree, symbols: &[u32], text: &mut Vec<u8>) -> Result<(), A
 }
 
 // The names of a loop and its first again.
-fn loop_text(alloc: Global, tree: &Tree, symbols: &[u32]) -> Result<Vec<u8>, AllocError>
-    ensures { IfOk result (λ v. v.items ≡ loop_text tree.now symbols.now) }
-{
+fn loop_text(alloc: Global, tree: &Tree, symbols: &[u32]) -> Result<Vec<u8>, AllocError> {
     let [first, rest @ ..] = symbols else {
         let empty = Vec::new(alloc);
         return Ok(empty);
@@ -136,11 +101,7 @@ fn loop_text(alloc: Global, tree: &Tree, symbols: &[u32]) -> Result<Vec<u8>, All
 
 // An order of the symbols of a tree in which what each needs stands before it. Fails where some symbol is stuck, with
 // the text of the loop that is named, and for being out of memory.
-fn tree_order(alloc: Global, tree: &Tree) -> Result<kc_order::Order, LoopFault>
-    ensures same { IfOk result (λ o. o ≡ needs tree.now) }
-    ensures accepted { OnOk result (IsAccepted tree.now) }
-    ensures refused { IfErr result (IsNamed tree.now) }
-{
+fn tree_order(alloc: Global, tree: &Tree) -> Result<kc_order::Order, LoopFault> {
     needs_are_defined();
     let _count = tree.symbol_count();
     let all = tree_needs(alloc, tree)?;

@@ -39,7 +39,7 @@ fn full_table<'t>(
     ordered_are_accepted();
     let given = user.symbols();
     let chosen = user.choices();
-    let table = fill(alloc, tree, order.symbols(), given, chosen)?;
+    let table = fill(alloc, tree, order.nodes(), given, chosen)?;
     Ok(table)
 }
 

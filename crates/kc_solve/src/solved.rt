@@ -12,10 +12,11 @@ ghost use Rattle.kc_values.specs.Solution.{symbol_count};
 use crate::flags::{at_choice, at_symbol};
 use kc_expr::expression::{Kind, SymId, Tri};
 use kc_expr::values::{Values, tri_text};
-use kc_tree::parts::{ChoiceId, Cond};
+use kc_tree::layout::Layout;
+use kc_tree::parts::{ChoiceId, Entry, Title};
 use kc_tree::tree::Tree;
 use kc_user::user::User;
-use kc_values::conditions::condition;
+use kc_values::conditions::title_condition;
 use kc_values::laws::{choices_stand_alone, minimal_restores, settled_where};
 use kc_values::lookups::facts;
 use kc_values::table::Table;
@@ -106,12 +107,14 @@ impl<'a> Solved<'a> {
         let _count = self.table.tree.symbol_count();
     }
 
-    /// What a condition is worth: the least of its parts and of the mode of the choice around it (the kernel's
-    /// kconfig-language document).
-    pub fn truth(&self, when: &Cond) -> Tri
-        ensures { result ≡ spec.truth self.now (condition_of when.now) }
+    /// When the entry at a place is shown, a menu or comment: the least of what the blocks round it and its own lines ask for, and
+    /// of the mode of the choice round it (the kernel's kconfig-language document). Another entry is y.
+    pub fn shown(&self, place: usize) -> Tri
     {
-        condition(self.table.tree, when, &self.table)
+        match title_at(self.table.layout, place) {
+            Some(title) => title_condition(&self.table, title),
+            None => Tri::Y,
+        }
     }
 
     /// The visibility of a symbol: the greatest condition of its prompts, m being y where the symbol can't be m
@@ -120,7 +123,7 @@ impl<'a> Solved<'a> {
         ensures { result ≡ spec.visibility self.now id }
     {
         match facts(self.table.tree, id) {
-            Some(symbol) => visibility(self.table.tree, symbol, &self.table),
+            Some(symbol) => visibility(&self.table, symbol),
             None => Tri::N,
         }
     }
@@ -169,6 +172,16 @@ impl<'a> Solved<'a> {
         ensures { map (λ w. w.items) result.now ≡ spec.warnings self.now }
     {
         &self.warnings
+    }
+}
+
+// The title of the entry at a place, if it is a menu or comment.
+fn title_at(layout: &Layout, place: usize) -> Option<&Title>
+{
+    match layout.entries().get(place) {
+        Some(Entry::Menu(id) | Entry::Comment(id)) => layout.title(*id),
+        Some(Entry::Symbol(_) | Entry::End(_)) => None,
+        None => None,
     }
 }
 

@@ -6,7 +6,7 @@ ghost use Rattle.kc_read.specs.Steps.{IsMemory, refusal_view};
 ghost use Rattle.kc_read.specs.declared.refusal.Code.TheVariants.{Memory};
 ghost use Rattle.kc_tree.specs.Trees.{IsTreeOf};
 
-use crate::assembly::{Assembled, assemble};
+use crate::assembly::assemble;
 use crate::numbering::{Listing, memory, read_listing};
 use crate::tree::Tree;
 use kc_read::file_map::FileMap;
@@ -36,15 +36,15 @@ impl Tree {
             names,
             count,
             modules,
-            mut lines,
+            lines,
         } = read_listing(alloc, map, root)?;
-        let assembled = match assemble(alloc, &names, &mut lines, count, modules) {
+        let assembled = match assemble(alloc, &names, &lines, count, modules) {
             Ok(assembled) => assembled,
             Err(_) => return Err(memory(alloc)),
         };
         match assembled {
-            Assembled::Refused(refusal) => Err(refusal),
-            Assembled::Whole(parts) => {
+            Err(refusal) => Err(refusal),
+            Ok(parts) => {
                 names.are_distinct();
                 Ok(Tree::of(names, parts))
             }

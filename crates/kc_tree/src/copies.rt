@@ -5,7 +5,6 @@ ghost use Rattle.kc_expr.specs.Form.{form_of, leaf_of};
 
 use kc_expr::expression::{Expr, Operand, Sides};
 use std::alloc::{AllocError, Global};
-use std::rc::Rc;
 
 /// An operand of its own.
 pub fn operand_copy(alloc: Global, operand: &Operand) -> Result<Operand, AllocError>
@@ -45,15 +44,5 @@ pub fn expression_copy(alloc: Global, e: &Expr) -> Result<Expr, AllocError>
             }
             Ok(Expr::Any(any))
         }
-    }
-}
-
-/// The expression, which is copied only where it has other owners.
-pub fn owned(alloc: Global, e: Rc<Expr>) -> Result<Expr, AllocError>
-    ensures { IfOk result (λ own. form_of own ≡ form_of e.value) }
-{
-    match Rc::try_unwrap(e) {
-        Ok(own) => Ok(own),
-        Err(shared) => expression_copy(alloc, &shared),
     }
 }

@@ -1,194 +1,246 @@
-//! What a configuration file shows, in order.
+//! The second walk over the lines, entry by entry with the open blocks: all that they say but of symbols alone.
 
-ghost use Rattle.std.specs.Prelude.{◌≡◌, ◌<◌, ◌+◌, ◌^◌, ◌++◌, [], length, map, option_map, IfOk, OnOk, Some, None, unwrap_or, codes};
-ghost use Rattle.std.specs.List.{filter_map, cons_option};
-ghost use Rattle.kc_read.specs.Blocks.{numbers, last_of};
-ghost use Rattle.kc_read.specs.Blocks as blocks;
-ghost use Rattle.kc_read.specs.Reads.{statement_view};
-ghost use Rattle.kc_tree.specs.Entries.{counted, is_entry_line, menu_of, entry_line};
-ghost use Rattle.kc_tree.specs.Facts as facts;
-ghost use Rattle.kc_tree.specs.Facts.{entry_number, entries};
-ghost use Rattle.kc_tree.specs.Firsts.{is_first_at};
-ghost use Rattle.kc_tree.specs.Passes.{said_by};
-ghost use Rattle.kc_tree.specs.ScopeViews.{scope_view, AreScopes};
-ghost use Rattle.kc_tree.specs.Views.{shown_of};
-
-use crate::attributes::attributes;
-use crate::conditions::{dependency, menu_condition};
-use crate::parts::Entry;
-use crate::scope::{Scope, scope_at};
+use crate::attributes::{
+    add_defaults, add_ranges, attributes, choice_defaults, entry_context, entry_end, prompt,
+    visible_context,
+};
+use crate::blocks::{Block, Blocks, choice_block, if_block};
+use crate::contexts::Contexts;
+use crate::diagnostics::{Diagnostics, EntryPlace, MenuEntry};
+use crate::layout::Tables;
+use crate::parts::{
+    Choice, ChoiceId, ContextId, Definition, DefinitionId, Entry, Symbol, Title, TitleId,
+};
+use crate::reverses::Reverses;
+use crate::symbols::is_first;
+use kc_expr::expression::{Expr, SymId};
+use kc_expr::names::Names;
 use kc_read::line::Line;
 use kc_read::statement::Statement;
 use std::alloc::{AllocError, Global};
 use std::rc::Rc;
 
-// The title of a `mainmenu` line.
-fn title_of(statement: &Statement) -> Option<&Vec<u8>>
-    ensures { option_map (λ t. t.now.items) result ≡ facts.title_of (statement_view statement.now) }
-{
-    match statement {
-        Statement::MainMenu(title) => Some(title),
-        _ => None,
-    }
+// The walk so far: the tables, and the open blocks.
+#[derive(Drop)]
+struct Walk {
+    tables: Tables,
+    blocks: Blocks,
 }
 
-// The title of the last `mainmenu` line.
-fn last_title(lines: &[Line]) -> Option<&Vec<u8>>
-    ensures { option_map (λ t. t.now.items) result ≡ last_of (filter_map facts.title_of (said_by lines.now)) }
-{
-    let mut last = None;
-    for line in lines {
-        last = title_of(&line.statement).or(last);
-    }
-    last
+// Tables with room for so many symbols.
+fn new_tables(alloc: Global, count: usize) -> Result<Tables, AllocError> {
+    Ok(Tables {
+        contexts: Contexts::with_room(alloc, count)?,
+        definitions: Vec::with_capacity(alloc, count)?,
+        defaults: Vec::with_capacity(alloc, count)?,
+        ranges: Vec::new(alloc),
+        reverses: Reverses::new(alloc, count)?,
+        choices: Vec::new(alloc),
+        titles: Vec::new(alloc),
+        entries: Vec::with_capacity(alloc, count)?,
+    })
 }
 
-/// The title of the main menu.
-pub fn main_menu(alloc: Global, lines: &[Line]) -> Result<Vec<u8>, AllocError>
-    ensures { IfOk result (λ v. v.items ≡ unwrap_or (last_of (filter_map facts.title_of (said_by lines.now))) (codes "Main menu")) }
-{
-    match last_title(lines) {
-        Some(title) => Vec::from_slice(alloc, title),
-        None => Vec::from_slice(alloc, b"Main menu"),
+impl Walk {
+    // The number of the next definition.
+    fn next_definition(&self) -> DefinitionId {
+        DefinitionId(self.tables.definitions.len() as u32)
     }
-}
 
-// The line is an entry.
-fn is_entry(statement: &Statement, first: bool) -> bool
-    ensures { result ≡ is_entry_line first (statement_view statement.now) }
-{
-    match statement {
-        Statement::Config(_) => first,
-        Statement::Menu(_) => true,
-        Statement::EndMenu => true,
-        Statement::Comment(_) => true,
-        _ => false,
+    // How many entries there are, which is the place of the next one.
+    fn next_entry(&self) -> u32 {
+        self.tables.entries.len() as u32
     }
-}
 
-// How many entries there are after a line.
-fn next_number(statement: &Statement, first: bool, number: usize) -> usize
-    requires { number + 1 < 2 ^ 64 }
-    ensures { result ≡ counted (is_entry_line first (statement_view statement.now)) number }
-{
-    if is_entry(statement, first) {
-        number + 1
-    } else {
-        number
+    // A `config` entry.
+    fn define(
+        &mut self,
+        alloc: Global,
+        symbols: &[Symbol],
+        symbol: SymId,
+        own: &[Line],
+    ) -> Result<(), AllocError> {
+        let id = self.next_definition();
+        let round = self.blocks.innermost();
+        let within = entry_context(&mut self.tables.contexts, round.within, own)?;
+        let prompt = prompt(own, round.visible)?;
+        let defaults = add_defaults(own, &mut self.tables.defaults)?;
+        let ranges = add_ranges(alloc, own, &mut self.tables.ranges)?;
+        self.tables.definitions.push(Definition {
+            symbol,
+            within,
+            prompt,
+            defaults,
+            ranges,
+        })?;
+        self.tables.reverses.add_all(symbols, id, own)?;
+        if is_first(symbols, symbol, id) {
+            self.tables.entries.push(Entry::Symbol(symbol))?;
+        }
+        self.add_member(symbol)
     }
-}
 
-/// How many entries there are before each line.
-pub fn entry_numbers(
-    alloc: Global,
-    lines: &[Line],
-    firsts: &[bool],
-) -> Result<Vec<usize>, AllocError>
-    requires { firsts.now ≡ map (is_first_at (said_by lines.now)) (numbers (length lines.now)) }
-    ensures { IfOk result (λ v. v.items ≡ map (entry_number (said_by lines.now)) (numbers (length lines.now))) }
-{
-    let mut entry_numbers = Vec::with_capacity(alloc, lines.len())?;
-    let mut number = 0;
-    for (i, line) in lines.iter().enumerate() {
-        entry_numbers.push(number)?;
-        number = next_number(&line.statement, firsts[i], number);
-    }
-    Ok(entry_numbers)
-}
-
-// The number of the menu that a line closes.
-fn menu_of(opener: Option<usize>, entry_numbers: &[usize]) -> Option<usize>
-    ensures { result ≡ menu_of opener entry_numbers.now }
-{
-    match opener {
-        Some(k) => entry_numbers.get(k).copied(),
-        None => None,
-    }
-}
-
-// The entry that the statement at a place is, if it is one. The attributes of no others than menus and comments are
-// looked at, so that a walk over all places takes no more time than there are lines.
-fn entry_at(
-    alloc: Global,
-    statement: &Statement,
-    lines: &[Line],
-    place: usize,
-    scope: &Scope,
-    first: bool,
-    menu: Option<usize>,
-) -> Result<Option<Entry>, AllocError>
-    requires { place < length lines.now }
-    ensures { IfOk result (λ o. option_map shown_of o ≡ entry_line (scope_view scope.now) (blocks.attributes (said_by lines.now) place) first menu (statement_view statement.now)) }
-{
-    match statement {
-        Statement::Config(s) => {
-            if first {
-                Ok(Some(Entry::Symbol(*s)))
-            } else {
-                Ok(None)
+    // Adds a symbol to the choice round it, where there is one.
+    fn add_member(&mut self, symbol: SymId) -> Result<(), AllocError> {
+        let round = self.blocks.innermost();
+        if let Some(choice) = self.tables.contexts.mode(round.within) {
+            if choice.0 < self.tables.choices.len() {
+                self.tables.choices[choice.0].members.push(symbol)?;
             }
         }
-        Statement::Menu(title) => {
-            let text = Vec::from_slice(alloc, title)?;
-            let when = menu_condition(alloc, attributes(lines, place), scope)?;
-            Ok(Some(Entry::Menu { text, when }))
+        Ok(())
+    }
+
+    // A title, which is shown under this.
+    fn add_title(
+        &mut self,
+        alloc: Global,
+        text: &[u8],
+        within: ContextId,
+        visible: ContextId,
+    ) -> Result<TitleId, AllocError> {
+        let id = TitleId(self.tables.titles.len() as u32);
+        let text = Vec::from_slice(alloc, text)?;
+        self.tables.titles.push(Title {
+            text,
+            within,
+            visible,
+        })?;
+        Ok(id)
+    }
+
+    // An `if`.
+    fn open_if(&mut self, condition: &Rc<Expr>) -> Result<(), AllocError> {
+        let entry = self.next_entry();
+        let outer = self.blocks.innermost();
+        let block = if_block(&mut self.tables.contexts, outer, condition.clone()?, entry)?;
+        self.blocks.open(block)
+    }
+
+    // A menu: what it asks for, all that stands in it asks for, too.
+    fn open_menu(&mut self, alloc: Global, text: &[u8], own: &[Line]) -> Result<(), AllocError> {
+        let entry = self.next_entry();
+        let outer = self.blocks.innermost();
+        let within = entry_context(&mut self.tables.contexts, outer.within, own)?;
+        let visible = visible_context(&mut self.tables.contexts, outer.visible, own)?;
+        let title = self.add_title(alloc, text, within, visible)?;
+        self.tables.entries.push(Entry::Menu(title))?;
+        self.blocks.open(Block {
+            within,
+            visible,
+            entry: Some(entry),
+        })
+    }
+
+    // A comment.
+    fn comment(&mut self, alloc: Global, text: &[u8], own: &[Line]) -> Result<(), AllocError> {
+        let round = self.blocks.innermost();
+        let within = entry_context(&mut self.tables.contexts, round.within, own)?;
+        // What is asked of what is visible is asked of prompts and menus alone.
+        let title = self.add_title(alloc, text, within, ContextId(0))?;
+        self.tables.entries.push(Entry::Comment(title))?;
+        Ok(())
+    }
+
+    // A choice: its members depend on its mode, and not on what it depends on itself.
+    fn open_choice(
+        &mut self,
+        alloc: Global,
+        symbols: &[Symbol],
+        own: &[Line],
+    ) -> Result<(), AllocError> {
+        let entry = self.next_entry();
+        let id = ChoiceId(self.tables.choices.len());
+        let outer = self.blocks.innermost();
+        let within = entry_context(&mut self.tables.contexts, outer.within, own)?;
+        let prompt = prompt(own, outer.visible)?;
+        let defaults = choice_defaults(alloc, symbols, id, own)?;
+        self.tables.choices.push(Choice {
+            within,
+            prompt,
+            defaults,
+            members: Vec::new(alloc),
+        })?;
+        let block = choice_block(&mut self.tables.contexts, outer, id, entry)?;
+        self.blocks.open(block)
+    }
+
+    // The end of a menu.
+    fn close_menu(&mut self) -> Result<(), AllocError> {
+        if let Some(menu) = self.blocks.innermost().entry {
+            self.tables.entries.push(Entry::End(menu))?;
         }
-        Statement::EndMenu => match menu {
-            Some(menu) => Ok(Some(Entry::End { menu })),
-            None => Ok(None),
-        },
-        Statement::Comment(comment) => {
-            let text = Vec::from_slice(alloc, comment)?;
-            let when = dependency(alloc, attributes(lines, place), scope)?;
-            Ok(Some(Entry::Comment { text, when }))
+        self.blocks.close();
+        Ok(())
+    }
+
+    // What the entry at the head of its attributes says.
+    fn enter(
+        &mut self,
+        alloc: Global,
+        symbols: &[Symbol],
+        head: &Statement,
+        own: &[Line],
+    ) -> Result<(), AllocError> {
+        match head {
+            Statement::Config(symbol) => self.define(alloc, symbols, *symbol, own),
+            Statement::If(condition) => self.open_if(condition),
+            Statement::Menu(text) => self.open_menu(alloc, text, own),
+            Statement::Choice => self.open_choice(alloc, symbols, own),
+            Statement::Comment(text) => self.comment(alloc, text, own),
+            Statement::EndMenu => self.close_menu(),
+            Statement::EndIf | Statement::EndChoice => {
+                self.blocks.close();
+                Ok(())
+            }
+            _ => Ok(()),
         }
-        _ => Ok(None),
+    }
+
+    // What is known of the entry that a statement begins, before the walk goes into it.
+    fn place_of(&self, symbols: &[Symbol], head: &Statement) -> EntryPlace {
+        let round = self.tables.contexts.mode(self.blocks.innermost().within);
+        match head {
+            Statement::Config(symbol) => EntryPlace {
+                entry: MenuEntry::Symbol(*symbol),
+                first: is_first(symbols, *symbol, self.next_definition()),
+                round,
+            },
+            Statement::Choice => EntryPlace {
+                entry: MenuEntry::Choice(ChoiceId(self.tables.choices.len())),
+                first: false,
+                round,
+            },
+            _ => EntryPlace {
+                entry: MenuEntry::Other,
+                first: false,
+                round,
+            },
+        }
     }
 }
 
-// No entry yet, with room for all of them: those before the last line, and that line.
-fn no_entries(alloc: Global, entry_numbers: &[usize]) -> Result<Vec<Entry>, AllocError>
-    ensures { IfOk result (λ v. v.items ≡ []) }
-{
-    match entry_numbers.last() {
-        Some(before) => Vec::with_capacity(alloc, before.saturating_add(1)),
-        None => Ok(Vec::new(alloc)),
-    }
-}
-
-// Adds an entry where there is one.
-fn push_entry(entries: &mut Vec<Entry>, entry: Option<Entry>) -> Result<(), AllocError>
-    ensures { OnOk result (map shown_of entries.new.items ≡ map shown_of entries.old.items ++ cons_option (option_map shown_of entry) []) }
-{
-    match entry {
-        Some(entry) => {
-            entries.push(entry)?;
-            Ok(())
-        }
-        None => Ok(()),
-    }
-}
-
-/// What a configuration file shows, in order.
-pub fn entries(
+/// The tables that lines fill, and what they have against them. The symbols are those of the first walk.
+pub fn walk(
     alloc: Global,
+    names: &Names,
     lines: &[Line],
-    scopes: &[Rc<Scope>],
-    firsts: &[bool],
-) -> Result<Vec<Entry>, AllocError>
-    requires scopes { AreScopes (said_by lines.now) scopes.now }
-    requires firsts { firsts.now ≡ map (is_first_at (said_by lines.now)) (numbers (length lines.now)) }
-    ensures { IfOk result (λ v. map shown_of v.items ≡ entries (said_by lines.now)) }
-{
-    let entry_numbers = entry_numbers(alloc, lines, firsts)?;
-    let mut entries = no_entries(alloc, &entry_numbers)?;
-    for (i, line) in lines.iter().enumerate() {
-        if is_entry(&line.statement, firsts[i]) {
-            let scope = scope_at(scopes, i);
-            let menu = menu_of(scope.opener, &entry_numbers);
-            let entry = entry_at(alloc, &line.statement, lines, i, scope, firsts[i], menu)?;
-            push_entry(&mut entries, entry)?;
-        }
+    symbols: &[Symbol],
+) -> Result<(Tables, Diagnostics), AllocError> {
+    let mut walk = Walk {
+        tables: new_tables(alloc, symbols.len())?,
+        blocks: Blocks::new(alloc),
+    };
+    let mut diagnostics = Diagnostics::new(alloc);
+    let mut place = 0;
+    'entries: while place < lines.len() {
+        let end = entry_end(lines, place);
+        let head = &lines[place];
+        let own = attributes(lines, place);
+        let known = walk.place_of(symbols, &head.statement);
+        diagnostics.look_at_entry(alloc, names, symbols, known, head, own)?;
+        walk.enter(alloc, symbols, &head.statement, own)?;
+        place = end;
     }
-    Ok(entries)
+    Ok((walk.tables, diagnostics))
 }

@@ -18,13 +18,13 @@ use std::rc::Rc;
 /// A default: its value and its condition.
 #[derive(Clone, Copy)]
 pub struct Given<'a> {
-    pub value: &'a Expr,
+    pub value: &'a Rc<Expr>,
     pub when: Option<&'a Rc<Expr>>,
 }
 
-/// Whether a line selects a symbol or implies it.
+/// Which of the two a line is: a reverse dependency (`select`) or a weak one (`imply`).
 #[derive(Clone, Copy, Debug, PartialEq, Eq)]
-pub enum Raise {
+pub enum ReverseKind {
     Select,
     Imply,
 }
@@ -32,7 +32,7 @@ pub enum Raise {
 /// A `select` or `imply` line: the symbol that it names and its condition.
 #[derive(Clone, Copy)]
 pub struct Target<'a> {
-    pub raise: Raise,
+    pub kind: ReverseKind,
     pub symbol: SymId,
     pub when: Option<&'a Rc<Expr>>,
 }
@@ -163,12 +163,12 @@ pub fn target_of(statement: &Statement) -> Option<Target<'_>>
 {
     match statement {
         Statement::Select(symbol, when) => Some(Target {
-            raise: Raise::Select,
+            kind: ReverseKind::Select,
             symbol: *symbol,
             when: condition(when),
         }),
         Statement::Imply(symbol, when) => Some(Target {
-            raise: Raise::Imply,
+            kind: ReverseKind::Imply,
             symbol: *symbol,
             when: condition(when),
         }),

@@ -4,7 +4,7 @@ ghost use Rattle.std.specs.Prelude.{◌≡◌, ◌++◌, codes, IfOk};
 ghost use Rattle.kc_read.specs.Reads.{line_view};
 ghost use Rattle.kc_tree.specs.Warnings as spec;
 
-use crate::lines::Raise;
+use crate::lines::ReverseKind;
 use itoa::Buffer;
 use kc_expr::expression::SymId;
 use kc_expr::names::Names;
@@ -15,17 +15,17 @@ use std::alloc::{AllocError, Global};
 /// - `Retyped`: a type line whose type is not the symbol's first type, which is kept;
 /// - `Reprompted`: a second prompt in one entry, of which the last is kept; without a symbol it is a choice's;
 /// - `Untyped`: the first definition of a symbol that has no type and is no member of a choice;
-/// - `WordyTarget`: a select or imply of a string, int or hex symbol, which has no effect;
-/// - `StrayDefault`: a choice's default that names no member of it;
+/// - `TextTarget`: a select or imply of a string, int or hex symbol, which has no effect;
+/// - `OtherDefault`: a choice's default that names no member of it;
 /// - `MemberTarget`: a select or imply of a member of a choice, which has no effect.
 #[derive(Clone, Copy, Debug, PartialEq, Eq)]
 pub enum Warning {
     Retyped(SymId),
     Reprompted(Option<SymId>),
     Untyped(SymId),
-    WordyTarget(SymId, Raise),
-    StrayDefault(SymId),
-    MemberTarget(SymId, Raise),
+    TextTarget(SymId, ReverseKind),
+    OtherDefault(SymId),
+    MemberTarget(SymId, ReverseKind),
 }
 
 // The name of a symbol.
@@ -49,12 +49,12 @@ pub fn entry_name(names: &Names, symbol: Option<SymId>) -> &[u8]
 }
 
 // The word of the line.
-fn raise_word(raise: Raise) -> &'static [u8]
-    ensures { result.now ≡ spec.raise_word raise }
+fn reverse_word(kind: ReverseKind) -> &'static [u8]
+    ensures { result.now ≡ spec.reverse_word kind }
 {
-    match raise {
-        Raise::Select => b"select",
-        Raise::Imply => b"imply",
+    match kind {
+        ReverseKind::Select => b"select",
+        ReverseKind::Imply => b"imply",
     }
 }
 
@@ -74,12 +74,12 @@ fn target_text(
     head: &[u8],
     name: &[u8],
     fault: &[u8],
-    raise: Raise,
+    kind: ReverseKind,
 ) -> Result<Vec<u8>, AllocError>
-    ensures { IfOk result (λ v. v.items ≡ head.now ++ name.now ++ fault.now ++ spec.raise_word raise ++ codes " has no effect") }
+    ensures { IfOk result (λ v. v.items ≡ head.now ++ name.now ++ fault.now ++ spec.reverse_word kind ++ codes " has no effect") }
 {
     let mut text = joined_text(alloc, head, name, fault)?;
-    text.extend_from_slice(raise_word(raise))?;
+    text.extend_from_slice(reverse_word(kind))?;
     text.extend_from_slice(b" has no effect")?;
     Ok(text)
 }
@@ -102,25 +102,25 @@ pub fn text_of(alloc: Global, names: &Names, warning: Warning) -> Result<Vec<u8>
             b" redefined, the last is kept",
         ),
         Warning::Untyped(s) => joined_text(alloc, b"K3: ", name_of(names, s), b" has no type"),
-        Warning::WordyTarget(s, raise) => target_text(
+        Warning::TextTarget(s, kind) => target_text(
             alloc,
             b"K4: ",
             name_of(names, s),
             b" is not bool or tristate, the ",
-            raise,
+            kind,
         ),
-        Warning::StrayDefault(s) => joined_text(
+        Warning::OtherDefault(s) => joined_text(
             alloc,
             b"K5: ",
             name_of(names, s),
             b" is not a member of the choice",
         ),
-        Warning::MemberTarget(s, raise) => target_text(
+        Warning::MemberTarget(s, kind) => target_text(
             alloc,
             b"K6: ",
             name_of(names, s),
             b" is a choice member, the ",
-            raise,
+            kind,
         ),
     }
 }

@@ -1,22 +1,13 @@
 //! Conditions under the values so far.
 
-ghost use Rattle.std.specs.Prelude.{◌≡◌, map, Option, Some, None};
-ghost use Rattle.kc_expr.specs.Form.{form_of};
-ghost use Rattle.kc_tree.specs.Views.{condition_of, choice_facts_of};
-ghost use Rattle.kc_values.specs.Values as spec;
-ghost use Rattle.kc_expr.specs.Value.{known_by};
-
-use crate::lookups::choice;
+use crate::table::Table;
 use kc_expr::expression::{Expr, Tri};
-use kc_expr::values::{Values, eval};
-use kc_tree::parts::{Choice, Cond};
-use kc_tree::tree::Tree;
+use kc_expr::values::{eval, lesser};
+use kc_tree::parts::{Choice, ChoiceId, ContextId, Prompt, Title};
 use std::rc::Rc;
 
 /// m as y: what counts where m can't be (kconfiglib, of symbols that are not tristate).
-pub fn up(value: Tri) -> Tri
-    ensures { result ≡ spec.up value }
-{
+pub fn up(value: Tri) -> Tri {
     match value {
         Tri::N => Tri::N,
         Tri::M | Tri::Y => Tri::Y,
@@ -24,62 +15,91 @@ pub fn up(value: Tri) -> Tri
 }
 
 /// Whether it is n, by which a condition fails (the kernel's kconfig-language document, "Menu dependencies").
-pub fn is_n(value: Tri) -> bool
-    ensures { result ≡ spec.is_n value }
-{
+pub fn is_n(value: Tri) -> bool {
     match value {
         Tri::N => true,
         Tri::M | Tri::Y => false,
     }
 }
 
-/// The least value of the parts, y where there is none: their `&&` (the kernel's kconfig-language document, "Menu
-/// dependencies").
-pub fn all_hold<V: Values>(parts: &[Rc<Expr>], values: &V) -> Tri
-    ensures { result ≡ spec.all_hold (known_by (V.kind_of values.now) (V.tri_of values.now) (V.text_of values.now)) (map (λ p. form_of p.value) parts.now) }
-{
-    let mut least = Tri::Y;
-    for part in parts {
-        least = least.min(eval(part, values));
+/// The value of an `if`, y where there is none.
+pub fn own(when: &Option<Rc<Expr>>, table: &Table<'_>) -> Tri {
+    match when {
+        Some(e) => eval(e, table),
+        None => Tri::Y,
+    }
+}
+
+// The least of a value and of what the contexts from this one outwards ask for, up to one that is settled.
+fn asked(table: &Table<'_>, within: ContextId, first: Tri) -> Tri {
+    let mut least = first;
+    let mut at = within;
+    'contexts: while let Some(context) = table.layout.context(at) {
+        if let Some(value) = table.settled_context(at) {
+            return lesser(least, value);
+        }
+        least = lesser(least, own(&context.asks, table));
+        at = context.outer;
     }
     least
 }
 
 /// The mode of a choice: y where its prompt's condition is not n, else n; n without a prompt (kconfiglib's `tri_value` of a
 /// choice; that its members are bools and that m counts as y is our own).
-pub fn mode_of<V: Values>(choice: &Choice, values: &V) -> Tri
-    ensures { result ≡ spec.mode_of (known_by (V.kind_of values.now) (V.tri_of values.now) (V.text_of values.now)) (Some (choice_facts_of choice.now)) }
-{
+pub fn mode_of(table: &Table<'_>, choice: &Choice) -> Tri {
     match &choice.prompt {
-        Some(prompt) => up(all_hold(&prompt.parts, values)),
+        Some(prompt) => {
+            let shown = asked(table, prompt.visible, own(&prompt.when, table));
+            up(asked(table, choice.within, shown))
+        }
         None => Tri::N,
     }
 }
 
-/// The `&&` of the parts and of the mode of the choice that the condition names, if it names one (the kernel's
-/// kconfig-language document, "Menu dependencies").
-pub fn condition<V: Values>(tree: &Tree, when: &Cond, values: &V) -> Tri
-    ensures { result ≡ spec.condition tree.now (known_by (V.kind_of values.now) (V.tri_of values.now) (V.text_of values.now)) (condition_of when.now) }
-{
-    let parts = all_hold(&when.parts, values);
-    let mode = match when.mode {
+// The value of the mode that counts in a context.
+fn mode_value(table: &Table<'_>, mode: Option<ChoiceId>) -> Tri {
+    match mode {
         None => Tri::Y,
-        Some(id) => match choice(tree, id) {
-            Some(found) => mode_of(found, values),
+        Some(id) => match table.layout.choice(id) {
+            Some(choice) => mode_of(table, choice),
             None => Tri::N,
         },
-    };
-    parts.min(mode)
+    }
 }
 
-/// The greatest of the conditions, n where there is none: the `||` over several definitions of one symbol (kconfiglib's
-/// `visibility` and `direct_dep`).
-pub fn conditions<V: Values>(tree: &Tree, all: &[Cond], values: &V) -> Tri
-    ensures { result ≡ spec.conditions tree.now (known_by (V.kind_of values.now) (V.tri_of values.now) (V.text_of values.now)) (map condition_of all.now) }
-{
-    let mut greatest = Tri::N;
-    for when in all {
-        greatest = greatest.max(condition(tree, when, values));
+/// What a context is worth: the `&&` of what it and those outside ask for, and of the mode of the choice round it (the
+/// kernel's kconfig-language document, "Menu dependencies").
+pub fn context(table: &Table<'_>, within: ContextId) -> Tri {
+    match table.settled_context(within) {
+        Some(value) => value,
+        None => asked(table, within, mode_value(table, table.layout.mode(within))),
     }
-    greatest
+}
+
+// A value up to an `if`, which is looked at only where the value is not n.
+fn guarded(first: Tri, when: &Option<Rc<Expr>>, table: &Table<'_>) -> Tri {
+    if is_n(first) {
+        Tri::N
+    } else {
+        lesser(first, own(when, table))
+    }
+}
+
+/// What a line is worth that depends on a context and on its own `if`.
+pub fn condition(table: &Table<'_>, within: ContextId, when: &Option<Rc<Expr>>) -> Tri {
+    guarded(context(table, within), when, table)
+}
+
+/// The condition of a prompt, whose entry depends on a context.
+pub fn prompt_condition(table: &Table<'_>, within: ContextId, prompt: &Prompt) -> Tri {
+    let first = lesser(context(table, within), context(table, prompt.visible));
+    guarded(first, &prompt.when, table)
+}
+
+/// When a menu or comment is shown.
+pub fn title_condition(table: &Table<'_>, title: &Title) -> Tri {
+    lesser(
+        context(table, title.within),
+        context(table, title.visible),
+    )
 }

@@ -1,13 +1,12 @@
-//! The values found so far, by the numbers of the symbols.
+//! The values found so far: those of the symbols, of the contexts and of the choices, by their numbers.
 
-ghost use Rattle.std.specs.Prelude.{◌≡◌};
-ghost use Rattle.kc_values.specs.Lookups as lookup;
-ghost use Rattle.kc_values.specs.Table.{kind_in, value_at, value_in, tri_in, text_in};
-
-use crate::lookups::{facts, name};
+use crate::lookups::name;
 use kc_expr::expression::{Kind, SymId, Tri};
 use kc_expr::values::Values;
+use kc_tree::layout::Layout;
+use kc_tree::parts::{ChoiceId, ContextId};
 use kc_tree::tree::Tree;
+use std::alloc::{AllocError, Global};
 
 /// The value of a symbol: a truth of a bool or tristate, a text of the others (kconfiglib's `tri_value` and `str_value`).
 #[derive(Debug, Drop)]
@@ -19,19 +18,67 @@ pub enum Value {
 }
 
 /// The values of the symbols of a tree, of which some places may still be empty. As `Values` an empty place is n, and
-/// as a text the symbol's name, which is also what a name that is not defined is worth (kconfiglib).
+/// as a text the symbol's name, which is also what a name that is not defined is worth (kconfiglib). Beside them stand the
+/// values of its contexts and the selections of its choices that are settled, so that each is found once, whoever asks for it;
+/// one that is not settled is found anew.
 #[derive(Drop)]
 pub struct Table<'t> {
     /// The tree that the symbols are of.
     pub tree: &'t Tree,
+    /// How it is laid out.
+    pub layout: &'t Layout,
     /// A place for each symbol, by number.
     pub values: Vec<Option<Value>>,
+    /// What each context is worth, if that is settled.
+    pub contexts: Vec<Option<Tri>>,
+    /// What each choice selects, if that is settled; no member can be selected too.
+    pub selections: Vec<Option<Option<SymId>>>,
+}
+
+// So many empty places.
+fn empty_places(alloc: Global, count: usize) -> Result<Vec<Option<Value>>, AllocError> {
+    let mut places = Vec::with_capacity(alloc, count)?;
+    for _place in 0..count {
+        places.push(None)?;
+    }
+    Ok(places)
+}
+
+impl<'t> Table<'t> {
+    /// A table of empty places, where nothing is settled. Fails only when it is out of memory.
+    pub fn empty(alloc: Global, tree: &'t Tree) -> Result<Table<'t>, AllocError> {
+        let layout = tree.layout();
+        let values = empty_places(alloc, layout.symbols().len())?;
+        let contexts = vec![in alloc; None; layout.context_count()]?;
+        let selections = vec![in alloc; None; layout.choices().len()]?;
+        Ok(Table {
+            tree,
+            layout,
+            values,
+            contexts,
+            selections,
+        })
+    }
+
+    /// What a context is worth, if that is settled.
+    pub fn settled_context(&self, id: ContextId) -> Option<Tri> {
+        match self.contexts.get(id.0 as usize) {
+            Some(settled) => *settled,
+            None => None,
+        }
+    }
+
+    /// What a choice selects, if that is settled.
+    pub fn settled_selection(&self, id: ChoiceId) -> Option<Option<SymId>> {
+        match self.selections.get(id.0) {
+            Some(settled) => *settled,
+            None => None,
+        }
+    }
 }
 
 /// The value in a place, if it is there and filled (our own).
-pub fn found(values: &[Option<Value>], id: SymId) -> Option<&Value>
-    ensures { value_at result ≡ value_in values.now id }
-{
+pub fn found(values: &[Option<Value>], id: SymId) -> Option<&Value> {
     match values.get(id.0) {
         Some(Some(value)) => Some(value),
         _ => None,
@@ -60,7 +107,7 @@ impl<'t> Values for Table<'t> {
     }
 
     fn kind(&self, id: SymId) -> Kind {
-        match facts(self.tree, id) {
+        match self.layout.symbol(id) {
             Some(symbol) => symbol.kind,
             None => Kind::Undefined,
         }

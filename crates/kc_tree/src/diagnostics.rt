@@ -1,0 +1,308 @@
+//! The warnings about the lines of a tree, and the refusals that the whole list of them shows.
+
+use crate::lines::{
+    asked_of, given_of, is_single, single_symbol, symbol_of, target_of, type_of,
+};
+use crate::parts::{ChoiceId, Symbol};
+use crate::symbols::{choice_of, has_text, is_member, kind_of};
+use crate::warning::{Warning, entry_name, line_of};
+use kc_expr::expression::{Kind, SymId};
+use kc_expr::names::Names;
+use kc_read::line::Line;
+use kc_read::refusal::{Code, Refusal};
+use kc_read::statement::Statement;
+use std::alloc::{AllocError, Global};
+
+/// The menu entry that a line belongs to: a symbol's, a choice's, or another.
+#[derive(Clone, Copy, Debug, PartialEq, Eq)]
+pub enum MenuEntry {
+    Symbol(SymId),
+    Choice(ChoiceId),
+    Other,
+}
+
+/// What is known of an entry when its lines are looked at: whose it is, whether it is the first definition of its symbol, and
+/// the choice round it.
+#[derive(Clone, Copy, Debug)]
+pub struct EntryPlace {
+    pub entry: MenuEntry,
+    pub first: bool,
+    pub round: Option<ChoiceId>,
+}
+
+/// What the lines so far have against them: warnings as whole lines, the first definition of a choice's member that is
+/// refused, and the first default that is.
+#[derive(Debug, Drop)]
+pub struct Diagnostics {
+    pub warnings: Vec<Vec<u8>>,
+    pub bad_member: Option<Refusal>,
+    pub bad_default: Option<Refusal>,
+}
+
+// The symbol whose entry it is.
+fn entry_symbol(entry: MenuEntry) -> Option<SymId> {
+    match entry {
+        MenuEntry::Symbol(s) => Some(s),
+        _ => None,
+    }
+}
+
+// The choice whose entry it is.
+fn entry_choice(entry: MenuEntry) -> Option<ChoiceId> {
+    match entry {
+        MenuEntry::Choice(k) => Some(k),
+        _ => None,
+    }
+}
+
+// A type line whose type is not the symbol's.
+fn retyped(statement: &Statement, entry: MenuEntry, symbols: &[Symbol]) -> Option<Warning> {
+    match (entry_symbol(entry), type_of(statement)) {
+        (Some(symbol), Some(kind)) => {
+            (kind != kind_of(symbols, symbol)).then_some(Warning::Retyped(symbol))
+        }
+        _ => None,
+    }
+}
+
+// A second prompt in one entry.
+fn reprompted(statement: &Statement, entry: MenuEntry, prompted: bool) -> Option<Warning> {
+    (asked_of(statement).is_some() && prompted).then_some(Warning::Reprompted(entry_symbol(entry)))
+}
+
+// The symbol has a type, or is a member of a choice.
+fn has_type(symbol: SymId, symbols: &[Symbol]) -> bool {
+    choice_of(symbols, symbol).is_some() || kind_of(symbols, symbol) != Kind::Undefined
+}
+
+// The first definition of a symbol without a type.
+fn untyped(statement: &Statement, first: bool, symbols: &[Symbol]) -> Option<Warning> {
+    match symbol_of(statement) {
+        Some(symbol) => (first && !has_type(symbol, symbols)).then_some(Warning::Untyped(symbol)),
+        None => None,
+    }
+}
+
+// A select or imply of a symbol whose value is a text.
+fn text_target(statement: &Statement, symbols: &[Symbol]) -> Option<Warning> {
+    match target_of(statement) {
+        Some(target) => has_text(kind_of(symbols, target.symbol)).then_some(Warning::TextTarget(
+            target.symbol,
+            target.kind,
+        )),
+        None => None,
+    }
+}
+
+// A select or imply of a member of a choice.
+fn member_target(statement: &Statement, symbols: &[Symbol]) -> Option<Warning> {
+    match target_of(statement) {
+        Some(target) => choice_of(symbols, target.symbol)
+            .is_some()
+            .then_some(Warning::MemberTarget(target.symbol, target.kind)),
+        None => None,
+    }
+}
+
+// The symbol that a default names alone.
+fn default_symbol(statement: &Statement) -> Option<SymId> {
+    match given_of(statement) {
+        Some(given) => single_symbol(given.value),
+        None => None,
+    }
+}
+
+// A default of a choice that names no member of it.
+fn other_default(statement: &Statement, entry: MenuEntry, symbols: &[Symbol]) -> Option<Warning> {
+    match (entry_choice(entry), default_symbol(statement)) {
+        (Some(choice), Some(symbol)) => {
+            (!is_member(symbols, choice, symbol)).then_some(Warning::OtherDefault(symbol))
+        }
+        _ => None,
+    }
+}
+
+// What there is to warn of in a line: two things at most.
+fn warnings_of(
+    statement: &Statement,
+    place: EntryPlace,
+    prompted: bool,
+    symbols: &[Symbol],
+) -> (Option<Warning>, Option<Warning>) {
+    let entry = place.entry;
+    match statement {
+        Statement::Config(_) => (untyped(statement, place.first, symbols), None),
+        Statement::Type(_, _) => (
+            retyped(statement, entry, symbols),
+            reprompted(statement, entry, prompted),
+        ),
+        Statement::Prompt(_) => (reprompted(statement, entry, prompted), None),
+        Statement::Default(_, _) => (other_default(statement, entry, symbols), None),
+        Statement::Def(_, _, _) => (
+            retyped(statement, entry, symbols),
+            other_default(statement, entry, symbols),
+        ),
+        Statement::Select(_, _) | Statement::Imply(_, _) => (
+            text_target(statement, symbols),
+            member_target(statement, symbols),
+        ),
+        _ => (None, None),
+    }
+}
+
+// A second definition of a member; a definition in a choice whose type is not bool.
+fn is_bad_member(statement: &Statement, place: EntryPlace, symbols: &[Symbol]) -> bool {
+    match symbol_of(statement) {
+        Some(symbol) => {
+            (choice_of(symbols, symbol).is_some() && !place.first)
+                || (place.round.is_some() && kind_of(symbols, symbol) != Kind::Bool)
+        }
+        None => false,
+    }
+}
+
+// The entry is that of a symbol whose value is a text.
+fn is_text_entry(entry: MenuEntry, symbols: &[Symbol]) -> bool {
+    match entry_symbol(entry) {
+        Some(symbol) => has_text(kind_of(symbols, symbol)),
+        None => false,
+    }
+}
+
+// A default of such a symbol that is no single operand; one of a choice that is no single name.
+fn is_bad_default(statement: &Statement, entry: MenuEntry, symbols: &[Symbol]) -> bool {
+    match given_of(statement) {
+        Some(given) => {
+            (is_text_entry(entry, symbols) && !is_single(given.value))
+                || (entry_choice(entry).is_some() && single_symbol(given.value).is_none())
+        }
+        None => false,
+    }
+}
+
+// The refusal of a line, which names its entry.
+fn refusal(
+    alloc: Global,
+    names: &Names,
+    line: &Line,
+    entry: MenuEntry,
+    code: Code,
+) -> Result<Refusal, AllocError> {
+    let file = Vec::from_slice(alloc, &line.file)?;
+    let detail = Vec::from_slice(alloc, entry_name(names, entry_symbol(entry)))?;
+    Ok(Refusal {
+        code,
+        place: Some((file, line.line)),
+        detail,
+    })
+}
+
+// Adds the line of a warning where there is one.
+fn warn(
+    alloc: Global,
+    names: &Names,
+    line: &Line,
+    warning: Option<Warning>,
+    out: &mut Vec<Vec<u8>>,
+) -> Result<(), AllocError> {
+    match warning {
+        Some(warning) => {
+            let text = line_of(alloc, names, line, warning)?;
+            out.push(text)?;
+            Ok(())
+        }
+        None => Ok(()),
+    }
+}
+
+// Adds what there is to warn of in a line.
+fn warn_line(
+    alloc: Global,
+    names: &Names,
+    symbols: &[Symbol],
+    place: EntryPlace,
+    prompted: bool,
+    line: &Line,
+    out: &mut Vec<Vec<u8>>,
+) -> Result<(), AllocError> {
+    match warnings_of(&line.statement, place, prompted, symbols) {
+        (None, None) => Ok(()),
+        (first, second) => {
+            warn(alloc, names, line, first, out)?;
+            warn(alloc, names, line, second, out)
+        }
+    }
+}
+
+impl Diagnostics {
+    /// Nothing yet.
+    pub fn new(alloc: Global) -> Diagnostics {
+        Diagnostics {
+            warnings: Vec::new(alloc),
+            bad_member: None,
+            bad_default: None,
+        }
+    }
+
+    // Looks at a line, where `prompted` says whether a prompt stands before it in its entry.
+    fn look_at(
+        &mut self,
+        alloc: Global,
+        names: &Names,
+        symbols: &[Symbol],
+        place: EntryPlace,
+        prompted: bool,
+        line: &Line,
+    ) -> Result<(), AllocError> {
+        warn_line(
+            alloc,
+            names,
+            symbols,
+            place,
+            prompted,
+            line,
+            &mut self.warnings,
+        )?;
+        if self.bad_member.is_none() && is_bad_member(&line.statement, place, symbols) {
+            let found = refusal(alloc, names, line, place.entry, Code::ChoiceMember)?;
+            self.bad_member = Some(found);
+        }
+        if self.bad_default.is_none() && is_bad_default(&line.statement, place.entry, symbols) {
+            let found = refusal(alloc, names, line, place.entry, Code::BadDefault)?;
+            self.bad_default = Some(found);
+        }
+        Ok(())
+    }
+
+    /// Looks at an entry: at the line that begins it, and at its attributes.
+    pub fn look_at_entry(
+        &mut self,
+        alloc: Global,
+        names: &Names,
+        symbols: &[Symbol],
+        place: EntryPlace,
+        head: &Line,
+        attributes: &[Line],
+    ) -> Result<(), AllocError> {
+        self.look_at(alloc, names, symbols, place, false, head)?;
+        let mut prompted = false;
+        for line in attributes {
+            self.look_at(alloc, names, symbols, place, prompted, line)?;
+            prompted = prompted || asked_of(&line.statement).is_some();
+        }
+        Ok(())
+    }
+
+    /// The first refusal: of a definition of a member, and without one of a default. Where there is none, the warnings.
+    pub fn into_warnings(self) -> Result<Vec<Vec<u8>>, Refusal> {
+        let Diagnostics {
+            warnings,
+            bad_member,
+            bad_default,
+        } = self;
+        match bad_member.or(bad_default) {
+            Some(refusal) => Err(refusal),
+            None => Ok(warnings),
+        }
+    }
+}

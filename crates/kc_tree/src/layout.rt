@@ -1,0 +1,136 @@
+//! The layout of a tree: its contexts, definitions, reverse dependencies, choices and entries, each in one table.
+
+use crate::contexts::Contexts;
+use crate::parts::{
+    Choice, ChoiceId, Context, ContextId, Definition, DefinitionId, Entry, Reverse, ReverseId,
+    Span, Symbol, SymbolDefault, SymbolRange, Title, TitleId,
+};
+use crate::reverses::Reverses;
+use kc_expr::expression::SymId;
+
+/// The tables that the menu entries of a tree fill.
+#[derive(Debug, Drop)]
+pub struct Tables {
+    pub(crate) contexts: Contexts,
+    pub(crate) definitions: Vec<Definition>,
+    pub(crate) defaults: Vec<SymbolDefault>,
+    pub(crate) ranges: Vec<SymbolRange>,
+    pub(crate) reverses: Reverses,
+    pub(crate) choices: Vec<Choice>,
+    pub(crate) titles: Vec<Title>,
+    pub(crate) entries: Vec<Entry>,
+}
+
+/// How a tree is laid out: what the facts of its symbols, choices and entries are made of. A context is what the blocks
+/// round an entry, and then the entry, ask for; it stands once, however many entries depend on it.
+#[derive(Debug, Drop)]
+pub struct Layout {
+    pub(crate) symbols: Vec<Symbol>,
+    pub(crate) tables: Tables,
+}
+
+// The part of a table that a span names; no part where it is not there.
+fn part<T>(table: &[T], span: Span) -> &[T] {
+    let (start, end) = (span.start as usize, span.end as usize);
+    if start <= end && end <= table.len() {
+        &table[start..end]
+    } else {
+        &[]
+    }
+}
+
+impl Layout {
+    /// The symbols, by number.
+    pub fn symbols(&self) -> &[Symbol] {
+        &self.symbols
+    }
+
+    /// The choices, by number.
+    pub fn choices(&self) -> &[Choice] {
+        &self.tables.choices
+    }
+
+    /// The entries, in order.
+    pub fn entries(&self) -> &[Entry] {
+        &self.tables.entries
+    }
+
+    /// The row of a symbol; none of a name that is not defined.
+    pub fn symbol(&self, id: SymId) -> Option<&Symbol> {
+        self.symbols.get(id.0)
+    }
+
+    /// The row of a choice.
+    pub fn choice(&self, id: ChoiceId) -> Option<&Choice> {
+        self.tables.choices.get(id.0)
+    }
+
+    /// How many contexts there are, with the top.
+    pub fn context_count(&self) -> usize {
+        self.tables.contexts.count()
+    }
+
+    /// A context; none at the top. The one outside it has a smaller number.
+    pub fn context(&self, id: ContextId) -> Option<&Context> {
+        self.tables.contexts.context(id)
+    }
+
+    /// The choice whose mode counts in a context.
+    pub fn mode(&self, id: ContextId) -> Option<ChoiceId> {
+        self.tables.contexts.mode(id)
+    }
+
+    /// A definition.
+    pub fn definition(&self, id: DefinitionId) -> Option<&Definition> {
+        self.tables.definitions.get(id.0 as usize)
+    }
+
+    /// The defaults of a definition, in the order of its lines.
+    pub fn defaults(&self, definition: &Definition) -> &[SymbolDefault] {
+        part(&self.tables.defaults, definition.defaults)
+    }
+
+    /// The ranges of a definition, in the order of its lines.
+    pub fn ranges(&self, definition: &Definition) -> &[SymbolRange] {
+        part(&self.tables.ranges, definition.ranges)
+    }
+
+    /// The last line that selects a symbol, which leads on to the others.
+    pub fn last_select(&self, id: SymId) -> Option<ReverseId> {
+        self.tables.reverses.last_select(id)
+    }
+
+    /// The last line that implies a symbol, which leads on to the others.
+    pub fn last_imply(&self, id: SymId) -> Option<ReverseId> {
+        self.tables.reverses.last_imply(id)
+    }
+
+    /// A line that selects or implies; it leads on to one with a smaller number.
+    pub fn reverse(&self, id: ReverseId) -> Option<&Reverse> {
+        self.tables.reverses.line(id)
+    }
+
+    /// The title of a menu or comment.
+    pub fn title(&self, id: TitleId) -> Option<&Title> {
+        self.tables.titles.get(id.0 as usize)
+    }
+}
+
+impl Symbol {
+    /// How many definitions the symbol has.
+    pub fn definition_count(&self) -> usize {
+        match self.first {
+            Some(_) => self.more.len() + 1,
+            None => 0,
+        }
+    }
+
+    /// A definition by its number among those of the symbol, in the order of the lines.
+    pub fn definition(&self, i: usize) -> Option<DefinitionId> {
+        if i == 0 {
+            self.first
+        } else {
+            self.more.get(i - 1).copied()
+        }
+    }
+}
