@@ -132,21 +132,21 @@ pub(crate) fn call_build(alloc: Global) -> Result<End, AllocError> {
 }
 
 // A stands before B, and each symbol once.
-fn is_order(symbols: &[u32]) -> bool {
-    let first = symbols.iter().position(|symbol| *symbol == 0);
-    let second = symbols.iter().position(|symbol| *symbol == 1);
-    symbols.len() == 4
+fn is_order(nodes: &[u32]) -> bool {
+    let first = nodes.iter().position(|node| *node == 0);
+    let second = nodes.iter().position(|node| *node == 1);
+    nodes.len() >= 4
         && first.is_some()
         && first < second
-        && symbols.contains(&2)
-        && symbols.contains(&3)
+        && nodes.contains(&2)
+        && nodes.contains(&3)
 }
 
 /// `Order::of`, of the tree of the calls.
 pub(crate) fn call_order_of(alloc: Global) -> Result<End, AllocError> {
     let tree = tree_of(alloc)?;
     match Order::of(alloc, &tree) {
-        Ok(order) => Ok(done(is_order(order.symbols()))),
+        Ok(order) => Ok(done(is_order(order.nodes()))),
         Err(refusal) => Ok(refused(is_memory(&refusal))),
     }
 }

@@ -25,7 +25,7 @@ use kc_user::user::User;
 use kc_user::value::UserValue;
 use kc_values::equation::own_equation;
 use kc_values::laws::{accepted_have_one_solution, choices_stand_alone};
-use kc_values::members::selected_in;
+use kc_values::choices::selected_in;
 use kc_values::table::{Table, Value};
 use std::alloc::{AllocError, Global};
 
@@ -74,7 +74,7 @@ fn member_value(table: &Table, id: SymId, choice: ChoiceId, chosen: &[Option<Sym
     requires { choice.0 < length chosen.now }
     ensures { result ≡ member_equation table.now.tree.now (known_in table.now.tree.now table.now.values.items) id choice.0 (member_given chosen.now choice.0) }
 {
-    match selected_in(table.tree, choice, chosen[choice.0], table) {
+    match selected_in(table, choice, chosen[choice.0]) {
         Some(member) if member.0 == id.0 => Tri::Y,
         _ => Tri::N,
     }
@@ -97,7 +97,7 @@ fn value_anew(
     match symbol.choice {
         Some(choice) => Ok(Value::Truth(member_value(table, id, choice, chosen))),
         None => {
-            let value = own_equation(alloc, table.tree, id, symbol, own, table)?;
+            let value = own_equation(alloc, table, id, symbol, own)?;
             Ok(value)
         }
     }
@@ -125,12 +125,12 @@ pub fn slow_table<'t>(
     ordered_are_accepted();
     value_depends_on_symbols();
     choices_stand_alone();
-    let _symbols = order.symbols();
+    let _nodes = order.nodes();
     let count = tree.symbol_count();
     let given = user.symbols();
     let chosen = user.choices();
-    let values = first_values(alloc, tree)?;
-    let mut table = Table { tree, values };
+    let mut table = Table::empty(alloc, tree)?;
+    table.values = first_values(alloc, tree)?;
     for _round in 0..count {
         for i in 0..count {
             let id = SymId(i);

@@ -1,6 +1,6 @@
 //! All that lines say that were read whole.
 
-use crate::entries::walk;
+use crate::entries::walk_entries;
 use crate::layout::Layout;
 use crate::main_menu::main_menu;
 use crate::symbols::symbols;
@@ -35,7 +35,7 @@ pub fn assemble(
     modules: SymId,
 ) -> Result<Result<TreeParts, Refusal>, AllocError> {
     let symbols = symbols(alloc, lines, count)?;
-    let (tables, diagnostics) = walk(alloc, names, lines, &symbols)?;
+    let (tables, diagnostics) = walk_entries(alloc, names, lines, &symbols)?;
     match diagnostics.into_warnings() {
         Err(refusal) => Ok(Err(refusal)),
         Ok(warnings) => Ok(Ok(TreeParts {

@@ -221,7 +221,7 @@ impl Walk {
 }
 
 /// The tables that lines fill, and what they have against them. The symbols are those of the first walk.
-pub fn walk(
+pub fn walk_entries(
     alloc: Global,
     names: &Names,
     lines: &[Line],

@@ -38,7 +38,7 @@ fn counted(kind: Kind, text: &[u8]) -> i128 {
 }
 
 // The bounds of a range.
-fn interval(table: &Table<'_>, kind: Kind, range: &SymbolRange) -> Interval {
+fn bounds_of(table: &Table<'_>, kind: Kind, range: &SymbolRange) -> Interval {
     Interval {
         low: counted(kind, text(&range.bounds.low, table)),
         high: counted(kind, text(&range.bounds.high, table)),
@@ -61,7 +61,7 @@ pub fn active_range(table: &Table<'_>, symbol: &Symbol) -> Option<Interval> {
     for i in 0..symbol.definition_count() {
         if let Some(definition) = definition(table, symbol, i) {
             if let Some(range) = first_open(table, definition) {
-                return Some(interval(table, symbol.kind, range));
+                return Some(bounds_of(table, symbol.kind, range));
             }
         }
     }
