@@ -1,8 +1,7 @@
 //! All that lines say that were read whole.
 
-use crate::entries::walk_entries;
+use crate::entries::{Said, walk_entries};
 use crate::layout::Layout;
-use crate::main_menu::main_menu;
 use crate::symbols::symbols;
 use kc_expr::expression::SymId;
 use kc_expr::names::Names;
@@ -35,13 +34,17 @@ pub fn assemble(
     modules: SymId,
 ) -> Result<Result<TreeParts, Refusal>, AllocError> {
     let symbols = symbols(alloc, lines, count)?;
-    let (tables, diagnostics) = walk_entries(alloc, names, lines, &symbols)?;
+    let Said {
+        tables,
+        main_menu,
+        diagnostics,
+    } = walk_entries(alloc, names, lines, &symbols)?;
     match diagnostics.into_warnings() {
         Err(refusal) => Ok(Err(refusal)),
         Ok(warnings) => Ok(Ok(TreeParts {
             layout: Layout { symbols, tables },
             warnings,
-            main_menu: main_menu(alloc, lines)?,
+            main_menu,
             modules: defined(modules, count),
         })),
     }

@@ -31,13 +31,6 @@ pub fn entry_end(lines: &[Line], place: usize) -> usize {
     place + 1 + attribute_count(&lines[place + 1..])
 }
 
-/// The attributes of the entry at a place.
-pub fn attributes(lines: &[Line], place: usize) -> &[Line] {
-    let rest = &lines[place + 1..];
-    let count = attribute_count(rest);
-    &rest[..count]
-}
-
 /// The first type that attributes give.
 pub fn first_type(attributes: &[Line]) -> Option<Kind> {
     for line in attributes {

@@ -244,7 +244,40 @@ impl Diagnostics {
         }
     }
 
-    // Looks at a line, where `prompted` says whether a prompt stands before it in its entry.
+    // Keeps the first definition of a member that is refused.
+    fn look_for_member(
+        &mut self,
+        alloc: Global,
+        names: &Names,
+        symbols: &[Symbol],
+        place: EntryPlace,
+        line: &Line,
+    ) -> Result<(), AllocError> {
+        if self.bad_member.is_none() && is_bad_member(&line.statement, place, symbols) {
+            let found = refusal(alloc, names, line, place.entry, Code::ChoiceMember)?;
+            self.bad_member = Some(found);
+        }
+        Ok(())
+    }
+
+    // Keeps the first default that is refused.
+    fn look_for_default(
+        &mut self,
+        alloc: Global,
+        names: &Names,
+        symbols: &[Symbol],
+        place: EntryPlace,
+        line: &Line,
+    ) -> Result<(), AllocError> {
+        if self.bad_default.is_none() && is_bad_default(&line.statement, place.entry, symbols) {
+            let found = refusal(alloc, names, line, place.entry, Code::BadDefault)?;
+            self.bad_default = Some(found);
+        }
+        Ok(())
+    }
+
+    // Looks at a line, where `prompted` says whether a prompt stands before it in its entry. Of most lines there is nothing to
+    // say, whatever the symbols are.
     fn look_at(
         &mut self,
         alloc: Global,
@@ -254,24 +287,24 @@ impl Diagnostics {
         prompted: bool,
         line: &Line,
     ) -> Result<(), AllocError> {
-        warn_line(
-            alloc,
-            names,
-            symbols,
-            place,
-            prompted,
-            line,
-            &mut self.warnings,
-        )?;
-        if self.bad_member.is_none() && is_bad_member(&line.statement, place, symbols) {
-            let found = refusal(alloc, names, line, place.entry, Code::ChoiceMember)?;
-            self.bad_member = Some(found);
+        let warnings = &mut self.warnings;
+        match &line.statement {
+            Statement::Type(_, _)
+            | Statement::Prompt(_)
+            | Statement::Select(_, _)
+            | Statement::Imply(_, _) => {
+                warn_line(alloc, names, symbols, place, prompted, line, warnings)
+            }
+            Statement::Config(_) => {
+                warn_line(alloc, names, symbols, place, prompted, line, warnings)?;
+                self.look_for_member(alloc, names, symbols, place, line)
+            }
+            Statement::Default(_, _) | Statement::Def(_, _, _) => {
+                warn_line(alloc, names, symbols, place, prompted, line, warnings)?;
+                self.look_for_default(alloc, names, symbols, place, line)
+            }
+            _ => Ok(()),
         }
-        if self.bad_default.is_none() && is_bad_default(&line.statement, place.entry, symbols) {
-            let found = refusal(alloc, names, line, place.entry, Code::BadDefault)?;
-            self.bad_default = Some(found);
-        }
-        Ok(())
     }
 
     /// Looks at an entry: at the line that begins it, and at its attributes.

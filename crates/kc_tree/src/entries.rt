@@ -1,7 +1,7 @@
 //! The second walk over the lines, entry by entry with the open blocks: all that they say but of symbols alone.
 
 use crate::attributes::{
-    add_defaults, add_ranges, attributes, choice_defaults, entry_context, entry_end, prompt,
+    add_defaults, add_ranges, choice_defaults, entry_context, entry_end, prompt,
     visible_context,
 };
 use crate::blocks::{Block, Blocks, choice_block, if_block};
@@ -20,11 +20,12 @@ use kc_read::statement::Statement;
 use std::alloc::{AllocError, Global};
 use std::rc::Rc;
 
-// The walk so far: the tables, and the open blocks.
+// The walk so far: the tables, the open blocks, and the title of the main menu.
 #[derive(Drop)]
 struct Walk {
     tables: Tables,
     blocks: Blocks,
+    main_menu: Vec<u8>,
 }
 
 // Tables with room for so many symbols.
@@ -193,6 +194,10 @@ impl Walk {
                 self.blocks.close();
                 Ok(())
             }
+            Statement::MainMenu(text) => {
+                self.main_menu = Vec::from_slice(alloc, text)?;
+                Ok(())
+            }
             _ => Ok(()),
         }
     }
@@ -220,27 +225,46 @@ impl Walk {
     }
 }
 
-/// The tables that lines fill, and what they have against them. The symbols are those of the first walk.
+/// What lines say but of symbols alone.
+#[derive(Debug, Drop)]
+pub struct Said {
+    /// The tables that they fill.
+    pub tables: Tables,
+    /// The title of the main menu.
+    pub main_menu: Vec<u8>,
+    /// What they have against them.
+    pub diagnostics: Diagnostics,
+}
+
+/// What the lines say, entry by entry. The symbols are those of the first walk.
 pub fn walk_entries(
     alloc: Global,
     names: &Names,
     lines: &[Line],
     symbols: &[Symbol],
-) -> Result<(Tables, Diagnostics), AllocError> {
+) -> Result<Said, AllocError> {
     let mut walk = Walk {
         tables: new_tables(alloc, symbols.len())?,
         blocks: Blocks::new(alloc),
+        main_menu: Vec::from_slice(alloc, b"Main menu")?,
     };
     let mut diagnostics = Diagnostics::new(alloc);
     let mut place = 0;
     'entries: while place < lines.len() {
         let end = entry_end(lines, place);
         let head = &lines[place];
-        let own = attributes(lines, place);
+        let own = &lines[place + 1..end];
         let known = walk.place_of(symbols, &head.statement);
         diagnostics.look_at_entry(alloc, names, symbols, known, head, own)?;
         walk.enter(alloc, symbols, &head.statement, own)?;
         place = end;
     }
-    Ok((walk.tables, diagnostics))
+    let Walk {
+        tables, main_menu, ..
+    } = walk;
+    Ok(Said {
+        tables,
+        main_menu,
+        diagnostics,
+    })
 }

@@ -12,7 +12,6 @@ mod entries;
 pub mod layout;
 pub mod laws;
 mod lines;
-mod main_menu;
 mod numbering;
 pub mod parts;
 mod renaming;

@@ -1,6 +1,6 @@
 //! The first walk over the lines: of each symbol its type, its choice and its definitions.
 
-use crate::attributes::{attributes, entry_end, first_type};
+use crate::attributes::{entry_end, first_type};
 use crate::parts::{ChoiceId, DefinitionId, Symbol};
 use kc_expr::expression::{Kind, SymId};
 use kc_read::line::Line;
@@ -112,7 +112,7 @@ pub fn symbols(alloc: Global, lines: &[Line], count: usize) -> Result<Vec<Symbol
         let end = entry_end(lines, place);
         let statement = &lines[place].statement;
         if let Statement::Config(symbol) = statement {
-            note_definition(&mut symbols, &round, *symbol, attributes(lines, place))?;
+            note_definition(&mut symbols, &round, *symbol, &lines[place + 1..end])?;
         }
         pass(&mut round, statement)?;
         place = end;

@@ -6,7 +6,8 @@ use kc_expr::values::names_into;
 use kc_order::Graph;
 use kc_tree::layout::Layout;
 use kc_tree::parts::{
-    Choice, ChoiceId, Context, ContextId, Definition, Prompt, ReverseId, Symbol, SymbolRange,
+    Choice, ChoiceId, Context, ContextId, Definition, Prompt, ReverseId, Symbol, SymbolDefault,
+    SymbolRange,
 };
 use kc_tree::tree::Tree;
 use std::alloc::{AllocError, Global};
@@ -35,24 +36,27 @@ fn context_into(layout: &Layout, id: ContextId, out: &mut Row) -> Result<(), All
     Ok(())
 }
 
-// Adds a prompt, whose entry depends on a context.
+// Adds a prompt, where there is one, but for what its entry depends on.
 fn prompt_into(
     layout: &Layout,
-    within: ContextId,
-    prompt: &Prompt,
+    prompt: &Option<Prompt>,
     out: &mut Row,
 ) -> Result<(), AllocError> {
-    context_into(layout, within, out)?;
-    context_into(layout, prompt.visible, out)?;
-    own_into(&prompt.when, out)
+    match prompt {
+        Some(prompt) => {
+            context_into(layout, prompt.visible, out)?;
+            own_into(&prompt.when, out)
+        }
+        None => Ok(()),
+    }
 }
 
 // Adds the prompt of a choice, where there is one.
 fn choice_prompt_into(layout: &Layout, choice: &Choice, out: &mut Row) -> Result<(), AllocError> {
-    match &choice.prompt {
-        Some(prompt) => prompt_into(layout, choice.within, prompt, out),
-        None => Ok(()),
+    if choice.prompt.is_some() {
+        context_into(layout, choice.within, out)?;
     }
+    prompt_into(layout, &choice.prompt, out)
 }
 
 // Adds what the mode of a choice names.
@@ -76,18 +80,6 @@ fn asked_into(layout: &Layout, context: &Context, out: &mut Row) -> Result<(), A
     }
 }
 
-// Adds the prompts of a symbol.
-fn prompts_into(layout: &Layout, symbol: &Symbol, out: &mut Row) -> Result<(), AllocError> {
-    for i in 0..symbol.definition_count() {
-        if let Some(definition) = definition(layout, symbol, i) {
-            if let Some(prompt) = &definition.prompt {
-                prompt_into(layout, definition.within, prompt, out)?;
-            }
-        }
-    }
-    Ok(())
-}
-
 // The definition of a symbol with a number, if there is one.
 fn definition<'l>(layout: &'l Layout, symbol: &Symbol, i: usize) -> Option<&'l Definition> {
     match symbol.definition(i) {
@@ -96,14 +88,22 @@ fn definition<'l>(layout: &'l Layout, symbol: &Symbol, i: usize) -> Option<&'l D
     }
 }
 
-// Adds the defaults of a definition.
-fn defaults_into(
-    layout: &Layout,
-    definition: &Definition,
-    out: &mut Row,
-) -> Result<(), AllocError> {
-    for default in layout.defaults(definition) {
-        context_into(layout, definition.within, out)?;
+// Adds the prompts of a symbol.
+fn prompts_into(layout: &Layout, symbol: &Symbol, out: &mut Row) -> Result<(), AllocError> {
+    for i in 0..symbol.definition_count() {
+        if let Some(definition) = definition(layout, symbol, i) {
+            if definition.prompt.is_some() {
+                context_into(layout, definition.within, out)?;
+                prompt_into(layout, &definition.prompt, out)?;
+            }
+        }
+    }
+    Ok(())
+}
+
+// Adds the defaults of a definition, but for what it depends on.
+fn defaults_into(defaults: &[SymbolDefault], out: &mut Row) -> Result<(), AllocError> {
+    for default in defaults {
         names_into(&default.value, &mut out.names)?;
         own_into(&default.when, out)?;
     }
@@ -121,20 +121,61 @@ fn bound_into(bound: &Operand, out: &mut Row) -> Result<(), AllocError> {
     }
 }
 
-// Adds the ranges of a definition.
-fn ranges_into(layout: &Layout, definition: &Definition, out: &mut Row) -> Result<(), AllocError> {
-    for range in layout.ranges(definition) {
-        context_into(layout, definition.within, out)?;
-        range_into(range, out)?;
-    }
-    Ok(())
-}
-
 // Adds the names in a range.
 fn range_into(range: &SymbolRange, out: &mut Row) -> Result<(), AllocError> {
     bound_into(&range.bounds.low, out)?;
     bound_into(&range.bounds.high, out)?;
     own_into(&range.when, out)
+}
+
+// Adds the ranges of a definition, but for what it depends on.
+fn ranges_into(ranges: &[SymbolRange], out: &mut Row) -> Result<(), AllocError> {
+    for range in ranges {
+        range_into(range, out)?;
+    }
+    Ok(())
+}
+
+// The value of a symbol of this type is a number.
+fn is_number(kind: Kind) -> bool {
+    matches!(kind, Kind::Int | Kind::Hex)
+}
+
+// Whether the equation of a symbol of this type reads what one of its definitions depends on: of a bool or tristate it does, of
+// the others where a line counts that depends on it.
+fn is_read(layout: &Layout, kind: Kind, definition: &Definition) -> bool {
+    matches!(kind, Kind::Bool | Kind::Tristate)
+        || definition.prompt.is_some()
+        || !layout.defaults(definition).is_empty()
+        || (is_number(kind) && !layout.ranges(definition).is_empty())
+}
+
+// Adds a definition of a symbol of this type: what it depends on once, whatever its lines are.
+fn definition_into(
+    layout: &Layout,
+    kind: Kind,
+    definition: &Definition,
+    out: &mut Row,
+) -> Result<(), AllocError> {
+    if is_read(layout, kind, definition) {
+        context_into(layout, definition.within, out)?;
+    }
+    prompt_into(layout, &definition.prompt, out)?;
+    defaults_into(layout.defaults(definition), out)?;
+    if is_number(kind) {
+        ranges_into(layout.ranges(definition), out)?;
+    }
+    Ok(())
+}
+
+// Adds the definitions of a symbol.
+fn definitions_into(layout: &Layout, symbol: &Symbol, out: &mut Row) -> Result<(), AllocError> {
+    for i in 0..symbol.definition_count() {
+        if let Some(definition) = definition(layout, symbol, i) {
+            definition_into(layout, symbol.kind, definition, out)?;
+        }
+    }
+    Ok(())
 }
 
 // Adds the symbols that select or imply, and what those lines depend on, from the last line on.
@@ -158,17 +199,6 @@ fn reverses_into(
     Ok(())
 }
 
-// Adds what every equation names: the prompts and the defaults.
-fn common_into(layout: &Layout, symbol: &Symbol, out: &mut Row) -> Result<(), AllocError> {
-    prompts_into(layout, symbol, out)?;
-    for i in 0..symbol.definition_count() {
-        if let Some(definition) = definition(layout, symbol, i) {
-            defaults_into(layout, definition, out)?;
-        }
-    }
-    Ok(())
-}
-
 // Adds the modules symbol, which a tristate names.
 fn modules_into(tree: &Tree, kind: Kind, out: &mut Row) -> Result<(), AllocError> {
     if kind != Kind::Tristate {
@@ -183,16 +213,6 @@ fn modules_into(tree: &Tree, kind: Kind, out: &mut Row) -> Result<(), AllocError
     }
 }
 
-// Adds what the definitions of a symbol depend on.
-fn dependencies_into(layout: &Layout, symbol: &Symbol, out: &mut Row) -> Result<(), AllocError> {
-    for i in 0..symbol.definition_count() {
-        if let Some(definition) = definition(layout, symbol, i) {
-            context_into(layout, definition.within, out)?;
-        }
-    }
-    Ok(())
-}
-
 // Adds what the equation of a bool or tristate symbol outside a choice names.
 fn truth_into(
     tree: &Tree,
@@ -201,22 +221,10 @@ fn truth_into(
     symbol: &Symbol,
     out: &mut Row,
 ) -> Result<(), AllocError> {
-    common_into(layout, symbol, out)?;
-    dependencies_into(layout, symbol, out)?;
+    definitions_into(layout, symbol, out)?;
     reverses_into(layout, layout.last_select(id), out)?;
     reverses_into(layout, layout.last_imply(id), out)?;
     modules_into(tree, symbol.kind, out)
-}
-
-// Adds what the equation of an int or hex symbol names.
-fn number_into(layout: &Layout, symbol: &Symbol, out: &mut Row) -> Result<(), AllocError> {
-    common_into(layout, symbol, out)?;
-    for i in 0..symbol.definition_count() {
-        if let Some(definition) = definition(layout, symbol, i) {
-            ranges_into(layout, definition, out)?;
-        }
-    }
-    Ok(())
 }
 
 // Adds what the equation of a symbol names: of a member of a choice what its selection does.
@@ -235,10 +243,25 @@ fn symbol_into(
         Kind::Undefined => Ok(()),
         Kind::Bool => truth_into(tree, layout, id, symbol, out),
         Kind::Tristate => truth_into(tree, layout, id, symbol, out),
-        Kind::Str => common_into(layout, symbol, out),
-        Kind::Int => number_into(layout, symbol, out),
-        Kind::Hex => number_into(layout, symbol, out),
+        Kind::Str => definitions_into(layout, symbol, out),
+        Kind::Int => definitions_into(layout, symbol, out),
+        Kind::Hex => definitions_into(layout, symbol, out),
     }
+}
+
+// Adds the conditions of the defaults of a choice.
+fn choice_defaults_into(
+    layout: &Layout,
+    choice: &Choice,
+    out: &mut Row,
+) -> Result<(), AllocError> {
+    if !choice.defaults.is_empty() {
+        context_into(layout, choice.within, out)?;
+    }
+    for default in &choice.defaults {
+        own_into(&default.when, out)?;
+    }
+    Ok(())
 }
 
 // Adds what the selection of a choice names: the prompts of its members, its own, and its defaults.
@@ -249,11 +272,7 @@ fn choice_into(layout: &Layout, choice: &Choice, out: &mut Row) -> Result<(), Al
         }
     }
     choice_prompt_into(layout, choice, out)?;
-    for default in &choice.defaults {
-        context_into(layout, choice.within, out)?;
-        own_into(&default.when, out)?;
-    }
-    Ok(())
+    choice_defaults_into(layout, choice, out)
 }
 
 // Adds the row as it stands to the graph, and makes it empty: the nodes, and of the names the symbols that are defined.
