@@ -1,11 +1,20 @@
 //! The loop that is named where some symbol is stuck.
 
+ghost use Rattle.std.specs.Prelude.{◌≡◌, ℕ, List, ◌<◌, ◌≤◌, ◌+◌, ◌≢◌, length, replicate, slice_index, slice_index_or, All, IfOk, MatchOption, false, true};
+ghost use Rattle.std.specs.List.{flat_map};
+ghost use Rattle.kc_order.specs.Firsts.{lesser_of, least_in, marked, AreFirsts, AreStuck};
+ghost use Rattle.kc_order.specs.Graph.{IsGraph, stands_for, groups_of, needs_of};
+ghost use Rattle.kc_order.specs.Loop.{IsFirstStuck, IsNext, IsNamedLoop};
+ghost use Rattle.kc_order.specs.Needs.{needs_in, stuck_after};
+
 use crate::rows::Rows;
 use crate::search::{Mark, is_stuck};
 use std::alloc::{AllocError, Global};
 
 // The lesser of two symbols, if there are any.
-fn lesser(a: Option<u32>, b: Option<u32>) -> Option<u32> {
+fn lesser(a: Option<u32>, b: Option<u32>) -> Option<u32>
+    ensures { result ≡ lesser_of a b }
+{
     match (a, b) {
         (Some(s), Some(t)) => Some(s.min(t)),
         (Some(s), None) => Some(s),
@@ -14,7 +23,11 @@ fn lesser(a: Option<u32>, b: Option<u32>) -> Option<u32> {
 }
 
 // The first stuck symbol that a node stands for: a symbol for itself, a group for what it needs.
-fn stuck_at(node: u32, symbols: usize, marks: &[Mark], firsts: &[Option<u32>]) -> Option<u32> {
+fn stuck_at(node: u32, symbols: usize, marks: &[Mark], firsts: &[Option<u32>]) -> Option<u32>
+    requires there { node < symbols + length firsts.now }
+    requires symbols { symbols ≤ length marks.now }
+    ensures { (groups : List (List ℕ)) → AreFirsts marks.now groups firsts.now → result ≡ least_in (marked marks.now) (stands_for symbols groups node) }
+{
     let place = node as usize;
     if place < symbols {
         is_stuck(marks[place]).then_some(node)
@@ -24,12 +37,11 @@ fn stuck_at(node: u32, symbols: usize, marks: &[Mark], firsts: &[Option<u32>]) -
 }
 
 // The first stuck symbol that a row leads to, itself or through groups.
-fn first_in_row(
-    row: &[u32],
-    symbols: usize,
-    marks: &[Mark],
-    firsts: &[Option<u32>],
-) -> Option<u32> {
+fn first_in_row(row: &[u32], symbols: usize, marks: &[Mark], firsts: &[Option<u32>]) -> Option<u32>
+    requires there { All (λ t. t < symbols + length firsts.now) row.now }
+    requires symbols { symbols ≤ length marks.now }
+    ensures { (groups : List (List ℕ)) → AreFirsts marks.now groups firsts.now → result ≡ least_in (marked marks.now) (flat_map (stands_for symbols groups) row.now) }
+{
     let mut first = None;
     for node in row {
         first = lesser(first, stuck_at(*node, symbols, marks, firsts));
@@ -43,7 +55,11 @@ fn firsts_of_groups(
     rows: &Rows,
     symbols: usize,
     marks: &[Mark],
-) -> Result<Vec<Option<u32>>, AllocError> {
+) -> Result<Vec<Option<u32>>, AllocError>
+    requires graph { IsGraph (record { symbols = symbols; rows = rows.now }) }
+    requires marks { length marks.now ≡ length rows.now }
+    ensures { IfOk result (λ v. AreFirsts marks.now (groups_of (record { symbols = symbols; rows = rows.now })) v.items) }
+{
     let mut firsts = Vec::with_capacity(alloc, rows.count() - symbols)?;
     for group in symbols..rows.count() {
         let first = first_in_row(rows.row(group), symbols, marks, &firsts);
@@ -59,7 +75,16 @@ fn next_stuck(
     marks: &[Mark],
     firsts: &[Option<u32>],
     symbol: u32,
-) -> u32 {
+) -> u32
+    requires graph { IsGraph (record { symbols = symbols; rows = rows.now }) }
+    requires marks { AreStuck rows.now marks.now }
+    requires firsts { AreFirsts marks.now (groups_of (record { symbols = symbols; rows = rows.now })) firsts.now }
+    requires symbol { symbol < symbols }
+    requires is_stuck { stuck_after (needs_in (needs_of (record { symbols = symbols; rows = rows.now }))) symbols symbol ≡ true }
+    ensures next { IsNext symbols (needs_in (needs_of (record { symbols = symbols; rows = rows.now }))) symbol result }
+    ensures below { result < symbols }
+    ensures is_stuck { stuck_after (needs_in (needs_of (record { symbols = symbols; rows = rows.now }))) symbols result ≡ true }
+{
     match first_in_row(rows.row(symbol as usize), symbols, marks, firsts) {
         Some(next) => next,
         None => unreachable!(),
@@ -67,12 +92,16 @@ fn next_stuck(
 }
 
 // Where a symbol stands on a walk.
-fn place_of(walk: &[u32], symbol: u32) -> Option<usize> {
+fn place_of(walk: &[u32], symbol: u32) -> Option<usize>
+    ensures { MatchOption result (All (λ s. s ≢ symbol) walk.now) (λ i. (i < length walk.now) × (slice_index walk.now i ≡ symbol)) }
+{
     walk.iter().position(|met| *met == symbol)
 }
 
 // Marks of symbols, none of them marked.
-fn no_marks(alloc: Global, count: usize) -> Result<Vec<bool>, AllocError> {
+fn no_marks(alloc: Global, count: usize) -> Result<Vec<bool>, AllocError>
+    ensures { IfOk result (λ v. v.items ≡ replicate count false) }
+{
     let marks = vec![in alloc; false; count]?;
     Ok(marks)
 }
@@ -84,7 +113,12 @@ pub fn named_loop(
     symbols: usize,
     marks: &[Mark],
     first: u32,
-) -> Result<Vec<u32>, AllocError> {
+) -> Result<Vec<u32>, AllocError>
+    requires graph { IsGraph (record { symbols = symbols; rows = rows.now }) }
+    requires marks { AreStuck rows.now marks.now }
+    requires first { IsFirstStuck symbols (needs_in (needs_of (record { symbols = symbols; rows = rows.now }))) first }
+    ensures { IfOk result (λ v. IsNamedLoop symbols (needs_in (needs_of (record { symbols = symbols; rows = rows.now }))) v.items) }
+{
     let firsts = firsts_of_groups(alloc, rows, symbols, marks)?;
     let mut met = no_marks(alloc, symbols)?;
     let mut walk = Vec::new(alloc);

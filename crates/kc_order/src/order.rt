@@ -1,9 +1,16 @@
 //! Nodes in order, what each needs before it, or the loop that is named.
 
+ghost use Rattle.std.specs.Prelude.{◌≡◌, ◌<◌, ◌^◌, length, IfOk, IfErr, OnOk};
+ghost use Rattle.kc_order.specs.Graph.{IsGraph, needs_of};
+ghost use Rattle.kc_order.specs.Needs.{IsAccepted};
+ghost use Rattle.kc_order.specs.Order.{Orders};
+ghost use Rattle.kc_order.specs.Reason.{IsReason};
+
 use crate::graph::Graph;
 use crate::named_loop::named_loop;
 use crate::search::{Search, first_stuck, search_all};
 use std::alloc::{AllocError, Global};
+use std::marker::Model;
 
 /// Why there is no order.
 #[derive(Debug, Drop)]
@@ -32,15 +39,33 @@ pub struct Order {
     nodes: Vec<u32>,
 }
 
+impl Model for Order {
+    ghost use Rattle.kc_order.specs.Graph.{Nodes};
+    ghost use Rattle.kc_order.specs.Order.{Orders};
+
+    ghost Value = { Nodes };
+
+    ghost view = { λ o. o.graph };
+
+    ghost invariant = { λ o. Orders o.graph.rows o.nodes.items };
+}
+
 impl Order {
     /// The nodes in order, what each needs before it: symbols and groups.
-    pub fn nodes(&self) -> &[u32] {
+    pub fn nodes(&self) -> &[u32]
+        ensures { Orders self.now.rows result.now }
+    {
         &self.nodes
     }
 }
 
 // The nodes in order, or the loop that is named.
-fn order_or_loop(alloc: Global, graph: &Graph) -> Result<Vec<u32>, NoOrder> {
+fn order_or_loop(alloc: Global, graph: &Graph) -> Result<Vec<u32>, NoOrder>
+    requires graph { IsGraph graph.now }
+    requires few { length graph.now.rows < 2 ^ 32 }
+    ensures order { IfOk result (λ v. Orders graph.now.rows v.items) }
+    ensures refused { IfErr result (IsReason (needs_of graph.now)) }
+{
     let Search { marks, order, .. } = search_all(alloc, &graph.rows)?;
     match first_stuck(&marks[..graph.symbols]) {
         None => Ok(order),
@@ -57,7 +82,13 @@ fn order_or_loop(alloc: Global, graph: &Graph) -> Result<Vec<u32>, NoOrder> {
 /// Which symbols are stuck, and which loop is named, is our own rule, over what symbols need, be it through groups: a walk from the
 /// first stuck symbol always on to the first stuck symbol that the last one needs, and of it the part from the symbol that it meets
 /// twice.
-pub fn order_of(alloc: Global, graph: Graph) -> Result<Order, NoOrder> {
+pub fn order_of(alloc: Global, graph: Graph) -> Result<Order, NoOrder>
+    requires graph { IsGraph graph }
+    requires few { length graph.rows < 2 ^ 32 }
+    ensures same { IfOk result (λ o. o ≡ graph) }
+    ensures accepted { OnOk result (IsAccepted (needs_of graph)) }
+    ensures refused { IfErr result (IsReason (needs_of graph)) }
+{
     let nodes = order_or_loop(alloc, &graph)?;
     Ok(Order { graph, nodes })
 }

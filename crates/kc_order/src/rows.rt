@@ -1,6 +1,11 @@
 //! Rows of numbers in one list.
 
+ghost use Rattle.std.specs.Prelude.{◌≡◌, ◌<◌, ◌≤◌, [], ◌∷◌, ◌++◌, ◌↔◌, ◌-◌, length, IfOk, OnOk, OnErr, IsTrue, All, take, drop};
+ghost use Rattle.kc_order.specs.Needs.{needs_in};
+ghost use Rattle.kc_order.specs.Rows.{RowsBelow, GoDown, begin};
+
 use std::alloc::{AllocError, Global};
+use std::marker::Model;
 
 /// Rows of numbers, one behind the other in one list, with the place where each ends.
 #[derive(Drop)]
@@ -9,36 +14,45 @@ pub struct Rows {
     ends: Vec<usize>,
 }
 
+impl Model for Rows {
+    ghost use Rattle.std.specs.Prelude.{ℕ, List, length};
+    ghost use Rattle.kc_order.specs.Rows.{rows_of, GoUp};
+
+    ghost Value = { List (List ℕ) };
+
+    ghost view = { λ r. rows_of r.numbers.items 0 r.ends.items };
+
+    ghost invariant = { λ r. GoUp 0 (length r.numbers.items) r.ends.items };
+}
+
 // Where a row begins: the first at 0, each further one where the one before it ends.
 fn beginning(ends: &[usize], row: usize) -> usize
+    requires { row < length ends.now }
+    ensures { result ≡ begin 0 ends.now row }
 {
     if row == 0 { 0 } else { ends[row - 1] }
 }
 
 // The numbers between two places.
 fn between(numbers: &[u32], begin: usize, end: usize) -> &[u32]
+    requires goes_up { begin ≤ end }
+    requires within { end ≤ length numbers.now }
+    ensures { result.now ≡ take (end - begin) (drop begin numbers.now) }
 {
     &numbers[begin..end]
 }
 
 // Whether all numbers are below a bound.
 fn all_below(numbers: &[u32], bound: usize) -> bool
+    ensures { IsTrue result ↔ All (λ t. t < bound) numbers.now }
 {
     numbers.iter().all(|number| (*number as usize) < bound)
 }
 
 impl Rows {
-    /// No rows yet.
-    pub fn new(alloc: Global) -> Rows
-    {
-        Rows {
-            numbers: Vec::new(alloc),
-            ends: Vec::new(alloc),
-        }
-    }
-
     /// No rows yet, with room for so many of them. Fails only when it is out of memory.
     pub fn with_room(alloc: Global, count: usize) -> Result<Rows, AllocError>
+        ensures { IfOk result (λ r. r ≡ []) }
     {
         let ends = Vec::with_capacity(alloc, count)?;
         Ok(Rows {
@@ -49,12 +63,15 @@ impl Rows {
 
     /// How many rows there are.
     pub fn count(&self) -> usize
+        ensures { result ≡ length self.now }
     {
         self.ends.len()
     }
 
     /// What a row holds.
     pub fn row(&self, row: usize) -> &[u32]
+        requires { row < length self.now }
+        ensures { result.now ≡ needs_in self.now row }
     {
         let begin = beginning(&self.ends, row);
         between(&self.numbers, begin, self.ends[row])
@@ -62,17 +79,30 @@ impl Rows {
 
     /// Whether each row holds numbers below a bound.
     pub fn are_below(&self, bound: usize) -> bool
+        ensures { IsTrue result ↔ RowsBelow bound self.now }
     {
         all_below(&self.numbers, bound)
     }
 
-    /// Whether each row from one on holds numbers below that row's own, or below a bound.
-    pub fn go_down(&self, bound: usize) -> bool {
-        (bound..self.ends.len()).all(|row| all_below(self.row(row), row))
+    /// Whether each row from one on holds numbers below its own.
+    pub fn go_down(&self, first: usize) -> bool
+        ensures { IsTrue result ↔ GoDown first self.now }
+    {
+        let count = self.count();
+        let mut row = first;
+        while row < count {
+            if !all_below(self.row(row), row) {
+                return false;
+            }
+            row += 1;
+        }
+        true
     }
 
     /// Adds a row. Where it is out of memory, nothing changes.
     pub fn push(&mut self, row: &[u32]) -> Result<(), AllocError>
+        ensures added { OnOk result (self.new ≡ self.old ++ row.now ∷ []) }
+        ensures unchanged { OnErr result (self.new ≡ self.old) }
     {
         let end = self.numbers.len() + row.len();
         self.ends.push(end)?;

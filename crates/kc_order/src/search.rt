@@ -1,5 +1,8 @@
 //! A depth-first search for an order, with a stack of its own. It goes on past what is stuck, so that it finds all of it.
 
+ghost use Rattle.std.specs.Prelude.{◌≡◌, ℕ, ◌<◌, length, IfOk, MatchOption, OnOk, All, slice_index_or, take, vec_len, replicate, map, ◌≢◌, ◌^◌, ◌++◌, ◌∷◌, [], ◌-◌, true, false};
+ghost use Rattle.kc_order.specs.Rows.{RowsBelow};
+ghost use Rattle.kc_order.specs.Search.{IsSound, IsOver, KeepsMet, Opens, Closes, GivesUp, work, mark_of, is_stuck};
 
 use crate::rows::Rows;
 use std::alloc::{AllocError, Global};
@@ -32,6 +35,8 @@ pub struct Search {
 
 // Opens a node.
 fn open(search: &mut Search, node: u32) -> Result<(), AllocError>
+    requires { node < length search.old.marks.items }
+    ensures { OnOk result (Opens search.old search.new node) }
 {
     search.marks[node as usize] = Mark::Open;
     search.path.push(node)?;
@@ -40,6 +45,9 @@ fn open(search: &mut Search, node: u32) -> Result<(), AllocError>
 
 // Closes the last open node.
 fn close(search: &mut Search, node: u32) -> Result<(), AllocError>
+    requires there { node < length search.old.marks.items }
+    requires last { search.old.path.items ≡ take (vec_len search.old.path - 1) search.old.path.items ++ node ∷ [] }
+    ensures { OnOk result (Closes search.old search.new node) }
 {
     search.path.pop();
     search.marks[node as usize] = Mark::Done;
@@ -49,6 +57,9 @@ fn close(search: &mut Search, node: u32) -> Result<(), AllocError>
 
 // Gives up the last open node, which is stuck.
 fn give_up(search: &mut Search, node: u32)
+    requires there { node < length search.old.marks.items }
+    requires last { search.old.path.items ≡ take (vec_len search.old.path - 1) search.old.path.items ++ node ∷ [] }
+    ensures { GivesUp search.old search.new node }
 {
     search.path.pop();
     search.marks[node as usize] = Mark::Stuck;
@@ -56,7 +67,15 @@ fn give_up(search: &mut Search, node: u32)
 
 // Looks at one more need of the last open node, or closes that node. It is stuck where that need is open itself, so that the
 // path comes back to it, or stuck.
-fn advance(rows: &Rows, search: &mut Search, top: u32) -> Result<(), AllocError> {
+fn advance(rows: &Rows, search: &mut Search, top: u32) -> Result<(), AllocError>
+    requires rows_below { RowsBelow (length rows.now) rows.now }
+    requires sound { IsSound rows.now search.old }
+    requires below { top < length rows.now }
+    requires last { search.old.path.items ≡ take (vec_len search.old.path - 1) search.old.path.items ++ top ∷ [] }
+    ensures sound { OnOk result (IsSound rows.now search.new) }
+    ensures less { OnOk result (work search.new < work search.old) }
+    ensures met { OnOk result (KeepsMet search.old search.new) }
+{
     let left = search.left[top as usize];
     if left == 0 {
         close(search, top)?;
@@ -74,6 +93,14 @@ fn advance(rows: &Rows, search: &mut Search, top: u32) -> Result<(), AllocError>
 
 // Goes through all that a node needs, unless it was met.
 fn visit(rows: &Rows, search: &mut Search, root: u32) -> Result<(), AllocError>
+    requires rows_below { RowsBelow (length rows.now) rows.now }
+    requires sound { IsSound rows.now search.old }
+    requires below { root < length rows.now }
+    requires idle { length search.old.path.items ≡ 0 }
+    ensures sound { OnOk result (IsSound rows.now search.new) }
+    ensures idle { OnOk result (length search.new.path.items ≡ 0) }
+    ensures met { OnOk result (KeepsMet search.old search.new) }
+    ensures root_met { OnOk result (mark_of search.new root ≢ Mark.New) }
 {
     match search.marks[root as usize] {
         Mark::New => {}
@@ -89,6 +116,7 @@ fn visit(rows: &Rows, search: &mut Search, root: u32) -> Result<(), AllocError>
 
 // A mark for each node, none of them met.
 fn new_marks(alloc: Global, count: usize) -> Result<Vec<Mark>, AllocError>
+    ensures { IfOk result (λ v. v.items ≡ replicate count Mark.New) }
 {
     let marks = vec![in alloc; Mark::New; count]?;
     Ok(marks)
@@ -96,6 +124,7 @@ fn new_marks(alloc: Global, count: usize) -> Result<Vec<Mark>, AllocError>
 
 // How many needs each node has.
 fn need_counts(alloc: Global, rows: &Rows) -> Result<Vec<usize>, AllocError>
+    ensures { IfOk result (λ v. v.items ≡ map length rows.now) }
 {
     let mut counts = Vec::with_capacity(alloc, rows.count())?;
     for row in 0..rows.count() {
@@ -106,6 +135,9 @@ fn need_counts(alloc: Global, rows: &Rows) -> Result<Vec<usize>, AllocError>
 
 /// A search over all nodes: which are stuck, and an order of the others.
 pub fn search_all(alloc: Global, rows: &Rows) -> Result<Search, AllocError>
+    requires rows_below { RowsBelow (length rows.now) rows.now }
+    requires few { length rows.now < 2 ^ 32 }
+    ensures { IfOk result (IsOver rows.now) }
 {
     let mut search = Search {
         marks: new_marks(alloc, rows.count())?,
@@ -120,11 +152,15 @@ pub fn search_all(alloc: Global, rows: &Rows) -> Result<Search, AllocError>
 }
 
 /// Whether a node is stuck.
-pub fn is_stuck(mark: Mark) -> bool {
+pub fn is_stuck(mark: Mark) -> bool
+    ensures { result ≡ is_stuck mark }
+{
     matches!(mark, Mark::Stuck)
 }
 
 /// The first of these nodes that is stuck.
-pub fn first_stuck(marks: &[Mark]) -> Option<usize> {
+pub fn first_stuck(marks: &[Mark]) -> Option<usize>
+    ensures { MatchOption result (All (λ m. is_stuck m ≡ false) marks.now) (λ i. (i < length marks.now) × (is_stuck (slice_index_or marks.now i Mark.New) ≡ true) × ((k : ℕ) → k < i → is_stuck (slice_index_or marks.now k Mark.New) ≡ false)) }
+{
     marks.iter().position(|mark| is_stuck(*mark))
 }
