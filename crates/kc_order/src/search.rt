@@ -139,13 +139,14 @@ pub fn search_all(alloc: Global, rows: &Rows) -> Result<Search, AllocError>
     requires few { length rows.now < 2 ^ 32 }
     ensures { IfOk result (IsOver rows.now) }
 {
+    let count = rows.count();
     let mut search = Search {
-        marks: new_marks(alloc, rows.count())?,
+        marks: new_marks(alloc, count)?,
         left: need_counts(alloc, rows)?,
         path: Vec::new(alloc),
-        order: Vec::with_capacity(alloc, rows.count())?,
+        order: Vec::with_capacity(alloc, count)?,
     };
-    for root in 0..rows.count() {
+    for root in 0..count {
         visit(rows, &mut search, root as u32)?;
     }
     Ok(search)
