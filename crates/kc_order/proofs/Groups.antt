@@ -191,6 +191,16 @@ module _ (g : Nodes) (is : IsGraph g) where
             (v.0, subst (λ xs. Contains xs v.0) (sym (group_stands t group b)) there, v.2, v.3)
       ]
 
+  -- where no symbol is stuck among nodes, no node is
+  pub none_stuck : ((s : ℕ) → s < g.symbols → stuck_after (needs_in g.rows) (length g.rows) s ≡ false) → (t : ℕ) → t < length g.rows → stuck_after (needs_in g.rows) (length g.rows) t ≡ false
+  none_stuck free t b =
+      elim (cases_Bool (stuck_after (needs_in g.rows) (length g.rows) t)) [
+        | inl stuck ↦
+            let v = stuck_symbol_to (suc t) t (omega arith) b stuck in
+            absurd (true≢false (sym v.3 ∙ free v.0 v.2))
+        | inr free ↦ free
+      ]
+
   -- a symbol that is stuck among nodes is stuck on its needs
   stuck_down : (k s : ℕ) → s < g.symbols → stuck_after (needs_in g.rows) (length g.rows) s ≡ true → stuck_after (needs_in (needs_of g)) k s ≡ true
   stuck_down zero s l e = refl

@@ -52,9 +52,14 @@ impl Graph {
     pub fn is_within(&self) -> bool
         ensures { IsTrue result ↔ IsGraph self.now }
     {
-        self.symbols <= self.rows.count()
-            && self.rows.are_below(self.rows.count())
-            && self.rows.go_down(self.symbols)
+        let count = self.rows.count();
+        if count < self.symbols {
+            return false;
+        }
+        if !self.rows.are_below(count) {
+            return false;
+        }
+        self.rows.go_down(self.symbols)
     }
 
     /// The next node needs these, which may be nodes that are added later. Where it is out of memory, nothing changes.

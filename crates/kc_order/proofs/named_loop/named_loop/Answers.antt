@@ -50,10 +50,10 @@ loop-met-preserved c =
 pub unreachable-requires : goal.unreachable-requires
 unreachable-requires c =
     is_met c.loop-met.walk.items c.loop-met.at (on_walk (goal.at.unreachable-requires c).After-index ∙ c.loop-met-test.false)
-    (rw c.deref.ensures.value at c.in-None.ensures)
+    (rw c.deref-2.ensures.value at c.in-None.ensures)
 
 pub returns : goal.returns
 returns c =
-    let found = rw c.deref.ensures.value at c.in-Some.ensures in
+    let found = rw c.deref-2.ensures.value at c.in-Some.ensures in
     rw (c.in_ok-found-in-Some.ensures.items, c.deref-in-Some.ensures.value, take_rest)
     (comes_back _ (flat c.args.symbols c.args.rows.now) c.loop-met.walk.items c.loop-met.at c.in-Some.start c.loop-met.invariant.walks found.0 found.1)

@@ -1,5 +1,6 @@
-use Rattle.std.proofs.Common.{arith, ap, sym, ◌∙◌, length, ◌≡◌, ◌<◌, ◌+◌, subst, filter, get_or, All, ℕ, map, take, drop, length-map, length-drop, [], Some, Option}
+use Rattle.std.proofs.Common.{arith, ap, sym, ◌∙◌, length, ◌≡◌, ◌<◌, ◌+◌, subst, filter, get_or, All, ℕ, map, take, drop, length-drop, [], Some, Option}
 use Rattle.std.specs.List.{flat_map}
+use Rattle.std.proofs.lemmas.List.{length-map}
 use Rattle.std.proofs.lemmas.List.Elements.{Contains-get_or}
 use Rattle.kc_order.specs.Firsts.{least_in, marked}
 use Rattle.kc_order.specs.Graph.{stands_for, groups_of, needs_of}
