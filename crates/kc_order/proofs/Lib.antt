@@ -6,6 +6,7 @@ pub mod OneRound
 pub mod Stays
 pub mod Groups
 pub mod FirstLemmas
+pub mod Alike
 pub mod Walks
 pub mod SearchSteps
 pub mod ByOrder
