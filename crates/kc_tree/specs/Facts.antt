@@ -5,7 +5,7 @@ use Rattle.std.specs.List.{filter_map, flat_map, list_any}
 use Rattle.kc_expr.specs.declared.expression.SymId.{SymId}
 use Rattle.kc_expr.specs.declared.expression.Kind.{Kind}
 use Rattle.kc_expr.specs.declared.expression.Kind.TheVariants as kind
-use Rattle.kc_expr.specs.Form.{Form, forms, Symbol, Single, Every}
+use Rattle.kc_expr.specs.Form.{Form, Symbol, Single}
 use Rattle.kc_read.specs.declared.statement.Block.{Block}
 use Rattle.kc_read.specs.declared.statement.Block.TheVariants as block
 use Rattle.kc_read.specs.Statements.{Numbered, Asked, ConfigLine, IfLine, CommentLine, MenuLine, EndMenuLine, MainMenuLine, TypeLine, PromptLine, DefaultLine, DefLine, DependsLine, VisibleLine, SelectLine, ImplyLine, RangeLine}
@@ -23,12 +23,6 @@ same_kind kind.Str kind.Str = true
 same_kind kind.Int kind.Int = true
 same_kind kind.Hex kind.Hex = true
 same_kind _ _ = false
-
--- none, one, or the `&&` of two or more
-abbrev pub joined : List Form → List Form
-joined [] = []
-joined (f ∷ []) = f ∷ []
-joined (f ∷ g ∷ fs) = Every (forms (f ∷ g ∷ fs)) ∷ []
 
 abbrev pub listed : {A : Type 0} → Option A → List A
 listed None = []
@@ -108,8 +102,8 @@ takes_kind kind.Int = false
 takes_kind kind.Hex = false
 
 -- a type whose value is a text
-abbrev pub is_wordy : Kind → Bool
-is_wordy k = if takes_kind k then false else true
+abbrev pub has_text : Kind → Bool
+has_text k = if takes_kind k then false else true
 
 -- the condition of a line that selects t; that implies t
 abbrev pub select_of : SymId → Numbered → Option (Option Form)
@@ -139,10 +133,10 @@ module _ (ss : List Numbered) where
 
   -- the `depends on` lines of the entry at a place, and its `visible if` lines
   abbrev pub own_deps : ℕ → List Form
-  own_deps i = joined (filter_map depends_form (attributes ss i))
+  own_deps i = filter_map depends_form (attributes ss i)
 
   abbrev pub own_visible : ℕ → List Form
-  own_visible i = joined (filter_map visible_form (attributes ss i))
+  own_visible i = filter_map visible_form (attributes ss i)
 
   -- what a block that is open at a place asks for
   abbrev pub block_parts : ℕ → List Form

@@ -11,11 +11,11 @@ use Rattle.kc_tree.specs.declared.known.Known.{Known}
 use Rattle.kc_tree.specs.declared.known.Mark.{Mark}
 use Rattle.kc_tree.specs.declared.known.Marks.{Marks}
 use Rattle.kc_tree.specs.declared.warning.Warning.{Warning}
-use Rattle.kc_tree.specs.declared.owners.Owner.{Owner}
+use Rattle.kc_tree.specs.declared.diagnostics.MenuEntry.{MenuEntry}
 use Rattle.kc_tree.specs.declared.parts.ChoiceId.{ChoiceId}
 use Rattle.kc_tree.specs.Facts.{asked_of, kind_of, choice_of, listed, given_of, single_symbol, symbol_at}
 use Rattle.kc_tree.specs.Firsts.{is_first_at}
-use Rattle.kc_tree.specs.Warnings.{begun, owner_at, prompt_before, said_with}
+use Rattle.kc_tree.specs.Warnings.{begun, menu_entry_at, prompt_before, said_with}
 
 -- each defined symbol has a number below this one
 abbrev pub AreBelow : ℕ → List Numbered → Type 0
@@ -27,7 +27,7 @@ first_seen None seen = false
 first_seen (Some s) seen = not (unwrap_or (slice_get seen s.0) false)
 
 -- whose entry a line belongs to, after one of that entry and with so many choices before it
-abbrev pub next_owner : Numbered → Owner → ℕ → Owner
+abbrev pub next_owner : Numbered → MenuEntry → ℕ → MenuEntry
 next_owner s now n = if is_attribute s then now else begun n s
 
 -- a prompt stands among the attributes up to this line
@@ -55,7 +55,7 @@ pub record IsKnown (ss : List Numbered) (k : List Known) : Type 0 where
   pub choices : choice_by k ≡ choice_of ss
 
 pub record AreMarks (ss : List Numbered) (m : Marks) : Type 0 where
-  pub owners : m.owners.items ≡ map (owner_at ss) (numbers (length ss))
+  pub owners : m.owners.items ≡ map (menu_entry_at ss) (numbers (length ss))
   pub prompts : m.prompts.items ≡ map (prompt_before ss) (numbers (length ss))
   pub firsts : m.firsts.items ≡ map (is_first_at ss) (numbers (length ss))
 

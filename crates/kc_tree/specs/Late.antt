@@ -6,13 +6,13 @@ use Rattle.kc_read.specs.Statements.{Numbered, Placed}
 use Rattle.kc_read.specs.Steps.{refusal_view}
 use Rattle.kc_tree.specs.declared.diagnoses.Diagnosis.{Diagnosis}
 use Rattle.kc_tree.specs.declared.diagnoses.Diagnosis.TheVariants as diagnosis
-use Rattle.kc_tree.specs.declared.owners.Owner.{Owner}
+use Rattle.kc_tree.specs.declared.diagnostics.MenuEntry.{MenuEntry}
 use Rattle.kc_tree.specs.Facts.{first_of}
-use Rattle.kc_tree.specs.Warnings.{entry_name, owner_symbol, late_refusals, warnings}
+use Rattle.kc_tree.specs.Warnings.{entry_name, entry_symbol, late_refusals, warnings}
 
 -- the refusal of a line, which names its entry
-abbrev pub late : List (List ℕ) → Code → Owner → Placed Numbered → Refused
-late names c o l = refused (record { code = c; detail = entry_name names (owner_symbol o) }) l.file l.line
+abbrev pub late : List (List ℕ) → Code → MenuEntry → Placed Numbered → Refused
+late names c o l = refused (record { code = c; detail = entry_name names (entry_symbol o) }) l.file l.line
 
 -- the first late refusal, or with none the warnings
 abbrev pub IsDiagnosis : List (List ℕ) → List (Placed Numbered) → Diagnosis → Type 0
