@@ -1,5 +1,5 @@
 -- Trusted: What contexts ask for: of each the whole condition that it stands for, that of the top first.
-use Rattle.std.specs.Prelude.{◌≡◌, ◌<◌, ◌≤◌, ◌-◌, ℕ, List, [], ◌∷◌, ◌++◌, Option, Some, None, option_map, slice_get, slice_index_or}
+use Rattle.std.specs.Prelude.{◌≡◌, ◌<◌, ◌≤◌, ℕ, List, [], ◌∷◌, ◌++◌, take, Option, Some, None, option_map, slice_get, slice_index_or}
 use Rattle.std.specs.Borrow.{Bor}
 use Rattle.kc_expr.specs.Form.{Form, form_of}
 use Rattle.kc_read.specs.Reads.{when_view}
@@ -46,6 +46,10 @@ AreNested cs = (i : ℕ) (c : Context) → slice_get cs i ≡ Some c → c.outer
 -- a context that asks for nothing of its own is that of a choice's members; another one has the mode of the one outside it
 abbrev pub KeepsMode : List Condition → Context → Type 0
 KeepsMode conditions c = (e : Form) → when_view c.asks ≡ Some e → mode_view c.mode ≡ (condition_in conditions c.outer.0).mode
+
+-- each context does, by those before it
+abbrev pub KeepModes : List Context → Type 0
+KeepModes cs = (i : ℕ) (c : Context) → slice_get cs i ≡ Some c → KeepsMode (conditions_of (take i cs)) c
 
 -- what is known of the context with a number
 pub record IsStep (conditions : List Condition) (i : ℕ) (c : Context) : Type 0 where

@@ -1,77 +1,79 @@
--- For proofs: What the passes know of symbols and lines when they look for warnings and refusals.
-use Rattle.std.specs.Prelude.{◌≡◌, ℕ, ◌<◌, List, map, length, Option, Some, None, slice_get, is_some, if◌then◌else◌, option_map, unwrap_or, ◌||◌, ◌&&◌, ◌==◌, Bool, false, not}
-use Rattle.std.specs.List.{list_any}
+-- For proofs: What the first walk knows of symbols, and what there is to say of lines by it.
+use Rattle.std.specs.Prelude.{◌≡◌, ℕ, ◌<◌, ◌++◌, List, map, length, Option, Some, None, slice_get, option_map, unwrap_or, ◌==◌, Bool}
+use Rattle.std.specs.List.{filter_map, list_any}
 use Rattle.std.specs.Option.{option_and_then}
 use Rattle.kc_expr.specs.declared.expression.SymId.{SymId}
 use Rattle.kc_expr.specs.declared.expression.Kind.{Kind}
 use Rattle.kc_expr.specs.declared.expression.Kind.TheVariants as kind
+use Rattle.kc_expr.specs.Names.{symbol}
+use Rattle.kc_read.specs.Blocks.{numbers}
 use Rattle.kc_read.specs.Statements.{Numbered}
-use Rattle.kc_read.specs.Blocks.{is_attribute, numbers}
-use Rattle.kc_tree.specs.declared.known.Known.{Known}
-use Rattle.kc_tree.specs.declared.known.Mark.{Mark}
-use Rattle.kc_tree.specs.declared.known.Marks.{Marks}
-use Rattle.kc_tree.specs.declared.warning.Warning.{Warning}
-use Rattle.kc_tree.specs.declared.diagnostics.MenuEntry.{MenuEntry}
+use Rattle.kc_tree.specs.declared.diagnostics.EntryPlace.{EntryPlace}
 use Rattle.kc_tree.specs.declared.parts.ChoiceId.{ChoiceId}
-use Rattle.kc_tree.specs.Facts.{asked_of, kind_of, choice_of, listed, given_of, single_symbol, symbol_at}
+use Rattle.kc_tree.specs.declared.parts.DefinitionId.{DefinitionId}
+use Rattle.kc_tree.specs.declared.parts.Symbol.{Symbol}
+use Rattle.kc_tree.specs.declared.warning.Warning.{Warning}
+use Rattle.kc_tree.specs.Facts.{kind_of, choice_of, choice_round, definitions_of, listed, given_of, single_symbol, symbol_at}
 use Rattle.kc_tree.specs.Firsts.{is_first_at}
-use Rattle.kc_tree.specs.Warnings.{begun, menu_entry_at, prompt_before, said_with}
+use Rattle.kc_tree.specs.Warnings.{menu_entry_at, said_with}
 
 -- each defined symbol has a number below this one
 abbrev pub AreBelow : ℕ → List Numbered → Type 0
 AreBelow count ss = (i : ℕ) (s : SymId) → symbol_at ss i ≡ Some s → s.0 < count
 
--- no line before this one defines the symbol that it defines, by whether each symbol was defined before
-abbrev pub first_seen : Option SymId → List Bool → Bool
-first_seen None seen = false
-first_seen (Some s) seen = not (unwrap_or (slice_get seen s.0) false)
+-- What the first walk finds of a symbol: its type, its choice and the numbers of its definitions.
+pub record Row : Type 0 where
+  pub kind : Kind
+  pub choice : Option ℕ
+  pub definitions : List ℕ
 
--- whose entry a line belongs to, after one of that entry and with so many choices before it
-abbrev pub next_owner : Numbered → MenuEntry → ℕ → MenuEntry
-next_owner s now n = if is_attribute s then now else begun n s
+abbrev pub row_view : Symbol → Row
+row_view s = record {
+  kind = s.kind;
+  choice = option_map (λ (k : ChoiceId). k.0) s.choice;
+  definitions = map (λ (d : DefinitionId). d.0) (listed s.first ++ s.more.items);
+}
 
--- a prompt stands among the attributes up to this line
-abbrev pub next_prompted : Numbered → Bool → Bool
-next_prompted s now = is_some (asked_of s) || (now && is_attribute s)
+-- how many definitions stand before a place
+abbrev pub definition_number : List Numbered → ℕ → ℕ
+definition_number ss i = length (filter_map (symbol_at ss) (numbers i))
 
--- what is known of a symbol
-abbrev pub known_view : Known → Kind × Option ℕ
-known_view k = (k.kind, option_map (λ (c : ChoiceId). c.0) k.choice)
+-- the same, of the symbol with a number in a list of statements
+abbrev pub row_of : List Numbered → ℕ → Row
+row_of ss s = record {
+  kind = kind_of ss (symbol s);
+  choice = choice_of ss (symbol s);
+  definitions = map (definition_number ss) (definitions_of ss (symbol s));
+}
+
+-- the symbols of a list of statements
+abbrev pub AreSymbols : List Numbered → List Symbol → Type 0
+AreSymbols ss symbols = map row_view symbols ≡ map (row_of ss) (numbers (length symbols))
 
 -- the choice and the type of a symbol, by what is known of the symbols
-abbrev pub choice_by : List Known → SymId → Option ℕ
-choice_by ks s = option_and_then (λ f. option_map (λ (c : ChoiceId). c.0) f.choice) (slice_get ks s.0)
+abbrev pub choice_by : List Symbol → SymId → Option ℕ
+choice_by symbols s = option_and_then (λ (f : Symbol). option_map (λ (c : ChoiceId). c.0) f.choice) (slice_get symbols s.0)
 
-abbrev pub kind_by : List Known → SymId → Kind
-kind_by ks s = unwrap_or (option_map (λ f. f.kind) (slice_get ks s.0)) kind.Undefined
+abbrev pub kind_by : List Symbol → SymId → Kind
+kind_by symbols s = unwrap_or (option_map (λ (f : Symbol). f.kind) (slice_get symbols s.0)) kind.Undefined
 
 -- the symbol is a member of the choice, by the same
-abbrev pub member_by : List Known → ℕ → SymId → Bool
-member_by k c s = list_any (λ d. d == c) (listed (choice_by k s))
+abbrev pub member_by : List Symbol → ℕ → SymId → Bool
+member_by symbols c s = list_any (λ d. d == c) (listed (choice_by symbols s))
 
--- they say what the statements say
-pub record IsKnown (ss : List Numbered) (k : List Known) : Type 0 where
-  pub kinds : kind_by k ≡ kind_of ss
-  pub choices : choice_by k ≡ choice_of ss
+-- the first definition of a symbol has this number, by the same
+abbrev pub first_by : List Symbol → SymId → ℕ → Bool
+first_by symbols s n = list_any (λ (d : DefinitionId). d.0 == n) (listed (option_and_then (λ (f : Symbol). f.first) (slice_get symbols s.0)))
 
-pub record AreMarks (ss : List Numbered) (m : Marks) : Type 0 where
-  pub owners : m.owners.items ≡ map (menu_entry_at ss) (numbers (length ss))
-  pub prompts : m.prompts.items ≡ map (prompt_before ss) (numbers (length ss))
-  pub firsts : m.firsts.items ≡ map (is_first_at ss) (numbers (length ss))
+-- what is known of the entry at a place
+pub record IsPlace (ss : List Numbered) (i : ℕ) (p : EntryPlace) : Type 0 where
+  pub entry : p.entry ≡ menu_entry_at ss i
+  pub first : p.first ≡ is_first_at ss i
+  pub round : option_map (λ (k : ChoiceId). k.0) p.round ≡ choice_round ss i
 
-pub record IsPlace (m : Marks) (i : ℕ) : Type 0 where
-  pub owners : i < length m.owners.items
-  pub prompts : i < length m.prompts.items
-  pub firsts : i < length m.firsts.items
-
-pub record IsMark (m : Marks) (i : ℕ) (r : Mark) : Type 0 where
-  pub owner : slice_get m.owners.items i ≡ Some r.owner
-  pub prompted : slice_get m.prompts.items i ≡ Some r.prompted
-  pub first : slice_get m.firsts.items i ≡ Some r.first
-
--- what there is to say of a line, by what is known of the symbols
-abbrev pub said_by_mark : List Known → Mark → Numbered → List Warning
-said_by_mark k m = said_with (kind_by k) (choice_by k) (member_by k) m.owner m.prompted m.first
+-- what there is to say of a line, by what is known of the symbols and of its entry
+abbrev pub said_by_place : List Symbol → EntryPlace → Bool → Numbered → List Warning
+said_by_place symbols p prompted = said_with (kind_by symbols) (choice_by symbols) (member_by symbols) p.entry prompted p.first
 
 -- the symbol that a default names alone
 abbrev pub default_symbol : Numbered → Option SymId

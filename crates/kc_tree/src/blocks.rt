@@ -1,5 +1,11 @@
 //! The open blocks round a line, by their contexts.
 
+ghost use Rattle.std.specs.Prelude.{◌≡◌, ◌<◌, ◌++◌, ◌∷◌, [], ◌^◌, None, Some, length, IfOk, OnOk, OnErr};
+ghost use Rattle.kc_expr.specs.Form.{form_of};
+ghost use Rattle.kc_tree.specs.Contexts.{and_also, in_choice, condition_in};
+ghost use Rattle.kc_tree.specs.Growth.{IsGrown, Stands};
+ghost use Rattle.kc_tree.specs.Stacks.{IsClosed};
+
 use crate::contexts::Contexts;
 use crate::parts::{ChoiceId, ContextId};
 use kc_expr::expression::Expr;
@@ -24,7 +30,10 @@ pub struct Blocks {
 
 impl Blocks {
     /// No block is open.
-    pub fn new(alloc: Global) -> Blocks {
+    pub fn new(alloc: Global) -> Blocks
+        ensures top { result.innermost ≡ record { within = record { 0 = 0 }; visible = record { 0 = 0 }; entry = None } }
+        ensures outside { result.outside.items ≡ [] }
+    {
         Blocks {
             innermost: Block {
                 within: ContextId(0),
@@ -36,19 +45,27 @@ impl Blocks {
     }
 
     /// The innermost open block; at the top it asks for nothing.
-    pub fn innermost(&self) -> Block {
+    pub fn innermost(&self) -> Block
+        ensures { result ≡ self.now.innermost }
+    {
         self.innermost
     }
 
     /// Opens a block inside the innermost one. Where it is out of memory, nothing changes.
-    pub fn open(&mut self, block: Block) -> Result<(), AllocError> {
+    pub fn open(&mut self, block: Block) -> Result<(), AllocError>
+        ensures innermost { OnOk result (self.new.innermost ≡ block) }
+        ensures outside { OnOk result (self.new.outside.items ≡ self.old.outside.items ++ self.old.innermost ∷ []) }
+        ensures unchanged { OnErr result (self.new ≡ self.old) }
+    {
         self.outside.push(self.innermost)?;
         self.innermost = block;
         Ok(())
     }
 
     /// Closes the innermost block, if one is open.
-    pub fn close(&mut self) {
+    pub fn close(&mut self)
+        ensures { IsClosed self.old self.new }
+    {
         if let Some(block) = self.outside.pop() {
             self.innermost = block;
         }
@@ -61,7 +78,14 @@ pub fn if_block(
     outer: Block,
     condition: Rc<Expr>,
     entry: u32,
-) -> Result<Block, AllocError> {
+) -> Result<Block, AllocError>
+    requires there { outer.within.0 < length contexts.old }
+    requires few { length contexts.old < 2 ^ 32 }
+    ensures made { IfOk result (λ b. Stands contexts.new b.within.0 (and_also (condition_in contexts.old outer.within.0) (form_of condition.value))) }
+    ensures visible { IfOk result (λ b. b.visible ≡ outer.visible) }
+    ensures entry { IfOk result (λ b. b.entry ≡ Some entry) }
+    ensures kept { OnOk result (IsGrown contexts.old contexts.new 1) }
+{
     let within = contexts.inside(outer.within, condition)?;
     Ok(Block {
         within,
@@ -76,7 +100,14 @@ pub fn choice_block(
     outer: Block,
     choice: ChoiceId,
     entry: u32,
-) -> Result<Block, AllocError> {
+) -> Result<Block, AllocError>
+    requires there { outer.within.0 < length contexts.old }
+    requires few { length contexts.old < 2 ^ 32 }
+    ensures made { IfOk result (λ b. Stands contexts.new b.within.0 (in_choice (condition_in contexts.old outer.within.0) choice.0)) }
+    ensures visible { IfOk result (λ b. b.visible ≡ outer.visible) }
+    ensures entry { IfOk result (λ b. b.entry ≡ Some entry) }
+    ensures kept { OnOk result (IsGrown contexts.old contexts.new 1) }
+{
     let within = contexts.inside_choice(outer.within, choice)?;
     Ok(Block {
         within,

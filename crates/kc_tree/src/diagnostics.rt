@@ -1,5 +1,17 @@
 //! The warnings about the lines of a tree, and the refusals that the whole list of them shows.
 
+ghost use Rattle.std.specs.Prelude.{◌≡◌, ◌++◌, [], None, map, option_map, IfOk, OnOk, MatchResult, Some};
+ghost use Rattle.std.specs.List.{list_any};
+ghost use Rattle.std.specs.Option.{option_or};
+ghost use Rattle.kc_read.specs.Reads.{line_view, statement_view};
+ghost use Rattle.kc_read.specs.Steps.{refusal_view};
+ghost use Rattle.kc_tree.specs.Diagnosed.{IsLookedAt, AreLookedAt};
+ghost use Rattle.kc_tree.specs.Facts as facts;
+ghost use Rattle.kc_tree.specs.Facts.{listed};
+ghost use Rattle.kc_tree.specs.Known.{kind_by, choice_by, member_by, default_symbol, said_by_place};
+ghost use Rattle.kc_tree.specs.Late as late;
+ghost use Rattle.kc_tree.specs.Warnings as spec;
+
 use crate::lines::{
     asked_of, given_of, is_single, single_symbol, symbol_of, target_of, type_of,
 };
@@ -40,7 +52,9 @@ pub struct Diagnostics {
 }
 
 // The symbol whose entry it is.
-fn entry_symbol(entry: MenuEntry) -> Option<SymId> {
+fn entry_symbol(entry: MenuEntry) -> Option<SymId>
+    ensures { result ≡ spec.entry_symbol entry }
+{
     match entry {
         MenuEntry::Symbol(s) => Some(s),
         _ => None,
@@ -48,7 +62,9 @@ fn entry_symbol(entry: MenuEntry) -> Option<SymId> {
 }
 
 // The choice whose entry it is.
-fn entry_choice(entry: MenuEntry) -> Option<ChoiceId> {
+fn entry_choice(entry: MenuEntry) -> Option<ChoiceId>
+    ensures { option_map (λ k. k.0) result ≡ spec.entry_choice entry }
+{
     match entry {
         MenuEntry::Choice(k) => Some(k),
         _ => None,
@@ -56,7 +72,9 @@ fn entry_choice(entry: MenuEntry) -> Option<ChoiceId> {
 }
 
 // A type line whose type is not the symbol's.
-fn retyped(statement: &Statement, entry: MenuEntry, symbols: &[Symbol]) -> Option<Warning> {
+fn retyped(statement: &Statement, entry: MenuEntry, symbols: &[Symbol]) -> Option<Warning>
+    ensures { listed result ≡ spec.retyped (kind_by symbols.now) entry (statement_view statement.now) }
+{
     match (entry_symbol(entry), type_of(statement)) {
         (Some(symbol), Some(kind)) => {
             (kind != kind_of(symbols, symbol)).then_some(Warning::Retyped(symbol))
@@ -66,17 +84,23 @@ fn retyped(statement: &Statement, entry: MenuEntry, symbols: &[Symbol]) -> Optio
 }
 
 // A second prompt in one entry.
-fn reprompted(statement: &Statement, entry: MenuEntry, prompted: bool) -> Option<Warning> {
+fn reprompted(statement: &Statement, entry: MenuEntry, prompted: bool) -> Option<Warning>
+    ensures { listed result ≡ spec.prompted entry prompted (statement_view statement.now) }
+{
     (asked_of(statement).is_some() && prompted).then_some(Warning::Reprompted(entry_symbol(entry)))
 }
 
 // The symbol has a type, or is a member of a choice.
-fn has_type(symbol: SymId, symbols: &[Symbol]) -> bool {
+fn has_type(symbol: SymId, symbols: &[Symbol]) -> bool
+    ensures { result ≡ spec.has_type (kind_by symbols.now symbol) (choice_by symbols.now symbol) }
+{
     choice_of(symbols, symbol).is_some() || kind_of(symbols, symbol) != Kind::Undefined
 }
 
 // The first definition of a symbol without a type.
-fn untyped(statement: &Statement, first: bool, symbols: &[Symbol]) -> Option<Warning> {
+fn untyped(statement: &Statement, first: bool, symbols: &[Symbol]) -> Option<Warning>
+    ensures { listed result ≡ spec.untyped (kind_by symbols.now) (choice_by symbols.now) first (statement_view statement.now) }
+{
     match symbol_of(statement) {
         Some(symbol) => (first && !has_type(symbol, symbols)).then_some(Warning::Untyped(symbol)),
         None => None,
@@ -84,7 +108,9 @@ fn untyped(statement: &Statement, first: bool, symbols: &[Symbol]) -> Option<War
 }
 
 // A select or imply of a symbol whose value is a text.
-fn text_target(statement: &Statement, symbols: &[Symbol]) -> Option<Warning> {
+fn text_target(statement: &Statement, symbols: &[Symbol]) -> Option<Warning>
+    ensures { listed result ≡ spec.text_target (kind_by symbols.now) (statement_view statement.now) }
+{
     match target_of(statement) {
         Some(target) => has_text(kind_of(symbols, target.symbol)).then_some(Warning::TextTarget(
             target.symbol,
@@ -95,7 +121,9 @@ fn text_target(statement: &Statement, symbols: &[Symbol]) -> Option<Warning> {
 }
 
 // A select or imply of a member of a choice.
-fn member_target(statement: &Statement, symbols: &[Symbol]) -> Option<Warning> {
+fn member_target(statement: &Statement, symbols: &[Symbol]) -> Option<Warning>
+    ensures { listed result ≡ spec.member_target (choice_by symbols.now) (statement_view statement.now) }
+{
     match target_of(statement) {
         Some(target) => choice_of(symbols, target.symbol)
             .is_some()
@@ -105,7 +133,9 @@ fn member_target(statement: &Statement, symbols: &[Symbol]) -> Option<Warning> {
 }
 
 // The symbol that a default names alone.
-fn default_symbol(statement: &Statement) -> Option<SymId> {
+fn default_symbol(statement: &Statement) -> Option<SymId>
+    ensures { result ≡ default_symbol (statement_view statement.now) }
+{
     match given_of(statement) {
         Some(given) => single_symbol(given.value),
         None => None,
@@ -113,7 +143,9 @@ fn default_symbol(statement: &Statement) -> Option<SymId> {
 }
 
 // A default of a choice that names no member of it.
-fn other_default(statement: &Statement, entry: MenuEntry, symbols: &[Symbol]) -> Option<Warning> {
+fn other_default(statement: &Statement, entry: MenuEntry, symbols: &[Symbol]) -> Option<Warning>
+    ensures { listed result ≡ spec.other_default (member_by symbols.now) entry (statement_view statement.now) }
+{
     match (entry_choice(entry), default_symbol(statement)) {
         (Some(choice), Some(symbol)) => {
             (!is_member(symbols, choice, symbol)).then_some(Warning::OtherDefault(symbol))
@@ -128,7 +160,9 @@ fn warnings_of(
     place: EntryPlace,
     prompted: bool,
     symbols: &[Symbol],
-) -> (Option<Warning>, Option<Warning>) {
+) -> (Option<Warning>, Option<Warning>)
+    ensures { listed result.0 ++ listed result.1 ≡ said_by_place symbols.now place prompted (statement_view statement.now) }
+{
     let entry = place.entry;
     match statement {
         Statement::Config(_) => (untyped(statement, place.first, symbols), None),
@@ -151,7 +185,9 @@ fn warnings_of(
 }
 
 // A second definition of a member; a definition in a choice whose type is not bool.
-fn is_bad_member(statement: &Statement, place: EntryPlace, symbols: &[Symbol]) -> bool {
+fn is_bad_member(statement: &Statement, place: EntryPlace, symbols: &[Symbol]) -> bool
+    ensures { result ≡ spec.is_bad_member (kind_by symbols.now) (choice_by symbols.now) place.first (option_map (λ k. k.0) place.round) (statement_view statement.now) }
+{
     match symbol_of(statement) {
         Some(symbol) => {
             (choice_of(symbols, symbol).is_some() && !place.first)
@@ -162,7 +198,9 @@ fn is_bad_member(statement: &Statement, place: EntryPlace, symbols: &[Symbol]) -
 }
 
 // The entry is that of a symbol whose value is a text.
-fn is_text_entry(entry: MenuEntry, symbols: &[Symbol]) -> bool {
+fn is_text_entry(entry: MenuEntry, symbols: &[Symbol]) -> bool
+    ensures { result ≡ list_any (λ t. facts.has_text (kind_by symbols.now t)) (listed (spec.entry_symbol entry)) }
+{
     match entry_symbol(entry) {
         Some(symbol) => has_text(kind_of(symbols, symbol)),
         None => false,
@@ -170,7 +208,9 @@ fn is_text_entry(entry: MenuEntry, symbols: &[Symbol]) -> bool {
 }
 
 // A default of such a symbol that is no single operand; one of a choice that is no single name.
-fn is_bad_default(statement: &Statement, entry: MenuEntry, symbols: &[Symbol]) -> bool {
+fn is_bad_default(statement: &Statement, entry: MenuEntry, symbols: &[Symbol]) -> bool
+    ensures { result ≡ spec.is_bad_default (kind_by symbols.now) entry (statement_view statement.now) }
+{
     match given_of(statement) {
         Some(given) => {
             (is_text_entry(entry, symbols) && !is_single(given.value))
@@ -187,7 +227,9 @@ fn refusal(
     line: &Line,
     entry: MenuEntry,
     code: Code,
-) -> Result<Refusal, AllocError> {
+) -> Result<Refusal, AllocError>
+    ensures { IfOk result (λ r. refusal_view r ≡ late.late names.now code entry (line_view line.now)) }
+{
     let file = Vec::from_slice(alloc, &line.file)?;
     let detail = Vec::from_slice(alloc, entry_name(names, entry_symbol(entry)))?;
     Ok(Refusal {
@@ -204,7 +246,9 @@ fn warn(
     line: &Line,
     warning: Option<Warning>,
     out: &mut Vec<Vec<u8>>,
-) -> Result<(), AllocError> {
+) -> Result<(), AllocError>
+    ensures { OnOk result (map (λ v. v.items) out.new.items ≡ map (λ v. v.items) out.old.items ++ map (spec.line_of names.now (line_view line.now).file (line_view line.now).line) (listed warning)) }
+{
     match warning {
         Some(warning) => {
             let text = line_of(alloc, names, line, warning)?;
@@ -224,7 +268,9 @@ fn warn_line(
     prompted: bool,
     line: &Line,
     out: &mut Vec<Vec<u8>>,
-) -> Result<(), AllocError> {
+) -> Result<(), AllocError>
+    ensures { OnOk result (map (λ v. v.items) out.new.items ≡ map (λ v. v.items) out.old.items ++ map (spec.line_of names.now (line_view line.now).file (line_view line.now).line) (said_by_place symbols.now place prompted (line_view line.now).statement)) }
+{
     match warnings_of(&line.statement, place, prompted, symbols) {
         (None, None) => Ok(()),
         (first, second) => {
@@ -236,7 +282,11 @@ fn warn_line(
 
 impl Diagnostics {
     /// Nothing yet.
-    pub fn new(alloc: Global) -> Diagnostics {
+    pub fn new(alloc: Global) -> Diagnostics
+        ensures warnings { result.warnings.items ≡ [] }
+        ensures member { result.bad_member ≡ None }
+        ensures default { result.bad_default ≡ None }
+    {
         Diagnostics {
             warnings: Vec::new(alloc),
             bad_member: None,
@@ -252,7 +302,11 @@ impl Diagnostics {
         symbols: &[Symbol],
         place: EntryPlace,
         line: &Line,
-    ) -> Result<(), AllocError> {
+    ) -> Result<(), AllocError>
+        ensures member { OnOk result (option_map refusal_view self.new.bad_member ≡ option_or (option_map refusal_view self.old.bad_member) (late.bad_member_of names.now symbols.now place (line_view line.now))) }
+        ensures default { OnOk result (self.new.bad_default ≡ self.old.bad_default) }
+        ensures warnings { OnOk result (self.new.warnings ≡ self.old.warnings) }
+    {
         if self.bad_member.is_none() && is_bad_member(&line.statement, place, symbols) {
             let found = refusal(alloc, names, line, place.entry, Code::ChoiceMember)?;
             self.bad_member = Some(found);
@@ -268,7 +322,11 @@ impl Diagnostics {
         symbols: &[Symbol],
         place: EntryPlace,
         line: &Line,
-    ) -> Result<(), AllocError> {
+    ) -> Result<(), AllocError>
+        ensures default { OnOk result (option_map refusal_view self.new.bad_default ≡ option_or (option_map refusal_view self.old.bad_default) (late.bad_default_of names.now symbols.now place (line_view line.now))) }
+        ensures member { OnOk result (self.new.bad_member ≡ self.old.bad_member) }
+        ensures warnings { OnOk result (self.new.warnings ≡ self.old.warnings) }
+    {
         if self.bad_default.is_none() && is_bad_default(&line.statement, place.entry, symbols) {
             let found = refusal(alloc, names, line, place.entry, Code::BadDefault)?;
             self.bad_default = Some(found);
@@ -286,7 +344,9 @@ impl Diagnostics {
         place: EntryPlace,
         prompted: bool,
         line: &Line,
-    ) -> Result<(), AllocError> {
+    ) -> Result<(), AllocError>
+        ensures { OnOk result (IsLookedAt names.now symbols.now place prompted (line_view line.now) self.old self.new) }
+    {
         let warnings = &mut self.warnings;
         match &line.statement {
             Statement::Type(_, _)
@@ -316,7 +376,9 @@ impl Diagnostics {
         place: EntryPlace,
         head: &Line,
         attributes: &[Line],
-    ) -> Result<(), AllocError> {
+    ) -> Result<(), AllocError>
+        ensures { OnOk result (AreLookedAt names.now symbols.now place (line_view head.now) (map line_view attributes.now) self.old self.new) }
+    {
         self.look_at(alloc, names, symbols, place, false, head)?;
         let mut prompted = false;
         for line in attributes {
@@ -327,7 +389,9 @@ impl Diagnostics {
     }
 
     /// The first refusal: of a definition of a member, and without one of a default. Where there is none, the warnings.
-    pub fn into_warnings(self) -> Result<Vec<Vec<u8>>, Refusal> {
+    pub fn into_warnings(self) -> Result<Vec<Vec<u8>>, Refusal>
+        ensures { MatchResult result (λ v. (self.bad_member ≡ None) × (self.bad_default ≡ None) × (v.items ≡ self.warnings.items)) (λ r. option_or self.bad_member self.bad_default ≡ Some r) }
+    {
         let Diagnostics {
             warnings,
             bad_member,

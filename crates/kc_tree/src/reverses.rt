@@ -1,5 +1,11 @@
 //! What selects and implies each symbol.
 
+ghost use Rattle.std.specs.Prelude.{◌≡◌, ◌<◌, ◌+◌, ◌^◌, ◌++◌, ◌∷◌, [], None, Some, length, option_map, replicate, slice_get, slice_index_or, slice_set, IfOk, IfSome, OnOk};
+ghost use Rattle.kc_tree.specs.Chains.{AreChained, AreHeads};
+ghost use Rattle.kc_expr.specs.Form.{form_of};
+ghost use Rattle.kc_tree.specs.Passes.{said_by};
+ghost use Rattle.kc_tree.specs.ReverseRows.{can_be_target, IsAdded, AreAdded};
+
 use crate::attributes::share;
 use crate::lines::{ReverseKind, Target, target_of};
 use crate::parts::{DefinitionId, Reverse, ReverseId, Symbol};
@@ -16,10 +22,15 @@ pub struct Reverses {
     lines: Vec<Reverse>,
     selects: Vec<Option<ReverseId>>,
     implies: Vec<Option<ReverseId>>,
+    ghost chained: { AreChained lines.items },
+    ghost selects_there: { AreHeads lines.items selects.items },
+    ghost implies_there: { AreHeads lines.items implies.items },
 }
 
 // Whether selecting or implying the symbol has an effect: it is defined, no choice's member, and its value is no text.
-fn is_target(symbols: &[Symbol], symbol: SymId) -> bool {
+fn is_target(symbols: &[Symbol], symbol: SymId) -> bool
+    ensures { result ≡ can_be_target symbols.now symbol }
+{
     symbol.0 < symbols.len()
         && choice_of(symbols, symbol).is_none()
         && !has_text(kind_of(symbols, symbol))
@@ -32,7 +43,12 @@ fn add_line(
     symbol: SymId,
     source: DefinitionId,
     when: Option<Rc<Expr>>,
-) -> Result<(), AllocError> {
+) -> Result<(), AllocError>
+    requires there { symbol.0 < length heads.old }
+    requires few { length lines.old.items < 2 ^ 32 }
+    ensures line { OnOk result (lines.new.items ≡ lines.old.items ++ record { source = source; when = when; next = slice_index_or heads.old symbol.0 None } ∷ []) }
+    ensures head { OnOk result (heads.new ≡ slice_set heads.old symbol.0 (Some (record { 0 = length lines.old.items }))) }
+{
     let id = ReverseId(lines.len() as u32);
     lines.push(Reverse {
         source,
@@ -45,7 +61,11 @@ fn add_line(
 
 impl Reverses {
     /// No line yet, of this many symbols. Fails only when it is out of memory.
-    pub fn new(alloc: Global, count: usize) -> Result<Reverses, AllocError> {
+    pub fn new(alloc: Global, count: usize) -> Result<Reverses, AllocError>
+        ensures lines { IfOk result (λ r. r.lines.items ≡ []) }
+        ensures selects { IfOk result (λ r. r.selects.items ≡ replicate count None) }
+        ensures implies { IfOk result (λ r. r.implies.items ≡ replicate count None) }
+    {
         let selects = vec![in alloc; None; count]?;
         let implies = vec![in alloc; None; count]?;
         Ok(Reverses {
@@ -56,7 +76,9 @@ impl Reverses {
     }
 
     /// The last line that selects a symbol.
-    pub fn last_select(&self, symbol: SymId) -> Option<ReverseId> {
+    pub fn last_select(&self, symbol: SymId) -> Option<ReverseId>
+        ensures { result ≡ slice_index_or self.now.selects.items symbol.0 None }
+    {
         match self.selects.get(symbol.0) {
             Some(last) => *last,
             None => None,
@@ -64,7 +86,9 @@ impl Reverses {
     }
 
     /// The last line that implies a symbol.
-    pub fn last_imply(&self, symbol: SymId) -> Option<ReverseId> {
+    pub fn last_imply(&self, symbol: SymId) -> Option<ReverseId>
+        ensures { result ≡ slice_index_or self.now.implies.items symbol.0 None }
+    {
         match self.implies.get(symbol.0) {
             Some(last) => *last,
             None => None,
@@ -72,7 +96,10 @@ impl Reverses {
     }
 
     /// A line that selects or implies; it leads on to one with a smaller number.
-    pub fn line(&self, id: ReverseId) -> Option<&Reverse> {
+    pub fn line(&self, id: ReverseId) -> Option<&Reverse>
+        ensures line { option_map (λ r. r.now) result ≡ slice_get self.now.lines.items id.0 }
+        ensures smaller { IfSome result (λ r. IfSome r.now.next (λ next. next.0 < id.0)) }
+    {
         self.lines.get(id.0 as usize)
     }
 
@@ -82,7 +109,12 @@ impl Reverses {
         symbols: &[Symbol],
         source: DefinitionId,
         target: Target<'_>,
-    ) -> Result<(), AllocError> {
+    ) -> Result<(), AllocError>
+        requires count { length self.old.selects.items ≡ length symbols.now }
+        requires same { length self.old.implies.items ≡ length symbols.now }
+        requires few { length self.old.lines.items < 2 ^ 32 }
+        ensures { OnOk result (IsAdded symbols.now source self.old (target.entry.kind, target.entry.symbol, option_map (λ e. form_of e.now.value) target.entry.when) self.new) }
+    {
         if !is_target(symbols, target.symbol) {
             return Ok(());
         }
@@ -100,7 +132,12 @@ impl Reverses {
         symbols: &[Symbol],
         source: DefinitionId,
         attributes: &[Line],
-    ) -> Result<(), AllocError> {
+    ) -> Result<(), AllocError>
+        requires count { length self.old.selects.items ≡ length symbols.now }
+        requires same { length self.old.implies.items ≡ length symbols.now }
+        requires few { length self.old.lines.items + length attributes.now < 2 ^ 32 }
+        ensures { OnOk result (AreAdded symbols.now source self.old (said_by attributes.now) self.new) }
+    {
         for line in attributes {
             if let Some(target) = target_of(&line.statement) {
                 self.add(symbols, source, target)?;
