@@ -1,5 +1,5 @@
 -- For proofs: What the first walk knows of symbols, and what there is to say of lines by it.
-use Rattle.std.specs.Prelude.{◌≡◌, ℕ, ◌<◌, ◌++◌, List, map, length, Option, Some, None, slice_get, option_map, unwrap_or, ◌==◌, Bool}
+use Rattle.std.specs.Prelude.{◌≡◌, ℕ, ◌<◌, List, map, length, Option, Some, None, slice_get, option_map, unwrap_or, ◌==◌, Bool}
 use Rattle.std.specs.List.{filter_map, list_any}
 use Rattle.std.specs.Option.{option_and_then}
 use Rattle.kc_expr.specs.declared.expression.SymId.{SymId}
@@ -15,6 +15,7 @@ use Rattle.kc_tree.specs.declared.parts.Symbol.{Symbol}
 use Rattle.kc_tree.specs.declared.warning.Warning.{Warning}
 use Rattle.kc_tree.specs.Facts.{kind_of, choice_of, choice_round, definitions_of, listed, given_of, single_symbol, symbol_at}
 use Rattle.kc_tree.specs.Firsts.{is_first_at}
+use Rattle.kc_tree.specs.Parts.{definition_ids}
 use Rattle.kc_tree.specs.Warnings.{menu_entry_at, said_with}
 
 -- each defined symbol has a number below this one
@@ -31,7 +32,7 @@ abbrev pub row_view : Symbol → Row
 row_view s = record {
   kind = s.kind;
   choice = option_map (λ (k : ChoiceId). k.0) s.choice;
-  definitions = map (λ (d : DefinitionId). d.0) (listed s.first ++ s.more.items);
+  definitions = map (λ (d : DefinitionId). d.0) (definition_ids s);
 }
 
 -- how many definitions stand before a place

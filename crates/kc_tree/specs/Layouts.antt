@@ -1,8 +1,7 @@
 -- Trusted: How the tables of a tree are seen in contracts: what they say of symbols, choices and entries.
-use Rattle.std.specs.Prelude.{◌≡◌, ℕ, ◌-◌, ◌&&◌, List, [], ◌∷◌, ◌++◌, map, length, take, drop, reverse, nat_le, if◌then◌else◌, Option, Some, None, slice_get, slice_index_or, unwrap_or}
+use Rattle.std.specs.Prelude.{◌≡◌, ℕ, List, [], ◌++◌, map, length, reverse, Option, Some, None, slice_get, slice_index_or}
 use Rattle.std.specs.Option.{option_map, option_and_then}
 use Rattle.std.specs.List.{filter_map, flat_map}
-use Rattle.kc_expr.specs.Names.{symbol}
 use Rattle.kc_expr.specs.declared.expression.SymId.{SymId}
 use Rattle.kc_expr.specs.declared.expression.Kind.{Kind}
 use Rattle.kc_expr.specs.Form.{Form, form_of, leaf_of}
@@ -19,7 +18,6 @@ use Rattle.kc_tree.specs.declared.parts.Entry.TheVariants as entry
 use Rattle.kc_tree.specs.declared.parts.Prompt.{Prompt}
 use Rattle.kc_tree.specs.declared.parts.Reverse.{Reverse}
 use Rattle.kc_tree.specs.declared.parts.ReverseId.{ReverseId}
-use Rattle.kc_tree.specs.declared.parts.Span.{Span}
 use Rattle.kc_tree.specs.declared.parts.Symbol.{Symbol}
 use Rattle.kc_tree.specs.declared.parts.SymbolDefault.{SymbolDefault}
 use Rattle.kc_tree.specs.declared.parts.SymbolRange.{SymbolRange}
@@ -28,6 +26,7 @@ use Rattle.kc_tree.specs.declared.parts.TitleId.{TitleId}
 use Rattle.kc_tree.specs.Chains.{chain_of, chains_of}
 use Rattle.kc_tree.specs.Contexts.{condition_in, mode_view}
 use Rattle.kc_tree.specs.Facts.{listed}
+use Rattle.kc_tree.specs.Parts.{part_of, definition_ids}
 use Rattle.kc_tree.specs.TreeFacts.{Condition, Guarded, Bounds, SymbolFacts, ChoiceFacts, Shown, SymbolShown, MenuShown, EndShown, CommentShown, TreeFacts}
 
 -- a condition and an `if`; a condition and what another one asks for besides
@@ -36,10 +35,6 @@ with_when c w = record { parts = c.parts ++ listed w; mode = c.mode }
 
 abbrev pub with_parts : Condition → List Form → Condition
 with_parts c fs = record { parts = c.parts ++ fs; mode = c.mode }
-
--- the part of a table that a span names
-abbrev pub part_of : {X : Type 0} → List X → Span → List X
-part_of table s = if nat_le s.start s.end && nat_le s.end (length table) then take (s.end - s.start) (drop s.start table) else []
 
 -- Under the conditions of the contexts and what an entry depends on.
 module _ (conditions : List Condition) (dep : Condition) where
@@ -140,7 +135,7 @@ module _ (t : Tables) where
 module _ (l : Layout) where
   -- the definitions of a symbol, in the order of the lines
   abbrev pub definitions_of : Symbol → List DefinitionFacts
-  definitions_of s = filter_map (definition_at l.tables) (listed s.first ++ s.more.items)
+  definitions_of s = filter_map (definition_at l.tables) (definition_ids s)
 
   abbrev pub facts_of : ℕ → Symbol → SymbolFacts
   facts_of i s = facts_by s.kind (mode_view s.choice) (definitions_of s) (selectors_at l.tables i) (impliers_at l.tables i)

@@ -1,5 +1,5 @@
 -- For proofs: What open blocks ask for, by the conditions of the contexts.
-use Rattle.std.specs.Prelude.{◌≡◌, ◌<◌, ℕ, List, Some, None, Option, length, map, slice_get}
+use Rattle.std.specs.Prelude.{◌≡◌, ◌<◌, ℕ, List, [], ◌∷◌, ◌++◌, Some, None, Option, length, map, slice_get}
 use Rattle.std.specs.Option.{option_map}
 use Rattle.kc_expr.specs.Form.{Form}
 use Rattle.kc_read.specs.Blocks.{enclosing}
@@ -47,3 +47,9 @@ pub record AreOpen (ss : List Numbered) (i : ℕ) (conditions : List Condition) 
   pub innermost : IsBlock conditions blocks.innermost (asked_at ss i)
   pub there : (j : ℕ) (b : Block) → slice_get blocks.outside.items j ≡ Some b → (b.within.0 < length conditions) × (b.visible.0 < length conditions)
   pub outside : map (block_view conditions) blocks.outside.items ≡ map (asked_at ss) (enclosing ss i)
+
+-- the innermost block is closed, where one is open
+abbrev pub IsClosed : Blocks → Blocks → Type 0
+IsClosed old new =
+    ((outside : List Block) (b : Block) → old.outside.items ≡ outside ++ b ∷ [] → (new.innermost ≡ b) × (new.outside.items ≡ outside))
+    × (old.outside.items ≡ [] → new ≡ old)

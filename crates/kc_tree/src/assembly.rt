@@ -1,5 +1,12 @@
 //! All that lines say that were read whole.
 
+ghost use Rattle.std.specs.Prelude.{◌≡◌, ◌<◌, ◌+◌, ◌*◌, ◌^◌, length, map, nat_lt, if◌then◌else◌, IfOk, Some, None};
+ghost use Rattle.kc_read.specs.Reads.{line_view};
+ghost use Rattle.kc_tree.specs.Assemblies.{assembled_view};
+ghost use Rattle.kc_tree.specs.Known.{AreBelow};
+ghost use Rattle.kc_tree.specs.Passes.{said_by};
+ghost use Rattle.kc_tree.specs.Trees.{tree_with};
+
 use crate::entries::{Said, walk_entries};
 use crate::layout::Layout;
 use crate::symbols::symbols;
@@ -19,7 +26,9 @@ pub struct TreeParts {
 }
 
 // The symbol, where it is one of the defined ones.
-fn defined(symbol: SymId, count: usize) -> Option<SymId> {
+fn defined(symbol: SymId, count: usize) -> Option<SymId>
+    ensures { result ≡ (if nat_lt symbol.0 count then Some symbol else None) }
+{
     if symbol.0 < count { Some(symbol) } else { None }
 }
 
@@ -32,7 +41,11 @@ pub fn assemble(
     lines: &[Line],
     count: usize,
     modules: SymId,
-) -> Result<Result<TreeParts, Refusal>, AllocError> {
+) -> Result<Result<TreeParts, Refusal>, AllocError>
+    requires below { AreBelow count (said_by lines.now) }
+    requires few { 4 * length lines.now + 8 < 2 ^ 32 }
+    ensures { IfOk result (λ s. assembled_view names.now s ≡ tree_with names.now count modules (map line_view lines.now)) }
+{
     let symbols = symbols(alloc, lines, count)?;
     let Said {
         tables,

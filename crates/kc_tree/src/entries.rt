@@ -1,5 +1,17 @@
 //! The second walk over the lines, entry by entry with the open blocks: all that they say but of symbols alone.
 
+ghost use Rattle.std.specs.Prelude.{◌≡◌, ℕ, List, ◌<◌, ◌+◌, ◌*◌, ◌^◌, [], length, map, IfOk, OnOk};
+ghost use Rattle.kc_expr.specs.Form.{form_of};
+ghost use Rattle.kc_read.specs.Reads.{line_view, statement_view};
+ghost use Rattle.kc_read.specs.Statements.{Numbered, ConfigLine, IfLine, MenuLine, CommentLine, ChoiceLine, EndMenuLine};
+ghost use Rattle.kc_tree.specs.declared.parts.Symbol.{Symbol};
+ghost use Rattle.kc_tree.specs.Known.{AreBelow, AreSymbols, IsPlace};
+ghost use Rattle.kc_tree.specs.Passes.{said_by};
+ghost use Rattle.kc_tree.specs.Contexts.{condition_in};
+ghost use Rattle.kc_tree.specs.Layouts.{choice_facts as choice_in};
+ghost use Rattle.kc_tree.specs.Walks.{AreBlocksThere, AreSaid, Enters, HasHeads, HasRoom, IsDiagnosed, IsHead, IsWalk};
+ghost use Rattle.kc_tree.specs.WalkSteps.{AddsTitle, AreEmpty, KeepsAllButChoices, with_member};
+
 use crate::attributes::{
     add_defaults, add_ranges, choice_defaults, entry_context, entry_end, prompt,
     visible_context,
@@ -26,10 +38,14 @@ struct Walk {
     tables: Tables,
     blocks: Blocks,
     main_menu: Vec<u8>,
+    ghost there: { AreBlocksThere tables.contexts blocks },
 }
 
 // Tables with room for so many symbols.
-fn new_tables(alloc: Global, count: usize) -> Result<Tables, AllocError> {
+fn new_tables(alloc: Global, count: usize) -> Result<Tables, AllocError>
+    ensures empty { IfOk result AreEmpty }
+    ensures heads { IfOk result (λ t. (length t.reverses.selects.items ≡ count) × (length t.reverses.implies.items ≡ count)) }
+{
     Ok(Tables {
         contexts: Contexts::with_room(alloc, count)?,
         definitions: Vec::with_capacity(alloc, count)?,
@@ -44,12 +60,18 @@ fn new_tables(alloc: Global, count: usize) -> Result<Tables, AllocError> {
 
 impl Walk {
     // The number of the next definition.
-    fn next_definition(&self) -> DefinitionId {
+    fn next_definition(&self) -> DefinitionId
+        requires { length self.now.tables.definitions.items < 2 ^ 32 }
+        ensures { result.0 ≡ length self.now.tables.definitions.items }
+    {
         DefinitionId(self.tables.definitions.len() as u32)
     }
 
     // How many entries there are, which is the place of the next one.
-    fn next_entry(&self) -> u32 {
+    fn next_entry(&self) -> u32
+        requires { length self.now.tables.entries.items < 2 ^ 32 }
+        ensures { result ≡ length self.now.tables.entries.items }
+    {
         self.tables.entries.len() as u32
     }
 
@@ -60,7 +82,11 @@ impl Walk {
         symbols: &[Symbol],
         symbol: SymId,
         own: &[Line],
-    ) -> Result<(), AllocError> {
+    ) -> Result<(), AllocError>
+        requires room { HasRoom (length own.now) self.old.tables }
+        requires heads { HasHeads symbols.now self.old.tables }
+        ensures { OnOk result (Enters symbols.now (ConfigLine symbol) (said_by own.now) self.old self.new) }
+    {
         let id = self.next_definition();
         let round = self.blocks.innermost();
         let within = entry_context(&mut self.tables.contexts, round.within, own)?;
@@ -82,7 +108,10 @@ impl Walk {
     }
 
     // Adds a symbol to the choice round it, where there is one.
-    fn add_member(&mut self, symbol: SymId) -> Result<(), AllocError> {
+    fn add_member(&mut self, symbol: SymId) -> Result<(), AllocError>
+        ensures choices { OnOk result (map (choice_in self.new.tables) self.new.tables.choices.items ≡ with_member (condition_in self.old.tables.contexts self.old.blocks.innermost.within.0).mode symbol (map (choice_in self.old.tables) self.old.tables.choices.items)) }
+        ensures others { OnOk result (KeepsAllButChoices self.old self.new) }
+    {
         let round = self.blocks.innermost();
         if let Some(choice) = self.tables.contexts.mode(round.within) {
             if choice.0 < self.tables.choices.len() {
@@ -99,7 +128,13 @@ impl Walk {
         text: &[u8],
         within: ContextId,
         visible: ContextId,
-    ) -> Result<TitleId, AllocError> {
+    ) -> Result<TitleId, AllocError>
+        requires within { within.0 < length self.old.tables.contexts }
+        requires visible { visible.0 < length self.old.tables.contexts }
+        requires few { length self.old.tables.titles.items < 2 ^ 32 }
+        ensures number { IfOk result (λ id. id.0 ≡ length self.old.tables.titles.items) }
+        ensures title { OnOk result (AddsTitle text.now within visible self.old self.new) }
+    {
         let id = TitleId(self.tables.titles.len() as u32);
         let text = Vec::from_slice(alloc, text)?;
         self.tables.titles.push(Title {
@@ -111,7 +146,10 @@ impl Walk {
     }
 
     // An `if`.
-    fn open_if(&mut self, condition: &Rc<Expr>) -> Result<(), AllocError> {
+    fn open_if(&mut self, condition: &Rc<Expr>) -> Result<(), AllocError>
+        requires room { HasRoom 0 self.old.tables }
+        ensures { OnOk result ((symbols : List Symbol) → Enters symbols (IfLine (form_of condition.now.value)) [] self.old self.new) }
+    {
         let entry = self.next_entry();
         let outer = self.blocks.innermost();
         let block = if_block(&mut self.tables.contexts, outer, condition.clone()?, entry)?;
@@ -119,7 +157,10 @@ impl Walk {
     }
 
     // A menu: what it asks for, all that stands in it asks for, too.
-    fn open_menu(&mut self, alloc: Global, text: &[u8], own: &[Line]) -> Result<(), AllocError> {
+    fn open_menu(&mut self, alloc: Global, text: &[u8], own: &[Line]) -> Result<(), AllocError>
+        requires room { HasRoom (length own.now) self.old.tables }
+        ensures { OnOk result ((symbols : List Symbol) → Enters symbols (MenuLine text.now) (said_by own.now) self.old self.new) }
+    {
         let entry = self.next_entry();
         let outer = self.blocks.innermost();
         let within = entry_context(&mut self.tables.contexts, outer.within, own)?;
@@ -134,7 +175,10 @@ impl Walk {
     }
 
     // A comment.
-    fn comment(&mut self, alloc: Global, text: &[u8], own: &[Line]) -> Result<(), AllocError> {
+    fn comment(&mut self, alloc: Global, text: &[u8], own: &[Line]) -> Result<(), AllocError>
+        requires room { HasRoom (length own.now) self.old.tables }
+        ensures { OnOk result ((symbols : List Symbol) → Enters symbols (CommentLine text.now) (said_by own.now) self.old self.new) }
+    {
         let round = self.blocks.innermost();
         let within = entry_context(&mut self.tables.contexts, round.within, own)?;
         // What is asked of what is visible is asked of prompts and menus alone.
@@ -149,7 +193,10 @@ impl Walk {
         alloc: Global,
         symbols: &[Symbol],
         own: &[Line],
-    ) -> Result<(), AllocError> {
+    ) -> Result<(), AllocError>
+        requires room { HasRoom (length own.now) self.old.tables }
+        ensures { OnOk result (Enters symbols.now ChoiceLine (said_by own.now) self.old self.new) }
+    {
         let entry = self.next_entry();
         let id = ChoiceId(self.tables.choices.len());
         let outer = self.blocks.innermost();
@@ -167,7 +214,9 @@ impl Walk {
     }
 
     // The end of a menu.
-    fn close_menu(&mut self) -> Result<(), AllocError> {
+    fn close_menu(&mut self) -> Result<(), AllocError>
+        ensures { OnOk result ((symbols : List Symbol) (own : List Numbered) → Enters symbols EndMenuLine own self.old self.new) }
+    {
         if let Some(menu) = self.blocks.innermost().entry {
             self.tables.entries.push(Entry::End(menu))?;
         }
@@ -182,7 +231,11 @@ impl Walk {
         symbols: &[Symbol],
         head: &Statement,
         own: &[Line],
-    ) -> Result<(), AllocError> {
+    ) -> Result<(), AllocError>
+        requires room { HasRoom (length own.now) self.old.tables }
+        requires heads { HasHeads symbols.now self.old.tables }
+        ensures { OnOk result (Enters symbols.now (statement_view head.now) (said_by own.now) self.old self.new) }
+    {
         match head {
             Statement::Config(symbol) => self.define(alloc, symbols, *symbol, own),
             Statement::If(condition) => self.open_if(condition),
@@ -203,7 +256,10 @@ impl Walk {
     }
 
     // What is known of the entry that a statement begins, before the walk goes into it.
-    fn place_of(&self, symbols: &[Symbol], head: &Statement) -> EntryPlace {
+    fn place_of(&self, symbols: &[Symbol], head: &Statement) -> EntryPlace
+        requires { length self.now.tables.definitions.items < 2 ^ 32 }
+        ensures { (ss : List Numbered) (i : ℕ) (own : List Numbered) → AreSymbols ss symbols.now → IsHead ss i (statement_view head.now) own → IsWalk ss symbols.now i self.now → IsPlace ss i result }
+    {
         let round = self.tables.contexts.mode(self.blocks.innermost().within);
         match head {
             Statement::Config(symbol) => EntryPlace {
@@ -242,7 +298,13 @@ pub fn walk_entries(
     names: &Names,
     lines: &[Line],
     symbols: &[Symbol],
-) -> Result<Said, AllocError> {
+) -> Result<Said, AllocError>
+    requires symbols { AreSymbols (said_by lines.now) symbols.now }
+    requires below { AreBelow (length symbols.now) (said_by lines.now) }
+    requires few { 4 * length lines.now + 8 < 2 ^ 32 }
+    ensures said { IfOk result (λ s. AreSaid (said_by lines.now) symbols.now s.tables s.main_menu.items) }
+    ensures diagnosed { IfOk result (λ s. IsDiagnosed names.now (map line_view lines.now) (length lines.now) s.diagnostics) }
+{
     let mut walk = Walk {
         tables: new_tables(alloc, symbols.len())?,
         blocks: Blocks::new(alloc),

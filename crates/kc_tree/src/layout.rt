@@ -1,5 +1,10 @@
 //! The layout of a tree: its contexts, definitions, reverse dependencies, choices and entries, each in one table.
 
+ghost use Rattle.std.specs.Prelude.{◌≡◌, ◌<◌, None, length, option_map, slice_get, slice_index_or, IfSome};
+ghost use Rattle.kc_tree.specs.Contexts.{condition_in, mode_view, IsContext};
+ghost use Rattle.kc_tree.specs.Parts.{part_of, definition_ids};
+ghost use Rattle.kc_tree.specs.Soundness.{AreSound};
+
 use crate::contexts::Contexts;
 use crate::parts::{
     Choice, ChoiceId, Context, ContextId, Definition, DefinitionId, Entry, Reverse, ReverseId,
@@ -19,6 +24,7 @@ pub struct Tables {
     pub(crate) choices: Vec<Choice>,
     pub(crate) titles: Vec<Title>,
     pub(crate) entries: Vec<Entry>,
+    ghost sound: { AreSound contexts definitions.items (length defaults.items) (length ranges.items) reverses.lines.items choices.items titles.items entries.items },
 }
 
 /// How a tree is laid out: what the facts of its symbols, choices and entries are made of. A context is what the blocks
@@ -30,7 +36,9 @@ pub struct Layout {
 }
 
 // The part of a table that a span names; no part where it is not there.
-fn part<T>(table: &[T], span: Span) -> &[T] {
+fn part<T>(table: &[T], span: Span) -> &[T]
+    ensures { result.now ≡ part_of table.now span }
+{
     let (start, end) = (span.start as usize, span.end as usize);
     if start <= end && end <= table.len() {
         &table[start..end]
@@ -41,84 +49,117 @@ fn part<T>(table: &[T], span: Span) -> &[T] {
 
 impl Layout {
     /// The symbols, by number.
-    pub fn symbols(&self) -> &[Symbol] {
+    pub fn symbols(&self) -> &[Symbol]
+        ensures { result.now ≡ self.now.symbols.items }
+    {
         &self.symbols
     }
 
     /// The choices, by number.
-    pub fn choices(&self) -> &[Choice] {
+    pub fn choices(&self) -> &[Choice]
+        ensures { result.now ≡ self.now.tables.choices.items }
+    {
         &self.tables.choices
     }
 
     /// The entries, in order.
-    pub fn entries(&self) -> &[Entry] {
+    pub fn entries(&self) -> &[Entry]
+        ensures { result.now ≡ self.now.tables.entries.items }
+    {
         &self.tables.entries
     }
 
     /// The row of a symbol; none of a name that is not defined.
-    pub fn symbol(&self, id: SymId) -> Option<&Symbol> {
+    pub fn symbol(&self, id: SymId) -> Option<&Symbol>
+        ensures { option_map (λ s. s.now) result ≡ slice_get self.now.symbols.items id.0 }
+    {
         self.symbols.get(id.0)
     }
 
     /// The row of a choice.
-    pub fn choice(&self, id: ChoiceId) -> Option<&Choice> {
+    pub fn choice(&self, id: ChoiceId) -> Option<&Choice>
+        ensures { option_map (λ c. c.now) result ≡ slice_get self.now.tables.choices.items id.0 }
+    {
         self.tables.choices.get(id.0)
     }
 
     /// How many contexts there are, with the top.
-    pub fn context_count(&self) -> usize {
+    pub fn context_count(&self) -> usize
+        ensures { result ≡ length self.now.tables.contexts }
+    {
         self.tables.contexts.count()
     }
 
     /// A context; none at the top. The one outside it has a smaller number.
-    pub fn context(&self, id: ContextId) -> Option<&Context> {
+    pub fn context(&self, id: ContextId) -> Option<&Context>
+        ensures { IsContext self.now.tables.contexts id.0 result }
+    {
         self.tables.contexts.context(id)
     }
 
     /// The choice whose mode counts in a context.
-    pub fn mode(&self, id: ContextId) -> Option<ChoiceId> {
+    pub fn mode(&self, id: ContextId) -> Option<ChoiceId>
+        ensures { mode_view result ≡ (condition_in self.now.tables.contexts id.0).mode }
+    {
         self.tables.contexts.mode(id)
     }
 
     /// A definition.
-    pub fn definition(&self, id: DefinitionId) -> Option<&Definition> {
+    pub fn definition(&self, id: DefinitionId) -> Option<&Definition>
+        ensures { option_map (λ d. d.now) result ≡ slice_get self.now.tables.definitions.items id.0 }
+    {
         self.tables.definitions.get(id.0 as usize)
     }
 
     /// The defaults of a definition, in the order of its lines.
-    pub fn defaults(&self, definition: &Definition) -> &[SymbolDefault] {
+    pub fn defaults(&self, definition: &Definition) -> &[SymbolDefault]
+        ensures { result.now ≡ part_of self.now.tables.defaults.items definition.now.defaults }
+    {
         part(&self.tables.defaults, definition.defaults)
     }
 
     /// The ranges of a definition, in the order of its lines.
-    pub fn ranges(&self, definition: &Definition) -> &[SymbolRange] {
+    pub fn ranges(&self, definition: &Definition) -> &[SymbolRange]
+        ensures { result.now ≡ part_of self.now.tables.ranges.items definition.now.ranges }
+    {
         part(&self.tables.ranges, definition.ranges)
     }
 
     /// The last line that selects a symbol, which leads on to the others.
-    pub fn last_select(&self, id: SymId) -> Option<ReverseId> {
+    pub fn last_select(&self, id: SymId) -> Option<ReverseId>
+        ensures { result ≡ slice_index_or self.now.tables.reverses.selects.items id.0 None }
+    {
         self.tables.reverses.last_select(id)
     }
 
     /// The last line that implies a symbol, which leads on to the others.
-    pub fn last_imply(&self, id: SymId) -> Option<ReverseId> {
+    pub fn last_imply(&self, id: SymId) -> Option<ReverseId>
+        ensures { result ≡ slice_index_or self.now.tables.reverses.implies.items id.0 None }
+    {
         self.tables.reverses.last_imply(id)
     }
 
     /// A line that selects or implies; it leads on to one with a smaller number.
-    pub fn reverse(&self, id: ReverseId) -> Option<&Reverse> {
+    pub fn reverse(&self, id: ReverseId) -> Option<&Reverse>
+        ensures line { option_map (λ r. r.now) result ≡ slice_get self.now.tables.reverses.lines.items id.0 }
+        ensures smaller { IfSome result (λ r. IfSome r.now.next (λ next. next.0 < id.0)) }
+    {
         self.tables.reverses.line(id)
     }
 
     /// The title of a menu or comment.
-    pub fn title(&self, id: TitleId) -> Option<&Title> {
+    pub fn title(&self, id: TitleId) -> Option<&Title>
+        ensures { option_map (λ t. t.now) result ≡ slice_get self.now.tables.titles.items id.0 }
+    {
         self.tables.titles.get(id.0 as usize)
     }
 }
 
 impl Symbol {
     /// How many definitions the symbol has.
-    pub fn definition_count(&self) -> usize {
+    pub fn definition_count(&self) -> usize
+        ensures { result ≡ length (definition_ids self.now) }
+    {
         match self.first {
             Some(_) => self.more.len() + 1,
             None => 0,
@@ -126,7 +167,9 @@ impl Symbol {
     }
 
     /// A definition by its number among those of the symbol, in the order of the lines.
-    pub fn definition(&self, i: usize) -> Option<DefinitionId> {
+    pub fn definition(&self, i: usize) -> Option<DefinitionId>
+        ensures { result ≡ slice_get (definition_ids self.now) i }
+    {
         if i == 0 {
             self.first
         } else {

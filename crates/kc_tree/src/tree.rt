@@ -1,11 +1,12 @@
 //! The tree of a Kconfig file.
 
-ghost use Rattle.std.specs.Prelude.{◌≡◌, ◌<◌, length, map, Some, None, slice_get, position, MatchOption};
+ghost use Rattle.std.specs.Prelude.{◌≡◌, ◌<◌, length, map, Some, None, slice_get, position};
 ghost use Rattle.std.specs.Option.{option_map};
 ghost use Rattle.kc_expr.specs.Names.{symbol, same_name};
 ghost use Rattle.kc_tree.specs.Assemblies.{tree_of};
+ghost use Rattle.kc_tree.specs.Heads.{IsHeadOf, AreChoicesOf, AreEntriesOf};
+ghost use Rattle.kc_tree.specs.Layouts.{IsLayoutOf};
 ghost use Rattle.kc_tree.specs.TreeFacts.{IsWellFormed};
-ghost use Rattle.kc_tree.specs.Views.{facts_of, choice_facts_of, shown_of};
 
 use crate::assembly::TreeParts;
 use crate::layout::Layout;
@@ -108,12 +109,15 @@ impl Tree {
 
     /// The row of a symbol, with its type and its choice; `None` where the name is not defined (our own).
     pub fn facts(&self, id: SymId) -> Option<&Symbol>
+        ensures { IsHeadOf (slice_get self.now.symbols id.0) result }
     {
         self.layout.symbol(id)
     }
 
     /// How the tree is laid out: what the facts of its symbols are made of (our own).
     pub fn layout(&self) -> &Layout
+        ensures laid { IsLayoutOf self.now result.now }
+        ensures formed { IsWellFormed self.now }
     {
         &self.layout
     }
@@ -121,7 +125,7 @@ impl Tree {
     /// What a configuration file shows, in order: the symbols, menus and comments among the menu entries of the kernel's
     /// kconfig-language document (kconfiglib's `node_iter` walks the same ones).
     pub fn entries(&self) -> &[Entry]
-        ensures shown { map shown_of result.now ≡ self.now.entries }
+        ensures shown { AreEntriesOf self.now.entries result.now }
         ensures formed { IsWellFormed self.now }
     {
         self.layout.entries()
@@ -130,7 +134,7 @@ impl Tree {
     /// The choices, in the order in which they open: choice k has number k (the choices are the kernel's kconfig-language
     /// document's, the numbers our own).
     pub fn choices(&self) -> &[Choice]
-        ensures { map choice_facts_of result.now ≡ self.now.choices }
+        ensures { AreChoicesOf self.now.choices result.now }
     {
         self.layout.choices()
     }
