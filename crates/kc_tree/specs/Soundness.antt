@@ -1,4 +1,4 @@
--- For proofs: What the tables of a tree keep: each row leads only to rows that are there.
+-- Trusted: What the tables of a tree keep: each row leads only to rows that are there.
 use Rattle.std.specs.Prelude.{◌≡◌, ◌<◌, ◌≤◌, ℕ, List, length, All, Option, Some, None}
 use Rattle.kc_tree.specs.TreeFacts.{Condition}
 use Rattle.kc_tree.specs.declared.parts.Choice.{Choice}
@@ -30,11 +30,13 @@ pub record IsDefinitionThere (conditions : List Condition) (defaults ranges : �
 -- what a choice depends on asks for no mode
 pub record IsChoiceThere (conditions : List Condition) (c : Choice) : Type 0 where
   pub within : c.within.0 < length conditions
+  pub plain : (condition_in conditions c.within.0).mode ≡ None
   pub prompt : IsPromptThere conditions c.prompt
 
 pub record IsTitleThere (conditions : List Condition) (t : Title) : Type 0 where
   pub within : t.within.0 < length conditions
   pub visible : t.visible.0 < length conditions
+  pub plain : (condition_in conditions t.visible.0).mode ≡ None
 
 abbrev pub IsEntryThere : ℕ → ℕ → Entry → Type 0
 IsEntryThere titles entries (entry.Symbol s) = Unit {0}

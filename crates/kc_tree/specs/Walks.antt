@@ -97,7 +97,7 @@ pub record HasHeads (symbols : List Symbol) (t : Tables) : Type 0 where
 
 -- the walk at the start of the entry at a place, or behind the last line
 pub record IsWalk (ss : List Numbered) (symbols : List Symbol) (i : ℕ) (w : Walk) : Type 0 where
-  pub open : AreOpen ss i w.tables.contexts w.blocks
+  pub blocks : AreOpen ss i w.tables.contexts w.blocks
   pub definitions : map (definition_facts w.tables) w.tables.definitions.items ≡ definitions_before ss i
   pub selectors : (s : ℕ) → s < length symbols → selectors_at w.tables s ≡ selectors_before ss i (symbol s)
   pub impliers : (s : ℕ) → s < length symbols → impliers_at w.tables s ≡ impliers_before ss i (symbol s)

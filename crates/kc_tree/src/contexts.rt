@@ -78,11 +78,7 @@ impl Contexts {
     }
 
     /// A context inside another one, which asks for one thing more. Where it is out of memory, nothing changes.
-    pub fn inside(
-        &mut self,
-        outer: ContextId,
-        condition: Rc<Expr>,
-    ) -> Result<ContextId, AllocError>
+    pub fn inside(&mut self, outer: ContextId, condition: Rc<Expr>) -> Result<ContextId, AllocError>
         requires there { outer.0 < length self.old }
         requires few { length self.old < 2 ^ 32 }
         ensures added { OnOk result (self.new ≡ self.old ++ and_also (condition_in self.old outer.0) (form_of condition.value) ∷ []) }

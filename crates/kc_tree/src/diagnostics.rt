@@ -12,9 +12,7 @@ ghost use Rattle.kc_tree.specs.Known.{kind_by, choice_by, member_by, default_sym
 ghost use Rattle.kc_tree.specs.Late as late;
 ghost use Rattle.kc_tree.specs.Warnings as spec;
 
-use crate::lines::{
-    asked_of, given_of, is_single, single_symbol, symbol_of, target_of, type_of,
-};
+use crate::lines::{asked_of, given_of, is_single, single_symbol, symbol_of, target_of, type_of};
 use crate::parts::{ChoiceId, Symbol};
 use crate::symbols::{choice_of, has_text, is_member, kind_of};
 use crate::warning::{Warning, entry_name, line_of};

@@ -13,8 +13,7 @@ ghost use Rattle.kc_tree.specs.Walks.{AreBlocksThere, AreSaid, Enters, HasHeads,
 ghost use Rattle.kc_tree.specs.WalkSteps.{AddsTitle, AreEmpty, KeepsAllButChoices, with_member};
 
 use crate::attributes::{
-    add_defaults, add_ranges, choice_defaults, entry_context, entry_end, prompt,
-    visible_context,
+    add_defaults, add_ranges, choice_defaults, entry_context, entry_end, prompt, visible_context,
 };
 use crate::blocks::{Block, Blocks, choice_block, if_block};
 use crate::contexts::Contexts;
@@ -322,7 +321,9 @@ pub fn walk_entries(
         place = end;
     }
     let Walk {
-        tables, main_menu, ..
+        tables,
+        main_menu,
+        ..
     } = walk;
     Ok(Said {
         tables,

@@ -55,12 +55,17 @@ fn unselected(table: &Table<'_>, choice: &Choice) -> Option<SymId> {
 
 // The selection of a choice: none where its mode is n; else the user's member where it is a visible member of that choice,
 // else the first default whose condition is not n and that names a visible member, else the first visible member.
-fn selected(table: &Table<'_>, choice: &Choice, user: Option<SymId>) -> Option<SymId> {
-    if is_n(mode_of(table, choice)) {
+fn selected(
+    table: &Table<'_>,
+    id: ChoiceId,
+    choice: &Choice,
+    user: Option<SymId>,
+) -> Option<SymId> {
+    if is_n(mode_of(table, id)) {
         return None;
     }
     match user {
-        Some(id) if visible_member(table, choice, id) => Some(id),
+        Some(member) if visible_member(table, choice, member) => Some(member),
         _ => unselected(table, choice),
     }
 }
@@ -70,19 +75,14 @@ fn selected(table: &Table<'_>, choice: &Choice, user: Option<SymId>) -> Option<S
 /// member, else the first visible member (kconfiglib's `selection`; the kernel's kconfig-language document on choices).
 pub fn selected_in(table: &Table<'_>, choice: ChoiceId, user: Option<SymId>) -> Option<SymId> {
     match table.layout.choice(choice) {
-        Some(found) => selected(table, found, user),
+        Some(found) => selected(table, choice, found, user),
         None => None,
     }
 }
 
 /// The value of a member: y where it is selected, else n; its own defaults count for nothing (the kernel's kconfig-language
 /// document on choices). A selection that is settled is not found again; `user` is the member that was given for the choice.
-pub fn member_equation(
-    table: &Table<'_>,
-    id: SymId,
-    choice: ChoiceId,
-    user: Option<SymId>,
-) -> Tri {
+pub fn member_equation(table: &Table<'_>, id: SymId, choice: ChoiceId, user: Option<SymId>) -> Tri {
     let selection = match table.settled_selection(choice) {
         Some(settled) => settled,
         None => selected_in(table, choice, user),

@@ -44,14 +44,22 @@ fn asked(table: &Table<'_>, within: ContextId, first: Tri) -> Tri {
     least
 }
 
-/// The mode of a choice: y where its prompt's condition is not n, else n; n without a prompt (kconfiglib's `tri_value` of a
-/// choice; that its members are bools and that m counts as y is our own).
-pub fn mode_of(table: &Table<'_>, choice: &Choice) -> Tri {
+// The condition of the prompt of a choice, n without one.
+fn choice_prompt(table: &Table<'_>, choice: &Choice) -> Tri {
     match &choice.prompt {
         Some(prompt) => {
             let shown = asked(table, prompt.visible, own(&prompt.when, table));
-            up(asked(table, choice.within, shown))
+            asked(table, choice.within, shown)
         }
+        None => Tri::N,
+    }
+}
+
+/// The mode of a choice: y where its prompt's condition is not n, else n; n without a prompt, and where there is no such choice
+/// (kconfiglib's `tri_value` of a choice; that its members are bools and that m counts as y is our own).
+pub fn mode_of(table: &Table<'_>, id: ChoiceId) -> Tri {
+    match table.layout.choice(id) {
+        Some(choice) => up(choice_prompt(table, choice)),
         None => Tri::N,
     }
 }
@@ -60,10 +68,7 @@ pub fn mode_of(table: &Table<'_>, choice: &Choice) -> Tri {
 fn mode_value(table: &Table<'_>, mode: Option<ChoiceId>) -> Tri {
     match mode {
         None => Tri::Y,
-        Some(id) => match table.layout.choice(id) {
-            Some(choice) => mode_of(table, choice),
-            None => Tri::N,
-        },
+        Some(id) => mode_of(table, id),
     }
 }
 
@@ -98,8 +103,5 @@ pub fn prompt_condition(table: &Table<'_>, within: ContextId, prompt: &Prompt) -
 
 /// When a menu or comment is shown.
 pub fn title_condition(table: &Table<'_>, title: &Title) -> Tri {
-    lesser(
-        context(table, title.within),
-        context(table, title.visible),
-    )
+    lesser(context(table, title.within), context(table, title.visible))
 }

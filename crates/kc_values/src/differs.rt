@@ -1,6 +1,5 @@
 //! Which symbols differ from what they would be without the user.
 
-
 use crate::conditions::is_n;
 use crate::lookups::name;
 use crate::numbers::number_equation;

@@ -37,11 +37,7 @@ fn context_into(layout: &Layout, id: ContextId, out: &mut Row) -> Result<(), All
 }
 
 // Adds a prompt, where there is one, but for what its entry depends on.
-fn prompt_into(
-    layout: &Layout,
-    prompt: &Option<Prompt>,
-    out: &mut Row,
-) -> Result<(), AllocError> {
+fn prompt_into(layout: &Layout, prompt: &Option<Prompt>, out: &mut Row) -> Result<(), AllocError> {
     match prompt {
         Some(prompt) => {
             context_into(layout, prompt.visible, out)?;
@@ -250,11 +246,7 @@ fn symbol_into(
 }
 
 // Adds the conditions of the defaults of a choice.
-fn choice_defaults_into(
-    layout: &Layout,
-    choice: &Choice,
-    out: &mut Row,
-) -> Result<(), AllocError> {
+fn choice_defaults_into(layout: &Layout, choice: &Choice, out: &mut Row) -> Result<(), AllocError> {
     if !choice.defaults.is_empty() {
         context_into(layout, choice.within, out)?;
     }

@@ -1,6 +1,5 @@
 //! What the values of a tree are warned of.
 
-
 use crate::lookups::name;
 use crate::numbers::{Interval, active_range, clamped, if_inside, is_inside, number_text};
 use crate::table::Table;

@@ -105,7 +105,7 @@ fn mode_where(alloc: Global, tree: &Tree, value: Tri) -> Result<(Tri, Tri), Allo
     let mut table = Table::empty(alloc, tree)?;
     table.values[0] = Some(Value::Truth(value));
     let choice = &tree.choices()[0];
-    Ok((mode_of(&table, choice), context(&table, choice.within)))
+    Ok((mode_of(&table, ChoiceId(0)), context(&table, choice.within)))
 }
 
 #[test]
@@ -119,18 +119,18 @@ fn a_prompt_that_is_m_gives_the_mode_y(rt: HostRuntime) -> Result<(), Fail> {
     Ok(())
 }
 
-#[test]
-fn what_is_settled_is_not_found_again(rt: HostRuntime) -> Result<(), Fail> {
-    let text = "config A\ntristate\nif A\nconfig B\nbool \"b\"\ndepends on A\nendif\n";
-    let tree = tree_of(rt.alloc(), text)?;
-    let mut table = Table::empty(rt.alloc(), &tree)?;
+// What the contexts of a tree are worth where its first symbol is y: the first, and then the second, which is inside it.
+fn contexts_of(alloc: Global, tree: &Tree) -> Result<(Tri, Tri), AllocError> {
+    let mut table = Table::empty(alloc, tree)?;
     table.values[0] = Some(Value::Truth(Tri::Y));
-    assert!(rt; context(&table, ContextId(2)) == Tri::Y);
-    table.contexts[1] = Some(Tri::M);
-    assert!(rt; context(&table, ContextId(2)) == Tri::M);
-    table.contexts[2] = Some(Tri::N);
-    assert!(rt; context(&table, ContextId(2)) == Tri::N);
-    drop(table);
+    Ok((context(&table, ContextId(1)), context(&table, ContextId(2))))
+}
+
+#[test]
+fn contexts_ask_for_what_is_round_them(rt: HostRuntime) -> Result<(), Fail> {
+    let text = "config A\nbool\nif A\nconfig B\nbool \"b\"\ndepends on !A\nendif\n";
+    let tree = tree_of(rt.alloc(), text)?;
+    assert!(rt; contexts_of(rt.alloc(), &tree)? == (Tri::Y, Tri::N));
     drop(tree);
     Ok(())
 }
