@@ -1,5 +1,15 @@
 //! What a choice selects.
 
+ghost use Rattle.std.specs.Prelude.{◌≡◌, Some};
+ghost use Rattle.std.specs.List.{list_any};
+ghost use Rattle.kc_tree.specs.Facts.{same_symbol};
+ghost use Rattle.kc_tree.specs.Layouts.{choice_facts};
+ghost use Rattle.kc_user.specs.Places.{member_place};
+ghost use Rattle.kc_values.specs.Known.{known_at};
+ghost use Rattle.kc_values.specs.Lookups.{choice_at};
+ghost use Rattle.kc_values.specs.Settled.{IsSelected};
+ghost use Rattle.kc_values.specs.Values as spec;
+
 use crate::conditions::{condition, is_n, mode_of};
 use crate::table::Table;
 use crate::truths::prompts_condition;
@@ -8,7 +18,9 @@ use kc_tree::parts::{Choice, ChoiceId};
 
 /// Whether a prompt of the symbol has a condition that is not n; a name that is not defined has none (kconfiglib's
 /// `visibility`).
-pub fn visible(table: &Table<'_>, id: SymId) -> bool {
+pub fn visible(table: &Table<'_>, id: SymId) -> bool
+    ensures { result ≡ spec.visible table.now.tree.now (known_at table.now) id }
+{
     match table.layout.symbol(id) {
         Some(symbol) => !is_n(prompts_condition(table, symbol)),
         None => false,
@@ -16,16 +28,22 @@ pub fn visible(table: &Table<'_>, id: SymId) -> bool {
 }
 
 // Whether it is a member of the choice with a visible prompt.
-fn visible_member(table: &Table<'_>, choice: &Choice, id: SymId) -> bool {
+fn visible_member(table: &Table<'_>, choice: &Choice, id: SymId) -> bool
+    ensures { result ≡ spec.visible_member table.now.tree.now (known_at table.now) (choice_facts table.now.layout.now.tables choice.now) id }
+{
     visible(table, id) && is_among(id, &choice.members)
 }
 
-fn is_among(id: SymId, members: &[SymId]) -> bool {
+fn is_among(id: SymId, members: &[SymId]) -> bool
+    ensures { result ≡ list_any (same_symbol id) members.now }
+{
     members.iter().any(|member| id.0 == member.0)
 }
 
 // The first default whose condition is not n and that names a visible member.
-fn first_default(table: &Table<'_>, choice: &Choice) -> Option<SymId> {
+fn first_default(table: &Table<'_>, choice: &Choice) -> Option<SymId>
+    ensures { result ≡ spec.first_default table.now.tree.now (known_at table.now) (choice_facts table.now.layout.now.tables choice.now) (choice_facts table.now.layout.now.tables choice.now).defaults }
+{
     for default in &choice.defaults {
         if !is_n(condition(table, choice.within, &default.when))
             && visible_member(table, choice, default.member)
@@ -36,7 +54,9 @@ fn first_default(table: &Table<'_>, choice: &Choice) -> Option<SymId> {
     None
 }
 
-fn first_visible(table: &Table<'_>, members: &[SymId]) -> Option<SymId> {
+fn first_visible(table: &Table<'_>, members: &[SymId]) -> Option<SymId>
+    ensures { result ≡ spec.first_visible table.now.tree.now (known_at table.now) members.now }
+{
     for member in members {
         if visible(table, *member) {
             return Some(*member);
@@ -46,7 +66,9 @@ fn first_visible(table: &Table<'_>, members: &[SymId]) -> Option<SymId> {
 }
 
 // The default selection: that default, else the first visible member.
-fn unselected(table: &Table<'_>, choice: &Choice) -> Option<SymId> {
+fn unselected(table: &Table<'_>, choice: &Choice) -> Option<SymId>
+    ensures { result ≡ spec.unselected table.now.tree.now (known_at table.now) (choice_facts table.now.layout.now.tables choice.now) }
+{
     match first_default(table, choice) {
         Some(id) => Some(id),
         None => first_visible(table, &choice.members),
@@ -55,12 +77,10 @@ fn unselected(table: &Table<'_>, choice: &Choice) -> Option<SymId> {
 
 // The selection of a choice: none where its mode is n; else the user's member where it is a visible member of that choice,
 // else the first default whose condition is not n and that names a visible member, else the first visible member.
-fn selected(
-    table: &Table<'_>,
-    id: ChoiceId,
-    choice: &Choice,
-    user: Option<SymId>,
-) -> Option<SymId> {
+fn selected(table: &Table<'_>, id: ChoiceId, choice: &Choice, user: Option<SymId>) -> Option<SymId>
+    requires { choice_at table.now.tree.now id.0 ≡ Some (choice_facts table.now.layout.now.tables choice.now) }
+    ensures { result ≡ spec.selected table.now.tree.now (known_at table.now) (Some (choice_facts table.now.layout.now.tables choice.now)) (member_place user) }
+{
     if is_n(mode_of(table, id)) {
         return None;
     }
@@ -73,7 +93,9 @@ fn selected(
 /// The selection of a choice under the user's member: none where its mode is n or there is no such choice; else the user's
 /// member where it is a visible member of that choice, else the first default whose condition is not n and that names a visible
 /// member, else the first visible member (kconfiglib's `selection`; the kernel's kconfig-language document on choices).
-pub fn selected_in(table: &Table<'_>, choice: ChoiceId, user: Option<SymId>) -> Option<SymId> {
+pub fn selected_in(table: &Table<'_>, choice: ChoiceId, user: Option<SymId>) -> Option<SymId>
+    ensures { result ≡ spec.selected table.now.tree.now (known_at table.now) (choice_at table.now.tree.now choice.0) (member_place user) }
+{
     match table.layout.choice(choice) {
         Some(found) => selected(table, choice, found, user),
         None => None,

@@ -1,5 +1,16 @@
 //! Conditions under the values so far.
 
+ghost use Rattle.std.specs.Prelude.{◌≡◌, None};
+ghost use Rattle.kc_expr.specs.Value.{lesser};
+ghost use Rattle.kc_read.specs.Reads.{when_view};
+ghost use Rattle.kc_tree.specs.Contexts.{condition_in, mode_view};
+ghost use Rattle.kc_tree.specs.Layouts.{choice_facts, prompt_view, title_condition, with_when};
+ghost use Rattle.kc_tree.specs.Soundness.{IsChoiceThere};
+ghost use Rattle.kc_values.specs.Known.{known_at, condition_at};
+ghost use Rattle.kc_values.specs.Lookups.{choice_at};
+ghost use Rattle.kc_values.specs.Settled.{when_value};
+ghost use Rattle.kc_values.specs.Values as spec;
+
 use crate::table::Table;
 use kc_expr::expression::{Expr, Tri};
 use kc_expr::values::{eval, lesser};
@@ -7,7 +18,9 @@ use kc_tree::parts::{Choice, ChoiceId, ContextId, Prompt, Title};
 use std::rc::Rc;
 
 /// m as y: what counts where m can't be (kconfiglib, of symbols that are not tristate).
-pub fn up(value: Tri) -> Tri {
+pub fn up(value: Tri) -> Tri
+    ensures { result ≡ spec.up value }
+{
     match value {
         Tri::N => Tri::N,
         Tri::M | Tri::Y => Tri::Y,
@@ -15,7 +28,9 @@ pub fn up(value: Tri) -> Tri {
 }
 
 /// Whether it is n, by which a condition fails (the kernel's kconfig-language document, "Menu dependencies").
-pub fn is_n(value: Tri) -> bool {
+pub fn is_n(value: Tri) -> bool
+    ensures { result ≡ spec.is_n value }
+{
     match value {
         Tri::N => true,
         Tri::M | Tri::Y => false,
@@ -23,7 +38,9 @@ pub fn is_n(value: Tri) -> bool {
 }
 
 /// The value of an `if`, y where there is none.
-pub fn own(when: &Option<Rc<Expr>>, table: &Table<'_>) -> Tri {
+pub fn own(when: &Option<Rc<Expr>>, table: &Table<'_>) -> Tri
+    ensures { result ≡ when_value (known_at table.now) (when_view when.now) }
+{
     match when {
         Some(e) => eval(e, table),
         None => Tri::Y,
@@ -31,7 +48,10 @@ pub fn own(when: &Option<Rc<Expr>>, table: &Table<'_>) -> Tri {
 }
 
 // The least of a value and of what the contexts from this one outwards ask for, up to one that is settled.
-fn asked(table: &Table<'_>, within: ContextId, first: Tri) -> Tri {
+fn asked(table: &Table<'_>, within: ContextId, first: Tri) -> Tri
+    requires { lesser first (spec.mode_value table.now.tree.now (known_at table.now) (condition_at table.now within).mode) ≡ first }
+    ensures { result ≡ lesser first (spec.all_hold (known_at table.now) (condition_at table.now within).parts) }
+{
     let mut least = first;
     let mut at = within;
     'contexts: while let Some(context) = table.layout.context(at) {
@@ -45,7 +65,10 @@ fn asked(table: &Table<'_>, within: ContextId, first: Tri) -> Tri {
 }
 
 // The condition of the prompt of a choice, n without one.
-fn choice_prompt(table: &Table<'_>, choice: &Choice) -> Tri {
+fn choice_prompt(table: &Table<'_>, choice: &Choice) -> Tri
+    requires { IsChoiceThere table.now.layout.now.tables.contexts choice.now }
+    ensures { result ≡ spec.prompt_value (known_at table.now) (choice_facts table.now.layout.now.tables choice.now).prompt }
+{
     match &choice.prompt {
         Some(prompt) => {
             let shown = asked(table, prompt.visible, own(&prompt.when, table));
@@ -57,7 +80,9 @@ fn choice_prompt(table: &Table<'_>, choice: &Choice) -> Tri {
 
 /// The mode of a choice: y where its prompt's condition is not n, else n; n without a prompt, and where there is no such choice
 /// (kconfiglib's `tri_value` of a choice; that its members are bools and that m counts as y is our own).
-pub fn mode_of(table: &Table<'_>, id: ChoiceId) -> Tri {
+pub fn mode_of(table: &Table<'_>, id: ChoiceId) -> Tri
+    ensures { result ≡ spec.mode_of (known_at table.now) (choice_at table.now.tree.now id.0) }
+{
     match table.layout.choice(id) {
         Some(choice) => up(choice_prompt(table, choice)),
         None => Tri::N,
@@ -65,7 +90,9 @@ pub fn mode_of(table: &Table<'_>, id: ChoiceId) -> Tri {
 }
 
 // The value of the mode that counts in a context.
-fn mode_value(table: &Table<'_>, mode: Option<ChoiceId>) -> Tri {
+fn mode_value(table: &Table<'_>, mode: Option<ChoiceId>) -> Tri
+    ensures { result ≡ spec.mode_value table.now.tree.now (known_at table.now) (mode_view mode) }
+{
     match mode {
         None => Tri::Y,
         Some(id) => mode_of(table, id),
@@ -74,7 +101,9 @@ fn mode_value(table: &Table<'_>, mode: Option<ChoiceId>) -> Tri {
 
 /// What a context is worth: the `&&` of what it and those outside ask for, and of the mode of the choice round it (the
 /// kernel's kconfig-language document, "Menu dependencies").
-pub fn context(table: &Table<'_>, within: ContextId) -> Tri {
+pub fn context(table: &Table<'_>, within: ContextId) -> Tri
+    ensures { result ≡ spec.condition table.now.tree.now (known_at table.now) (condition_at table.now within) }
+{
     match table.settled_context(within) {
         Some(value) => value,
         None => asked(table, within, mode_value(table, table.layout.mode(within))),
@@ -82,7 +111,9 @@ pub fn context(table: &Table<'_>, within: ContextId) -> Tri {
 }
 
 // A value up to an `if`, which is looked at only where the value is not n.
-fn guarded(first: Tri, when: &Option<Rc<Expr>>, table: &Table<'_>) -> Tri {
+fn guarded(first: Tri, when: &Option<Rc<Expr>>, table: &Table<'_>) -> Tri
+    ensures { result ≡ lesser first (when_value (known_at table.now) (when_view when.now)) }
+{
     if is_n(first) {
         Tri::N
     } else {
@@ -91,17 +122,25 @@ fn guarded(first: Tri, when: &Option<Rc<Expr>>, table: &Table<'_>) -> Tri {
 }
 
 /// What a line is worth that depends on a context and on its own `if`.
-pub fn condition(table: &Table<'_>, within: ContextId, when: &Option<Rc<Expr>>) -> Tri {
+pub fn condition(table: &Table<'_>, within: ContextId, when: &Option<Rc<Expr>>) -> Tri
+    ensures { result ≡ spec.condition table.now.tree.now (known_at table.now) (with_when (condition_at table.now within) (when_view when.now)) }
+{
     guarded(context(table, within), when, table)
 }
 
 /// The condition of a prompt, whose entry depends on a context.
-pub fn prompt_condition(table: &Table<'_>, within: ContextId, prompt: &Prompt) -> Tri {
+pub fn prompt_condition(table: &Table<'_>, within: ContextId, prompt: &Prompt) -> Tri
+    requires { (condition_in table.now.layout.now.tables.contexts prompt.now.visible.0).mode ≡ None }
+    ensures { result ≡ spec.condition table.now.tree.now (known_at table.now) (prompt_view table.now.layout.now.tables.contexts (condition_at table.now within) prompt.now) }
+{
     let first = lesser(context(table, within), context(table, prompt.visible));
     guarded(first, &prompt.when, table)
 }
 
 /// When a menu or comment is shown.
-pub fn title_condition(table: &Table<'_>, title: &Title) -> Tri {
+pub fn title_condition(table: &Table<'_>, title: &Title) -> Tri
+    requires { (condition_in table.now.layout.now.tables.contexts title.now.visible.0).mode ≡ None }
+    ensures { result ≡ spec.condition table.now.tree.now (known_at table.now) (title_condition table.now.layout.now.tables title.now) }
+{
     lesser(context(table, title.within), context(table, title.visible))
 }

@@ -1,5 +1,14 @@
 //! Which symbols differ from what they would be without the user.
 
+ghost use Rattle.std.specs.Prelude.{◌≡◌, ◌&&◌, None, not, IfOk};
+ghost use Rattle.std.specs.Option.{is_some};
+ghost use Rattle.kc_tree.specs.Facts.{is_symbol_of};
+ghost use Rattle.kc_tree.specs.Layouts.{facts_of};
+ghost use Rattle.kc_values.specs.Differs.{same_value};
+ghost use Rattle.kc_values.specs.Known.{known_at, IsRowOf};
+ghost use Rattle.kc_values.specs.User.{place};
+ghost use Rattle.kc_values.specs.Values as value;
+
 use crate::conditions::is_n;
 use crate::lookups::name;
 use crate::numbers::number_equation;
@@ -19,7 +28,10 @@ pub fn own_differs(
     table: &Table<'_>,
     id: SymId,
     symbol: &Symbol,
-) -> Result<bool, AllocError> {
+) -> Result<bool, AllocError>
+    requires { IsRowOf table.now id symbol.now }
+    ensures { IfOk result (λ b. b ≡ not (same_value (known_at table.now id) (value.by_kind table.now.tree.now (known_at table.now) id (facts_of table.now.layout.now id.0 symbol.now) symbol.now.kind None))) }
+{
     match symbol.kind {
         Kind::Bool => Ok(table.tri(id) != truth_equation(table, id, symbol, None)),
         Kind::Tristate => Ok(table.tri(id) != truth_equation(table, id, symbol, None)),
@@ -41,12 +53,16 @@ pub fn own_differs(
 
 /// Whether what the user gave for a symbol of this visibility can count: it is visible, and something was given. Where it
 /// can't, the equation gives the same value without it, so that the symbol does not differ (kconfiglib's `visibility`).
-pub fn can_count(user: Option<&UserValue>, shown: Tri) -> bool {
+pub fn can_count(user: Option<&UserValue>, shown: Tri) -> bool
+    ensures { result ≡ (is_some (place user.entry) && not (value.is_n shown)) }
+{
     user.is_some() && !is_n(shown)
 }
 
 // Whether a selection is the symbol.
-fn selects(selection: Option<SymId>, id: SymId) -> bool {
+fn selects(selection: Option<SymId>, id: SymId) -> bool
+    ensures { result ≡ is_symbol_of id selection }
+{
     match selection {
         Some(member) => member.0 == id.0,
         None => false,
@@ -54,6 +70,8 @@ fn selects(selection: Option<SymId>, id: SymId) -> bool {
 }
 
 /// Whether a member is selected, and is not the default selection (our own rule of the minimal file).
-pub fn member_differs(selection: Option<SymId>, default: Option<SymId>, id: SymId) -> bool {
+pub fn member_differs(selection: Option<SymId>, default: Option<SymId>, id: SymId) -> bool
+    ensures { result ≡ (is_symbol_of id selection && not (is_symbol_of id default)) }
+{
     selects(selection, id) && !selects(default, id)
 }

@@ -1,5 +1,14 @@
 //! The equation of any defined symbol.
 
+ghost use Rattle.std.specs.Prelude.{◌≡◌, None, slice_index_or, IfOk};
+ghost use Rattle.kc_tree.specs.Layouts.{facts_of};
+ghost use Rattle.kc_values.specs.Known.{known_at};
+ghost use Rattle.kc_values.specs.Selections.{given_for};
+ghost use Rattle.kc_values.specs.Settled.{AreSelected};
+ghost use Rattle.kc_values.specs.Table.{known_value};
+ghost use Rattle.kc_values.specs.User.{place};
+ghost use Rattle.kc_values.specs.Values as spec;
+
 use crate::choices::member_equation;
 use crate::lookups::name;
 use crate::numbers::number_equation;
@@ -20,7 +29,9 @@ pub fn own_equation(
     id: SymId,
     symbol: &Symbol,
     user: Option<&UserValue>,
-) -> Result<Value, AllocError> {
+) -> Result<Value, AllocError>
+    ensures { IfOk result (λ x. known_value symbol.now.kind x ≡ spec.by_kind table.now.tree.now (known_at table.now) id (facts_of table.now.layout.now id.0 symbol.now) symbol.now.kind (place user.entry)) }
+{
     match symbol.kind {
         Kind::Bool => Ok(Value::Truth(truth_equation(table, id, symbol, user))),
         Kind::Tristate => Ok(Value::Truth(truth_equation(table, id, symbol, user))),
@@ -44,7 +55,9 @@ pub fn own_equation(
 }
 
 // The member that was given for a choice.
-fn given_member(users: &[Option<SymId>], choice: ChoiceId) -> Option<SymId> {
+fn given_member(users: &[Option<SymId>], choice: ChoiceId) -> Option<SymId>
+    ensures { result ≡ slice_index_or users.now choice.0 None }
+{
     match users.get(choice.0) {
         Some(given) => *given,
         None => None,
@@ -61,7 +74,10 @@ pub fn equation(
     symbol: &Symbol,
     user: Option<&UserValue>,
     users: &[Option<SymId>],
-) -> Result<Value, AllocError> {
+) -> Result<Value, AllocError>
+    requires selected { AreSelected table.now users.now }
+    ensures { IfOk result (λ x. known_value symbol.now.kind x ≡ spec.by_choice table.now.tree.now (known_at table.now) id (facts_of table.now.layout.now id.0 symbol.now) (facts_of table.now.layout.now id.0 symbol.now).choice (given_for symbol.now.choice (place user.entry) users.now)) }
+{
     match symbol.choice {
         Some(choice) => {
             let given = given_member(users, choice);

@@ -1,5 +1,19 @@
 //! What the equation of each symbol names: its needs, be it through contexts and choices.
 
+ghost use Rattle.std.specs.Prelude.{◌≡◌, ◌<◌, ◌^◌, ◌++◌, ◌∷◌, [], length, option_map, IfOk, IfSome, OnOk};
+ghost use Rattle.std.specs.List.{flat_map};
+ghost use Rattle.kc_expr.specs.Form.{leaf_of, leaf_symbols};
+ghost use Rattle.kc_order.specs.Graph.{IsGraph, needs_of};
+ghost use Rattle.kc_order.specs.Needs.{AreAlike};
+ghost use Rattle.kc_read.specs.Reads.{when_view};
+ghost use Rattle.kc_tree.specs.declared.layout.Layout.{Layout};
+ghost use Rattle.kc_tree.specs.Layouts.{IsLayoutOf};
+ghost use Rattle.kc_tree.specs.Soundness.{IsChoiceThere, IsDefinitionThere, IsPromptThere};
+ghost use Rattle.kc_values.specs.Needs as spec;
+ghost use Rattle.kc_values.specs.NeedRows as rows;
+ghost use Rattle.kc_values.specs.NeedRows.{Adds, IsRow};
+ghost use Rattle.kc_values.specs.Nodes.{HasFewNodes};
+
 use crate::nodes::{choice_number, context_number, node_count};
 use kc_expr::expression::{Expr, Kind, Operand, SymId};
 use kc_expr::values::names_into;
@@ -21,7 +35,9 @@ struct Row {
 }
 
 // Adds the names in an `if`.
-fn own_into(when: &Option<Rc<Expr>>, out: &mut Row) -> Result<(), AllocError> {
+fn own_into(when: &Option<Rc<Expr>>, out: &mut Row) -> Result<(), AllocError>
+    ensures { OnOk result (Adds out.old out.new [] (rows.when_names (when_view when.now))) }
+{
     match when {
         Some(e) => names_into(e, &mut out.names),
         None => Ok(()),
@@ -29,7 +45,11 @@ fn own_into(when: &Option<Rc<Expr>>, out: &mut Row) -> Result<(), AllocError> {
 }
 
 // Adds a context, but for the top, which names nothing.
-fn context_into(layout: &Layout, id: ContextId, out: &mut Row) -> Result<(), AllocError> {
+fn context_into(layout: &Layout, id: ContextId, out: &mut Row) -> Result<(), AllocError>
+    requires few { HasFewNodes layout.now }
+    requires there { id.0 < length layout.now.tables.contexts }
+    ensures { OnOk result (Adds out.old out.new (rows.context_nodes layout.now id.0) []) }
+{
     if id.0 != 0 {
         out.nodes.push(context_number(layout, id))?;
     }
@@ -37,7 +57,11 @@ fn context_into(layout: &Layout, id: ContextId, out: &mut Row) -> Result<(), All
 }
 
 // Adds a prompt, where there is one, but for what its entry depends on.
-fn prompt_into(layout: &Layout, prompt: &Option<Prompt>, out: &mut Row) -> Result<(), AllocError> {
+fn prompt_into(layout: &Layout, prompt: &Option<Prompt>, out: &mut Row) -> Result<(), AllocError>
+    requires few { HasFewNodes layout.now }
+    requires there { IsPromptThere layout.now.tables.contexts prompt.now }
+    ensures { OnOk result (Adds out.old out.new (rows.prompt_nodes layout.now prompt.now) (rows.prompt_names prompt.now)) }
+{
     match prompt {
         Some(prompt) => {
             context_into(layout, prompt.visible, out)?;
@@ -48,7 +72,11 @@ fn prompt_into(layout: &Layout, prompt: &Option<Prompt>, out: &mut Row) -> Resul
 }
 
 // Adds the prompt of a choice, where there is one.
-fn choice_prompt_into(layout: &Layout, choice: &Choice, out: &mut Row) -> Result<(), AllocError> {
+fn choice_prompt_into(layout: &Layout, choice: &Choice, out: &mut Row) -> Result<(), AllocError>
+    requires few { HasFewNodes layout.now }
+    requires there { IsChoiceThere layout.now.tables.contexts choice.now }
+    ensures { OnOk result (Adds out.old out.new (rows.choice_prompt_nodes layout.now choice.now) (rows.prompt_names choice.now.prompt)) }
+{
     if choice.prompt.is_some() {
         context_into(layout, choice.within, out)?;
     }
@@ -56,7 +84,10 @@ fn choice_prompt_into(layout: &Layout, choice: &Choice, out: &mut Row) -> Result
 }
 
 // Adds what the mode of a choice names.
-fn mode_into(layout: &Layout, mode: Option<ChoiceId>, out: &mut Row) -> Result<(), AllocError> {
+fn mode_into(layout: &Layout, mode: Option<ChoiceId>, out: &mut Row) -> Result<(), AllocError>
+    requires few { HasFewNodes layout.now }
+    ensures { OnOk result (Adds out.old out.new (rows.mode_nodes layout.now mode) (rows.mode_names layout.now mode)) }
+{
     let Some(id) = mode else {
         return Ok(());
     };
@@ -68,7 +99,11 @@ fn mode_into(layout: &Layout, mode: Option<ChoiceId>, out: &mut Row) -> Result<(
 
 // Adds what a context asks for besides the one outside it, and that one: a context that asks for nothing of its own is that of
 // a choice's members, which asks for its mode.
-fn asked_into(layout: &Layout, context: &Context, out: &mut Row) -> Result<(), AllocError> {
+fn asked_into(layout: &Layout, context: &Context, out: &mut Row) -> Result<(), AllocError>
+    requires few { HasFewNodes layout.now }
+    requires there { context.now.outer.0 < length layout.now.tables.contexts }
+    ensures { OnOk result (Adds out.old out.new (rows.asked_nodes layout.now context.now) (rows.asked_names layout.now context.now)) }
+{
     context_into(layout, context.outer, out)?;
     match &context.asks {
         Some(e) => names_into(e, &mut out.names),
@@ -77,7 +112,9 @@ fn asked_into(layout: &Layout, context: &Context, out: &mut Row) -> Result<(), A
 }
 
 // The definition of a symbol with a number, if there is one.
-fn definition<'l>(layout: &'l Layout, symbol: &Symbol, i: usize) -> Option<&'l Definition> {
+fn definition<'l>(layout: &'l Layout, symbol: &Symbol, i: usize) -> Option<&'l Definition>
+    ensures { option_map (λ d. d.now) result ≡ rows.definition_row layout.now symbol.now i }
+{
     match symbol.definition(i) {
         Some(id) => layout.definition(id),
         None => None,
@@ -85,7 +122,10 @@ fn definition<'l>(layout: &'l Layout, symbol: &Symbol, i: usize) -> Option<&'l D
 }
 
 // Adds the prompts of a symbol.
-fn prompts_into(layout: &Layout, symbol: &Symbol, out: &mut Row) -> Result<(), AllocError> {
+fn prompts_into(layout: &Layout, symbol: &Symbol, out: &mut Row) -> Result<(), AllocError>
+    requires few { HasFewNodes layout.now }
+    ensures { OnOk result (Adds out.old out.new (rows.prompts_nodes layout.now symbol.now) (rows.prompts_names layout.now symbol.now)) }
+{
     for i in 0..symbol.definition_count() {
         if let Some(definition) = definition(layout, symbol, i) {
             if definition.prompt.is_some() {
@@ -98,7 +138,9 @@ fn prompts_into(layout: &Layout, symbol: &Symbol, out: &mut Row) -> Result<(), A
 }
 
 // Adds the defaults of a definition, but for what it depends on.
-fn defaults_into(defaults: &[SymbolDefault], out: &mut Row) -> Result<(), AllocError> {
+fn defaults_into(defaults: &[SymbolDefault], out: &mut Row) -> Result<(), AllocError>
+    ensures { OnOk result (Adds out.old out.new [] (flat_map rows.default_names defaults.now)) }
+{
     for default in defaults {
         names_into(&default.value, &mut out.names)?;
         own_into(&default.when, out)?;
@@ -107,7 +149,9 @@ fn defaults_into(defaults: &[SymbolDefault], out: &mut Row) -> Result<(), AllocE
 }
 
 // Adds the name in a bound of a range.
-fn bound_into(bound: &Operand, out: &mut Row) -> Result<(), AllocError> {
+fn bound_into(bound: &Operand, out: &mut Row) -> Result<(), AllocError>
+    ensures { OnOk result (Adds out.old out.new [] (leaf_symbols (leaf_of bound.now))) }
+{
     match bound {
         Operand::Sym(id) => {
             out.names.push(*id)?;
@@ -118,14 +162,18 @@ fn bound_into(bound: &Operand, out: &mut Row) -> Result<(), AllocError> {
 }
 
 // Adds the names in a range.
-fn range_into(range: &SymbolRange, out: &mut Row) -> Result<(), AllocError> {
+fn range_into(range: &SymbolRange, out: &mut Row) -> Result<(), AllocError>
+    ensures { OnOk result (Adds out.old out.new [] (rows.range_names range.now)) }
+{
     bound_into(&range.bounds.low, out)?;
     bound_into(&range.bounds.high, out)?;
     own_into(&range.when, out)
 }
 
 // Adds the ranges of a definition, but for what it depends on.
-fn ranges_into(ranges: &[SymbolRange], out: &mut Row) -> Result<(), AllocError> {
+fn ranges_into(ranges: &[SymbolRange], out: &mut Row) -> Result<(), AllocError>
+    ensures { OnOk result (Adds out.old out.new [] (flat_map rows.range_names ranges.now)) }
+{
     for range in ranges {
         range_into(range, out)?;
     }
@@ -133,13 +181,17 @@ fn ranges_into(ranges: &[SymbolRange], out: &mut Row) -> Result<(), AllocError> 
 }
 
 // The value of a symbol of this type is a number.
-fn is_number(kind: Kind) -> bool {
+fn is_number(kind: Kind) -> bool
+    ensures { result ≡ rows.is_number kind }
+{
     matches!(kind, Kind::Int | Kind::Hex)
 }
 
 // Whether the equation of a symbol of this type reads what one of its definitions depends on: of a bool or tristate it does, of
 // the others where a line counts that depends on it.
-fn is_read(layout: &Layout, kind: Kind, definition: &Definition) -> bool {
+fn is_read(layout: &Layout, kind: Kind, definition: &Definition) -> bool
+    ensures { result ≡ rows.is_read layout.now kind definition.now }
+{
     matches!(kind, Kind::Bool | Kind::Tristate)
         || definition.prompt.is_some()
         || !layout.defaults(definition).is_empty()
@@ -152,7 +204,11 @@ fn definition_into(
     kind: Kind,
     definition: &Definition,
     out: &mut Row,
-) -> Result<(), AllocError> {
+) -> Result<(), AllocError>
+    requires few { HasFewNodes layout.now }
+    requires there { IsDefinitionThere layout.now.tables.contexts (length layout.now.tables.defaults.items) (length layout.now.tables.ranges.items) definition.now }
+    ensures { OnOk result (Adds out.old out.new (rows.definition_nodes layout.now kind definition.now) (rows.definition_names layout.now kind definition.now)) }
+{
     if is_read(layout, kind, definition) {
         context_into(layout, definition.within, out)?;
     }
@@ -165,7 +221,10 @@ fn definition_into(
 }
 
 // Adds the definitions of a symbol.
-fn definitions_into(layout: &Layout, symbol: &Symbol, out: &mut Row) -> Result<(), AllocError> {
+fn definitions_into(layout: &Layout, symbol: &Symbol, out: &mut Row) -> Result<(), AllocError>
+    requires few { HasFewNodes layout.now }
+    ensures { OnOk result (Adds out.old out.new (rows.definitions_nodes layout.now symbol.now) (rows.definitions_names layout.now symbol.now)) }
+{
     for i in 0..symbol.definition_count() {
         if let Some(definition) = definition(layout, symbol, i) {
             definition_into(layout, symbol.kind, definition, out)?;
@@ -175,11 +234,10 @@ fn definitions_into(layout: &Layout, symbol: &Symbol, out: &mut Row) -> Result<(
 }
 
 // Adds the symbols that select or imply, and what those lines depend on, from the last line on.
-fn reverses_into(
-    layout: &Layout,
-    last: Option<ReverseId>,
-    out: &mut Row,
-) -> Result<(), AllocError> {
+fn reverses_into(layout: &Layout, last: Option<ReverseId>, out: &mut Row) -> Result<(), AllocError>
+    requires few { HasFewNodes layout.now }
+    ensures { OnOk result (Adds out.old out.new (rows.reverses_nodes layout.now last) (rows.reverses_names layout.now last)) }
+{
     let mut at = last;
     'lines: while let Some(id) = at {
         let Some(line) = layout.reverse(id) else {
@@ -196,7 +254,9 @@ fn reverses_into(
 }
 
 // Adds the modules symbol, which a tristate names.
-fn modules_into(tree: &Tree, kind: Kind, out: &mut Row) -> Result<(), AllocError> {
+fn modules_into(tree: &Tree, kind: Kind, out: &mut Row) -> Result<(), AllocError>
+    ensures { OnOk result (Adds out.old out.new [] (spec.kind_names tree.now kind)) }
+{
     if kind != Kind::Tristate {
         return Ok(());
     }
@@ -216,7 +276,10 @@ fn truth_into(
     id: SymId,
     symbol: &Symbol,
     out: &mut Row,
-) -> Result<(), AllocError> {
+) -> Result<(), AllocError>
+    requires few { HasFewNodes layout.now }
+    ensures { OnOk result (Adds out.old out.new (rows.truth_nodes layout.now id.0 symbol.now) (rows.truth_names tree.now layout.now id.0 symbol.now)) }
+{
     definitions_into(layout, symbol, out)?;
     reverses_into(layout, layout.last_select(id), out)?;
     reverses_into(layout, layout.last_imply(id), out)?;
@@ -230,7 +293,11 @@ fn symbol_into(
     id: SymId,
     symbol: &Symbol,
     out: &mut Row,
-) -> Result<(), AllocError> {
+) -> Result<(), AllocError>
+    requires few { HasFewNodes layout.now }
+    requires choice { IfSome symbol.now.choice (λ c. c.0 < length layout.now.tables.choices.items) }
+    ensures { OnOk result (Adds out.old out.new (rows.symbol_nodes layout.now id.0 symbol.now) (rows.symbol_names tree.now layout.now id.0 symbol.now)) }
+{
     if let Some(choice) = symbol.choice {
         out.nodes.push(choice_number(layout, choice))?;
         return Ok(());
@@ -246,7 +313,11 @@ fn symbol_into(
 }
 
 // Adds the conditions of the defaults of a choice.
-fn choice_defaults_into(layout: &Layout, choice: &Choice, out: &mut Row) -> Result<(), AllocError> {
+fn choice_defaults_into(layout: &Layout, choice: &Choice, out: &mut Row) -> Result<(), AllocError>
+    requires few { HasFewNodes layout.now }
+    requires there { IsChoiceThere layout.now.tables.contexts choice.now }
+    ensures { OnOk result (Adds out.old out.new (rows.choice_defaults_nodes layout.now choice.now) (flat_map rows.choice_default_names choice.now.defaults.items)) }
+{
     if !choice.defaults.is_empty() {
         context_into(layout, choice.within, out)?;
     }
@@ -257,7 +328,11 @@ fn choice_defaults_into(layout: &Layout, choice: &Choice, out: &mut Row) -> Resu
 }
 
 // Adds what the selection of a choice names: the prompts of its members, its own, and its defaults.
-fn choice_into(layout: &Layout, choice: &Choice, out: &mut Row) -> Result<(), AllocError> {
+fn choice_into(layout: &Layout, choice: &Choice, out: &mut Row) -> Result<(), AllocError>
+    requires few { HasFewNodes layout.now }
+    requires there { IsChoiceThere layout.now.tables.contexts choice.now }
+    ensures { OnOk result (Adds out.old out.new (rows.choice_nodes layout.now choice.now) (rows.choice_names layout.now choice.now)) }
+{
     for member in &choice.members {
         if let Some(symbol) = layout.symbol(*member) {
             prompts_into(layout, symbol, out)?;
@@ -268,7 +343,10 @@ fn choice_into(layout: &Layout, choice: &Choice, out: &mut Row) -> Result<(), Al
 }
 
 // Adds the row as it stands to the graph, and makes it empty: the nodes, and of the names the symbols that are defined.
-fn close_row(defined: usize, row: &mut Row, graph: &mut Graph) -> Result<(), AllocError> {
+fn close_row(defined: usize, row: &mut Row, graph: &mut Graph) -> Result<(), AllocError>
+    ensures graph { OnOk result (graph.new ≡ record graph.old { rows = graph.old.rows ++ rows.row_of defined row.old ∷ [] }) }
+    ensures empty { OnOk result (IsRow [] [] row.new) }
+{
     for name in &row.names {
         if name.0 < defined {
             row.nodes.push(name.0 as u32)?;
@@ -286,7 +364,12 @@ fn add_symbols(
     layout: &Layout,
     row: &mut Row,
     graph: &mut Graph,
-) -> Result<(), AllocError> {
+) -> Result<(), AllocError>
+    requires few { HasFewNodes layout.now }
+    requires row { IsRow [] [] row.old }
+    ensures graph { OnOk result (graph.new ≡ record graph.old { rows = graph.old.rows ++ rows.symbol_rows tree.now layout.now }) }
+    ensures row { OnOk result (IsRow [] [] row.new) }
+{
     let defined = layout.symbols().len();
     for (i, symbol) in layout.symbols().iter().enumerate() {
         symbol_into(tree, layout, SymId(i), symbol, row)?;
@@ -296,7 +379,12 @@ fn add_symbols(
 }
 
 // Adds the nodes of the contexts, the top first.
-fn add_contexts(layout: &Layout, row: &mut Row, graph: &mut Graph) -> Result<(), AllocError> {
+fn add_contexts(layout: &Layout, row: &mut Row, graph: &mut Graph) -> Result<(), AllocError>
+    requires few { HasFewNodes layout.now }
+    requires row { IsRow [] [] row.old }
+    ensures graph { OnOk result (graph.new ≡ record graph.old { rows = graph.old.rows ++ rows.context_rows layout.now }) }
+    ensures row { OnOk result (IsRow [] [] row.new) }
+{
     let defined = layout.symbols().len();
     for i in 0..layout.context_count() {
         if let Some(context) = layout.context(ContextId(i as u32)) {
@@ -308,7 +396,12 @@ fn add_contexts(layout: &Layout, row: &mut Row, graph: &mut Graph) -> Result<(),
 }
 
 // Adds the nodes of the choices.
-fn add_choices(layout: &Layout, row: &mut Row, graph: &mut Graph) -> Result<(), AllocError> {
+fn add_choices(layout: &Layout, row: &mut Row, graph: &mut Graph) -> Result<(), AllocError>
+    requires few { HasFewNodes layout.now }
+    requires row { IsRow [] [] row.old }
+    ensures graph { OnOk result (graph.new ≡ record graph.old { rows = graph.old.rows ++ rows.choice_rows layout.now }) }
+    ensures row { OnOk result (IsRow [] [] row.new) }
+{
     let defined = layout.symbols().len();
     for choice in layout.choices() {
         choice_into(layout, choice, row)?;
@@ -321,7 +414,12 @@ fn add_choices(layout: &Layout, row: &mut Row, graph: &mut Graph) -> Result<(), 
 /// forbids recursive dependencies and does not say which count). What contexts and choices name stands once, in their own nodes,
 /// so that nothing grows with the square of the symbols in a block or of a choice's members (our own). Fails only when it is out
 /// of memory.
-pub fn tree_needs(alloc: Global, tree: &Tree) -> Result<Graph, AllocError> {
+pub fn tree_needs(alloc: Global, tree: &Tree) -> Result<Graph, AllocError>
+    ensures graph { IfOk result IsGraph }
+    ensures few { IfOk result (λ g. length g.rows < 2 ^ 32) }
+    ensures alike { IfOk result (λ g. AreAlike (needs_of g) (spec.needs tree.now)) }
+    ensures nodes { IfOk result (λ g. (layout : Layout) → IsLayoutOf tree.now layout → rows.AreNodeRows tree.now layout g) }
+{
     let layout = tree.layout();
     let mut graph = Graph::with_room(alloc, layout.symbols().len(), node_count(layout))?;
     let mut row = Row {

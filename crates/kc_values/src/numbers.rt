@@ -1,5 +1,14 @@
 //! Ranges of numbers, and the equation of an int or hex symbol.
 
+ghost use Rattle.std.specs.Prelude.{◌≡◌, ◌<◌, ◌^◌, Some, IfOk, IfSome, unsigned_abs};
+ghost use Rattle.kc_tree.specs.Layouts.{definition_facts, facts_of, range_view};
+ghost use Rattle.kc_tree.specs.Contexts.{condition_in};
+ghost use Rattle.kc_values.specs.Known.{known_at, IsOpenRange};
+ghost use Rattle.kc_values.specs.Numbers as digits;
+ghost use Rattle.kc_values.specs.Small.{IsSmall};
+ghost use Rattle.kc_values.specs.User.{place, text_at};
+ghost use Rattle.kc_values.specs.Values as spec;
+
 use crate::conditions::{condition, is_n};
 use crate::table::Table;
 use crate::texts::{default_text, typed_in};
@@ -23,7 +32,9 @@ pub struct Interval {
 
 /// The number that a text writes, read by the type: decimal for int, with or without `0x` for hex; none for another type or
 /// text (our own limits, 64 bits each).
-pub fn number_as(kind: Kind, text: &[u8]) -> Option<i128> {
+pub fn number_as(kind: Kind, text: &[u8]) -> Option<i128>
+    ensures { result ≡ digits.number_as kind text.now }
+{
     match kind {
         Kind::Int => read_int(text),
         Kind::Hex => read_hex(text),
@@ -33,12 +44,18 @@ pub fn number_as(kind: Kind, text: &[u8]) -> Option<i128> {
 
 // The number of a text, or 0.
 #[tactic(auto, using(crate::proofs::SmallNumbers::counted_below))]
-fn counted(kind: Kind, text: &[u8]) -> i128 {
+fn counted(kind: Kind, text: &[u8]) -> i128
+    ensures number { result ≡ digits.counted kind text.now }
+    ensures small { unsigned_abs result < 2 ^ 64 }
+{
     number_as(kind, text).unwrap_or(0)
 }
 
 // The bounds of a range.
-fn bounds_of(table: &Table<'_>, kind: Kind, range: &SymbolRange) -> Interval {
+fn bounds_of(table: &Table<'_>, kind: Kind, range: &SymbolRange) -> Interval
+    ensures range { Some result ≡ spec.interval (known_at table.now) kind (Some (range_view table.now.layout.now.tables.contexts (condition_in table.now.layout.now.tables.contexts 0) range.now)) }
+    ensures small { IsSmall result }
+{
     Interval {
         low: counted(kind, text(&range.bounds.low, table)),
         high: counted(kind, text(&range.bounds.high, table)),
@@ -46,7 +63,9 @@ fn bounds_of(table: &Table<'_>, kind: Kind, range: &SymbolRange) -> Interval {
 }
 
 // The first range of a definition whose condition is not n.
-fn first_open<'t>(table: &Table<'t>, definition: &Definition) -> Option<&'t SymbolRange> {
+fn first_open<'t>(table: &Table<'t>, definition: &Definition) -> Option<&'t SymbolRange>
+    ensures { IsOpenRange table.now (spec.first_open table.now.tree.now (known_at table.now) (definition_facts table.now.layout.now.tables definition.now).ranges) result }
+{
     for range in table.layout.ranges(definition) {
         if !is_n(condition(table, definition.within, &range.when)) {
             return Some(range);
@@ -57,7 +76,10 @@ fn first_open<'t>(table: &Table<'t>, definition: &Definition) -> Option<&'t Symb
 
 /// The active range of a symbol: the first whose condition is not n (the kernel's kconfig-language document, "Menu
 /// attributes": numerical ranges). A bound that is no number counts as 0 (our own).
-pub fn active_range(table: &Table<'_>, symbol: &Symbol) -> Option<Interval> {
+pub fn active_range(table: &Table<'_>, symbol: &Symbol) -> Option<Interval>
+    ensures range { result ≡ spec.active_range table.now.tree.now (known_at table.now) (facts_of table.now.layout.now 0 symbol.now) }
+    ensures small { IfSome result IsSmall }
+{
     for i in 0..symbol.definition_count() {
         if let Some(definition) = definition(table, symbol, i) {
             if let Some(range) = first_open(table, definition) {
@@ -70,7 +92,9 @@ pub fn active_range(table: &Table<'_>, symbol: &Symbol) -> Option<Interval> {
 
 /// Whether the number of a text is inside the range, both bounds included; where there is no range it is (kconfiglib's
 /// `str_value`). What is no number counts as 0 (our own).
-pub fn is_inside(kind: Kind, range: Option<Interval>, text: &[u8]) -> bool {
+pub fn is_inside(kind: Kind, range: Option<Interval>, text: &[u8]) -> bool
+    ensures { result ≡ digits.is_inside kind range text.now }
+{
     match range {
         Some(bounds) => {
             let number = counted(kind, text);
@@ -81,7 +105,9 @@ pub fn is_inside(kind: Kind, range: Option<Interval>, text: &[u8]) -> bool {
 }
 
 /// The user's text where its number is inside the range; another is dropped and not clamped (kconfiglib's `str_value`).
-pub fn if_inside(kind: Kind, range: Option<Interval>, given: Option<&[u8]>) -> Option<&[u8]> {
+pub fn if_inside(kind: Kind, range: Option<Interval>, given: Option<&[u8]>) -> Option<&[u8]>
+    ensures { text_at result ≡ digits.if_inside kind range (text_at given.entry) }
+{
     match given {
         Some(bytes) if is_inside(kind, range, bytes) => Some(bytes),
         _ => None,
@@ -90,7 +116,10 @@ pub fn if_inside(kind: Kind, range: Option<Interval>, given: Option<&[u8]>) -> O
 
 /// A number as it is written: decimal for int, `0x` and lower-case digits for hex (kconfiglib's `str_value`). Fails only when it is
 /// out of memory.
-pub fn number_text(alloc: Global, kind: Kind, number: i128) -> Result<Vec<u8>, AllocError> {
+pub fn number_text(alloc: Global, kind: Kind, number: i128) -> Result<Vec<u8>, AllocError>
+    requires { unsigned_abs number < 2 ^ 64 }
+    ensures { IfOk result (λ v. v.items ≡ digits.number_text kind number) }
+{
     let text = match kind {
         Kind::Hex => {
             let magnitude = number.unsigned_abs() as u64;
@@ -108,7 +137,10 @@ pub fn clamped(
     kind: Kind,
     range: Option<Interval>,
     text: &[u8],
-) -> Result<Vec<u8>, AllocError> {
+) -> Result<Vec<u8>, AllocError>
+    requires { IfSome range IsSmall }
+    ensures { IfOk result (λ v. v.items ≡ digits.clamped kind range text.now) }
+{
     if let Some(bounds) = range {
         let number = counted(kind, text);
         if number < bounds.low {
@@ -132,7 +164,9 @@ pub fn number_equation(
     table: &Table<'_>,
     symbol: &Symbol,
     user: Option<&UserValue>,
-) -> Result<Vec<u8>, AllocError> {
+) -> Result<Vec<u8>, AllocError>
+    ensures { IfOk result (λ v. v.items ≡ spec.number_equation table.now.tree.now (known_at table.now) (facts_of table.now.layout.now 0 symbol.now) (place user.entry)) }
+{
     let range = active_range(table, symbol);
     let given = typed_in(table, symbol, user);
     if let Some(bytes) = if_inside(symbol.kind, range, given) {

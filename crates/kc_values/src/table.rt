@@ -1,5 +1,12 @@
 //! The values found so far: those of the symbols, of the contexts and of the choices, by their numbers.
 
+ghost use Rattle.std.specs.Prelude.{◌≡◌, None, length, replicate, slice_index_or, IfOk};
+ghost use Rattle.kc_tree.specs.Layouts.{IsLayoutOf};
+ghost use Rattle.kc_tree.specs.TreeFacts.{IsWellFormed};
+ghost use Rattle.kc_values.specs.Lookups as lookup;
+ghost use Rattle.kc_values.specs.Settled.{AreContextsSettled};
+ghost use Rattle.kc_values.specs.Table.{kind_in, value_at, value_in, tri_in, text_in};
+
 use crate::lookups::name;
 use kc_expr::expression::{Kind, SymId, Tri};
 use kc_expr::values::Values;
@@ -33,10 +40,15 @@ pub struct Table<'t> {
     pub contexts: Vec<Option<Tri>>,
     /// What each choice selects, if that is settled; no member can be selected too.
     pub selections: Vec<Option<Option<SymId>>>,
+    ghost laid: { IsLayoutOf tree.now layout.now },
+    ghost formed: { IsWellFormed tree.now },
+    ghost settled: { AreContextsSettled tree.now layout.now values.items contexts.items },
 }
 
 // So many empty places.
-fn empty_places(alloc: Global, count: usize) -> Result<Vec<Option<Value>>, AllocError> {
+fn empty_places(alloc: Global, count: usize) -> Result<Vec<Option<Value>>, AllocError>
+    ensures { IfOk result (λ v. v.items ≡ replicate count None) }
+{
     let mut places = Vec::with_capacity(alloc, count)?;
     for _place in 0..count {
         places.push(None)?;
@@ -46,7 +58,12 @@ fn empty_places(alloc: Global, count: usize) -> Result<Vec<Option<Value>>, Alloc
 
 impl<'t> Table<'t> {
     /// A table of empty places, where nothing is settled. Fails only when it is out of memory.
-    pub fn empty(alloc: Global, tree: &'t Tree) -> Result<Table<'t>, AllocError> {
+    pub fn empty(alloc: Global, tree: &'t Tree) -> Result<Table<'t>, AllocError>
+        ensures tree { IfOk result (λ t. t.tree.now ≡ tree.now) }
+        ensures values { IfOk result (λ t. t.values.items ≡ replicate (length tree.now.symbols) None) }
+        ensures contexts { IfOk result (λ t. t.contexts.items ≡ replicate (length t.layout.now.tables.contexts) None) }
+        ensures selections { IfOk result (λ t. t.selections.items ≡ replicate (length tree.now.choices) None) }
+    {
         let layout = tree.layout();
         let values = empty_places(alloc, layout.symbols().len())?;
         let contexts = vec![in alloc; None; layout.context_count()]?;
@@ -61,7 +78,9 @@ impl<'t> Table<'t> {
     }
 
     /// What a context is worth, if that is settled.
-    pub fn settled_context(&self, id: ContextId) -> Option<Tri> {
+    pub fn settled_context(&self, id: ContextId) -> Option<Tri>
+        ensures { result ≡ slice_index_or self.now.contexts.items id.0 None }
+    {
         match self.contexts.get(id.0 as usize) {
             Some(settled) => *settled,
             None => None,
@@ -69,7 +88,9 @@ impl<'t> Table<'t> {
     }
 
     /// What a choice selects, if that is settled.
-    pub fn settled_selection(&self, id: ChoiceId) -> Option<Option<SymId>> {
+    pub fn settled_selection(&self, id: ChoiceId) -> Option<Option<SymId>>
+        ensures { result ≡ slice_index_or self.now.selections.items id.0 None }
+    {
         match self.selections.get(id.0) {
             Some(settled) => *settled,
             None => None,
@@ -78,7 +99,9 @@ impl<'t> Table<'t> {
 }
 
 /// The value in a place, if it is there and filled (our own).
-pub fn found(values: &[Option<Value>], id: SymId) -> Option<&Value> {
+pub fn found(values: &[Option<Value>], id: SymId) -> Option<&Value>
+    ensures { value_at result ≡ value_in values.now id }
+{
     match values.get(id.0) {
         Some(Some(value)) => Some(value),
         _ => None,

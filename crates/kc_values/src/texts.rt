@@ -1,5 +1,14 @@
 //! The equation of a string symbol.
 
+ghost use Rattle.std.specs.Prelude.{◌≡◌, IfOk};
+ghost use Rattle.kc_expr.specs.Form.{form_of};
+ghost use Rattle.kc_expr.specs.Value.{known_by};
+ghost use Rattle.kc_tree.specs.Layouts.{facts_of};
+ghost use Rattle.kc_values.specs.Known.{known_at};
+ghost use Rattle.kc_values.specs.User.{place, text_at};
+ghost use Rattle.kc_values.specs.Values as spec;
+ghost use Rattle.kc_values.specs.Warnings.{open_text};
+
 use crate::conditions::is_n;
 use crate::table::Table;
 use crate::truths::{open_default, visibility};
@@ -11,7 +20,9 @@ use std::alloc::{AllocError, Global};
 
 /// The text of a default that is one operand, no byte of any other (the kernel's kconfig-language document, "Menu
 /// attributes"; that it must be one operand is our own).
-pub fn single_text<'a, V: Values>(expr: &'a Expr, values: &'a V) -> &'a [u8] {
+pub fn single_text<'a, V: Values>(expr: &'a Expr, values: &'a V) -> &'a [u8]
+    ensures { result.now ≡ spec.single_text (known_by (V.kind_of values.now) (V.tri_of values.now) (V.text_of values.now)) (form_of expr.now) }
+{
     match expr {
         Expr::One(operand) => text(operand, values),
         _ => b"",
@@ -19,7 +30,9 @@ pub fn single_text<'a, V: Values>(expr: &'a Expr, values: &'a V) -> &'a [u8] {
 }
 
 /// The text of the first default whose condition is not n, if there is one.
-pub fn open_text<'a>(table: &'a Table<'_>, symbol: &Symbol) -> Option<&'a [u8]> {
+pub fn open_text<'a>(table: &'a Table<'_>, symbol: &Symbol) -> Option<&'a [u8]>
+    ensures { text_at result ≡ open_text (known_at table.now) (spec.first_open table.now.tree.now (known_at table.now) (facts_of table.now.layout.now 0 symbol.now).defaults) }
+{
     match open_default(table, symbol) {
         Some((default, _)) => Some(single_text(&default.value, table)),
         None => None,
@@ -28,12 +41,16 @@ pub fn open_text<'a>(table: &'a Table<'_>, symbol: &Symbol) -> Option<&'a [u8]> 
 
 /// The text of the first default whose condition is not n, or nothing (the kernel's kconfig-language document, "Menu
 /// attributes": default value).
-pub fn default_text<'a>(table: &'a Table<'_>, symbol: &Symbol) -> &'a [u8] {
+pub fn default_text<'a>(table: &'a Table<'_>, symbol: &Symbol) -> &'a [u8]
+    ensures { result.now ≡ spec.default_text (known_at table.now) (spec.first_open table.now.tree.now (known_at table.now) (facts_of table.now.layout.now 0 symbol.now).defaults) }
+{
     open_text(table, symbol).unwrap_or(b"")
 }
 
 /// The user's text where the symbol is visible (kconfiglib's `str_value`).
-pub fn typed(user: Option<&UserValue>, visibility: Tri) -> Option<&[u8]> {
+pub fn typed(user: Option<&UserValue>, visibility: Tri) -> Option<&[u8]>
+    ensures { text_at result ≡ spec.typed (place user.entry) visibility }
+{
     if is_n(visibility) {
         return None;
     }
@@ -48,7 +65,9 @@ pub fn typed_in<'a>(
     table: &Table<'_>,
     symbol: &Symbol,
     user: Option<&'a UserValue>,
-) -> Option<&'a [u8]> {
+) -> Option<&'a [u8]>
+    ensures { text_at result ≡ spec.typed (place user.entry) (spec.visibility table.now.tree.now (known_at table.now) (facts_of table.now.layout.now 0 symbol.now)) }
+{
     match user {
         Some(UserValue::Text(_)) => typed(user, visibility(table, symbol)),
         _ => None,
@@ -62,7 +81,9 @@ pub fn text_equation(
     table: &Table<'_>,
     symbol: &Symbol,
     user: Option<&UserValue>,
-) -> Result<Vec<u8>, AllocError> {
+) -> Result<Vec<u8>, AllocError>
+    ensures { IfOk result (λ v. v.items ≡ spec.text_equation table.now.tree.now (known_at table.now) (facts_of table.now.layout.now 0 symbol.now) (place user.entry)) }
+{
     if let Some(bytes) = typed_in(table, symbol, user) {
         let copy = Vec::from_slice(alloc, bytes)?;
         return Ok(copy);

@@ -1,5 +1,13 @@
 //! The equation of a bool or tristate symbol outside a choice.
 
+ghost use Rattle.std.specs.Prelude.{◌≡◌};
+ghost use Rattle.kc_expr.specs.Value.{known_by, truth_of_known};
+ghost use Rattle.kc_tree.specs.Facts.{listed};
+ghost use Rattle.kc_tree.specs.Layouts.{definition_facts, facts_of, reverse_facts, reverses_from};
+ghost use Rattle.kc_values.specs.Known.{known_at, IsDefinitionAt, IsDefinitionOf, IsOpenDefault};
+ghost use Rattle.kc_values.specs.User.{place};
+ghost use Rattle.kc_values.specs.Values as spec;
+
 use crate::conditions::{condition, context, is_n, prompt_condition, up};
 use crate::table::Table;
 use kc_expr::expression::{Kind, SymId, Tri};
@@ -9,7 +17,9 @@ use kc_user::value::UserValue;
 
 /// The value of a symbol as a truth: n where it is no bool or tristate (the kernel's kconfig-language document, "Menu
 /// dependencies").
-pub fn truth_of<V: Values>(id: SymId, values: &V) -> Tri {
+pub fn truth_of<V: Values>(id: SymId, values: &V) -> Tri
+    ensures { result ≡ truth_of_known (known_by (V.kind_of values.now) (V.tri_of values.now) (V.text_of values.now) id) }
+{
     match values.kind(id) {
         Kind::Bool | Kind::Tristate => values.tri(id),
         _ => Tri::N,
@@ -18,7 +28,9 @@ pub fn truth_of<V: Values>(id: SymId, values: &V) -> Tri {
 
 /// m as y where the type is not tristate under the values: where it is written as another one, or where the modules symbol
 /// is n, or is no bool or tristate, or is not there (kconfiglib's `tri_value`).
-pub fn upgraded(table: &Table<'_>, kind: Kind, value: Tri) -> Tri {
+pub fn upgraded(table: &Table<'_>, kind: Kind, value: Tri) -> Tri
+    ensures { result ≡ spec.raised table.now.tree.now (known_at table.now) kind value }
+{
     if kind != Kind::Tristate {
         return up(value);
     }
@@ -33,7 +45,9 @@ pub fn upgraded(table: &Table<'_>, kind: Kind, value: Tri) -> Tri {
 }
 
 /// The definition of a symbol by its number among those of the symbol, if there is one.
-pub fn definition<'t>(table: &Table<'t>, symbol: &Symbol, i: usize) -> Option<&'t Definition> {
+pub fn definition<'t>(table: &Table<'t>, symbol: &Symbol, i: usize) -> Option<&'t Definition>
+    ensures { IsDefinitionOf table.now symbol.now i result }
+{
     match symbol.definition(i) {
         Some(id) => table.layout.definition(id),
         None => None,
@@ -41,7 +55,10 @@ pub fn definition<'t>(table: &Table<'t>, symbol: &Symbol, i: usize) -> Option<&'
 }
 
 // The condition of the prompt of a definition; n without one.
-fn shown_by(table: &Table<'_>, definition: &Definition) -> Tri {
+fn shown_by(table: &Table<'_>, definition: &Definition) -> Tri
+    requires { IsDefinitionAt table.now definition.now }
+    ensures { result ≡ spec.conditions table.now.tree.now (known_at table.now) (listed (definition_facts table.now.layout.now.tables definition.now).prompt) }
+{
     match &definition.prompt {
         Some(prompt) => prompt_condition(table, definition.within, prompt),
         None => Tri::N,
@@ -49,7 +66,9 @@ fn shown_by(table: &Table<'_>, definition: &Definition) -> Tri {
 }
 
 /// The greatest condition of the prompts of a symbol; n without a prompt.
-pub fn prompts_condition(table: &Table<'_>, symbol: &Symbol) -> Tri {
+pub fn prompts_condition(table: &Table<'_>, symbol: &Symbol) -> Tri
+    ensures { result ≡ spec.conditions table.now.tree.now (known_at table.now) (facts_of table.now.layout.now 0 symbol.now).prompts }
+{
     let mut greatest = Tri::N;
     for i in 0..symbol.definition_count() {
         if let Some(definition) = definition(table, symbol, i) {
@@ -61,7 +80,9 @@ pub fn prompts_condition(table: &Table<'_>, symbol: &Symbol) -> Tri {
 
 /// The visibility of a symbol: the greatest condition of its prompts, m being y where the symbol can't be m; n without a prompt
 /// (kconfiglib's `visibility`).
-pub fn visibility(table: &Table<'_>, symbol: &Symbol) -> Tri {
+pub fn visibility(table: &Table<'_>, symbol: &Symbol) -> Tri
+    ensures { result ≡ spec.visibility table.now.tree.now (known_at table.now) (facts_of table.now.layout.now 0 symbol.now) }
+{
     upgraded(table, symbol.kind, prompts_condition(table, symbol))
 }
 
@@ -77,7 +98,9 @@ fn first_open<'t>(table: &Table<'t>, definition: &Definition) -> Option<(&'t Sym
 }
 
 /// The first default of a symbol whose condition is not n, and that condition.
-pub fn open_default<'t>(table: &Table<'t>, symbol: &Symbol) -> Option<(&'t SymbolDefault, Tri)> {
+pub fn open_default<'t>(table: &Table<'t>, symbol: &Symbol) -> Option<(&'t SymbolDefault, Tri)>
+    ensures { IsOpenDefault table.now (spec.first_open table.now.tree.now (known_at table.now) (facts_of table.now.layout.now 0 symbol.now).defaults) result }
+{
     for i in 0..symbol.definition_count() {
         if let Some(definition) = definition(table, symbol, i) {
             if let Some(found) = first_open(table, definition) {
@@ -90,7 +113,9 @@ pub fn open_default<'t>(table: &Table<'t>, symbol: &Symbol) -> Option<(&'t Symbo
 
 /// min(value, condition) of the first default whose condition is not n, or n (the kernel's kconfig-language document, "Menu
 /// attributes": default value).
-pub fn default_truth(table: &Table<'_>, symbol: &Symbol) -> Tri {
+pub fn default_truth(table: &Table<'_>, symbol: &Symbol) -> Tri
+    ensures { result ≡ spec.default_value table.now.tree.now (known_at table.now) (spec.first_open table.now.tree.now (known_at table.now) (facts_of table.now.layout.now 0 symbol.now).defaults) }
+{
     match open_default(table, symbol) {
         Some((default, when)) => lesser(eval(&default.value, table), when),
         None => Tri::N,
@@ -98,7 +123,9 @@ pub fn default_truth(table: &Table<'_>, symbol: &Symbol) -> Tri {
 }
 
 // min(value of the other symbol, condition) of a line that selects or implies.
-fn reverse_value(table: &Table<'_>, line: &Reverse) -> Tri {
+fn reverse_value(table: &Table<'_>, line: &Reverse) -> Tri
+    ensures { result ≡ spec.pulled table.now.tree.now (known_at table.now) (listed (reverse_facts table.now.layout.now.tables line.now)) }
+{
     let Some(source) = table.layout.definition(line.source) else {
         return Tri::N;
     };
@@ -110,7 +137,9 @@ fn reverse_value(table: &Table<'_>, line: &Reverse) -> Tri {
 }
 
 // The greatest of them, from the last line on.
-fn reverse_values(table: &Table<'_>, last: Option<ReverseId>) -> Tri {
+fn reverse_values(table: &Table<'_>, last: Option<ReverseId>) -> Tri
+    ensures { result ≡ spec.pulled table.now.tree.now (known_at table.now) (reverses_from table.now.layout.now.tables last) }
+{
     let mut greatest = Tri::N;
     let mut at = last;
     'lines: while let Some(id) = at {
@@ -125,7 +154,9 @@ fn reverse_values(table: &Table<'_>, last: Option<ReverseId>) -> Tri {
 
 /// The direct dependency of a symbol: the greatest that its definitions depend on, m being y where the symbol can't be m
 /// (kconfiglib's `direct_dep`).
-pub fn direct(table: &Table<'_>, symbol: &Symbol) -> Tri {
+pub fn direct(table: &Table<'_>, symbol: &Symbol) -> Tri
+    ensures { result ≡ spec.direct table.now.tree.now (known_at table.now) (facts_of table.now.layout.now 0 symbol.now) }
+{
     let mut greatest = Tri::N;
     for i in 0..symbol.definition_count() {
         if let Some(definition) = definition(table, symbol, i) {
@@ -137,20 +168,26 @@ pub fn direct(table: &Table<'_>, symbol: &Symbol) -> Tri {
 
 /// The reverse dependency of a symbol: the greatest min(value of the selecting symbol, condition), m being y where the symbol
 /// can't be m (the kernel's kconfig-language document, "Menu attributes": reverse dependencies).
-pub fn reverse(table: &Table<'_>, id: SymId, symbol: &Symbol) -> Tri {
+pub fn reverse(table: &Table<'_>, id: SymId, symbol: &Symbol) -> Tri
+    ensures { result ≡ spec.rev table.now.tree.now (known_at table.now) (facts_of table.now.layout.now id.0 symbol.now) }
+{
     let selected = reverse_values(table, table.layout.last_select(id));
     upgraded(table, symbol.kind, selected)
 }
 
 /// The weak reverse dependency of a symbol: the same over what implies it (the kernel's kconfig-language document, "Menu
 /// attributes": weak reverse dependencies).
-pub fn weak(table: &Table<'_>, id: SymId, symbol: &Symbol) -> Tri {
+pub fn weak(table: &Table<'_>, id: SymId, symbol: &Symbol) -> Tri
+    ensures { result ≡ spec.weak table.now.tree.now (known_at table.now) (facts_of table.now.layout.now id.0 symbol.now) }
+{
     let implied = reverse_values(table, table.layout.last_imply(id));
     upgraded(table, symbol.kind, implied)
 }
 
 // The default, which an imply raises up to the direct dependency. That is looked at only where something implies the symbol.
-fn implied(table: &Table<'_>, id: SymId, symbol: &Symbol) -> Tri {
+fn implied(table: &Table<'_>, id: SymId, symbol: &Symbol) -> Tri
+    ensures { result ≡ spec.implied (spec.default_value table.now.tree.now (known_at table.now) (spec.first_open table.now.tree.now (known_at table.now) (facts_of table.now.layout.now id.0 symbol.now).defaults)) (spec.weak table.now.tree.now (known_at table.now) (facts_of table.now.layout.now id.0 symbol.now)) (spec.direct table.now.tree.now (known_at table.now) (facts_of table.now.layout.now id.0 symbol.now)) }
+{
     let default = default_truth(table, symbol);
     let weak = weak(table, id, symbol);
     match weak {
@@ -160,12 +197,9 @@ fn implied(table: &Table<'_>, id: SymId, symbol: &Symbol) -> Tri {
 }
 
 // The user's truth up to the visibility, where the symbol is visible, and else its default. Only what counts is looked at.
-fn given_or_implied(
-    table: &Table<'_>,
-    id: SymId,
-    symbol: &Symbol,
-    user: Option<&UserValue>,
-) -> Tri {
+fn given_or_implied(table: &Table<'_>, id: SymId, symbol: &Symbol, user: Option<&UserValue>) -> Tri
+    ensures { result ≡ spec.based (place user.entry) (spec.visibility table.now.tree.now (known_at table.now) (facts_of table.now.layout.now id.0 symbol.now)) (spec.implied (spec.default_value table.now.tree.now (known_at table.now) (spec.first_open table.now.tree.now (known_at table.now) (facts_of table.now.layout.now id.0 symbol.now).defaults)) (spec.weak table.now.tree.now (known_at table.now) (facts_of table.now.layout.now id.0 symbol.now)) (spec.direct table.now.tree.now (known_at table.now) (facts_of table.now.layout.now id.0 symbol.now))) }
+{
     match user {
         Some(UserValue::Tri(given)) => match visibility(table, symbol) {
             Tri::N => implied(table, id, symbol),
@@ -184,7 +218,9 @@ pub fn truth_equation(
     id: SymId,
     symbol: &Symbol,
     user: Option<&UserValue>,
-) -> Tri {
+) -> Tri
+    ensures { result ≡ spec.truth_equation table.now.tree.now (known_at table.now) (facts_of table.now.layout.now id.0 symbol.now) (place user.entry) }
+{
     let value = given_or_implied(table, id, symbol, user);
     let selected = reverse(table, id, symbol);
     upgraded(table, symbol.kind, greater(value, selected))

@@ -1,5 +1,16 @@
 //! What the values of a tree are warned of.
 
+ghost use Rattle.std.specs.Prelude.{◌≡◌, ◌++◌, codes, Some, map, IfOk, IfSome, OnOk};
+ghost use Rattle.kc_tree.specs.Layouts.{facts_of};
+ghost use Rattle.kc_values.specs.Known.{known_at};
+ghost use Rattle.kc_values.specs.Lookups as lookup;
+ghost use Rattle.kc_values.specs.Numbers.{number_text};
+ghost use Rattle.kc_values.specs.Small.{IsSmall};
+ghost use Rattle.kc_values.specs.User.{place, text_at};
+ghost use Rattle.kc_values.specs.Values as value;
+ghost use Rattle.kc_values.specs.Warnings as spec;
+ghost use Rattle.kc_values.specs.Written.{above};
+
 use crate::lookups::name;
 use crate::numbers::{Interval, active_range, clamped, if_inside, is_inside, number_text};
 use crate::table::Table;
@@ -12,7 +23,9 @@ use kc_user::value::UserValue;
 use std::alloc::{AllocError, Global};
 
 // Whether one truth is greater than another.
-fn is_above(a: Tri, b: Tri) -> bool {
+fn is_above(a: Tri, b: Tri) -> bool
+    ensures { result ≡ above a b }
+{
     match (a, b) {
         (Tri::N, _) => false,
         (Tri::M, Tri::N) => true,
@@ -28,7 +41,9 @@ fn selected_line(
     name: &[u8],
     reverse: Tri,
     direct: Tri,
-) -> Result<Vec<u8>, AllocError> {
+) -> Result<Vec<u8>, AllocError>
+    ensures { IfOk result (λ v. v.items ≡ spec.selected_line name.now reverse direct) }
+{
     let mut line = Vec::from_slice(alloc, b"warning K11: ")?;
     line.extend_from_slice(name)?;
     line.extend_from_slice(b" is selected to ")?;
@@ -39,19 +54,27 @@ fn selected_line(
 }
 
 // The low bound as it is written.
-fn low_text(alloc: Global, kind: Kind, range: Interval) -> Result<Vec<u8>, AllocError> {
+fn low_text(alloc: Global, kind: Kind, range: Interval) -> Result<Vec<u8>, AllocError>
+    requires { IsSmall range }
+    ensures { IfOk result (λ v. v.items ≡ number_text kind range.low) }
+{
     let text = number_text(alloc, kind, range.low)?;
     Ok(text)
 }
 
 // The high bound as it is written.
-fn high_text(alloc: Global, kind: Kind, range: Interval) -> Result<Vec<u8>, AllocError> {
+fn high_text(alloc: Global, kind: Kind, range: Interval) -> Result<Vec<u8>, AllocError>
+    requires { IsSmall range }
+    ensures { IfOk result (λ v. v.items ≡ number_text kind range.high) }
+{
     let text = number_text(alloc, kind, range.high)?;
     Ok(text)
 }
 
 // `LOW to HIGH` behind what stands in the line.
-fn bounds_into(low: &[u8], high: &[u8], line: &mut Vec<u8>) -> Result<(), AllocError> {
+fn bounds_into(low: &[u8], high: &[u8], line: &mut Vec<u8>) -> Result<(), AllocError>
+    ensures { OnOk result (line.new.items ≡ line.old.items ++ low.now ++ codes " to " ++ high.now) }
+{
     line.extend_from_slice(low)?;
     line.extend_from_slice(b" to ")?;
     line.extend_from_slice(high)?;
@@ -65,7 +88,10 @@ fn outside_into(
     range: Interval,
     name: &[u8],
     line: &mut Vec<u8>,
-) -> Result<(), AllocError> {
+) -> Result<(), AllocError>
+    requires { IsSmall range }
+    ensures { OnOk result (line.new.items ≡ spec.outside_line line.old.items kind range name.now) }
+{
     let low = low_text(alloc, kind, range)?;
     let high = high_text(alloc, kind, range)?;
     line.extend_from_slice(b" of ")?;
@@ -82,7 +108,10 @@ fn user_line(
     range: Interval,
     name: &[u8],
     text: &[u8],
-) -> Result<Vec<u8>, AllocError> {
+) -> Result<Vec<u8>, AllocError>
+    requires { IsSmall range }
+    ensures { IfOk result (λ v. v.items ≡ spec.user_line kind range name.now text.now) }
+{
     let mut line = Vec::from_slice(alloc, b"warning K12: user value ")?;
     line.extend_from_slice(text)?;
     outside_into(alloc, kind, range, name, &mut line)?;
@@ -96,7 +125,10 @@ fn default_line(
     range: Interval,
     name: &[u8],
     text: &[u8],
-) -> Result<Vec<u8>, AllocError> {
+) -> Result<Vec<u8>, AllocError>
+    requires { IsSmall range }
+    ensures { IfOk result (λ v. v.items ≡ spec.default_line kind range name.now text.now) }
+{
     let used = clamped(alloc, kind, Some(range), text)?;
     let mut line = Vec::from_slice(alloc, b"warning K13: default ")?;
     line.extend_from_slice(text)?;
@@ -115,7 +147,10 @@ fn user_warning(
     range: Option<Interval>,
     given: Option<&[u8]>,
     out: &mut Vec<Vec<u8>>,
-) -> Result<(), AllocError> {
+) -> Result<(), AllocError>
+    requires { IfSome range IsSmall }
+    ensures { OnOk result (map (λ w. w.items) out.new.items ≡ map (λ w. w.items) out.old.items ++ spec.user_warnings kind name.now range (text_at given.entry)) }
+{
     let Some(bounds) = range else {
         return Ok(());
     };
@@ -139,7 +174,10 @@ fn default_warning(
     used: Option<&[u8]>,
     default: Option<&[u8]>,
     out: &mut Vec<Vec<u8>>,
-) -> Result<(), AllocError> {
+) -> Result<(), AllocError>
+    requires { IfSome range IsSmall }
+    ensures { OnOk result (map (λ w. w.items) out.new.items ≡ map (λ w. w.items) out.old.items ++ spec.default_warnings kind name.now range (text_at used.entry) (text_at default.entry)) }
+{
     if used.is_some() {
         return Ok(());
     }
@@ -166,7 +204,10 @@ fn range_warnings(
     shown: Tri,
     user: Option<&UserValue>,
     out: &mut Vec<Vec<u8>>,
-) -> Result<(), AllocError> {
+) -> Result<(), AllocError>
+    requires { shown ≡ value.visibility table.now.tree.now (known_at table.now) (facts_of table.now.layout.now 0 symbol.now) }
+    ensures { OnOk result (map (λ w. w.items) out.new.items ≡ map (λ w. w.items) out.old.items ++ spec.range_warnings table.now.tree.now (known_at table.now) name.now (facts_of table.now.layout.now 0 symbol.now) (place user.entry)) }
+{
     let range = active_range(table, symbol);
     let given = typed(user, shown);
     let used = if_inside(symbol.kind, range, given);
@@ -184,7 +225,9 @@ fn select_warnings(
     id: SymId,
     symbol: &Symbol,
     out: &mut Vec<Vec<u8>>,
-) -> Result<(), AllocError> {
+) -> Result<(), AllocError>
+    ensures { OnOk result (map (λ w. w.items) out.new.items ≡ map (λ w. w.items) out.old.items ++ spec.select_warnings table.now.tree.now (known_at table.now) name.now (facts_of table.now.layout.now id.0 symbol.now)) }
+{
     let reverse = reverse(table, id, symbol);
     // What nothing selects is above no direct dependency.
     if let Tri::N = reverse {
@@ -211,7 +254,10 @@ pub fn warnings_into(
     shown: Tri,
     user: Option<&UserValue>,
     out: &mut Vec<Vec<u8>>,
-) -> Result<(), AllocError> {
+) -> Result<(), AllocError>
+    requires { shown ≡ value.visibility table.now.tree.now (known_at table.now) (facts_of table.now.layout.now id.0 symbol.now) }
+    ensures { OnOk result (map (λ w. w.items) out.new.items ≡ map (λ w. w.items) out.old.items ++ spec.warnings_of table.now.tree.now (known_at table.now) (lookup.name table.now.tree.now id) (Some (facts_of table.now.layout.now id.0 symbol.now)) (place user.entry)) }
+{
     if symbol.choice.is_some() {
         return Ok(());
     }

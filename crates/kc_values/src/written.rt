@@ -1,5 +1,11 @@
 //! Which symbols are written.
 
+ghost use Rattle.std.specs.Prelude.{◌≡◌, Some};
+ghost use Rattle.kc_tree.specs.Layouts.{facts_of};
+ghost use Rattle.kc_values.specs.Known.{known_at};
+ghost use Rattle.kc_values.specs.Values as value;
+ghost use Rattle.kc_values.specs.Written as spec;
+
 use crate::conditions::is_n;
 use crate::table::Table;
 use crate::truths::{default_truth, direct, open_default, reverse, weak};
@@ -7,7 +13,10 @@ use kc_expr::expression::{Kind, SymId, Tri};
 use kc_tree::parts::Symbol;
 
 // Whether a bool or tristate symbol outside a choice is written.
-fn truth_is_written(table: &Table<'_>, id: SymId, symbol: &Symbol, shown: Tri) -> bool {
+fn truth_is_written(table: &Table<'_>, id: SymId, symbol: &Symbol, shown: Tri) -> bool
+    requires { shown ≡ value.visibility table.now.tree.now (known_at table.now) (facts_of table.now.layout.now id.0 symbol.now) }
+    ensures { result ≡ spec.written_truth table.now.tree.now (known_at table.now) (facts_of table.now.layout.now id.0 symbol.now) }
+{
     !is_n(shown)
         || !is_n(default_truth(table, symbol))
         || !is_n(reverse(table, id, symbol))
@@ -15,12 +24,18 @@ fn truth_is_written(table: &Table<'_>, id: SymId, symbol: &Symbol, shown: Tri) -
 }
 
 // Whether a string, int or hex symbol is written.
-fn text_is_written(table: &Table<'_>, symbol: &Symbol, shown: Tri) -> bool {
+fn text_is_written(table: &Table<'_>, symbol: &Symbol, shown: Tri) -> bool
+    requires { shown ≡ value.visibility table.now.tree.now (known_at table.now) (facts_of table.now.layout.now 0 symbol.now) }
+    ensures { result ≡ spec.written_text table.now.tree.now (known_at table.now) (facts_of table.now.layout.now 0 symbol.now) }
+{
     !is_n(shown) || open_default(table, symbol).is_some()
 }
 
 // Whether a symbol outside a choice is written, by its type.
-fn own_is_written(table: &Table<'_>, id: SymId, symbol: &Symbol, shown: Tri) -> bool {
+fn own_is_written(table: &Table<'_>, id: SymId, symbol: &Symbol, shown: Tri) -> bool
+    requires { shown ≡ value.visibility table.now.tree.now (known_at table.now) (facts_of table.now.layout.now id.0 symbol.now) }
+    ensures { result ≡ spec.written_by_kind table.now.tree.now (known_at table.now) (facts_of table.now.layout.now id.0 symbol.now) symbol.now.kind }
+{
     match symbol.kind {
         Kind::Undefined => false,
         Kind::Bool | Kind::Tristate => truth_is_written(table, id, symbol, shown),
@@ -32,7 +47,10 @@ fn own_is_written(table: &Table<'_>, id: SymId, symbol: &Symbol, shown: Tri) -> 
 /// choice, a bool or tristate whose default, reverse dependency, or weak one within its direct dependency is not n, or a
 /// string, int or hex one of whose defaults has a condition that is not n. Without a type it has none (kconfiglib's
 /// `config_string`). The caller owes the visibility, so that it is found once for all that asks for it.
-pub fn written(table: &Table<'_>, id: SymId, symbol: &Symbol, shown: Tri) -> bool {
+pub fn written(table: &Table<'_>, id: SymId, symbol: &Symbol, shown: Tri) -> bool
+    requires { shown ≡ value.visibility table.now.tree.now (known_at table.now) (facts_of table.now.layout.now id.0 symbol.now) }
+    ensures { result ≡ spec.written_facts table.now.tree.now (known_at table.now) (Some (facts_of table.now.layout.now id.0 symbol.now)) }
+{
     match symbol.choice {
         Some(_) => !is_n(shown),
         None => own_is_written(table, id, symbol, shown),
