@@ -7,7 +7,7 @@ ghost use Rattle.kc_tree.specs.Layouts.{choice_facts};
 ghost use Rattle.kc_user.specs.Places.{member_place};
 ghost use Rattle.kc_values.specs.Known.{known_at};
 ghost use Rattle.kc_values.specs.Lookups.{choice_at};
-ghost use Rattle.kc_values.specs.Settled.{IsSelected};
+ghost use Rattle.kc_values.specs.Known.{IsSelected};
 ghost use Rattle.kc_values.specs.Values as spec;
 
 use crate::conditions::{condition, is_n, mode_of};

@@ -4,7 +4,7 @@ ghost use Rattle.std.specs.Prelude.{◌≡◌, None, slice_index_or, IfOk};
 ghost use Rattle.kc_tree.specs.Layouts.{facts_of};
 ghost use Rattle.kc_values.specs.Known.{known_at};
 ghost use Rattle.kc_values.specs.Selections.{given_for};
-ghost use Rattle.kc_values.specs.Settled.{AreSelected};
+ghost use Rattle.kc_values.specs.Known.{AreSelected};
 ghost use Rattle.kc_values.specs.Table.{known_value};
 ghost use Rattle.kc_values.specs.User.{place};
 ghost use Rattle.kc_values.specs.Values as spec;

@@ -1,6 +1,6 @@
 //! What the equation of each symbol names: its needs, be it through contexts and choices.
 
-ghost use Rattle.std.specs.Prelude.{◌≡◌, ◌<◌, ◌^◌, ◌++◌, ◌∷◌, [], length, option_map, IfOk, IfSome, OnOk};
+ghost use Rattle.std.specs.Prelude.{◌≡◌, ℕ, List, ◌<◌, ◌^◌, ◌++◌, ◌∷◌, [], length, option_map, IfOk, IfSome, OnOk};
 ghost use Rattle.std.specs.List.{flat_map};
 ghost use Rattle.kc_expr.specs.Form.{leaf_of, leaf_symbols};
 ghost use Rattle.kc_order.specs.Graph.{IsGraph, needs_of};
@@ -382,7 +382,7 @@ fn add_symbols(
 fn add_contexts(layout: &Layout, row: &mut Row, graph: &mut Graph) -> Result<(), AllocError>
     requires few { HasFewNodes layout.now }
     requires row { IsRow [] [] row.old }
-    ensures graph { OnOk result (graph.new ≡ record graph.old { rows = graph.old.rows ++ rows.context_rows layout.now }) }
+    ensures graph { OnOk result ((contexts : List (List ℕ)) × rows.AreContextRows layout.now contexts × (graph.new ≡ record graph.old { rows = graph.old.rows ++ contexts })) }
     ensures row { OnOk result (IsRow [] [] row.new) }
 {
     let defined = layout.symbols().len();
