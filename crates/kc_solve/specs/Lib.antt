@@ -4,3 +4,6 @@ pub mod Refused
 pub mod Flags
 pub mod Solved
 pub mod SolutionCode
+pub mod Filling
+pub mod Graphs
+pub mod Titles

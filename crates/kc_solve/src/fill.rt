@@ -1,6 +1,16 @@
 //! The table of values, filled once along an order.
 
+ghost use Rattle.std.specs.Prelude.{◌≡◌, ◌<◌, length, slice_get, Some, IfOk, OnOk};
+ghost use Rattle.kc_order.specs.Solution.{Solves};
+ghost use Rattle.kc_solve.specs.Filling.{IsFilledSymbol, IsNodeOrder, IsSettledContext, IsSettledChoice, IsUnread};
+ghost use Rattle.kc_solve.specs.Places.{places, valuation};
+ghost use Rattle.kc_tree.specs.declared.layout.Layout.{Layout};
+ghost use Rattle.kc_tree.specs.Layouts.{IsLayoutOf};
+ghost use Rattle.kc_values.specs.Known.{AreSelected};
+ghost use Rattle.kc_values.specs.Solution.{symbol_count, equations};
+
 use kc_expr::expression::SymId;
+use kc_tree::layout::Layout;
 use kc_tree::parts::{ChoiceId, ContextId, Symbol};
 use kc_tree::tree::Tree;
 use kc_user::value::UserValue;
@@ -11,9 +21,12 @@ use kc_values::nodes::{Node, node_of};
 use kc_values::table::Table;
 use std::alloc::{AllocError, Global};
 
-/// What a tree says of a symbol that is defined.
-pub(crate) fn symbol_facts(tree: &Tree, id: SymId) -> &Symbol {
-    match tree.facts(id) {
+/// The row of a symbol that is defined.
+pub(crate) fn symbol_row(layout: &Layout, id: SymId) -> &Symbol
+    requires { id.0 < length layout.now.symbols.items }
+    ensures { slice_get layout.now.symbols.items id.0 ≡ Some result.now }
+{
+    match layout.symbol(id) {
         Some(symbol) => symbol,
         None => unreachable!(),
     }
@@ -26,8 +39,14 @@ fn fill_symbol(
     id: SymId,
     given: &[Option<UserValue>],
     chosen: &[Option<SymId>],
-) -> Result<(), AllocError> {
-    let symbol = symbol_facts(table.tree, id);
+) -> Result<(), AllocError>
+    requires defined { id.0 < length table.old.values.items }
+    requires given { length given.now ≡ length table.old.values.items }
+    requires selected { AreSelected table.old chosen.now }
+    requires unread { IsUnread table.old id.0 }
+    ensures { OnOk result (IsFilledSymbol given.now chosen.now id table.old table.new) }
+{
+    let symbol = symbol_row(table.layout, id);
     let own = given[id.0].as_ref();
     let value = equation(alloc, table, id, symbol, own, chosen)?;
     table.values[id.0] = Some(value);
@@ -35,13 +54,20 @@ fn fill_symbol(
 }
 
 // Settles what the next context is worth.
-fn settle_context(table: &mut Table<'_>, id: ContextId) {
+fn settle_context(table: &mut Table<'_>, id: ContextId)
+    requires { id.0 < length table.old.contexts.items }
+    ensures { IsSettledContext id.0 table.old table.new }
+{
     let value = context(table, id);
     table.contexts[id.0 as usize] = Some(value);
 }
 
 // Settles what the next choice selects.
-fn settle_choice(table: &mut Table<'_>, id: ChoiceId, chosen: &[Option<SymId>]) {
+fn settle_choice(table: &mut Table<'_>, id: ChoiceId, chosen: &[Option<SymId>])
+    requires there { id.0 < length table.old.selections.items }
+    requires chosen { id.0 < length chosen.now }
+    ensures { IsSettledChoice chosen.now id.0 table.old table.new }
+{
     let selection = selected_in(table, id, chosen[id.0]);
     table.selections[id.0] = Some(selection);
 }
@@ -54,7 +80,14 @@ pub fn fill<'t>(
     nodes: &[u32],
     given: &[Option<UserValue>],
     chosen: &[Option<SymId>],
-) -> Result<Table<'t>, AllocError> {
+) -> Result<Table<'t>, AllocError>
+    requires order { (layout : Layout) → IsLayoutOf tree.now layout → IsNodeOrder tree.now layout nodes.now }
+    requires given { length given.now ≡ symbol_count tree.now }
+    requires chosen { length chosen.now ≡ length tree.now.choices }
+    ensures tree { IfOk result (λ t. t.tree.now ≡ tree.now) }
+    ensures count { IfOk result (λ t. length t.values.items ≡ symbol_count tree.now) }
+    ensures solves { IfOk result (λ t. Solves (symbol_count tree.now) (equations tree.now (places given.now chosen.now)) (valuation tree.now t.values.items)) }
+{
     let mut table = Table::empty(alloc, tree)?;
     for node in nodes {
         match node_of(table.layout, *node) {

@@ -1,14 +1,28 @@
 //! What each choice selects, and what is said of each symbol, under the values of a full table.
 
+ghost use Rattle.std.specs.Prelude.{◌≡◌, ◌<◌, false, length, map, slice_index_or, None, IfOk, IfSome};
+ghost use Rattle.std.specs.List.{range_with_len};
+ghost use Rattle.kc_order.specs.Solution.{Solves};
+ghost use Rattle.kc_solve.specs.Flags as flag;
+ghost use Rattle.kc_solve.specs.Flags.{IsSolvedOwn};
+ghost use Rattle.kc_solve.specs.Places.{valuation};
+ghost use Rattle.kc_user.specs.Places.{IsUserOf, place_at};
+ghost use Rattle.kc_tree.specs.Layouts.{facts_of};
+ghost use Rattle.kc_values.specs.Differs as spec;
+ghost use Rattle.kc_values.specs.Solution.{symbol_count, equations};
+ghost use Rattle.kc_values.specs.Known.{known_at, IsRowOf};
+ghost use Rattle.kc_values.specs.User.{place};
+ghost use Rattle.kc_values.specs.Values as value;
+ghost use Rattle.kc_values.specs.Warnings.{value_warnings};
 
-use crate::fill::symbol_facts;
+use crate::fill::symbol_row;
 use kc_expr::expression::{SymId, Tri};
 use kc_tree::parts::{ChoiceId, Symbol};
 use kc_tree::tree::Tree;
 use kc_user::user::User;
 use kc_user::value::UserValue;
-use kc_values::differs::{can_count, member_differs, own_differs};
 use kc_values::choices::selected_in;
+use kc_values::differs::{can_count, member_differs, own_differs};
 use kc_values::table::Table;
 use kc_values::truths::visibility;
 use kc_values::warnings::warnings_into;
@@ -16,7 +30,9 @@ use kc_values::written::written as is_written;
 use std::alloc::{AllocError, Global};
 
 // How many choices a tree has.
-fn choice_count(tree: &Tree) -> usize {
+fn choice_count(tree: &Tree) -> usize
+    ensures { result ≡ length tree.now.choices }
+{
     tree.choices().len()
 }
 
@@ -25,7 +41,11 @@ pub fn selections(
     alloc: Global,
     table: &Table,
     user: &User,
-) -> Result<Vec<Option<SymId>>, AllocError> {
+) -> Result<Vec<Option<SymId>>, AllocError>
+    requires full { length table.now.values.items ≡ symbol_count table.now.tree.now }
+    requires user { IsUserOf table.now.tree.now user.now }
+    ensures { IfOk result (λ v. v.items ≡ map (spec.selection table.now.tree.now (place_at user.now) (valuation table.now.tree.now table.now.values.items)) (range_with_len 0 (length table.now.tree.now.choices))) }
+{
     let count = choice_count(table.tree);
     let mut selected = Vec::with_capacity(alloc, count)?;
     for c in 0..count {
@@ -36,7 +56,10 @@ pub fn selections(
 }
 
 /// The default selection of each choice under the values of a full table: that without the user's member.
-pub fn default_selections(alloc: Global, table: &Table) -> Result<Vec<Option<SymId>>, AllocError> {
+pub fn default_selections(alloc: Global, table: &Table) -> Result<Vec<Option<SymId>>, AllocError>
+    requires full { length table.now.values.items ≡ symbol_count table.now.tree.now }
+    ensures { IfOk result (λ v. v.items ≡ map (spec.default_selection table.now.tree.now (valuation table.now.tree.now table.now.values.items)) (range_with_len 0 (length table.now.tree.now.choices))) }
+{
     let count = choice_count(table.tree);
     let mut selected = Vec::with_capacity(alloc, count)?;
     for c in 0..count {
@@ -46,12 +69,17 @@ pub fn default_selections(alloc: Global, table: &Table) -> Result<Vec<Option<Sym
 }
 
 /// The selection at the place of a choice.
-pub(crate) fn at_choice(selections: &[Option<SymId>], choice: ChoiceId) -> Option<SymId> {
+pub(crate) fn at_choice(selections: &[Option<SymId>], choice: ChoiceId) -> Option<SymId>
+    requires { choice.0 < length selections.now }
+    ensures { result ≡ slice_index_or selections.now choice.0 None }
+{
     selections[choice.0]
 }
 
 /// The flag at the place of a symbol, or false where there is none.
-pub(crate) fn at_symbol(flags: &[bool], id: SymId) -> bool {
+pub(crate) fn at_symbol(flags: &[bool], id: SymId) -> bool
+    ensures { result ≡ slice_index_or flags.now id.0 false }
+{
     id.0 < flags.len() && flags[id.0]
 }
 
@@ -66,7 +94,14 @@ fn symbol_differs(
     shown: Tri,
     selections: &[Option<SymId>],
     defaults: &[Option<SymId>],
-) -> Result<bool, AllocError> {
+) -> Result<bool, AllocError>
+    requires row { IsRowOf table.now id symbol.now }
+    requires selections { IfSome symbol.now.choice (λ c. c.0 < length selections.now) }
+    requires defaults { IfSome symbol.now.choice (λ c. c.0 < length defaults.now) }
+    requires shown { shown ≡ value.visibility table.now.tree.now (known_at table.now) (facts_of table.now.layout.now id.0 symbol.now) }
+    requires solved { IsSolvedOwn table.now.tree.now (known_at table.now) id (facts_of table.now.layout.now id.0 symbol.now) (facts_of table.now.layout.now id.0 symbol.now).choice (place user) }
+    ensures { IfOk result (λ b. b ≡ flag.differs_by table.now.tree.now (known_at table.now) id (facts_of table.now.layout.now id.0 symbol.now) (facts_of table.now.layout.now id.0 symbol.now).choice selections.now defaults.now) }
+{
     match symbol.choice {
         Some(choice) => Ok(member_differs(
             at_choice(selections, choice),
@@ -103,14 +138,23 @@ pub fn flags_of(
     user: &User,
     selections: &[Option<SymId>],
     defaults: &[Option<SymId>],
-) -> Result<Flags, AllocError> {
+) -> Result<Flags, AllocError>
+    requires full { length table.now.values.items ≡ symbol_count table.now.tree.now }
+    requires user { IsUserOf table.now.tree.now user.now }
+    requires solves { Solves (symbol_count table.now.tree.now) (equations table.now.tree.now (place_at user.now)) (valuation table.now.tree.now table.now.values.items) }
+    requires selections { selections.now ≡ map (spec.selection table.now.tree.now (place_at user.now) (valuation table.now.tree.now table.now.values.items)) (range_with_len 0 (length table.now.tree.now.choices)) }
+    requires defaults { defaults.now ≡ map (spec.default_selection table.now.tree.now (valuation table.now.tree.now table.now.values.items)) (range_with_len 0 (length table.now.tree.now.choices)) }
+    ensures differing { IfOk result (λ f. f.differing.items ≡ map (spec.differs table.now.tree.now (place_at user.now) (valuation table.now.tree.now table.now.values.items)) (range_with_len 0 (symbol_count table.now.tree.now))) }
+    ensures written { IfOk result (λ f. f.written.items ≡ map (flag.is_written table.now.tree.now (valuation table.now.tree.now table.now.values.items)) (range_with_len 0 (symbol_count table.now.tree.now))) }
+    ensures warnings { IfOk result (λ f. map (λ w. w.items) f.warnings.items ≡ value_warnings table.now.tree.now (place_at user.now) (valuation table.now.tree.now table.now.values.items)) }
+{
     let count = table.tree.symbol_count();
     let mut differing = Vec::with_capacity(alloc, count)?;
     let mut written = Vec::with_capacity(alloc, count)?;
     let mut warnings = Vec::new(alloc);
     for i in 0..count {
         let id = SymId(i);
-        let symbol = symbol_facts(table.tree, id);
+        let symbol = symbol_row(table.layout, id);
         let own = user.get(id);
         let shown = visibility(table, symbol);
         let differs = symbol_differs(alloc, table, id, symbol, own, shown, selections, defaults)?;

@@ -1,20 +1,40 @@
 //! An order of a tree's symbols, or the dependency loop that is named.
 
+ghost use Rattle.std.specs.Prelude.{◌≡◌, ◌≢◌, ◌++◌, length, IfOk, IfErr, OnOk};
+ghost use Rattle.kc_order.specs.Needs.{needs_in, SomeStuck};
+ghost use Rattle.kc_order.specs.Order.{Orders};
+ghost use Rattle.kc_read.specs.Steps.{IsMemory, out_of_memory, refusal_view};
+ghost use Rattle.kc_read.specs.declared.refusal.Code.TheVariants.{Memory};
+ghost use Rattle.kc_solve.specs.LoopText.{arrows, loop_text};
+ghost use Rattle.kc_solve.specs.Graphs.{IsGraphOf};
+ghost use Rattle.kc_solve.specs.Refused as refused;
+ghost use Rattle.kc_solve.specs.Refused.{IsNamed, NamesLoop};
+ghost use Rattle.kc_values.specs.Laws.{IsAccepted};
+ghost use Rattle.kc_values.specs.Needs.{needs};
 
 use kc_expr::expression::SymId;
-use kc_order::{NoOrder, order_of};
+use kc_order::{NoOrder, alike_needs, order_of};
 use kc_read::refusal::{Code, Refusal};
 use kc_tree::tree::Tree;
 use kc_values::laws::needs_are_defined;
 use kc_values::lookups::name;
 use kc_values::needs::tree_needs;
 use std::alloc::{AllocError, Global};
+use std::marker::Model;
 
-/// All symbols of a tree in an order in which what each needs stands before it. What it shows is the needs that it was
-/// made for (our own; the kernel's kconfig-language document asks of a tree that its dependencies don't recur).
+/// All symbols of a tree in an order in which what each needs stands before it, with the contexts and choices between them. What
+/// it shows is the graph of needs that it was made for (our own; the kernel's kconfig-language document asks of a tree that its dependencies don't recur).
 #[derive(Drop)]
 pub struct Order {
     inner: kc_order::Order,
+}
+
+impl Model for Order {
+    ghost use Rattle.kc_order.specs.Graph.{Nodes};
+
+    ghost Value = { Nodes };
+
+    ghost view = { λ o. o.inner };
 }
 
 impl Order {
@@ -26,7 +46,13 @@ impl Order {
     /// detail is the loop that is named: the names of its symbols and its first again, joined by ` -> `, where the walk
     /// goes from the first stuck symbol always on to the first stuck symbol that is needed (our own rule). `Memory`
     /// where no memory was to be had.
-    pub fn of(alloc: Global, tree: &Tree) -> Result<Order, Refusal> {
+    pub fn of(alloc: Global, tree: &Tree) -> Result<Order, Refusal>
+        ensures same { IfOk result (IsGraphOf tree.now) }
+        ensures accepted { OnOk result (IsAccepted tree.now) }
+        ensures stuck { IfErr result (λ r. r.code ≢ Memory → SomeStuck (length (needs tree.now)) (needs_in (needs tree.now))) }
+        ensures refused { IfErr result (NamesLoop tree.now) }
+        ensures memory { IfErr result IsMemory }
+    {
         match tree_order(alloc, tree) {
             Ok(inner) => Ok(Order { inner }),
             Err(LoopFault::Loop(text)) => Err(loop_refusal(text)),
@@ -35,13 +61,17 @@ impl Order {
     }
 
     /// The nodes of the graph of needs in order, by number: the symbols, and the contexts and choices between them.
-    pub fn nodes(&self) -> &[u32] {
+    pub fn nodes(&self) -> &[u32]
+        ensures { Orders self.now.rows result.now }
+    {
         self.inner.nodes()
     }
 }
 
 // The refusal for a loop.
-fn loop_refusal(text: Vec<u8>) -> Refusal {
+fn loop_refusal(text: Vec<u8>) -> Refusal
+    ensures { refusal_view result ≡ refused.loop_refused text.items }
+{
     Refusal {
         code: Code::Loop,
         place: None,
@@ -50,7 +80,9 @@ fn loop_refusal(text: Vec<u8>) -> Refusal {
 }
 
 // Memory ran out.
-fn memory(alloc: Global) -> Refusal {
+fn memory(alloc: Global) -> Refusal
+    ensures { refusal_view result ≡ out_of_memory }
+{
     Refusal {
         code: Code::Memory,
         place: None,
@@ -79,7 +111,9 @@ impl From<AllocError> for LoopFault {
 }
 
 // ` -> NAME` for each symbol, behind what stands in the text.
-fn arrows_into(tree: &Tree, symbols: &[u32], text: &mut Vec<u8>) -> Result<(), AllocError> {
+fn arrows_into(tree: &Tree, symbols: &[u32], text: &mut Vec<u8>) -> Result<(), AllocError>
+    ensures { OnOk result (text.new.items ≡ text.old.items ++ arrows tree.now symbols.now) }
+{
     for symbol in symbols {
         text.extend_from_slice(b" -> ")?;
         text.extend_from_slice(name(tree, SymId(*symbol as usize)))?;
@@ -88,7 +122,9 @@ fn arrows_into(tree: &Tree, symbols: &[u32], text: &mut Vec<u8>) -> Result<(), A
 }
 
 // The names of a loop and its first again.
-fn loop_text(alloc: Global, tree: &Tree, symbols: &[u32]) -> Result<Vec<u8>, AllocError> {
+fn loop_text(alloc: Global, tree: &Tree, symbols: &[u32]) -> Result<Vec<u8>, AllocError>
+    ensures { IfOk result (λ v. v.items ≡ loop_text tree.now symbols.now) }
+{
     let [first, rest @ ..] = symbols else {
         let empty = Vec::new(alloc);
         return Ok(empty);
@@ -101,8 +137,13 @@ fn loop_text(alloc: Global, tree: &Tree, symbols: &[u32]) -> Result<Vec<u8>, All
 
 // An order of the symbols of a tree in which what each needs stands before it. Fails where some symbol is stuck, with
 // the text of the loop that is named, and for being out of memory.
-fn tree_order(alloc: Global, tree: &Tree) -> Result<kc_order::Order, LoopFault> {
+fn tree_order(alloc: Global, tree: &Tree) -> Result<kc_order::Order, LoopFault>
+    ensures same { IfOk result (IsGraphOf tree.now) }
+    ensures accepted { OnOk result (IsAccepted tree.now) }
+    ensures refused { IfErr result (IsNamed tree.now) }
+{
     needs_are_defined();
+    alike_needs();
     let _count = tree.symbol_count();
     let all = tree_needs(alloc, tree)?;
     match order_of(alloc, all) {

@@ -2,18 +2,18 @@
 
 ghost use Rattle.std.specs.Prelude.{◌≡◌, length, IfOk, OnOk};
 ghost use Rattle.kc_order.specs.Solution.{Solves, IsOnlySolution};
+ghost use Rattle.kc_solve.specs.Graphs.{IsGraphOf};
 ghost use Rattle.kc_solve.specs.Places.{valuation};
 ghost use Rattle.kc_solve.specs.Solved.{IsMinimal, SettledWhere, value_of};
 ghost use Rattle.kc_user.specs.Places.{IsUserOf, place_at};
 ghost use Rattle.kc_values.specs.Laws.{IsAccepted};
-ghost use Rattle.kc_values.specs.Needs.{needs};
 ghost use Rattle.kc_values.specs.Solution.{symbol_count, equations};
 
 use crate::fill::fill;
 use crate::flags::{Flags, default_selections, flags_of, selections};
 use crate::order::Order;
 use crate::solved::Solved;
-use kc_order::ordered_are_accepted;
+use kc_order::{alike_needs, groups_stand_for_symbols, ordered_are_accepted};
 use kc_tree::tree::Tree;
 use kc_user::user::User;
 use kc_values::laws::accepted_have_one_solution;
@@ -27,7 +27,7 @@ fn full_table<'t>(
     order: &Order,
     user: &User,
 ) -> Result<Table<'t>, AllocError>
-    requires order { order.now ≡ needs tree.now }
+    requires order { IsGraphOf tree.now order.now }
     requires user { IsUserOf tree.now user.now }
     ensures tree { IfOk result (λ t. t.tree.now ≡ tree.now) }
     ensures accepted { OnOk result (IsAccepted tree.now) }
@@ -37,6 +37,8 @@ fn full_table<'t>(
 {
     accepted_have_one_solution();
     ordered_are_accepted();
+    alike_needs();
+    groups_stand_for_symbols();
     let given = user.symbols();
     let chosen = user.choices();
     let table = fill(alloc, tree, order.nodes(), given, chosen)?;
@@ -52,7 +54,7 @@ pub fn solve<'a>(
     order: &Order,
     user: &'a User,
 ) -> Result<Solved<'a>, AllocError>
-    requires order { order.now ≡ needs tree.now }
+    requires order { IsGraphOf tree.now order.now }
     requires user { IsUserOf tree.now user.now }
     ensures tree { IfOk result (λ s. s.tree ≡ tree.now) }
     ensures places { IfOk result (λ s. s.places ≡ user.now) }

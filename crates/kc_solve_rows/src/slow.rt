@@ -4,8 +4,10 @@ ghost use Rattle.std.specs.Prelude.{◌≡◌, ◌<◌, length, slice_get, Some,
 ghost use Rattle.kc_expr.specs.Value.{known_of};
 ghost use Rattle.kc_expr.specs.declared.expression.Tri.TheVariants.{N};
 ghost use Rattle.kc_order.specs.Solution.{IsOnlySolution, Solves};
-ghost use Rattle.kc_solve.specs.Places.{known_in, places, valuation};
-ghost use Rattle.kc_tree.specs.Views.{facts_of};
+ghost use Rattle.kc_solve.specs.Graphs.{IsGraphOf};
+ghost use Rattle.kc_solve.specs.Places.{places, valuation};
+ghost use Rattle.kc_tree.specs.Layouts.{facts_of};
+ghost use Rattle.kc_values.specs.Known.{known_at};
 ghost use Rattle.kc_user.specs.Given.{At};
 ghost use Rattle.kc_user.specs.Places.{IsUserOf, place_at};
 ghost use Rattle.kc_values.specs.Laws.{IsAccepted};
@@ -19,24 +21,23 @@ use kc_expr::expression::{Kind, SymId, Tri};
 use kc_expr::values::value_depends_on_symbols;
 use kc_order::ordered_are_accepted;
 use kc_solve::order::Order;
+use kc_tree::layout::Layout;
 use kc_tree::parts::{ChoiceId, Symbol};
 use kc_tree::tree::Tree;
 use kc_user::user::User;
 use kc_user::value::UserValue;
+use kc_values::choices::selected_in;
 use kc_values::equation::own_equation;
 use kc_values::laws::{accepted_have_one_solution, choices_stand_alone};
-use kc_values::choices::selected_in;
 use kc_values::table::{Table, Value};
 use std::alloc::{AllocError, Global};
 
-// What a tree says of a symbol that is defined.
-fn symbol_facts(tree: &Tree, id: SymId) -> &Symbol
-    requires { id.0 < symbol_count tree.now }
-    ensures facts { slice_get tree.now.symbols id.0 ≡ Some (facts_of result.now) }
-    ensures choice { IfSome result.now.choice (λ c. c.0 < length tree.now.choices) }
+// The row of a symbol that is defined.
+fn symbol_row(layout: &Layout, id: SymId) -> &Symbol
+    requires { id.0 < length layout.now.symbols.items }
+    ensures { slice_get layout.now.symbols.items id.0 ≡ Some result.now }
 {
-    let _count = tree.symbol_count();
-    match tree.facts(id) {
+    match layout.symbol(id) {
         Some(symbol) => symbol,
         None => unreachable!(),
     }
@@ -63,7 +64,7 @@ fn first_values(alloc: Global, tree: &Tree) -> Result<Vec<Option<Value>>, AllocE
     let count = tree.symbol_count();
     let mut values = Vec::with_capacity(alloc, count)?;
     for i in 0..count {
-        let kind = symbol_facts(tree, SymId(i)).kind;
+        let kind = symbol_row(tree.layout(), SymId(i)).kind;
         values.push(Some(first_value(alloc, kind)))?;
     }
     Ok(values)
@@ -72,7 +73,7 @@ fn first_values(alloc: Global, tree: &Tree) -> Result<Vec<Option<Value>>, AllocE
 // The value of a member of a choice: y where it is selected. The selection is found anew.
 fn member_value(table: &Table, id: SymId, choice: ChoiceId, chosen: &[Option<SymId>]) -> Tri
     requires { choice.0 < length chosen.now }
-    ensures { result ≡ member_equation table.now.tree.now (known_in table.now.tree.now table.now.values.items) id choice.0 (member_given chosen.now choice.0) }
+    ensures { result ≡ member_equation table.now.tree.now (known_at table.now) id choice.0 (member_given chosen.now choice.0) }
 {
     match selected_in(table, choice, chosen[choice.0]) {
         Some(member) if member.0 == id.0 => Tri::Y,
@@ -91,7 +92,7 @@ fn value_anew(
 ) -> Result<Value, AllocError>
     requires below { id.0 < length given.now }
     requires users { IfSome symbol.now.choice (λ c. c.0 < length chosen.now) }
-    ensures { IfOk result (λ x. known_value symbol.now.kind x ≡ by_choice table.now.tree.now (known_in table.now.tree.now table.now.values.items) id (facts_of symbol.now) (facts_of symbol.now).choice (given_for symbol.now.choice (places given.now chosen.now (At id.0)) chosen.now)) }
+    ensures { IfOk result (λ x. known_value symbol.now.kind x ≡ by_choice table.now.tree.now (known_at table.now) id (facts_of table.now.layout.now id.0 symbol.now) (facts_of table.now.layout.now id.0 symbol.now).choice (given_for symbol.now.choice (places given.now chosen.now (At id.0)) chosen.now)) }
 {
     let own = given[id.0].as_ref();
     match symbol.choice {
@@ -113,7 +114,7 @@ pub fn slow_table<'t>(
     order: &Order,
     user: &User,
 ) -> Result<Table<'t>, AllocError>
-    requires order { order.now ≡ needs tree.now }
+    requires order { IsGraphOf tree.now order.now }
     requires user { IsUserOf tree.now user.now }
     ensures tree { IfOk result (λ t. t.tree.now ≡ tree.now) }
     ensures accepted { OnOk result (IsAccepted tree.now) }
@@ -134,7 +135,14 @@ pub fn slow_table<'t>(
     for _round in 0..count {
         for i in 0..count {
             let id = SymId(i);
-            let value = value_anew(alloc, &table, id, symbol_facts(tree, id), given, chosen)?;
+            let value = value_anew(
+                alloc,
+                &table,
+                id,
+                symbol_row(table.layout, id),
+                given,
+                chosen,
+            )?;
             table.values[i] = Some(value);
         }
     }

@@ -1,0 +1,15 @@
+-- Trusted: The graph of a tree's needs, which an order is made for.
+use Rattle.std.specs.Prelude.{ℕ, List}
+use Rattle.kc_order.specs.Graph.{Nodes, IsGraph, needs_of}
+use Rattle.kc_order.specs.Needs.{AreAlike}
+use Rattle.kc_tree.specs.declared.layout.Layout.{Layout}
+use Rattle.kc_tree.specs.Layouts.{IsLayoutOf}
+use Rattle.kc_tree.specs.TreeFacts.{TreeFacts}
+use Rattle.kc_values.specs.NeedRows.{AreNodeRows}
+use Rattle.kc_values.specs.Needs.{needs}
+
+-- its symbols need what the tree's do, and its nodes are those of the tree's contexts and choices
+pub record IsGraphOf (tree : TreeFacts) (g : Nodes) : Type 0 where
+  pub graph : IsGraph g
+  pub alike : AreAlike (needs_of g) (needs tree)
+  pub nodes : (layout : Layout) → IsLayoutOf tree layout → AreNodeRows tree layout g
