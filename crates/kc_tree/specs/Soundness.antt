@@ -1,5 +1,5 @@
 -- Trusted: What the tables of a tree keep: each row leads only to rows that are there.
-use Rattle.std.specs.Prelude.{◌≡◌, ◌<◌, ◌≤◌, ℕ, List, length, All, Option, Some, None}
+use Rattle.std.specs.Prelude.{◌≡◌, ◌<◌, ◌≤◌, ℕ, List, length, All, Option, Some, None, slice_get}
 use Rattle.kc_tree.specs.TreeFacts.{Condition}
 use Rattle.kc_tree.specs.declared.parts.Choice.{Choice}
 use Rattle.kc_tree.specs.declared.parts.Definition.{Definition}
@@ -44,6 +44,18 @@ IsEntryThere titles entries (entry.Menu id) = id.0 < titles
 IsEntryThere titles entries (entry.End menu) = menu < entries
 IsEntryThere titles entries (entry.Comment id) = id.0 < titles
 
+-- a prompt leads to a context before one
+abbrev pub IsPromptBefore : ℕ → Option Prompt → Type 0
+IsPromptBefore i None = Unit {0}
+IsPromptBefore i (Some p) = p.visible.0 < i
+
+-- a context in which the mode of a choice counts stands behind what that choice and its prompt depend on
+pub record IsModeThere (choices : List Choice) (i k : ℕ) : Type 0 where
+  pub choice : Choice
+  pub is : slice_get choices k ≡ Some choice
+  pub within : choice.within.0 < i
+  pub prompt : IsPromptBefore i choice.prompt
+
 -- all of them
 pub record AreSound (conditions : List Condition) (definitions : List Definition) (defaults ranges : ℕ) (lines : List Reverse) (choices : List Choice) (titles : List Title) (entries : List Entry) : Type 0 where
   pub definitions_there : All (IsDefinitionThere conditions defaults ranges) definitions
@@ -51,3 +63,4 @@ pub record AreSound (conditions : List Condition) (definitions : List Definition
   pub choices_there : All (IsChoiceThere conditions) choices
   pub titles_there : All (IsTitleThere conditions) titles
   pub entries_there : All (IsEntryThere (length titles) (length entries)) entries
+  pub modes_there : (i k : ℕ) → (condition_in conditions i).mode ≡ Some k → IsModeThere choices i k

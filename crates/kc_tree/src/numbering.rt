@@ -5,6 +5,7 @@ ghost use Rattle.kc_expr.specs.Names.{IsNumber, all_mentioned, mention, number_o
 ghost use Rattle.kc_read.specs.Expansion.{Log, Expands};
 ghost use Rattle.kc_read.specs.Files.{bytes_in};
 ghost use Rattle.kc_read.specs.Expanded.{AreNumbers, IsExpansion, IsNamed};
+ghost use Rattle.kc_read.specs.Limits.{most_lines};
 ghost use Rattle.kc_read.specs.Steps.{IsMemory, out_of_memory, refusal_view};
 ghost use Rattle.kc_read.specs.declared.refusal.Code.TheVariants.{Memory};
 ghost use Rattle.kc_tree.specs.Numberings.{IsListing};
@@ -80,7 +81,8 @@ fn number_lines(
 ) -> Result<Listing, AllocError>
     requires unknown { unknown.0 ≡ usize.MAX }
     requires expanded { (log : Log) × IsExpansion [] (Some unknown) mentioned log expansion }
-    ensures { IfOk result (λ l. (log : Log) → IsExpansion [] (Some unknown) mentioned log expansion → IsListing log l) }
+    ensures listed { IfOk result (λ l. (log : Log) → IsExpansion [] (Some unknown) mentioned log expansion → IsListing log l) }
+    ensures few { IfOk result (λ l. length l.lines.items ≡ length expansion.lines.items) }
 {
     let mut names = mentioned;
     let mut order = expansion.defined;
@@ -105,6 +107,7 @@ pub fn read_listing(alloc: Global, map: &FileMap, root: &[u8]) -> Result<Listing
     ensures listed { IfOk result (λ l. (log : Log) × Expands (bytes_in map.now) root.now (Ok log) × IsListing log l) }
     ensures refused { IfErr result (λ r. r.code ≢ Memory → Expands (bytes_in map.now) root.now (Err (refusal_view r))) }
     ensures memory { IfErr result IsMemory }
+    ensures few { IfOk result (λ l. length l.lines.items ≤ most_lines) }
 {
     let unknown = SymId(usize::MAX);
     let mut mentioned = Names::new(alloc);
