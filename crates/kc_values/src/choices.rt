@@ -104,7 +104,10 @@ pub fn selected_in(table: &Table<'_>, choice: ChoiceId, user: Option<SymId>) -> 
 
 /// The value of a member: y where it is selected, else n; its own defaults count for nothing (the kernel's kconfig-language
 /// document on choices). A selection that is settled is not found again; `user` is the member that was given for the choice.
-pub fn member_equation(table: &Table<'_>, id: SymId, choice: ChoiceId, user: Option<SymId>) -> Tri {
+pub fn member_equation(table: &Table<'_>, id: SymId, choice: ChoiceId, user: Option<SymId>) -> Tri
+    requires { IsSelected table.now choice.0 user }
+    ensures { result ≡ spec.member_equation table.now.tree.now (known_at table.now) id choice.0 (member_place user) }
+{
     let selection = match table.settled_selection(choice) {
         Some(settled) => settled,
         None => selected_in(table, choice, user),

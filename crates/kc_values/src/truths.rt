@@ -87,7 +87,9 @@ pub fn visibility(table: &Table<'_>, symbol: &Symbol) -> Tri
 }
 
 // The first default of a definition whose condition is not n, and that condition.
-fn first_open<'t>(table: &Table<'t>, definition: &Definition) -> Option<(&'t SymbolDefault, Tri)> {
+fn first_open<'t>(table: &Table<'t>, definition: &Definition) -> Option<(&'t SymbolDefault, Tri)>
+    ensures { IsOpenDefault table.now (spec.first_open table.now.tree.now (known_at table.now) (definition_facts table.now.layout.now.tables definition.now).defaults) result }
+{
     for default in table.layout.defaults(definition) {
         let when = condition(table, definition.within, &default.when);
         if !is_n(when) {
