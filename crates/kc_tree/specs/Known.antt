@@ -1,5 +1,5 @@
 -- For proofs: What the first walk knows of symbols, and what there is to say of lines by it.
-use Rattle.std.specs.Prelude.{◌≡◌, ℕ, ◌<◌, List, map, length, Option, Some, None, slice_get, option_map, unwrap_or, ◌==◌, Bool}
+use Rattle.std.specs.Prelude.{◌≡◌, ℕ, ◌<◌, List, map, length, Option, Some, None, slice_get, option_map, unwrap_or, ◌==◌, ◌&&◌, nat_lt, is_none, Bool}
 use Rattle.std.specs.List.{filter_map, list_any}
 use Rattle.std.specs.Option.{option_and_then}
 use Rattle.kc_expr.specs.declared.expression.SymId.{SymId}
@@ -13,7 +13,7 @@ use Rattle.kc_tree.specs.declared.parts.ChoiceId.{ChoiceId}
 use Rattle.kc_tree.specs.declared.parts.DefinitionId.{DefinitionId}
 use Rattle.kc_tree.specs.declared.parts.Symbol.{Symbol}
 use Rattle.kc_tree.specs.declared.warning.Warning.{Warning}
-use Rattle.kc_tree.specs.Facts.{kind_of, choice_of, choice_round, definitions_of, listed, given_of, single_symbol, symbol_at}
+use Rattle.kc_tree.specs.Facts.{kind_of, choice_of, choice_round, definitions_of, listed, given_of, single_symbol, symbol_at, takes_kind}
 use Rattle.kc_tree.specs.Firsts.{is_first_at}
 use Rattle.kc_tree.specs.Parts.{definition_ids}
 use Rattle.kc_tree.specs.Warnings.{menu_entry_at, said_with}
@@ -61,6 +61,10 @@ kind_by symbols s = unwrap_or (option_map (λ (f : Symbol). f.kind) (slice_get s
 -- the symbol is a member of the choice, by the same
 abbrev pub member_by : List Symbol → ℕ → SymId → Bool
 member_by symbols c s = list_any (λ d. d == c) (listed (choice_by symbols s))
+
+-- selecting or implying the symbol has an effect, by the same
+abbrev pub can_be_target : List Symbol → SymId → Bool
+can_be_target symbols s = nat_lt s.0 (length symbols) && (is_none (choice_by symbols s) && takes_kind (kind_by symbols s))
 
 -- the first definition of a symbol has this number, by the same
 abbrev pub first_by : List Symbol → SymId → ℕ → Bool

@@ -1,8 +1,10 @@
 pub mod Assemblies
+pub mod Before
 pub mod Chains
 pub mod Contexts
 pub mod ContextsCode
 pub mod Diagnosed
+pub mod Empty
 pub mod EntryLines
 pub mod Facts
 pub mod Firsts
@@ -17,6 +19,7 @@ pub mod Passes
 pub mod Renamings
 pub mod ReverseRows
 pub mod Rounds
+pub mod Said
 pub mod Soundness
 pub mod Stacks
 pub mod SymbolWalk

@@ -1,5 +1,5 @@
 -- For proofs: The lines that select and imply symbols, as they are added.
-use Rattle.std.specs.Prelude.{◌≡◌, ◌≤◌, ◌+◌, ◌==◌, ◌&&◌, ℕ, Bool, true, false, List, [], ◌∷◌, ◌++◌, length, nat_lt, is_none, reverse, if◌then◌else◌, Option, None, slice_get, slice_index_or}
+use Rattle.std.specs.Prelude.{◌≡◌, ◌≤◌, ◌+◌, ◌==◌, ◌&&◌, ℕ, Bool, true, false, List, [], ◌∷◌, ◌++◌, length, reverse, if◌then◌else◌, Option, None, slice_get, slice_index_or}
 use Rattle.std.specs.Option.{option_map}
 use Rattle.std.specs.List.{filter_map, flat_map}
 use Rattle.kc_expr.specs.declared.expression.SymId.{SymId}
@@ -14,13 +14,9 @@ use Rattle.kc_tree.specs.declared.parts.ReverseId.{ReverseId}
 use Rattle.kc_tree.specs.declared.parts.Symbol.{Symbol}
 use Rattle.kc_tree.specs.declared.reverses.Reverses.{Reverses}
 use Rattle.kc_tree.specs.Chains.{chain_of, chains_of}
-use Rattle.kc_tree.specs.Facts.{listed, takes_kind}
-use Rattle.kc_tree.specs.Known.{choice_by, kind_by}
+use Rattle.kc_tree.specs.Facts.{listed}
+use Rattle.kc_tree.specs.Known.{can_be_target}
 use Rattle.kc_tree.specs.Targets.{target_of}
-
--- selecting or implying the symbol has an effect
-abbrev pub can_be_target : List Symbol → SymId → Bool
-can_be_target symbols s = nat_lt s.0 (length symbols) && (is_none (choice_by symbols s) && takes_kind (kind_by symbols s))
 
 -- a line by the number of its definition
 abbrev pub reverse_row : Reverse → ℕ × Option Form

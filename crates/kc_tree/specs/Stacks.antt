@@ -53,3 +53,9 @@ abbrev pub IsClosed : Blocks → Blocks → Type 0
 IsClosed old new =
     ((outside : List Block) (b : Block) → old.outside.items ≡ outside ++ b ∷ [] → (new.innermost ≡ b) × (new.outside.items ≡ outside))
     × (old.outside.items ≡ [] → new ≡ old)
+
+-- the blocks lead to contexts that are there
+pub record AreBlocksThere (conditions : List Condition) (blocks : Blocks) : Type 0 where
+  pub within : blocks.innermost.within.0 < length conditions
+  pub visible : blocks.innermost.visible.0 < length conditions
+  pub outside : (j : ℕ) (b : Block) → slice_get blocks.outside.items j ≡ Some b → (b.within.0 < length conditions) × (b.visible.0 < length conditions)

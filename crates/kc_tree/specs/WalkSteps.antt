@@ -2,23 +2,10 @@
 use Rattle.std.specs.Prelude.{◌≡◌, ℕ, List, [], ◌∷◌, ◌++◌, Option, Some, None}
 use Rattle.kc_expr.specs.declared.expression.SymId.{SymId}
 use Rattle.kc_tree.specs.declared.entries.Walk.{Walk}
-use Rattle.kc_tree.specs.declared.layout.Tables.{Tables}
 use Rattle.kc_tree.specs.declared.parts.ContextId.{ContextId}
 use Rattle.kc_tree.specs.declared.parts.Title.{Title}
-use Rattle.kc_tree.specs.Contexts.{top}
 use Rattle.kc_tree.specs.Passes.{change}
 use Rattle.kc_tree.specs.TreeFacts.{ChoiceFacts}
-
--- no rows yet
-pub record AreEmpty (t : Tables) : Type 0 where
-  pub contexts : t.contexts ≡ top ∷ []
-  pub definitions : t.definitions.items ≡ []
-  pub defaults : t.defaults.items ≡ []
-  pub ranges : t.ranges.items ≡ []
-  pub lines : t.reverses.lines.items ≡ []
-  pub choices : t.choices.items ≡ []
-  pub titles : t.titles.items ≡ []
-  pub entries : t.entries.items ≡ []
 
 -- a choice with one member more
 abbrev pub one_more : SymId → ChoiceFacts → ChoiceFacts

@@ -7,22 +7,20 @@ ghost use Rattle.kc_read.specs.Statements.{Numbered, ConfigLine, IfLine, MenuLin
 ghost use Rattle.kc_tree.specs.declared.parts.Symbol.{Symbol};
 ghost use Rattle.kc_tree.specs.Known.{AreBelow, AreSymbols, IsPlace};
 ghost use Rattle.kc_tree.specs.Passes.{said_by};
+ghost use Rattle.kc_tree.specs.Said.{AreSaid, HasHeads, HasRoom, IsDiagnosed};
+ghost use Rattle.kc_tree.specs.Stacks.{AreBlocksThere};
 ghost use Rattle.kc_tree.specs.Contexts.{condition_in};
 ghost use Rattle.kc_tree.specs.Layouts.{choice_facts as choice_in};
-ghost use Rattle.kc_tree.specs.Walks.{AreBlocksThere, AreSaid, Enters, HasHeads, HasRoom, IsDiagnosed, IsHead, IsWalk};
-ghost use Rattle.kc_tree.specs.WalkSteps.{AddsTitle, AreEmpty, KeepsAllButChoices, with_member};
 
 use crate::attributes::{
     add_defaults, add_ranges, choice_defaults, entry_context, entry_end, prompt, visible_context,
 };
 use crate::blocks::{Block, Blocks, choice_block, if_block};
-use crate::contexts::Contexts;
 use crate::diagnostics::{Diagnostics, EntryPlace, MenuEntry};
 use crate::layout::Tables;
 use crate::parts::{
     Choice, ChoiceId, ContextId, Definition, DefinitionId, Entry, Symbol, Title, TitleId,
 };
-use crate::reverses::Reverses;
 use crate::symbols::is_first;
 use kc_expr::expression::{Expr, SymId};
 use kc_expr::names::Names;
@@ -37,27 +35,13 @@ struct Walk {
     tables: Tables,
     blocks: Blocks,
     main_menu: Vec<u8>,
-    ghost there: { AreBlocksThere tables.contexts blocks },
-}
-
-// Tables with room for so many symbols.
-fn new_tables(alloc: Global, count: usize) -> Result<Tables, AllocError>
-    ensures empty { IfOk result AreEmpty }
-    ensures heads { IfOk result (λ t. (length t.reverses.selects.items ≡ count) × (length t.reverses.implies.items ≡ count)) }
-{
-    Ok(Tables {
-        contexts: Contexts::with_room(alloc, count)?,
-        definitions: Vec::with_capacity(alloc, count)?,
-        defaults: Vec::with_capacity(alloc, count)?,
-        ranges: Vec::new(alloc),
-        reverses: Reverses::new(alloc, count)?,
-        choices: Vec::new(alloc),
-        titles: Vec::new(alloc),
-        entries: Vec::with_capacity(alloc, count)?,
-    })
+    ghost there: { ∥ AreBlocksThere tables.contexts blocks ∥₁ },
 }
 
 impl Walk {
+    ghost use Rattle.kc_tree.specs.Walks.{Enters, IsHead, IsWalk};
+    ghost use Rattle.kc_tree.specs.WalkSteps.{AddsTitle, KeepsAllButChoices, with_member};
+
     // The number of the next definition.
     fn next_definition(&self) -> DefinitionId
         requires { length self.now.tables.definitions.items < 2 ^ 32 }
@@ -305,7 +289,7 @@ pub fn walk_entries(
     ensures diagnosed { IfOk result (λ s. IsDiagnosed names.now (map line_view lines.now) (length lines.now) s.diagnostics) }
 {
     let mut walk = Walk {
-        tables: new_tables(alloc, symbols.len())?,
+        tables: Tables::empty(alloc, symbols.len())?,
         blocks: Blocks::new(alloc),
         main_menu: Vec::from_slice(alloc, b"Main menu")?,
     };

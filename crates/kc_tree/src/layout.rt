@@ -12,6 +12,7 @@ use crate::parts::{
 };
 use crate::reverses::Reverses;
 use kc_expr::expression::SymId;
+use std::alloc::{AllocError, Global};
 
 /// The tables that the menu entries of a tree fill.
 #[derive(Debug, Drop)]
@@ -24,7 +25,30 @@ pub struct Tables {
     pub(crate) choices: Vec<Choice>,
     pub(crate) titles: Vec<Title>,
     pub(crate) entries: Vec<Entry>,
-    ghost sound: { AreSound contexts definitions.items (length defaults.items) (length ranges.items) reverses.lines.items choices.items titles.items entries.items },
+    ghost sound: { ∥ AreSound contexts definitions.items (length defaults.items) (length ranges.items) reverses.lines.items choices.items titles.items entries.items ∥₁ },
+}
+
+impl Tables {
+    ghost use Rattle.std.specs.Prelude.{◌≡◌, length, IfOk};
+    ghost use Rattle.kc_tree.specs.Empty.{AreEmpty};
+
+    /// Tables without rows, with room for so many symbols. Fails only when it is out of memory.
+    pub(crate) fn empty(alloc: Global, count: usize) -> Result<Tables, AllocError>
+        ensures empty { IfOk result AreEmpty }
+        ensures selects { IfOk result (λ t. length t.reverses.selects.items ≡ count) }
+        ensures implies { IfOk result (λ t. length t.reverses.implies.items ≡ count) }
+    {
+        Ok(Tables {
+            contexts: Contexts::with_room(alloc, count)?,
+            definitions: Vec::with_capacity(alloc, count)?,
+            defaults: Vec::with_capacity(alloc, count)?,
+            ranges: Vec::new(alloc),
+            reverses: Reverses::new(alloc, count)?,
+            choices: Vec::new(alloc),
+            titles: Vec::new(alloc),
+            entries: Vec::with_capacity(alloc, count)?,
+        })
+    }
 }
 
 /// How a tree is laid out: what the facts of its symbols, choices and entries are made of. A context is what the blocks

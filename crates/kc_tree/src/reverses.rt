@@ -4,7 +4,7 @@ ghost use Rattle.std.specs.Prelude.{◌≡◌, ◌<◌, ◌+◌, ◌^◌, ◌++�
 ghost use Rattle.kc_tree.specs.Chains.{AreChained, AreHeads};
 ghost use Rattle.kc_expr.specs.Form.{form_of};
 ghost use Rattle.kc_tree.specs.Passes.{said_by};
-ghost use Rattle.kc_tree.specs.ReverseRows.{can_be_target, IsAdded, AreAdded};
+ghost use Rattle.kc_tree.specs.Known.{can_be_target};
 
 use crate::attributes::share;
 use crate::lines::{ReverseKind, Target, target_of};
@@ -60,6 +60,8 @@ fn add_line(
 }
 
 impl Reverses {
+    ghost use Rattle.kc_tree.specs.ReverseRows.{IsAdded, AreAdded};
+
     /// No line yet, of this many symbols. Fails only when it is out of memory.
     pub fn new(alloc: Global, count: usize) -> Result<Reverses, AllocError>
         ensures lines { IfOk result (λ r. r.lines.items ≡ []) }

@@ -40,8 +40,8 @@ pub struct Table<'t> {
     pub contexts: Vec<Option<Tri>>,
     /// What each choice selects, if that is settled; no member can be selected too.
     pub selections: Vec<Option<Option<SymId>>>,
-    ghost laid: { IsLayoutOf tree.now layout.now },
-    ghost formed: { IsWellFormed tree.now },
+    ghost laid: { ∥ IsLayoutOf tree.now layout.now ∥₁ },
+    ghost formed: { ∥ IsWellFormed tree.now ∥₁ },
     ghost settled: { AreContextsSettled tree.now layout.now values.items contexts.items },
 }
 
