@@ -1,7 +1,7 @@
 //! The writer of the `.config`.
-ghost use Rattle.std.specs.Prelude.{◌≡◌, ◌++◌, ◌<◌, length, map as map_list, slice_get, Some, true, false, OnOk, OnErr, IfOk, IfErr, if◌then◌else◌};
+ghost use Rattle.std.specs.Prelude.{◌≡◌, ◌++◌, ◌<◌, length, slice_get, Some, true, false, OnOk, OnErr, IfOk, IfErr, if◌then◌else◌};
 ghost use Rattle.std.specs.Option.{option_copied};
-ghost use Rattle.kc_tree.specs.TreeFacts.{IsWellFormed, SymbolShown};
+ghost use Rattle.kc_tree.specs.TreeFacts.{SymbolShown};
 ghost use Rattle.kc_tree.specs.Layouts.{IsLayoutOf, shown_of, title_at, title_text};
 ghost use Rattle.kc_dot.specs.Laws.{ConfigGivesBack, HasShortLines};
 ghost use Rattle.kc_dot.specs.Sink.{extended, HandsOut};

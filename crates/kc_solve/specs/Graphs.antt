@@ -1,5 +1,4 @@
 -- Trusted: The graph of a tree's needs, which an order is made for.
-use Rattle.std.specs.Prelude.{ℕ, List}
 use Rattle.kc_order.specs.Graph.{Nodes, IsGraph, needs_of}
 use Rattle.kc_order.specs.Needs.{AreAlike}
 use Rattle.kc_tree.specs.declared.layout.Layout.{Layout}

@@ -11,7 +11,6 @@ ghost use Rattle.kc_values.specs.Known.{known_at};
 ghost use Rattle.kc_user.specs.Given.{At};
 ghost use Rattle.kc_user.specs.Places.{IsUserOf, place_at};
 ghost use Rattle.kc_values.specs.Laws.{IsAccepted};
-ghost use Rattle.kc_values.specs.Needs.{needs};
 ghost use Rattle.kc_values.specs.Selections.{given_for, member_given};
 ghost use Rattle.kc_values.specs.Solution.{equations, symbol_count};
 ghost use Rattle.kc_values.specs.Table.{known_value};

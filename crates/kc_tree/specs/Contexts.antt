@@ -1,7 +1,7 @@
 -- Trusted: What contexts ask for: of each the whole condition that it stands for, that of the top first.
 use Rattle.std.specs.Prelude.{◌≡◌, ◌<◌, ◌≤◌, ℕ, List, [], ◌∷◌, ◌++◌, take, Option, Some, None, option_map, slice_get, slice_index_or}
 use Rattle.std.specs.Borrow.{Bor}
-use Rattle.kc_expr.specs.Form.{Form, form_of}
+use Rattle.kc_expr.specs.Form.{Form}
 use Rattle.kc_read.specs.Reads.{when_view}
 use Rattle.kc_tree.specs.declared.parts.ChoiceId.{ChoiceId}
 use Rattle.kc_tree.specs.declared.parts.Context.{Context}

@@ -1,5 +1,5 @@
 -- For proofs: What the first walk knows of symbols, and what there is to say of lines by it.
-use Rattle.std.specs.Prelude.{◌≡◌, ℕ, ◌<◌, List, map, length, Option, Some, None, slice_get, option_map, unwrap_or, ◌==◌, ◌&&◌, nat_lt, is_none, Bool}
+use Rattle.std.specs.Prelude.{◌≡◌, ℕ, ◌<◌, List, map, length, Option, Some, slice_get, option_map, unwrap_or, ◌==◌, ◌&&◌, nat_lt, is_none, Bool}
 use Rattle.std.specs.List.{filter_map, list_any}
 use Rattle.std.specs.Option.{option_and_then}
 use Rattle.kc_expr.specs.declared.expression.SymId.{SymId}

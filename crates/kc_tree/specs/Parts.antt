@@ -1,5 +1,5 @@
 -- Trusted: Parts of tables, and the definitions of a symbol.
-use Rattle.std.specs.Prelude.{ℕ, ◌-◌, ◌&&◌, List, [], ◌++◌, length, take, drop, nat_le, if◌then◌else◌, Option, Some, None}
+use Rattle.std.specs.Prelude.{◌-◌, ◌&&◌, List, [], ◌++◌, length, take, drop, nat_le, if◌then◌else◌, Option, Some, None}
 use Rattle.kc_tree.specs.declared.parts.DefinitionId.{DefinitionId}
 use Rattle.kc_tree.specs.declared.parts.Span.{Span}
 use Rattle.kc_tree.specs.declared.parts.Symbol.{Symbol}

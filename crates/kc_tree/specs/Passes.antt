@@ -1,6 +1,5 @@
 -- For proofs: Words for the passes over the list of lines.
 use Rattle.std.specs.Prelude.{ℕ, zero, suc, List, [], ◌∷◌, map, Bool, true, false, Option, Some, None}
-use Rattle.std.specs.Option.{option_and_then}
 use Rattle.std.specs.Prelude.{option_map}
 use Rattle.kc_expr.specs.declared.expression.SymId.{SymId}
 use Rattle.kc_expr.specs.Form.{Form, Leaf, form_of, leaf_of}
@@ -10,14 +9,9 @@ use Rattle.kc_tree.specs.declared.lines.Range.{Range}
 use Rattle.kc_tree.specs.declared.lines.ReverseKind.{ReverseKind}
 use Rattle.kc_tree.specs.Facts as spec
 use Rattle.kc_read.specs.declared.line.Line.{Line}
-use Rattle.kc_read.specs.Reads.{statement_view, when_view}
-use Rattle.kc_expr.specs.declared.expression.Expr.{Expr}
-use Rattle.std.specs.declared.alloc.Global.{Global}
-use Rattle.std.specs.declared.rc.Rc.{Rc}
+use Rattle.kc_read.specs.Reads.{statement_view}
 use Rattle.kc_read.specs.Statements.{Numbered, RangeLine}
-use Rattle.std.specs.List.{filter_map}
-use Rattle.kc_expr.specs.declared.expression.Kind.{Kind}
-use Rattle.kc_read.specs.Blocks.{Bracket, Opens, Closes, NoBracket, attributes}
+use Rattle.kc_read.specs.Blocks.{Bracket, Opens, Closes, NoBracket}
 
 -- the statements of lines
 abbrev pub said_by : List Line → List Numbered
@@ -41,3 +35,14 @@ range_view r = (leaf_of r.low.now, leaf_of r.high.now, option_map (λ e. form_of
 abbrev pub range_of : Numbered → Option (Leaf × Leaf × Option Form)
 range_of (RangeLine a b w) = Some (a, b, w)
 range_of _ = None
+
+-- the element at a place, changed
+abbrev pub change : {A : Type 0} → (A → A) → ℕ → List A → List A
+change g k [] = []
+change g zero (x ∷ xs) = g x ∷ xs
+change g (suc k) (x ∷ xs) = x ∷ change g k xs
+
+-- what a table by symbol has, changed at one that may be there
+abbrev pub changed : {A : Type 0} → (A → A) → Option SymId → List A → List A
+changed g None xs = xs
+changed g (Some s) xs = change g s.0 xs

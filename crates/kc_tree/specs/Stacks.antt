@@ -6,7 +6,7 @@ use Rattle.kc_read.specs.Blocks.{enclosing}
 use Rattle.kc_read.specs.Statements.{Numbered}
 use Rattle.kc_tree.specs.Contexts.{condition_in}
 use Rattle.kc_tree.specs.Facts.{entry_number, opener_of}
-use Rattle.kc_tree.specs.Rounds.{Surroundings, round}
+use Rattle.kc_tree.specs.Rounds.{round}
 use Rattle.kc_tree.specs.TreeFacts.{Condition}
 use Rattle.kc_tree.specs.declared.blocks.Block.{Block}
 use Rattle.kc_tree.specs.declared.blocks.Blocks.{Blocks}

@@ -1,6 +1,6 @@
 //! The tree of a root file.
 
-ghost use Rattle.std.specs.Prelude.{◌≡◌, ◌≢◌, IfOk, IfErr, Ok, Err};
+ghost use Rattle.std.specs.Prelude.{◌≢◌, IfOk, IfErr, Ok, Err};
 ghost use Rattle.kc_read.specs.Files.{bytes_in};
 ghost use Rattle.kc_read.specs.Steps.{IsMemory, refusal_view};
 ghost use Rattle.kc_read.specs.declared.refusal.Code.TheVariants.{Memory};

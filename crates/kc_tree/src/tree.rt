@@ -1,6 +1,6 @@
 //! The tree of a Kconfig file.
 
-ghost use Rattle.std.specs.Prelude.{◌≡◌, ◌<◌, length, map, Some, None, slice_get, position};
+ghost use Rattle.std.specs.Prelude.{◌≡◌, ◌<◌, length, map, Some, slice_get, position};
 ghost use Rattle.std.specs.Option.{option_map};
 ghost use Rattle.kc_expr.specs.Names.{symbol, same_name};
 ghost use Rattle.kc_tree.specs.Assemblies.{tree_of};

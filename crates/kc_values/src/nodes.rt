@@ -1,6 +1,6 @@
 //! The nodes of the graph of needs.
 
-ghost use Rattle.std.specs.Prelude.{◌≡◌, ◌<◌, ◌+◌, ◌^◌, length};
+ghost use Rattle.std.specs.Prelude.{◌≡◌, ◌<◌, length};
 ghost use Rattle.kc_values.specs.Nodes as spec;
 ghost use Rattle.kc_values.specs.Nodes.{HasFewNodes, IsNode};
 
