@@ -1,5 +1,5 @@
 -- For proofs: What the first walk knows of symbols, and what there is to say of lines by it.
-use Rattle.std.specs.Prelude.{◌≡◌, ℕ, ◌<◌, List, map, length, Option, Some, slice_get, option_map, unwrap_or, ◌==◌, ◌&&◌, nat_lt, is_none, Bool}
+use Rattle.std.specs.Prelude.{◌≡◌, ℕ, ◌<◌, List, map, length, Option, Some, None, slice_get, option_map, unwrap_or, ◌==◌, ◌&&◌, nat_lt, is_none, Bool}
 use Rattle.std.specs.List.{filter_map, list_any}
 use Rattle.std.specs.Option.{option_and_then}
 use Rattle.kc_expr.specs.declared.expression.SymId.{SymId}
@@ -7,7 +7,7 @@ use Rattle.kc_expr.specs.declared.expression.Kind.{Kind}
 use Rattle.kc_expr.specs.declared.expression.Kind.TheVariants as kind
 use Rattle.kc_expr.specs.Names.{symbol}
 use Rattle.kc_read.specs.Blocks.{numbers}
-use Rattle.kc_read.specs.Statements.{Numbered}
+use Rattle.kc_read.specs.Statements.{Numbered, ChoiceLine}
 use Rattle.kc_tree.specs.declared.diagnostics.EntryPlace.{EntryPlace}
 use Rattle.kc_tree.specs.declared.parts.ChoiceId.{ChoiceId}
 use Rattle.kc_tree.specs.declared.parts.DefinitionId.{DefinitionId}
@@ -21,6 +21,10 @@ use Rattle.kc_tree.specs.Warnings.{menu_entry_at, said_with}
 -- each defined symbol has a number below this one
 abbrev pub AreBelow : ℕ → List Numbered → Type 0
 AreBelow count ss = (i : ℕ) (s : SymId) → symbol_at ss i ≡ Some s → s.0 < count
+
+-- no choice stands in another one
+abbrev pub AreChoicesApart : List Numbered → Type 0
+AreChoicesApart ss = (i : ℕ) → slice_get ss i ≡ Some ChoiceLine → choice_round ss i ≡ None
 
 -- What the first walk finds of a symbol: its type, its choice and the numbers of its definitions.
 pub record Row : Type 0 where

@@ -44,6 +44,10 @@ IsEntryThere titles entries (entry.Menu id) = id.0 < titles
 IsEntryThere titles entries (entry.End menu) = menu < entries
 IsEntryThere titles entries (entry.Comment id) = id.0 < titles
 
+-- each line stands in a definition below this number
+abbrev pub HaveSources : ℕ → List Reverse → Type 0
+HaveSources n = All (λ (r : Reverse). r.source.0 < n)
+
 -- a prompt leads to a context before one
 abbrev pub IsPromptBefore : ℕ → Option Prompt → Type 0
 IsPromptBefore i None = Unit {0}
@@ -59,7 +63,7 @@ pub record IsModeThere (choices : List Choice) (i k : ℕ) : Type 0 where
 -- all of them
 pub record AreSound (conditions : List Condition) (definitions : List Definition) (defaults ranges : ℕ) (lines : List Reverse) (choices : List Choice) (titles : List Title) (entries : List Entry) : Type 0 where
   pub definitions_there : All (IsDefinitionThere conditions defaults ranges) definitions
-  pub lines_there : All (λ (r : Reverse). r.source.0 < length definitions) lines
+  pub lines_there : HaveSources (length definitions) lines
   pub choices_there : All (IsChoiceThere conditions) choices
   pub titles_there : All (IsTitleThere conditions) titles
   pub entries_there : All (IsEntryThere (length titles) (length entries)) entries

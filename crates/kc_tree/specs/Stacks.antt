@@ -3,8 +3,8 @@ use Rattle.std.specs.Prelude.{◌≡◌, ◌<◌, ℕ, List, [], ◌∷◌, ◌+
 use Rattle.std.specs.Option.{option_map}
 use Rattle.kc_expr.specs.Form.{Form}
 use Rattle.kc_read.specs.Blocks.{enclosing}
-use Rattle.kc_read.specs.Statements.{Numbered}
-use Rattle.kc_tree.specs.Contexts.{condition_in}
+use Rattle.kc_read.specs.Statements.{Numbered, ChoiceLine}
+use Rattle.kc_tree.specs.Contexts.{condition_in, top}
 use Rattle.kc_tree.specs.Facts.{entry_number, opener_of}
 use Rattle.kc_tree.specs.Rounds.{round}
 use Rattle.kc_tree.specs.TreeFacts.{Condition}
@@ -35,17 +35,9 @@ asked_at ss i = record {
   entry = option_map (entry_number ss) (opener_of ss i);
 }
 
--- a block stands for what surrounds
-pub record IsBlock (conditions : List Condition) (b : Block) (a : Asked) : Type 0 where
-  pub within : b.within.0 < length conditions
-  pub visible : b.visible.0 < length conditions
-  pub plain : (condition_in conditions b.visible.0).mode ≡ None
-  pub is : block_view conditions b ≡ a
-
 -- the open blocks at a place: that of the place, and those of the openers round it
 pub record AreOpen (ss : List Numbered) (i : ℕ) (conditions : List Condition) (blocks : Blocks) : Type 0 where
-  pub innermost : IsBlock conditions blocks.innermost (asked_at ss i)
-  pub there : (j : ℕ) (b : Block) → slice_get blocks.outside.items j ≡ Some b → (b.within.0 < length conditions) × (b.visible.0 < length conditions)
+  pub innermost : block_view conditions blocks.innermost ≡ asked_at ss i
   pub outside : map (block_view conditions) blocks.outside.items ≡ map (asked_at ss) (enclosing ss i)
 
 -- the innermost block is closed, where one is open
@@ -54,8 +46,19 @@ IsClosed old new =
     ((outside : List Block) (b : Block) → old.outside.items ≡ outside ++ b ∷ [] → (new.innermost ≡ b) × (new.outside.items ≡ outside))
     × (old.outside.items ≡ [] → new ≡ old)
 
--- the blocks lead to contexts that are there
+-- a block leads to contexts that are there; what is visible in it asks for no mode
+pub record IsBlockThere (conditions : List Condition) (b : Block) : Type 0 where
+  pub within : b.within.0 < length conditions
+  pub visible : b.visible.0 < length conditions
+  pub plain : (condition_in conditions b.visible.0).mode ≡ None
+
+-- all of them, and the context with the number 0 is the top
 pub record AreBlocksThere (conditions : List Condition) (blocks : Blocks) : Type 0 where
-  pub within : blocks.innermost.within.0 < length conditions
-  pub visible : blocks.innermost.visible.0 < length conditions
-  pub outside : (j : ℕ) (b : Block) → slice_get blocks.outside.items j ≡ Some b → (b.within.0 < length conditions) × (b.visible.0 < length conditions)
+  pub first : condition_in conditions 0 ≡ top
+  pub innermost : IsBlockThere conditions blocks.innermost
+  pub outside : (j : ℕ) (b : Block) → slice_get blocks.outside.items j ≡ Some b → IsBlockThere conditions b
+
+-- a choice begins where no mode counts
+abbrev pub IsPlainHead : Numbered → Option ℕ → Type 0
+IsPlainHead ChoiceLine mode = mode ≡ None
+IsPlainHead _ mode = Unit {0}

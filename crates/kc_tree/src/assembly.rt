@@ -3,7 +3,7 @@
 ghost use Rattle.std.specs.Prelude.{◌≡◌, ◌<◌, ◌+◌, ◌*◌, ◌^◌, length, map, nat_lt, if◌then◌else◌, IfOk, Some, None};
 ghost use Rattle.kc_read.specs.Reads.{line_view};
 ghost use Rattle.kc_tree.specs.Assemblies.{assembled_view};
-ghost use Rattle.kc_tree.specs.Known.{AreBelow};
+ghost use Rattle.kc_tree.specs.Known.{AreBelow, AreChoicesApart};
 ghost use Rattle.kc_tree.specs.Passes.{said_by};
 ghost use Rattle.kc_tree.specs.Trees.{tree_with};
 
@@ -43,6 +43,7 @@ pub fn assemble(
     modules: SymId,
 ) -> Result<Result<TreeParts, Refusal>, AllocError>
     requires below { AreBelow count (said_by lines.now) }
+    requires apart { AreChoicesApart (said_by lines.now) }
     requires few { 4 * length lines.now + 8 < 2 ^ 32 }
     ensures { IfOk result (λ s. assembled_view names.now s ≡ tree_with names.now count modules (map line_view lines.now)) }
 {

@@ -104,7 +104,7 @@ pub fn entry_context(
     requires there { outer.0 < length contexts.old }
     requires few { length contexts.old + length attributes.now < 2 ^ 32 }
     ensures made { IfOk result (λ id. Stands contexts.new id.0 (and_all (condition_in contexts.old outer.0) (filter_map facts.depends_form (said_by attributes.now)))) }
-    ensures kept { OnOk result (IsGrown contexts.old contexts.new (length attributes.now)) }
+    ensures kept { IsGrown contexts.old contexts.new (condition_in contexts.old outer.0).mode (length attributes.now) }
 {
     let mut at = outer;
     for line in attributes {
@@ -125,7 +125,7 @@ pub fn visible_context(
     requires there { outer.0 < length contexts.old }
     requires few { length contexts.old + length attributes.now < 2 ^ 32 }
     ensures made { IfOk result (λ id. Stands contexts.new id.0 (and_all (condition_in contexts.old outer.0) (filter_map facts.visible_form (said_by attributes.now)))) }
-    ensures kept { OnOk result (IsGrown contexts.old contexts.new (length attributes.now)) }
+    ensures kept { IsGrown contexts.old contexts.new (condition_in contexts.old outer.0).mode (length attributes.now) }
 {
     let mut at = outer;
     for line in attributes {
@@ -145,6 +145,7 @@ pub fn add_defaults(
     ensures added { OnOk result (map default_row defaults.new.items ≡ map default_row defaults.old.items ++ filter_map default_line (said_by attributes.now)) }
     ensures start { IfOk result (λ s. s.start ≡ length defaults.old.items) }
     ensures end { IfOk result (λ s. s.end ≡ length defaults.new.items) }
+    ensures longer { length defaults.old.items ≤ length defaults.new.items }
 {
     let start = defaults.len() as u32;
     for line in attributes {
@@ -170,6 +171,7 @@ pub fn add_ranges(
     ensures added { OnOk result (map range_row ranges.new.items ≡ map range_row ranges.old.items ++ filter_map range_line (said_by attributes.now)) }
     ensures start { IfOk result (λ s. s.start ≡ length ranges.old.items) }
     ensures end { IfOk result (λ s. s.end ≡ length ranges.new.items) }
+    ensures longer { length ranges.old.items ≤ length ranges.new.items }
 {
     let start = ranges.len() as u32;
     for line in attributes {

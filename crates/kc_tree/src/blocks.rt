@@ -3,7 +3,6 @@
 ghost use Rattle.std.specs.Prelude.{◌≡◌, ◌<◌, ◌++◌, ◌∷◌, [], ◌^◌, None, Some, length, IfOk, OnOk, OnErr};
 ghost use Rattle.kc_expr.specs.Form.{form_of};
 ghost use Rattle.kc_tree.specs.Contexts.{and_also, in_choice, condition_in};
-ghost use Rattle.kc_tree.specs.Growth.{IsGrown, Stands};
 ghost use Rattle.kc_tree.specs.Stacks.{IsClosed};
 
 use crate::contexts::Contexts;
@@ -81,10 +80,11 @@ pub fn if_block(
 ) -> Result<Block, AllocError>
     requires there { outer.within.0 < length contexts.old }
     requires few { length contexts.old < 2 ^ 32 }
-    ensures made { IfOk result (λ b. Stands contexts.new b.within.0 (and_also (condition_in contexts.old outer.within.0) (form_of condition.value))) }
+    ensures added { OnOk result (contexts.new ≡ contexts.old ++ and_also (condition_in contexts.old outer.within.0) (form_of condition.value) ∷ []) }
+    ensures within { IfOk result (λ b. b.within.0 ≡ length contexts.old) }
     ensures visible { IfOk result (λ b. b.visible ≡ outer.visible) }
     ensures entry { IfOk result (λ b. b.entry ≡ Some entry) }
-    ensures kept { OnOk result (IsGrown contexts.old contexts.new 1) }
+    ensures unchanged { OnErr result (contexts.new ≡ contexts.old) }
 {
     let within = contexts.inside(outer.within, condition)?;
     Ok(Block {
@@ -103,10 +103,11 @@ pub fn choice_block(
 ) -> Result<Block, AllocError>
     requires there { outer.within.0 < length contexts.old }
     requires few { length contexts.old < 2 ^ 32 }
-    ensures made { IfOk result (λ b. Stands contexts.new b.within.0 (in_choice (condition_in contexts.old outer.within.0) choice.0)) }
+    ensures added { OnOk result (contexts.new ≡ contexts.old ++ in_choice (condition_in contexts.old outer.within.0) choice.0 ∷ []) }
+    ensures within { IfOk result (λ b. b.within.0 ≡ length contexts.old) }
     ensures visible { IfOk result (λ b. b.visible ≡ outer.visible) }
     ensures entry { IfOk result (λ b. b.entry ≡ Some entry) }
-    ensures kept { OnOk result (IsGrown contexts.old contexts.new 1) }
+    ensures unchanged { OnErr result (contexts.new ≡ contexts.old) }
 {
     let within = contexts.inside_choice(outer.within, choice)?;
     Ok(Block {

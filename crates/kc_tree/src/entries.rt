@@ -1,14 +1,14 @@
 //! The second walk over the lines, entry by entry with the open blocks: all that they say but of symbols alone.
 
-ghost use Rattle.std.specs.Prelude.{◌≡◌, ℕ, List, ◌<◌, ◌+◌, ◌*◌, ◌^◌, [], length, map, IfOk, OnOk};
+ghost use Rattle.std.specs.Prelude.{◌≡◌, ℕ, List, ◌<◌, ◌+◌, ◌*◌, ◌^◌, [], length, map, None, IfOk, OnOk};
 ghost use Rattle.kc_expr.specs.Form.{form_of};
 ghost use Rattle.kc_read.specs.Reads.{line_view, statement_view};
 ghost use Rattle.kc_read.specs.Statements.{Numbered, ConfigLine, IfLine, MenuLine, CommentLine, ChoiceLine, EndMenuLine};
 ghost use Rattle.kc_tree.specs.declared.parts.Symbol.{Symbol};
-ghost use Rattle.kc_tree.specs.Known.{AreBelow, AreSymbols, IsPlace};
+ghost use Rattle.kc_tree.specs.Known.{AreBelow, AreChoicesApart, AreSymbols, IsPlace};
 ghost use Rattle.kc_tree.specs.Passes.{said_by};
 ghost use Rattle.kc_tree.specs.Said.{AreSaid, HasHeads, HasRoom, IsDiagnosed};
-ghost use Rattle.kc_tree.specs.Stacks.{AreBlocksThere};
+ghost use Rattle.kc_tree.specs.Stacks.{AreBlocksThere, IsPlainHead};
 ghost use Rattle.kc_tree.specs.Contexts.{condition_in};
 ghost use Rattle.kc_tree.specs.Layouts.{choice_facts as choice_in};
 
@@ -114,6 +114,7 @@ impl Walk {
     ) -> Result<TitleId, AllocError>
         requires within { within.0 < length self.old.tables.contexts }
         requires visible { visible.0 < length self.old.tables.contexts }
+        requires plain { (condition_in self.old.tables.contexts visible.0).mode ≡ None }
         requires few { length self.old.tables.titles.items < 2 ^ 32 }
         ensures number { IfOk result (λ id. id.0 ≡ length self.old.tables.titles.items) }
         ensures title { OnOk result (AddsTitle text.now within visible self.old self.new) }
@@ -178,6 +179,7 @@ impl Walk {
         own: &[Line],
     ) -> Result<(), AllocError>
         requires room { HasRoom (length own.now) self.old.tables }
+        requires plain { (condition_in self.old.tables.contexts self.old.blocks.innermost.within.0).mode ≡ None }
         ensures { OnOk result (Enters symbols.now ChoiceLine (said_by own.now) self.old self.new) }
     {
         let entry = self.next_entry();
@@ -217,6 +219,7 @@ impl Walk {
     ) -> Result<(), AllocError>
         requires room { HasRoom (length own.now) self.old.tables }
         requires heads { HasHeads symbols.now self.old.tables }
+        requires plain { IsPlainHead (statement_view head.now) (condition_in self.old.tables.contexts self.old.blocks.innermost.within.0).mode }
         ensures { OnOk result (Enters symbols.now (statement_view head.now) (said_by own.now) self.old self.new) }
     {
         match head {
@@ -284,6 +287,7 @@ pub fn walk_entries(
 ) -> Result<Said, AllocError>
     requires symbols { AreSymbols (said_by lines.now) symbols.now }
     requires below { AreBelow (length symbols.now) (said_by lines.now) }
+    requires apart { AreChoicesApart (said_by lines.now) }
     requires few { 4 * length lines.now + 8 < 2 ^ 32 }
     ensures said { IfOk result (λ s. AreSaid (said_by lines.now) symbols.now s.tables s.main_menu.items) }
     ensures diagnosed { IfOk result (λ s. IsDiagnosed names.now (map line_view lines.now) (length lines.now) s.diagnostics) }

@@ -1,8 +1,7 @@
 //! What one line says.
 
-ghost use Rattle.std.specs.Prelude.{◌≡◌, ◌<◌, ◌≤◌, ◌+◌, length, option_map, Some};
-ghost use Rattle.std.specs.Option.{option_copied};
-ghost use Rattle.kc_expr.specs.Form.{form_of, leaf_of};
+ghost use Rattle.std.specs.Prelude.{◌≡◌, option_map, Some};
+ghost use Rattle.kc_expr.specs.Form.{form_of};
 ghost use Rattle.kc_read.specs.Blocks.{bracket, opened};
 ghost use Rattle.kc_read.specs.Blocks as blocks;
 ghost use Rattle.kc_read.specs.Reads.{statement_view, asked_view, when_view};

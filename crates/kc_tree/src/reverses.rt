@@ -1,6 +1,6 @@
 //! What selects and implies each symbol.
 
-ghost use Rattle.std.specs.Prelude.{◌≡◌, ◌<◌, ◌+◌, ◌^◌, ◌++◌, ◌∷◌, [], None, Some, length, option_map, replicate, slice_get, slice_index_or, slice_set, IfOk, IfSome, OnOk};
+ghost use Rattle.std.specs.Prelude.{◌≡◌, ◌<◌, ◌+◌, ◌^◌, ◌++◌, ◌∷◌, [], None, Some, length, option_map, replicate, slice_get, slice_index_or, slice_set, IfOk, IfSome, OnOk, OnErr};
 ghost use Rattle.kc_tree.specs.Chains.{AreChained, AreHeads};
 ghost use Rattle.kc_expr.specs.Form.{form_of};
 ghost use Rattle.kc_tree.specs.Passes.{said_by};
@@ -48,6 +48,8 @@ fn add_line(
     requires few { length lines.old.items < 2 ^ 32 }
     ensures line { OnOk result (lines.new.items ≡ lines.old.items ++ record { source = source; when = when; next = slice_index_or heads.old symbol.0 None } ∷ []) }
     ensures head { OnOk result (heads.new ≡ slice_set heads.old symbol.0 (Some (record { 0 = length lines.old.items }))) }
+    ensures lines_stay { OnErr result (lines.new.items ≡ lines.old.items) }
+    ensures heads_stay { OnErr result (heads.new ≡ heads.old) }
 {
     let id = ReverseId(lines.len() as u32);
     lines.push(Reverse {
@@ -60,7 +62,7 @@ fn add_line(
 }
 
 impl Reverses {
-    ghost use Rattle.kc_tree.specs.ReverseRows.{IsAdded, AreAdded};
+    ghost use Rattle.kc_tree.specs.ReverseRows.{IsAdded, AreAdded, KeepSources};
 
     /// No line yet, of this many symbols. Fails only when it is out of memory.
     pub fn new(alloc: Global, count: usize) -> Result<Reverses, AllocError>
@@ -115,7 +117,8 @@ impl Reverses {
         requires count { length self.old.selects.items ≡ length symbols.now }
         requires same { length self.old.implies.items ≡ length symbols.now }
         requires few { length self.old.lines.items < 2 ^ 32 }
-        ensures { OnOk result (IsAdded symbols.now source self.old (target.entry.kind, target.entry.symbol, option_map (λ e. form_of e.now.value) target.entry.when) self.new) }
+        ensures added { OnOk result (IsAdded symbols.now source self.old (target.entry.kind, target.entry.symbol, option_map (λ e. form_of e.now.value) target.entry.when) self.new) }
+        ensures sources { KeepSources source.0 self.old.lines.items self.new.lines.items }
     {
         if !is_target(symbols, target.symbol) {
             return Ok(());
@@ -138,7 +141,8 @@ impl Reverses {
         requires count { length self.old.selects.items ≡ length symbols.now }
         requires same { length self.old.implies.items ≡ length symbols.now }
         requires few { length self.old.lines.items + length attributes.now < 2 ^ 32 }
-        ensures { OnOk result (AreAdded symbols.now source self.old (said_by attributes.now) self.new) }
+        ensures added { OnOk result (AreAdded symbols.now source self.old (said_by attributes.now) self.new) }
+        ensures sources { KeepSources source.0 self.old.lines.items self.new.lines.items }
     {
         for line in attributes {
             if let Some(target) = target_of(&line.statement) {
