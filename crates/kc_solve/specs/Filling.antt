@@ -62,6 +62,9 @@ pub record IsSettledChoice (chosen : List (Option SymId)) (c : ℕ) (old new : T
 
 -- after the first k nodes: each of them has its value or is settled, and no other context or choice is
 pub record IsFilledTo (given : List (Option UserValue)) (chosen : List (Option SymId)) (nodes : List ℕ) (k : ℕ) (t : Table) : Type 0 where
+  pub value_count : length t.values.items ≡ length t.layout.now.symbols.items
+  pub context_count : length t.contexts.items ≡ length t.layout.now.tables.contexts
+  pub choice_count : length t.selections.items ≡ length t.layout.now.tables.choices.items
   pub symbols_are : (s : ℕ) → s < length t.values.items → Contains (take k nodes) s → known_at t (symbol s) ≡ equations t.tree.now (places given chosen) s (λ i. known_at t (symbol i))
   pub contexts_wait : (i : ℕ) → (Contains (take k nodes) (context_number t.layout.now i) → ⊥) → slice_index_or t.contexts.items i None ≡ None
   pub choices_wait : (c : ℕ) → (Contains (take k nodes) (choice_number t.layout.now c) → ⊥) → slice_index_or t.selections.items c None ≡ None

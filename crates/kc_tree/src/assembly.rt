@@ -1,6 +1,7 @@
 //! All that lines say that were read whole.
 
-ghost use Rattle.std.specs.Prelude.{◌≡◌, ◌<◌, ◌+◌, ◌*◌, ◌^◌, length, map, nat_lt, if◌then◌else◌, IfOk, Some, None};
+ghost use Rattle.std.specs.Prelude.{◌≡◌, ◌<◌, ◌≤◌, ◌+◌, ◌*◌, ◌^◌, length, map, nat_lt, if◌then◌else◌, IfOk, Some, None};
+ghost use Rattle.kc_read.specs.Limits.{most_symbols};
 ghost use Rattle.kc_read.specs.Reads.{line_view};
 ghost use Rattle.kc_tree.specs.Assemblies.{assembled_view};
 ghost use Rattle.kc_tree.specs.Known.{AreBelow, AreChoicesApart};
@@ -44,6 +45,7 @@ pub fn assemble(
 ) -> Result<Result<TreeParts, Refusal>, AllocError>
     requires below { AreBelow count (said_by lines.now) }
     requires apart { AreChoicesApart (said_by lines.now) }
+    requires defined { count ≤ most_symbols }
     requires few { 4 * length lines.now + 8 < 2 ^ 32 }
     ensures { IfOk result (λ s. assembled_view names.now s ≡ tree_with names.now count modules (map line_view lines.now)) }
 {

@@ -7,7 +7,7 @@ ghost use Rattle.kc_read.specs.Statements.{Numbered, ConfigLine, IfLine, MenuLin
 ghost use Rattle.kc_tree.specs.declared.parts.Symbol.{Symbol};
 ghost use Rattle.kc_tree.specs.Known.{AreBelow, AreChoicesApart, AreSymbols, IsPlace};
 ghost use Rattle.kc_tree.specs.Passes.{said_by};
-ghost use Rattle.kc_tree.specs.Said.{AreSaid, HasHeads, HasRoom, IsDiagnosed};
+ghost use Rattle.kc_tree.specs.Said.{AreSaid, HasHeads, HasRoom, IsDiagnosed, IsSmall};
 ghost use Rattle.kc_tree.specs.Stacks.{AreBlocksThere, IsPlainHead};
 ghost use Rattle.kc_tree.specs.Contexts.{condition_in};
 ghost use Rattle.kc_tree.specs.Layouts.{choice_facts as choice_in};
@@ -290,6 +290,7 @@ pub fn walk_entries(
     requires apart { AreChoicesApart (said_by lines.now) }
     requires few { 4 * length lines.now + 8 < 2 ^ 32 }
     ensures said { IfOk result (λ s. AreSaid (said_by lines.now) symbols.now s.tables s.main_menu.items) }
+    ensures small { IfOk result (λ s. IsSmall (length lines.now) s.tables) }
     ensures diagnosed { IfOk result (λ s. IsDiagnosed names.now (map line_view lines.now) (length lines.now) s.diagnostics) }
 {
     let mut walk = Walk {

@@ -1,6 +1,6 @@
 //! The layout of a tree: its contexts, definitions, reverse dependencies, choices and entries, each in one table.
 
-ghost use Rattle.std.specs.Prelude.{◌≡◌, ◌<◌, None, length, option_map, slice_get, slice_index_or, IfSome};
+ghost use Rattle.std.specs.Prelude.{◌≡◌, ◌<◌, ◌+◌, ◌^◌, None, length, option_map, slice_get, slice_index_or, IfSome};
 ghost use Rattle.kc_tree.specs.Contexts.{condition_in, mode_view, IsContext};
 ghost use Rattle.kc_tree.specs.Parts.{part_of, definition_ids};
 ghost use Rattle.kc_tree.specs.Soundness.{AreSound};
@@ -57,6 +57,7 @@ impl Tables {
 pub struct Layout {
     pub(crate) symbols: Vec<Symbol>,
     pub(crate) tables: Tables,
+    ghost few: { length symbols.items + length tables.contexts + length tables.choices.items < 2 ^ 32 },
 }
 
 // The part of a table that a span names; no part where it is not there.

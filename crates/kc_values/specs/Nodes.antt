@@ -1,5 +1,5 @@
 -- For proofs: The nodes of the graph of needs, by number: symbols, contexts, choices.
-use Rattle.std.specs.Prelude.{◌≡◌, ◌<◌, ◌≤◌, ◌+◌, ◌^◌, ℕ, length}
+use Rattle.std.specs.Prelude.{◌≡◌, ◌<◌, ◌≤◌, ◌+◌, ℕ, length}
 use Rattle.kc_tree.specs.declared.layout.Layout.{Layout}
 use Rattle.kc_values.specs.declared.nodes.Node.{Node}
 use Rattle.kc_values.specs.declared.nodes.Node.TheVariants as node
@@ -15,10 +15,6 @@ context_number l c = length l.symbols.items + c
 
 abbrev pub choice_number : Layout → ℕ → ℕ
 choice_number l k = first_choice l + k
-
--- a number of 32 bits names each
-abbrev pub HasFewNodes : Layout → Type 0
-HasFewNodes l = node_count l < 2 ^ 32
 
 -- the node with a number
 abbrev pub IsNode : Layout → ℕ → Node → Type 0

@@ -12,7 +12,6 @@ ghost use Rattle.kc_tree.specs.Soundness.{IsChoiceThere, IsDefinitionThere, IsPr
 ghost use Rattle.kc_values.specs.Needs as spec;
 ghost use Rattle.kc_values.specs.NeedRows as rows;
 ghost use Rattle.kc_values.specs.NeedRows.{Adds, IsRow};
-ghost use Rattle.kc_values.specs.Nodes.{HasFewNodes};
 
 use crate::nodes::{choice_number, context_number, node_count};
 use kc_expr::expression::{Expr, Kind, Operand, SymId};
@@ -46,7 +45,6 @@ fn own_into(when: &Option<Rc<Expr>>, out: &mut Row) -> Result<(), AllocError>
 
 // Adds a context, but for the top, which names nothing.
 fn context_into(layout: &Layout, id: ContextId, out: &mut Row) -> Result<(), AllocError>
-    requires few { HasFewNodes layout.now }
     requires there { id.0 < length layout.now.tables.contexts }
     ensures { OnOk result (Adds out.old out.new (rows.context_nodes layout.now id.0) []) }
 {
@@ -58,7 +56,6 @@ fn context_into(layout: &Layout, id: ContextId, out: &mut Row) -> Result<(), All
 
 // Adds a prompt, where there is one, but for what its entry depends on.
 fn prompt_into(layout: &Layout, prompt: &Option<Prompt>, out: &mut Row) -> Result<(), AllocError>
-    requires few { HasFewNodes layout.now }
     requires there { IsPromptThere layout.now.tables.contexts prompt.now }
     ensures { OnOk result (Adds out.old out.new (rows.prompt_nodes layout.now prompt.now) (rows.prompt_names prompt.now)) }
 {
@@ -73,7 +70,6 @@ fn prompt_into(layout: &Layout, prompt: &Option<Prompt>, out: &mut Row) -> Resul
 
 // Adds the prompt of a choice, where there is one.
 fn choice_prompt_into(layout: &Layout, choice: &Choice, out: &mut Row) -> Result<(), AllocError>
-    requires few { HasFewNodes layout.now }
     requires there { IsChoiceThere layout.now.tables.contexts choice.now }
     ensures { OnOk result (Adds out.old out.new (rows.choice_prompt_nodes layout.now choice.now) (rows.prompt_names choice.now.prompt)) }
 {
@@ -85,7 +81,6 @@ fn choice_prompt_into(layout: &Layout, choice: &Choice, out: &mut Row) -> Result
 
 // Adds what the mode of a choice names.
 fn mode_into(layout: &Layout, mode: Option<ChoiceId>, out: &mut Row) -> Result<(), AllocError>
-    requires few { HasFewNodes layout.now }
     ensures { OnOk result (Adds out.old out.new (rows.mode_nodes layout.now mode) (rows.mode_names layout.now mode)) }
 {
     let Some(id) = mode else {
@@ -100,7 +95,6 @@ fn mode_into(layout: &Layout, mode: Option<ChoiceId>, out: &mut Row) -> Result<(
 // Adds what a context asks for besides the one outside it, and that one: a context that asks for nothing of its own is that of
 // a choice's members, which asks for its mode.
 fn asked_into(layout: &Layout, context: &Context, out: &mut Row) -> Result<(), AllocError>
-    requires few { HasFewNodes layout.now }
     requires there { context.now.outer.0 < length layout.now.tables.contexts }
     ensures { OnOk result (Adds out.old out.new (rows.asked_nodes layout.now context.now) (rows.asked_names layout.now context.now)) }
 {
@@ -123,7 +117,6 @@ fn definition<'l>(layout: &'l Layout, symbol: &Symbol, i: usize) -> Option<&'l D
 
 // Adds the prompts of a symbol.
 fn prompts_into(layout: &Layout, symbol: &Symbol, out: &mut Row) -> Result<(), AllocError>
-    requires few { HasFewNodes layout.now }
     ensures { OnOk result (Adds out.old out.new (rows.prompts_nodes layout.now symbol.now) (rows.prompts_names layout.now symbol.now)) }
 {
     for i in 0..symbol.definition_count() {
@@ -205,7 +198,6 @@ fn definition_into(
     definition: &Definition,
     out: &mut Row,
 ) -> Result<(), AllocError>
-    requires few { HasFewNodes layout.now }
     requires there { IsDefinitionThere layout.now.tables.contexts (length layout.now.tables.defaults.items) (length layout.now.tables.ranges.items) definition.now }
     ensures { OnOk result (Adds out.old out.new (rows.definition_nodes layout.now kind definition.now) (rows.definition_names layout.now kind definition.now)) }
 {
@@ -222,7 +214,6 @@ fn definition_into(
 
 // Adds the definitions of a symbol.
 fn definitions_into(layout: &Layout, symbol: &Symbol, out: &mut Row) -> Result<(), AllocError>
-    requires few { HasFewNodes layout.now }
     ensures { OnOk result (Adds out.old out.new (rows.definitions_nodes layout.now symbol.now) (rows.definitions_names layout.now symbol.now)) }
 {
     for i in 0..symbol.definition_count() {
@@ -235,7 +226,6 @@ fn definitions_into(layout: &Layout, symbol: &Symbol, out: &mut Row) -> Result<(
 
 // Adds the symbols that select or imply, and what those lines depend on, from the last line on.
 fn reverses_into(layout: &Layout, last: Option<ReverseId>, out: &mut Row) -> Result<(), AllocError>
-    requires few { HasFewNodes layout.now }
     ensures { OnOk result (Adds out.old out.new (rows.reverses_nodes layout.now last) (rows.reverses_names layout.now last)) }
 {
     let mut at = last;
@@ -277,7 +267,6 @@ fn truth_into(
     symbol: &Symbol,
     out: &mut Row,
 ) -> Result<(), AllocError>
-    requires few { HasFewNodes layout.now }
     ensures { OnOk result (Adds out.old out.new (rows.truth_nodes layout.now id.0 symbol.now) (rows.truth_names tree.now layout.now id.0 symbol.now)) }
 {
     definitions_into(layout, symbol, out)?;
@@ -294,7 +283,6 @@ fn symbol_into(
     symbol: &Symbol,
     out: &mut Row,
 ) -> Result<(), AllocError>
-    requires few { HasFewNodes layout.now }
     requires choice { IfSome symbol.now.choice (λ c. c.0 < length layout.now.tables.choices.items) }
     ensures { OnOk result (Adds out.old out.new (rows.symbol_nodes layout.now id.0 symbol.now) (rows.symbol_names tree.now layout.now id.0 symbol.now)) }
 {
@@ -314,7 +302,6 @@ fn symbol_into(
 
 // Adds the conditions of the defaults of a choice.
 fn choice_defaults_into(layout: &Layout, choice: &Choice, out: &mut Row) -> Result<(), AllocError>
-    requires few { HasFewNodes layout.now }
     requires there { IsChoiceThere layout.now.tables.contexts choice.now }
     ensures { OnOk result (Adds out.old out.new (rows.choice_defaults_nodes layout.now choice.now) (flat_map rows.choice_default_names choice.now.defaults.items)) }
 {
@@ -329,7 +316,6 @@ fn choice_defaults_into(layout: &Layout, choice: &Choice, out: &mut Row) -> Resu
 
 // Adds what the selection of a choice names: the prompts of its members, its own, and its defaults.
 fn choice_into(layout: &Layout, choice: &Choice, out: &mut Row) -> Result<(), AllocError>
-    requires few { HasFewNodes layout.now }
     requires there { IsChoiceThere layout.now.tables.contexts choice.now }
     ensures { OnOk result (Adds out.old out.new (rows.choice_nodes layout.now choice.now) (rows.choice_names layout.now choice.now)) }
 {
@@ -365,7 +351,6 @@ fn add_symbols(
     row: &mut Row,
     graph: &mut Graph,
 ) -> Result<(), AllocError>
-    requires few { HasFewNodes layout.now }
     requires row { IsRow [] [] row.old }
     ensures graph { OnOk result (graph.new ≡ record graph.old { rows = graph.old.rows ++ rows.symbol_rows tree.now layout.now }) }
     ensures row { OnOk result (IsRow [] [] row.new) }
@@ -380,7 +365,6 @@ fn add_symbols(
 
 // Adds the nodes of the contexts, the top first.
 fn add_contexts(layout: &Layout, row: &mut Row, graph: &mut Graph) -> Result<(), AllocError>
-    requires few { HasFewNodes layout.now }
     requires row { IsRow [] [] row.old }
     ensures graph { OnOk result ((contexts : List (List ℕ)) × rows.AreContextRows layout.now contexts × (graph.new ≡ record graph.old { rows = graph.old.rows ++ contexts })) }
     ensures row { OnOk result (IsRow [] [] row.new) }
@@ -397,7 +381,6 @@ fn add_contexts(layout: &Layout, row: &mut Row, graph: &mut Graph) -> Result<(),
 
 // Adds the nodes of the choices.
 fn add_choices(layout: &Layout, row: &mut Row, graph: &mut Graph) -> Result<(), AllocError>
-    requires few { HasFewNodes layout.now }
     requires row { IsRow [] [] row.old }
     ensures graph { OnOk result (graph.new ≡ record graph.old { rows = graph.old.rows ++ rows.choice_rows layout.now }) }
     ensures row { OnOk result (IsRow [] [] row.new) }

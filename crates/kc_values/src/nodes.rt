@@ -2,7 +2,7 @@
 
 ghost use Rattle.std.specs.Prelude.{◌≡◌, ◌<◌, length};
 ghost use Rattle.kc_values.specs.Nodes as spec;
-ghost use Rattle.kc_values.specs.Nodes.{HasFewNodes, IsNode};
+ghost use Rattle.kc_values.specs.Nodes.{IsNode};
 
 use kc_expr::expression::SymId;
 use kc_tree::layout::Layout;
@@ -19,7 +19,6 @@ pub enum Node {
 
 // The number of the first choice: the symbols come first, then the contexts, and then the choices.
 fn first_choice(layout: &Layout) -> usize
-    requires { HasFewNodes layout.now }
     ensures { result ≡ spec.first_choice layout.now }
 {
     layout.symbols().len() + layout.context_count()
@@ -27,7 +26,6 @@ fn first_choice(layout: &Layout) -> usize
 
 /// How many nodes there are.
 pub fn node_count(layout: &Layout) -> usize
-    requires { HasFewNodes layout.now }
     ensures { result ≡ spec.node_count layout.now }
 {
     first_choice(layout) + layout.choices().len()
@@ -35,8 +33,7 @@ pub fn node_count(layout: &Layout) -> usize
 
 /// The number of a context's node.
 pub fn context_number(layout: &Layout, id: ContextId) -> u32
-    requires few { HasFewNodes layout.now }
-    requires there { id.0 < length layout.now.tables.contexts }
+    requires { id.0 < length layout.now.tables.contexts }
     ensures { result ≡ spec.context_number layout.now id.0 }
 {
     layout.symbols().len() as u32 + id.0
@@ -44,8 +41,7 @@ pub fn context_number(layout: &Layout, id: ContextId) -> u32
 
 /// The number of a choice's node.
 pub fn choice_number(layout: &Layout, id: ChoiceId) -> u32
-    requires few { HasFewNodes layout.now }
-    requires there { id.0 < length layout.now.tables.choices.items }
+    requires { id.0 < length layout.now.tables.choices.items }
     ensures { result ≡ spec.choice_number layout.now id.0 }
 {
     (first_choice(layout) + id.0) as u32
@@ -53,7 +49,6 @@ pub fn choice_number(layout: &Layout, id: ChoiceId) -> u32
 
 /// The node with a number.
 pub fn node_of(layout: &Layout, number: u32) -> Node
-    requires few { HasFewNodes layout.now }
     ensures { IsNode layout.now number result }
 {
     let place = number as usize;
