@@ -1,6 +1,6 @@
 //! The second walk over the lines, entry by entry with the open blocks: all that they say but of symbols alone.
 
-ghost use Rattle.std.specs.Prelude.{◌≡◌, ℕ, List, ◌<◌, ◌+◌, ◌*◌, ◌^◌, [], length, map, None, IfOk, OnOk};
+ghost use Rattle.std.specs.Prelude.{◌≡◌, ℕ, List, ◌<◌, ◌+◌, ◌*◌, ◌^◌, length, map, None, IfOk, OnOk};
 ghost use Rattle.kc_expr.specs.Form.{form_of};
 ghost use Rattle.kc_read.specs.Reads.{line_view, statement_view};
 ghost use Rattle.kc_read.specs.Statements.{Numbered, ConfigLine, IfLine, MenuLine, CommentLine, ChoiceLine, EndMenuLine};
@@ -132,7 +132,7 @@ impl Walk {
     // An `if`.
     fn open_if(&mut self, condition: &Rc<Expr>) -> Result<(), AllocError>
         requires room { HasRoom 0 self.old.tables }
-        ensures { OnOk result ((symbols : List Symbol) → Enters symbols (IfLine (form_of condition.now.value)) [] self.old self.new) }
+        ensures { OnOk result ((symbols : List Symbol) (own : List Numbered) → Enters symbols (IfLine (form_of condition.now.value)) own self.old self.new) }
     {
         let entry = self.next_entry();
         let outer = self.blocks.innermost();
