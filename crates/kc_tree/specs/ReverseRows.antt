@@ -1,5 +1,5 @@
 -- For proofs: The lines that select and imply symbols, as they are added.
-use Rattle.std.specs.Prelude.{◌≡◌, ◌≤◌, ◌<◌, ◌+◌, ◌==◌, ◌&&◌, ℕ, Bool, true, false, List, [], ◌∷◌, ◌++◌, length, reverse, if◌then◌else◌, Option, None, slice_get, slice_index_or}
+use Rattle.std.specs.Prelude.{◌≡◌, ◌≤◌, ◌<◌, All, ◌+◌, ◌==◌, ◌&&◌, ℕ, Bool, true, false, List, [], ◌∷◌, ◌++◌, length, reverse, if◌then◌else◌, Option, None, slice_get, slice_index_or}
 use Rattle.std.specs.Option.{option_map}
 use Rattle.std.specs.List.{filter_map, flat_map}
 use Rattle.kc_expr.specs.declared.expression.SymId.{SymId}
@@ -16,7 +16,6 @@ use Rattle.kc_tree.specs.declared.reverses.Reverses.{Reverses}
 use Rattle.kc_tree.specs.Chains.{chain_of, chains_of}
 use Rattle.kc_tree.specs.Facts.{listed}
 use Rattle.kc_tree.specs.Known.{can_be_target}
-use Rattle.kc_tree.specs.Soundness.{HaveSources}
 use Rattle.kc_tree.specs.Targets.{target_of}
 
 -- a line by the number of its definition
@@ -45,6 +44,10 @@ added_line symbols source kind s t =
 
 abbrev pub added_lines : List Symbol → DefinitionId → ReverseKind → ℕ → List Numbered → List (ℕ × Option Form)
 added_lines symbols source kind s own = flat_map (λ l. flat_map (added_line symbols source kind s) (listed (target_of l))) own
+
+-- each line stands in a definition below this number
+abbrev pub HaveSources : ℕ → List Reverse → Type 0
+HaveSources n = All (λ (r : Reverse). r.source.0 < n)
 
 -- where the lines stand in definitions below a number, as this one does, so do the new ones
 abbrev pub KeepSources : ℕ → List Reverse → List Reverse → Type 0

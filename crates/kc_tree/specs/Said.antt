@@ -1,5 +1,5 @@
 -- For proofs: What the tables say when all lines were gone over, and what the lines have against them.
-use Rattle.std.specs.Prelude.{◌≡◌, ◌<◌, ◌≤◌, ◌+◌, ◌*◌, ◌^◌, ℕ, List, [], filter, map, length, nat_lt, slice_get}
+use Rattle.std.specs.Prelude.{◌≡◌, ◌<◌, ◌≤◌, ◌+◌, ◌*◌, ◌^◌, ℕ, List, [], All, Some, filter, map, length, nat_lt, slice_get}
 use Rattle.std.specs.List.{flat_map}
 use Rattle.kc_expr.specs.Names.{symbol}
 use Rattle.kc_read.specs.Blocks.{numbers}
@@ -7,11 +7,18 @@ use Rattle.kc_read.specs.Statements.{Numbered, Placed}
 use Rattle.kc_read.specs.declared.refusal.Code.TheVariants as code
 use Rattle.kc_tree.specs.declared.diagnostics.Diagnostics.{Diagnostics}
 use Rattle.kc_tree.specs.declared.layout.Tables.{Tables}
+use Rattle.kc_tree.specs.declared.parts.Definition.{Definition}
+use Rattle.kc_tree.specs.declared.parts.Entry.{Entry}
+use Rattle.kc_tree.specs.declared.parts.Entry.TheVariants as entry
+use Rattle.kc_tree.specs.declared.parts.Span.{Span}
 use Rattle.kc_tree.specs.declared.parts.Symbol.{Symbol}
+use Rattle.kc_tree.specs.declared.parts.Title.{Title}
 use Rattle.kc_tree.specs.Before.{choices_before, definitions_before, entries_before, impliers_before, main_menu_before, selectors_before}
 use Rattle.kc_tree.specs.Diagnosed.{diagnosis_view}
 use Rattle.kc_tree.specs.Facts.{first_of}
 use Rattle.kc_tree.specs.Layouts.{choice_facts as choice_in, definition_facts, impliers_at, selectors_at, shown_of}
+use Rattle.kc_tree.specs.ReverseRows.{HaveSources}
+use Rattle.kc_tree.specs.TreeFacts.{Condition}
 use Rattle.kc_tree.specs.Warnings.{bad_defaults, bad_members, refused_at, warned_at}
 
 -- no table has more rows than twice the lines before a place, and one
@@ -24,6 +31,30 @@ pub record IsSmall (i : ℕ) (t : Tables) : Type 0 where
   pub titles : length t.titles.items ≤ i
   pub entries : length t.entries.items ≤ i
   pub choices : length t.choices.items ≤ i
+
+-- a span lies within a table of this length
+pub record IsSpanBelow (n : ℕ) (s : Span) : Type 0 where
+  pub goes_up : s.start ≤ s.end
+  pub within : s.end ≤ n
+
+-- what a title is shown under is there; an entry leads to what is there
+pub record IsTitleThere (conditions : List Condition) (t : Title) : Type 0 where
+  pub within : t.within.0 < length conditions
+  pub visible : t.visible.0 < length conditions
+
+abbrev pub IsEntryThere : ℕ → ℕ → Entry → Type 0
+IsEntryThere titles entries (entry.Symbol s) = Unit {0}
+IsEntryThere titles entries (entry.Menu id) = id.0 < titles
+IsEntryThere titles entries (entry.End menu) = menu < entries
+IsEntryThere titles entries (entry.Comment id) = id.0 < titles
+
+-- rows lead only to rows that are there, so that they say the same once the tables have more
+pub record AreRowsThere (t : Tables) : Type 0 where
+  pub defaults : (i : ℕ) (d : Definition) → slice_get t.definitions.items i ≡ Some d → IsSpanBelow (length t.defaults.items) d.defaults
+  pub ranges : (i : ℕ) (d : Definition) → slice_get t.definitions.items i ≡ Some d → IsSpanBelow (length t.ranges.items) d.ranges
+  pub sources : HaveSources (length t.definitions.items) t.reverses.lines.items
+  pub titles : All (IsTitleThere t.contexts) t.titles.items
+  pub entries : All (IsEntryThere (length t.titles.items) (length t.entries.items)) t.entries.items
 
 -- there is room for an entry of so many lines
 pub record HasRoom (n : ℕ) (t : Tables) : Type 0 where

@@ -1,70 +1,65 @@
--- Trusted: What the tables of a tree keep: each row leads only to rows that are there.
-use Rattle.std.specs.Prelude.{◌≡◌, ◌<◌, ◌≤◌, ℕ, List, length, All, Option, Some, None, slice_get}
+-- Trusted: What the tables of a tree keep: rows lead to contexts that are there, and prompts and titles to such in which no mode counts.
+-- Each fact is a function to an inequality or an equation of truth values, so that a table may hold it as a ghost field.
+use Rattle.std.specs.Prelude.{◌≡◌, ◌<◌, ℕ, List, length, is_some, false, Option, Some, None, slice_get}
 use Rattle.kc_tree.specs.TreeFacts.{Condition}
 use Rattle.kc_tree.specs.declared.parts.Choice.{Choice}
 use Rattle.kc_tree.specs.declared.parts.Definition.{Definition}
-use Rattle.kc_tree.specs.declared.parts.Entry.{Entry}
-use Rattle.kc_tree.specs.declared.parts.Entry.TheVariants as entry
 use Rattle.kc_tree.specs.declared.parts.Prompt.{Prompt}
-use Rattle.kc_tree.specs.declared.parts.Reverse.{Reverse}
-use Rattle.kc_tree.specs.declared.parts.Span.{Span}
 use Rattle.kc_tree.specs.declared.parts.Title.{Title}
 use Rattle.kc_tree.specs.Contexts.{condition_in}
 
--- a span lies within a table of this length
-pub record IsSpanBelow (n : ℕ) (s : Span) : Type 0 where
-  pub goes_up : s.start ≤ s.end
-  pub within : s.end ≤ n
+-- no mode counts in the context with a number
+abbrev pub IsPlain : List Condition → ℕ → Type 0
+IsPlain conditions i = is_some (condition_in conditions i).mode ≡ false
 
--- a prompt leads to a context that asks for no mode
+-- what definitions depend on is there
+abbrev pub AreWithin : List Condition → List Definition → Type 0
+AreWithin conditions ds = (i : ℕ) (d : Definition) → slice_get ds i ≡ Some d → d.within.0 < length conditions
+
+-- what their prompts ask for is there, and no mode counts in it
+abbrev pub ArePromptsWithin : List Condition → List Definition → Type 0
+ArePromptsWithin conditions ds = (i : ℕ) (d : Definition) (p : Prompt) → slice_get ds i ≡ Some d → d.prompt ≡ Some p → p.visible.0 < length conditions
+
+abbrev pub ArePromptsPlain : List Condition → List Definition → Type 0
+ArePromptsPlain conditions ds = (i : ℕ) (d : Definition) (p : Prompt) → slice_get ds i ≡ Some d → d.prompt ≡ Some p → IsPlain conditions p.visible.0
+
+-- the same of choices, which no mode counts for
+abbrev pub AreChoicesWithin : List Condition → List Choice → Type 0
+AreChoicesWithin conditions cs = (k : ℕ) (c : Choice) → slice_get cs k ≡ Some c → c.within.0 < length conditions
+
+abbrev pub AreChoicesPlain : List Condition → List Choice → Type 0
+AreChoicesPlain conditions cs = (k : ℕ) (c : Choice) → slice_get cs k ≡ Some c → IsPlain conditions c.within.0
+
+abbrev pub AreChoicePromptsWithin : List Condition → List Choice → Type 0
+AreChoicePromptsWithin conditions cs = (k : ℕ) (c : Choice) (p : Prompt) → slice_get cs k ≡ Some c → c.prompt ≡ Some p → p.visible.0 < length conditions
+
+abbrev pub AreChoicePromptsPlain : List Condition → List Choice → Type 0
+AreChoicePromptsPlain conditions cs = (k : ℕ) (c : Choice) (p : Prompt) → slice_get cs k ≡ Some c → c.prompt ≡ Some p → IsPlain conditions p.visible.0
+
+-- what the menus round a title ask of what is visible
+abbrev pub AreTitlesPlain : List Condition → List Title → Type 0
+AreTitlesPlain conditions ts = (i : ℕ) (t : Title) → slice_get ts i ≡ Some t → IsPlain conditions t.visible.0
+
+-- a mode that counts is that of a choice; the context stands behind what that choice depends on, and behind what its prompt does
+abbrev pub AreModesBelow : List Condition → ℕ → Type 0
+AreModesBelow conditions choices = (i k : ℕ) → (condition_in conditions i).mode ≡ Some k → k < choices
+
+abbrev pub AreModesBehind : List Condition → List Choice → Type 0
+AreModesBehind conditions cs = (i k : ℕ) (c : Choice) → (condition_in conditions i).mode ≡ Some k → slice_get cs k ≡ Some c → c.within.0 < i
+
+abbrev pub AreModePromptsBehind : List Condition → List Choice → Type 0
+AreModePromptsBehind conditions cs = (i k : ℕ) (c : Choice) (p : Prompt) → (condition_in conditions i).mode ≡ Some k → slice_get cs k ≡ Some c → c.prompt ≡ Some p → p.visible.0 < i
+
+-- the same of one row, as it is asked for
 abbrev pub IsPromptThere : List Condition → Option Prompt → Type 0
 IsPromptThere conditions None = Unit {0}
-IsPromptThere conditions (Some p) = (p.visible.0 < length conditions) × ((condition_in conditions p.visible.0).mode ≡ None)
+IsPromptThere conditions (Some p) = (p.visible.0 < length conditions) × IsPlain conditions p.visible.0
 
-pub record IsDefinitionThere (conditions : List Condition) (defaults ranges : ℕ) (d : Definition) : Type 0 where
+pub record IsDefinitionThere (conditions : List Condition) (d : Definition) : Type 0 where
   pub within : d.within.0 < length conditions
   pub prompt : IsPromptThere conditions d.prompt
-  pub defaults_there : IsSpanBelow defaults d.defaults
-  pub ranges_there : IsSpanBelow ranges d.ranges
 
--- what a choice depends on asks for no mode
 pub record IsChoiceThere (conditions : List Condition) (c : Choice) : Type 0 where
   pub within : c.within.0 < length conditions
-  pub plain : (condition_in conditions c.within.0).mode ≡ None
+  pub plain : IsPlain conditions c.within.0
   pub prompt : IsPromptThere conditions c.prompt
-
-pub record IsTitleThere (conditions : List Condition) (t : Title) : Type 0 where
-  pub within : t.within.0 < length conditions
-  pub visible : t.visible.0 < length conditions
-  pub plain : (condition_in conditions t.visible.0).mode ≡ None
-
-abbrev pub IsEntryThere : ℕ → ℕ → Entry → Type 0
-IsEntryThere titles entries (entry.Symbol s) = Unit {0}
-IsEntryThere titles entries (entry.Menu id) = id.0 < titles
-IsEntryThere titles entries (entry.End menu) = menu < entries
-IsEntryThere titles entries (entry.Comment id) = id.0 < titles
-
--- each line stands in a definition below this number
-abbrev pub HaveSources : ℕ → List Reverse → Type 0
-HaveSources n = All (λ (r : Reverse). r.source.0 < n)
-
--- a prompt leads to a context before one
-abbrev pub IsPromptBefore : ℕ → Option Prompt → Type 0
-IsPromptBefore i None = Unit {0}
-IsPromptBefore i (Some p) = p.visible.0 < i
-
--- a context in which the mode of a choice counts stands behind what that choice and its prompt depend on
-pub record IsModeThere (choices : List Choice) (i k : ℕ) : Type 0 where
-  pub choice : Choice
-  pub is : slice_get choices k ≡ Some choice
-  pub within : choice.within.0 < i
-  pub prompt : IsPromptBefore i choice.prompt
-
--- all of them
-pub record AreSound (conditions : List Condition) (definitions : List Definition) (defaults ranges : ℕ) (lines : List Reverse) (choices : List Choice) (titles : List Title) (entries : List Entry) : Type 0 where
-  pub definitions_there : All (IsDefinitionThere conditions defaults ranges) definitions
-  pub lines_there : HaveSources (length definitions) lines
-  pub choices_there : All (IsChoiceThere conditions) choices
-  pub titles_there : All (IsTitleThere conditions) titles
-  pub entries_there : All (IsEntryThere (length titles) (length entries)) entries
-  pub modes_there : (i k : ℕ) → (condition_in conditions i).mode ≡ Some k → IsModeThere choices i k

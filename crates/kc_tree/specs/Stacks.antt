@@ -4,9 +4,10 @@ use Rattle.std.specs.Option.{option_map}
 use Rattle.kc_expr.specs.Form.{Form}
 use Rattle.kc_read.specs.Blocks.{enclosing}
 use Rattle.kc_read.specs.Statements.{Numbered, ChoiceLine}
-use Rattle.kc_tree.specs.Contexts.{condition_in, top}
+use Rattle.kc_tree.specs.Contexts.{condition_in}
 use Rattle.kc_tree.specs.Facts.{entry_number, opener_of}
 use Rattle.kc_tree.specs.Rounds.{round}
+use Rattle.kc_tree.specs.Soundness.{IsPlain}
 use Rattle.kc_tree.specs.TreeFacts.{Condition}
 use Rattle.kc_tree.specs.declared.blocks.Block.{Block}
 use Rattle.kc_tree.specs.declared.blocks.Blocks.{Blocks}
@@ -46,17 +47,23 @@ IsClosed old new =
     ((outside : List Block) (b : Block) → old.outside.items ≡ outside ++ b ∷ [] → (new.innermost ≡ b) × (new.outside.items ≡ outside))
     × (old.outside.items ≡ [] → new ≡ old)
 
--- a block leads to contexts that are there; what is visible in it asks for no mode
-pub record IsBlockThere (conditions : List Condition) (b : Block) : Type 0 where
-  pub within : b.within.0 < length conditions
-  pub visible : b.visible.0 < length conditions
-  pub plain : (condition_in conditions b.visible.0).mode ≡ None
+-- the open blocks, the innermost first
+abbrev pub open_blocks : Blocks → List Block
+open_blocks blocks = blocks.innermost ∷ blocks.outside.items
 
--- all of them, and the context with the number 0 is the top
-pub record AreBlocksThere (conditions : List Condition) (blocks : Blocks) : Type 0 where
-  pub first : condition_in conditions 0 ≡ top
-  pub innermost : IsBlockThere conditions blocks.innermost
-  pub outside : (j : ℕ) (b : Block) → slice_get blocks.outside.items j ≡ Some b → IsBlockThere conditions b
+-- they lead to contexts that are there, and no mode counts in what is asked of what is visible in them
+abbrev pub AreBlocksWithin : List Condition → Blocks → Type 0
+AreBlocksWithin conditions blocks = (j : ℕ) (b : Block) → slice_get (open_blocks blocks) j ≡ Some b → b.within.0 < length conditions
+
+abbrev pub AreBlocksVisible : List Condition → Blocks → Type 0
+AreBlocksVisible conditions blocks = (j : ℕ) (b : Block) → slice_get (open_blocks blocks) j ≡ Some b → b.visible.0 < length conditions
+
+abbrev pub AreBlocksPlain : List Condition → Blocks → Type 0
+AreBlocksPlain conditions blocks = (j : ℕ) (b : Block) → slice_get (open_blocks blocks) j ≡ Some b → IsPlain conditions b.visible.0
+
+-- the context with the number 0 asks for nothing
+abbrev pub AsksNothing : List Condition → Type 0
+AsksNothing conditions = length (condition_in conditions 0).parts ≡ 0
 
 -- a choice begins where no mode counts
 abbrev pub IsPlainHead : Numbered → Option ℕ → Type 0

@@ -8,7 +8,7 @@ use Rattle.kc_tree.specs.declared.parts.Symbol.{Symbol}
 use Rattle.kc_tree.specs.Before.{choices_before, definitions_before, entries_before, impliers_before, main_menu_before, selectors_before}
 use Rattle.kc_tree.specs.Known.{AreSymbols}
 use Rattle.kc_tree.specs.Layouts.{choice_facts as choice_in, definition_facts, impliers_at, selectors_at, shown_of}
-use Rattle.kc_tree.specs.Said.{HasHeads, IsSmall}
+use Rattle.kc_tree.specs.Said.{AreRowsThere, HasHeads, IsSmall}
 use Rattle.kc_tree.specs.Stacks.{AreOpen}
 
 -- the walk at the start of the entry at a place, or behind the last line
@@ -21,6 +21,7 @@ pub record IsWalk (ss : List Numbered) (symbols : List Symbol) (i : ℕ) (w : Wa
   pub entries : map (shown_of w.tables) w.tables.entries.items ≡ entries_before ss i
   pub main_menu : w.main_menu.items ≡ main_menu_before ss i
   pub heads : HasHeads symbols w.tables
+  pub rows : AreRowsThere w.tables
   pub small : IsSmall i w.tables
 
 -- a statement begins the entry at a place, which has these attributes

@@ -1,14 +1,15 @@
 //! The second walk over the lines, entry by entry with the open blocks: all that they say but of symbols alone.
 
-ghost use Rattle.std.specs.Prelude.{◌≡◌, ℕ, List, ◌<◌, ◌+◌, ◌*◌, ◌^◌, length, map, None, IfOk, OnOk};
+ghost use Rattle.std.specs.Prelude.{◌≡◌, ℕ, List, ◌<◌, ◌+◌, ◌*◌, ◌^◌, length, map, IfOk, OnOk};
 ghost use Rattle.kc_expr.specs.Form.{form_of};
 ghost use Rattle.kc_read.specs.Reads.{line_view, statement_view};
 ghost use Rattle.kc_read.specs.Statements.{Numbered, ConfigLine, IfLine, MenuLine, CommentLine, ChoiceLine, EndMenuLine};
 ghost use Rattle.kc_tree.specs.declared.parts.Symbol.{Symbol};
 ghost use Rattle.kc_tree.specs.Known.{AreBelow, AreChoicesApart, AreSymbols, IsPlace};
 ghost use Rattle.kc_tree.specs.Passes.{said_by};
+ghost use Rattle.kc_tree.specs.Soundness.{IsPlain};
 ghost use Rattle.kc_tree.specs.Said.{AreSaid, HasHeads, HasRoom, IsDiagnosed, IsSmall};
-ghost use Rattle.kc_tree.specs.Stacks.{AreBlocksThere, IsPlainHead};
+ghost use Rattle.kc_tree.specs.Stacks.{AreBlocksPlain, AreBlocksVisible, AreBlocksWithin, AsksNothing, IsPlainHead};
 ghost use Rattle.kc_tree.specs.Contexts.{condition_in};
 ghost use Rattle.kc_tree.specs.Layouts.{choice_facts as choice_in};
 
@@ -35,7 +36,11 @@ struct Walk {
     tables: Tables,
     blocks: Blocks,
     main_menu: Vec<u8>,
-    ghost there: { ∥ AreBlocksThere tables.contexts blocks ∥₁ },
+    ghost asks_nothing: { AsksNothing tables.contexts },
+    ghost top_plain: { IsPlain tables.contexts 0 },
+    ghost within: { AreBlocksWithin tables.contexts blocks },
+    ghost visible: { AreBlocksVisible tables.contexts blocks },
+    ghost plain: { AreBlocksPlain tables.contexts blocks },
 }
 
 impl Walk {
@@ -114,7 +119,7 @@ impl Walk {
     ) -> Result<TitleId, AllocError>
         requires within { within.0 < length self.old.tables.contexts }
         requires visible { visible.0 < length self.old.tables.contexts }
-        requires plain { (condition_in self.old.tables.contexts visible.0).mode ≡ None }
+        requires plain { IsPlain self.old.tables.contexts visible.0 }
         requires few { length self.old.tables.titles.items < 2 ^ 32 }
         ensures number { IfOk result (λ id. id.0 ≡ length self.old.tables.titles.items) }
         ensures title { OnOk result (AddsTitle text.now within visible self.old self.new) }
@@ -179,7 +184,7 @@ impl Walk {
         own: &[Line],
     ) -> Result<(), AllocError>
         requires room { HasRoom (length own.now) self.old.tables }
-        requires plain { (condition_in self.old.tables.contexts self.old.blocks.innermost.within.0).mode ≡ None }
+        requires plain { IsPlain self.old.tables.contexts self.old.blocks.innermost.within.0 }
         ensures { OnOk result (Enters symbols.now ChoiceLine (said_by own.now) self.old self.new) }
     {
         let entry = self.next_entry();

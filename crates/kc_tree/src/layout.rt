@@ -3,7 +3,7 @@
 ghost use Rattle.std.specs.Prelude.{◌≡◌, ◌<◌, ◌+◌, ◌^◌, None, length, option_map, slice_get, slice_index_or, IfSome};
 ghost use Rattle.kc_tree.specs.Contexts.{condition_in, mode_view, IsContext};
 ghost use Rattle.kc_tree.specs.Parts.{part_of, definition_ids};
-ghost use Rattle.kc_tree.specs.Soundness.{AreSound};
+ghost use Rattle.kc_tree.specs.Soundness.{AreChoicePromptsPlain, AreChoicePromptsWithin, AreChoicesPlain, AreChoicesWithin, AreModePromptsBehind, AreModesBehind, AreModesBelow, ArePromptsPlain, ArePromptsWithin, AreTitlesPlain, AreWithin};
 
 use crate::contexts::Contexts;
 use crate::parts::{
@@ -25,7 +25,17 @@ pub struct Tables {
     pub(crate) choices: Vec<Choice>,
     pub(crate) titles: Vec<Title>,
     pub(crate) entries: Vec<Entry>,
-    ghost sound: { ∥ AreSound contexts definitions.items (length defaults.items) (length ranges.items) reverses.lines.items choices.items titles.items entries.items ∥₁ },
+    ghost within: { AreWithin contexts definitions.items },
+    ghost prompts_within: { ArePromptsWithin contexts definitions.items },
+    ghost prompts_plain: { ArePromptsPlain contexts definitions.items },
+    ghost choices_within: { AreChoicesWithin contexts choices.items },
+    ghost choices_plain: { AreChoicesPlain contexts choices.items },
+    ghost choice_prompts_within: { AreChoicePromptsWithin contexts choices.items },
+    ghost choice_prompts_plain: { AreChoicePromptsPlain contexts choices.items },
+    ghost titles_plain: { AreTitlesPlain contexts titles.items },
+    ghost modes_below: { AreModesBelow contexts (length choices.items) },
+    ghost modes_behind: { AreModesBehind contexts choices.items },
+    ghost mode_prompts_behind: { AreModePromptsBehind contexts choices.items },
 }
 
 impl Tables {

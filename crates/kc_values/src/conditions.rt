@@ -1,11 +1,11 @@
 //! Conditions under the values so far.
 
-ghost use Rattle.std.specs.Prelude.{◌≡◌, None};
+ghost use Rattle.std.specs.Prelude.{◌≡◌};
 ghost use Rattle.kc_expr.specs.Value.{lesser};
 ghost use Rattle.kc_read.specs.Reads.{when_view};
-ghost use Rattle.kc_tree.specs.Contexts.{condition_in, mode_view};
+ghost use Rattle.kc_tree.specs.Contexts.{mode_view};
 ghost use Rattle.kc_tree.specs.Layouts.{choice_facts, prompt_view, title_condition, with_when};
-ghost use Rattle.kc_tree.specs.Soundness.{IsChoiceThere};
+ghost use Rattle.kc_tree.specs.Soundness.{IsChoiceThere, IsPlain};
 ghost use Rattle.kc_values.specs.Known.{known_at, condition_at};
 ghost use Rattle.kc_values.specs.Lookups.{choice_at};
 ghost use Rattle.kc_values.specs.Settled.{when_value};
@@ -130,7 +130,7 @@ pub fn condition(table: &Table<'_>, within: ContextId, when: &Option<Rc<Expr>>) 
 
 /// The condition of a prompt, whose entry depends on a context.
 pub fn prompt_condition(table: &Table<'_>, within: ContextId, prompt: &Prompt) -> Tri
-    requires { (condition_in table.now.layout.now.tables.contexts prompt.now.visible.0).mode ≡ None }
+    requires { IsPlain table.now.layout.now.tables.contexts prompt.now.visible.0 }
     ensures { result ≡ spec.condition table.now.tree.now (known_at table.now) (prompt_view table.now.layout.now.tables.contexts (condition_at table.now within) prompt.now) }
 {
     let first = lesser(context(table, within), context(table, prompt.visible));
@@ -139,7 +139,7 @@ pub fn prompt_condition(table: &Table<'_>, within: ContextId, prompt: &Prompt) -
 
 /// When a menu or comment is shown.
 pub fn title_condition(table: &Table<'_>, title: &Title) -> Tri
-    requires { (condition_in table.now.layout.now.tables.contexts title.now.visible.0).mode ≡ None }
+    requires { IsPlain table.now.layout.now.tables.contexts title.now.visible.0 }
     ensures { result ≡ spec.condition table.now.tree.now (known_at table.now) (title_condition table.now.layout.now.tables title.now) }
 {
     lesser(context(table, title.within), context(table, title.visible))

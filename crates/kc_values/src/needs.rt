@@ -198,7 +198,7 @@ fn definition_into(
     definition: &Definition,
     out: &mut Row,
 ) -> Result<(), AllocError>
-    requires there { IsDefinitionThere layout.now.tables.contexts (length layout.now.tables.defaults.items) (length layout.now.tables.ranges.items) definition.now }
+    requires there { IsDefinitionThere layout.now.tables.contexts definition.now }
     ensures { OnOk result (Adds out.old out.new (rows.definition_nodes layout.now kind definition.now) (rows.definition_names layout.now kind definition.now)) }
 {
     if is_read(layout, kind, definition) {
