@@ -1,5 +1,5 @@
 -- Trusted: What contexts ask for: of each the whole condition that it stands for, that of the top first.
-use Rattle.std.specs.Prelude.{◌≡◌, ◌<◌, ◌≤◌, ℕ, List, [], ◌∷◌, ◌++◌, take, Option, Some, None, option_map, slice_get, slice_index_or}
+use Rattle.std.specs.Prelude.{◌≡◌, ◌<◌, ◌≤◌, ℕ, List, [], ◌∷◌, ◌++◌, take, is_some, false, Option, Some, None, option_map, slice_get, slice_index_or}
 use Rattle.std.specs.Borrow.{Bor}
 use Rattle.kc_expr.specs.Form.{Form}
 use Rattle.kc_read.specs.Reads.{when_view}
@@ -15,6 +15,10 @@ top = record { parts = []; mode = None }
 -- the condition with a number
 abbrev pub condition_in : List Condition → ℕ → Condition
 condition_in conditions i = slice_index_or conditions i top
+
+-- no mode counts in the context with a number
+abbrev pub IsPlain : List Condition → ℕ → Type 0
+IsPlain conditions i = is_some (condition_in conditions i).mode ≡ false
 
 -- a condition and one thing more; a condition in a choice
 abbrev pub and_also : Condition → Form → Condition
@@ -47,15 +51,20 @@ AreNested cs = (i : ℕ) (c : Context) → slice_get cs i ≡ Some c → c.outer
 abbrev pub KeepsMode : List Condition → Context → Type 0
 KeepsMode conditions c = (e : Form) → when_view c.asks ≡ Some e → mode_view c.mode ≡ (condition_in conditions c.outer.0).mode
 
+-- and no mode counts outside that of a choice's members
+abbrev pub BeginsMode : List Condition → Context → Type 0
+BeginsMode conditions c = when_view c.asks ≡ None → IsPlain conditions c.outer.0
+
 -- each context does, by those before it
 abbrev pub KeepModes : List Context → Type 0
-KeepModes cs = (i : ℕ) (c : Context) → slice_get cs i ≡ Some c → KeepsMode (conditions_of (take i cs)) c
+KeepModes cs = (i : ℕ) (c : Context) → slice_get cs i ≡ Some c → KeepsMode (conditions_of (take i cs)) c × BeginsMode (conditions_of (take i cs)) c
 
 -- what is known of the context with a number
 pub record IsStep (conditions : List Condition) (i : ℕ) (c : Context) : Type 0 where
   pub smaller : c.outer.0 < i
   pub is : condition_in conditions i ≡ condition_of conditions c
   pub keeps : KeepsMode conditions c
+  pub begins : BeginsMode conditions c
 
 abbrev pub IsContext : List Condition → ℕ → Option (Bor Context) → Type 0
 IsContext conditions i None = condition_in conditions i ≡ top

@@ -1,16 +1,12 @@
 -- Trusted: What the tables of a tree keep: rows lead to contexts that are there, and prompts and titles to such in which no mode counts.
 -- Each fact is a function to an inequality or an equation of truth values, so that a table may hold it as a ghost field.
-use Rattle.std.specs.Prelude.{◌≡◌, ◌<◌, ℕ, List, length, is_some, false, Option, Some, None, slice_get}
+use Rattle.std.specs.Prelude.{◌≡◌, ◌<◌, ℕ, List, length, Option, Some, None, slice_get}
 use Rattle.kc_tree.specs.TreeFacts.{Condition}
 use Rattle.kc_tree.specs.declared.parts.Choice.{Choice}
 use Rattle.kc_tree.specs.declared.parts.Definition.{Definition}
 use Rattle.kc_tree.specs.declared.parts.Prompt.{Prompt}
 use Rattle.kc_tree.specs.declared.parts.Title.{Title}
-use Rattle.kc_tree.specs.Contexts.{condition_in}
-
--- no mode counts in the context with a number
-abbrev pub IsPlain : List Condition → ℕ → Type 0
-IsPlain conditions i = is_some (condition_in conditions i).mode ≡ false
+use Rattle.kc_tree.specs.Contexts.{IsPlain, condition_in}
 
 -- what definitions depend on is there
 abbrev pub AreWithin : List Condition → List Definition → Type 0

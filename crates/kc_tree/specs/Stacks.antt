@@ -4,10 +4,9 @@ use Rattle.std.specs.Option.{option_map}
 use Rattle.kc_expr.specs.Form.{Form}
 use Rattle.kc_read.specs.Blocks.{enclosing}
 use Rattle.kc_read.specs.Statements.{Numbered, ChoiceLine}
-use Rattle.kc_tree.specs.Contexts.{condition_in}
+use Rattle.kc_tree.specs.Contexts.{IsPlain, condition_in}
 use Rattle.kc_tree.specs.Facts.{entry_number, opener_of}
 use Rattle.kc_tree.specs.Rounds.{round}
-use Rattle.kc_tree.specs.Soundness.{IsPlain}
 use Rattle.kc_tree.specs.TreeFacts.{Condition}
 use Rattle.kc_tree.specs.declared.blocks.Block.{Block}
 use Rattle.kc_tree.specs.declared.blocks.Blocks.{Blocks}

@@ -2,7 +2,7 @@
 
 ghost use Rattle.std.specs.Prelude.{◌≡◌, ◌<◌, ◌-◌, ◌^◌, ◌++◌, [], ◌∷◌, None, length, option_map, slice_get, IfOk, OnOk, OnErr};
 ghost use Rattle.kc_expr.specs.Form.{form_of};
-ghost use Rattle.kc_tree.specs.Contexts.{top, condition_in, and_also, in_choice, mode_view, IsContext};
+ghost use Rattle.kc_tree.specs.Contexts.{IsPlain, top, condition_in, and_also, in_choice, mode_view, IsContext};
 
 use crate::parts::{ChoiceId, Context, ContextId};
 use kc_expr::expression::Expr;
@@ -101,6 +101,7 @@ impl Contexts {
         choice: ChoiceId,
     ) -> Result<ContextId, AllocError>
         requires there { outer.0 < length self.old }
+        requires plain { IsPlain self.old outer.0 }
         requires few { length self.old < 2 ^ 32 }
         ensures added { OnOk result (self.new ≡ self.old ++ in_choice (condition_in self.old outer.0) choice.0 ∷ []) }
         ensures number { IfOk result (λ id. id.0 ≡ length self.old) }

@@ -7,10 +7,9 @@ ghost use Rattle.kc_read.specs.Statements.{Numbered, ConfigLine, IfLine, MenuLin
 ghost use Rattle.kc_tree.specs.declared.parts.Symbol.{Symbol};
 ghost use Rattle.kc_tree.specs.Known.{AreBelow, AreChoicesApart, AreSymbols, IsPlace};
 ghost use Rattle.kc_tree.specs.Passes.{said_by};
-ghost use Rattle.kc_tree.specs.Soundness.{IsPlain};
 ghost use Rattle.kc_tree.specs.Said.{AreSaid, HasHeads, HasRoom, IsDiagnosed, IsSmall};
 ghost use Rattle.kc_tree.specs.Stacks.{AreBlocksPlain, AreBlocksVisible, AreBlocksWithin, AsksNothing, IsPlainHead};
-ghost use Rattle.kc_tree.specs.Contexts.{condition_in};
+ghost use Rattle.kc_tree.specs.Contexts.{IsPlain, condition_in};
 ghost use Rattle.kc_tree.specs.Layouts.{choice_facts as choice_in};
 
 use crate::attributes::{

@@ -3,9 +3,9 @@
 ghost use Rattle.std.specs.Prelude.{◌≡◌};
 ghost use Rattle.kc_expr.specs.Value.{lesser};
 ghost use Rattle.kc_read.specs.Reads.{when_view};
-ghost use Rattle.kc_tree.specs.Contexts.{mode_view};
+ghost use Rattle.kc_tree.specs.Contexts.{IsPlain, mode_view};
 ghost use Rattle.kc_tree.specs.Layouts.{choice_facts, prompt_view, title_condition, with_when};
-ghost use Rattle.kc_tree.specs.Soundness.{IsChoiceThere, IsPlain};
+ghost use Rattle.kc_tree.specs.Soundness.{IsChoiceThere};
 ghost use Rattle.kc_values.specs.Known.{known_at, condition_at};
 ghost use Rattle.kc_values.specs.Lookups.{choice_at};
 ghost use Rattle.kc_values.specs.Settled.{when_value};
