@@ -6,6 +6,7 @@ ghost use Rattle.kc_order.specs.Solution.{Solves};
 ghost use Rattle.kc_solve.specs.Flags as flag;
 ghost use Rattle.kc_solve.specs.Flags.{IsSolvedOwn};
 ghost use Rattle.kc_solve.specs.Places.{known_in, valuation};
+ghost use Rattle.kc_solve.specs.Shown.{AreShown};
 ghost use Rattle.kc_user.specs.Places.{IsUserOf, place_at};
 ghost use Rattle.kc_tree.specs.Views.{facts_of};
 ghost use Rattle.kc_values.specs.Differs as spec;
@@ -15,7 +16,7 @@ ghost use Rattle.kc_values.specs.Values as value;
 ghost use Rattle.kc_values.specs.Warnings.{value_warnings};
 
 use crate::fill::symbol_facts;
-use kc_expr::expression::{SymId, Tri};
+use kc_expr::expression::{Kind, SymId, Tri};
 use kc_tree::parts::{ChoiceId, Symbol};
 use kc_tree::tree::Tree;
 use kc_user::user::User;
@@ -82,6 +83,19 @@ pub(crate) fn at_symbol(flags: &[bool], id: SymId) -> bool
     id.0 < flags.len() && flags[id.0]
 }
 
+// The visibility of a symbol under a full table. That of one without a type is looked at here: such a symbol needs nothing, so
+// that what its prompts read may have had no value at its turn.
+fn shown_now(table: &Table, id: SymId, symbol: &Symbol, visibilities: &[Tri]) -> Tri
+    requires facts { slice_get table.now.tree.now.symbols id.0 ≡ Some (facts_of symbol.now) }
+    requires visibilities { AreShown table.now.tree.now (known_in table.now.tree.now table.now.values.items) visibilities.now }
+    ensures { result ≡ value.visibility table.now.tree.now (known_in table.now.tree.now table.now.values.items) (facts_of symbol.now) }
+{
+    match symbol.kind {
+        Kind::Undefined => visibility(table.tree, symbol, table),
+        _ => visibilities[id.0],
+    }
+}
+
 // Whether a symbol differs. One for which nothing counts that was given does not: its value is what its equation gives
 // without it.
 fn symbol_differs(
@@ -109,7 +123,7 @@ fn symbol_differs(
         )),
         None => {
             if can_count(user, shown) {
-                own_differs(alloc, table.tree, id, symbol, table)
+                own_differs(alloc, table.tree, id, symbol, shown, table)
             } else {
                 Ok(false)
             }
@@ -129,18 +143,20 @@ pub struct Flags {
     pub warnings: Vec<Vec<u8>>,
 }
 
-/// What the values of a full table that solves say of the symbols under a user's places of that tree, with the selections
-/// under them. Each symbol is looked at once, and its visibility serves all that asks for it.
+/// What the values of a full table that solves say of the symbols under a user's places of that tree, with the visibilities
+/// and the selections under them. Each symbol is looked at once.
 pub fn flags_of(
     alloc: Global,
     table: &Table,
     user: &User,
+    visibilities: &[Tri],
     selections: &[Option<SymId>],
     defaults: &[Option<SymId>],
 ) -> Result<Flags, AllocError>
     requires full { length table.now.values.items ≡ symbol_count table.now.tree.now }
     requires user { IsUserOf table.now.tree.now user.now }
     requires solves { Solves (symbol_count table.now.tree.now) (equations table.now.tree.now (place_at user.now)) (valuation table.now.tree.now table.now.values.items) }
+    requires visibilities { AreShown table.now.tree.now (known_in table.now.tree.now table.now.values.items) visibilities.now }
     requires selections { selections.now ≡ map (spec.selection table.now.tree.now (place_at user.now) (valuation table.now.tree.now table.now.values.items)) (range_with_len 0 (length table.now.tree.now.choices)) }
     requires defaults { defaults.now ≡ map (spec.default_selection table.now.tree.now (valuation table.now.tree.now table.now.values.items)) (range_with_len 0 (length table.now.tree.now.choices)) }
     ensures differing { IfOk result (λ f. f.differing.items ≡ map (spec.differs table.now.tree.now (place_at user.now) (valuation table.now.tree.now table.now.values.items)) (range_with_len 0 (symbol_count table.now.tree.now))) }
@@ -155,7 +171,7 @@ pub fn flags_of(
         let id = SymId(i);
         let symbol = symbol_facts(table.tree, id);
         let own = user.get(id);
-        let shown = visibility(table.tree, symbol, table);
+        let shown = shown_now(table, id, symbol, visibilities);
         let differs = symbol_differs(alloc, table, id, symbol, own, shown, selections, defaults)?;
         differing.push(differs)?;
         written.push(is_written(table.tree, symbol, shown, table))?;

@@ -2,14 +2,15 @@
 
 ghost use Rattle.std.specs.Prelude.{◌≡◌, length, IfOk, OnOk};
 ghost use Rattle.kc_order.specs.Solution.{Solves, IsOnlySolution};
-ghost use Rattle.kc_solve.specs.Places.{valuation};
+ghost use Rattle.kc_solve.specs.Places.{known_in, valuation};
+ghost use Rattle.kc_solve.specs.Shown.{AreShown};
 ghost use Rattle.kc_solve.specs.Solved.{IsMinimal, SettledWhere, value_of};
 ghost use Rattle.kc_user.specs.Places.{IsUserOf, place_at};
 ghost use Rattle.kc_values.specs.Laws.{IsAccepted};
 ghost use Rattle.kc_values.specs.Needs.{needs};
 ghost use Rattle.kc_values.specs.Solution.{symbol_count, equations};
 
-use crate::fill::fill;
+use crate::fill::{Filled, fill};
 use crate::flags::{Flags, default_selections, flags_of, selections};
 use crate::order::Order;
 use crate::solved::Solved;
@@ -17,30 +18,30 @@ use kc_order::ordered_are_accepted;
 use kc_tree::tree::Tree;
 use kc_user::user::User;
 use kc_values::laws::accepted_have_one_solution;
-use kc_values::table::Table;
 use std::alloc::{AllocError, Global};
 
-// The values of the symbols of a tree under a user's places, computed along the order, each once.
+// The values and visibilities of the symbols of a tree under a user's places, computed along the order, each once.
 fn full_table<'t>(
     alloc: Global,
     tree: &'t Tree,
     order: &Order,
     user: &User,
-) -> Result<Table<'t>, AllocError>
+) -> Result<Filled<'t>, AllocError>
     requires order { order.now ≡ needs tree.now }
     requires user { IsUserOf tree.now user.now }
-    ensures tree { IfOk result (λ t. t.tree.now ≡ tree.now) }
+    ensures tree { IfOk result (λ f. f.table.tree.now ≡ tree.now) }
     ensures accepted { OnOk result (IsAccepted tree.now) }
-    ensures count { IfOk result (λ t. length t.values.items ≡ symbol_count tree.now) }
-    ensures solves { IfOk result (λ t. Solves (symbol_count tree.now) (equations tree.now (place_at user.now)) (valuation tree.now t.values.items)) }
-    ensures only { IfOk result (λ t. IsOnlySolution (symbol_count tree.now) (equations tree.now (place_at user.now)) (valuation tree.now t.values.items)) }
+    ensures count { IfOk result (λ f. length f.table.values.items ≡ symbol_count tree.now) }
+    ensures solves { IfOk result (λ f. Solves (symbol_count tree.now) (equations tree.now (place_at user.now)) (valuation tree.now f.table.values.items)) }
+    ensures only { IfOk result (λ f. IsOnlySolution (symbol_count tree.now) (equations tree.now (place_at user.now)) (valuation tree.now f.table.values.items)) }
+    ensures visibilities { IfOk result (λ f. AreShown tree.now (known_in tree.now f.table.values.items) f.visibilities.items) }
 {
     accepted_have_one_solution();
     ordered_are_accepted();
     let given = user.symbols();
     let chosen = user.choices();
-    let table = fill(alloc, tree, order.symbols(), given, chosen)?;
-    Ok(table)
+    let filled = fill(alloc, tree, order.symbols(), given, chosen)?;
+    Ok(filled)
 }
 
 /// Solves a tree under a user's places: the one solution of the equations of its symbols, one for each (the kernel's
@@ -61,14 +62,25 @@ pub fn solve<'a>(
     ensures minimal { IfOk result IsMinimal }
     ensures settled { IfOk result SettledWhere }
 {
-    let table = full_table(alloc, tree, order, user)?;
+    let filled = full_table(alloc, tree, order, user)?;
+    let Filled {
+        table,
+        visibilities,
+    } = filled;
     let selections = selections(alloc, &table, user)?;
     let default_selections = default_selections(alloc, &table)?;
     let Flags {
         differing,
         written,
         warnings,
-    } = flags_of(alloc, &table, user, &selections, &default_selections)?;
+    } = flags_of(
+        alloc,
+        &table,
+        user,
+        &visibilities,
+        &selections,
+        &default_selections,
+    )?;
     let solved = Solved {
         table,
         user,

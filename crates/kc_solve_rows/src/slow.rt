@@ -27,6 +27,7 @@ use kc_values::equation::own_equation;
 use kc_values::laws::{accepted_have_one_solution, choices_stand_alone};
 use kc_values::members::selected_in;
 use kc_values::table::{Table, Value};
+use kc_values::truths::visibility;
 use std::alloc::{AllocError, Global};
 
 // What a tree says of a symbol that is defined.
@@ -97,7 +98,8 @@ fn value_anew(
     match symbol.choice {
         Some(choice) => Ok(Value::Truth(member_value(table, id, choice, chosen))),
         None => {
-            let value = own_equation(alloc, table.tree, id, symbol, own, table)?;
+            let shown = visibility(table.tree, symbol, table);
+            let value = own_equation(alloc, table.tree, id, symbol, own, shown, table)?;
             Ok(value)
         }
     }

@@ -54,7 +54,8 @@ fn differs(
         let default = selected_in(table.tree, choice, None, table);
         return Ok(member_differs(selection, default, id));
     }
-    let without = own_equation(alloc, table.tree, id, symbol, None, table)?;
+    let shown = visibility(table.tree, symbol, table);
+    let without = own_equation(alloc, table.tree, id, symbol, None, shown, table)?;
     Ok(!holds(found(&table.values, id), &without))
 }
 

@@ -30,10 +30,11 @@ module _ (tree : TreeFacts) (k : SymId → Known) where
   abbrev without_user : SymbolFacts → Tri
   without_user f = v.implied (v.default_value tree k (v.first_open tree k f.defaults)) (v.weak tree k f) (v.direct tree k f)
 
-  pub truth_joined : (f : SymbolFacts) (user : Option Given) (base sel all r : Tri) → base ≡ v.based user (v.visibility tree k f) (without_user f) → sel ≡ v.rev tree k f →
+  pub truth_joined : (f : SymbolFacts) (user : Option Given) (vis base sel all r : Tri) → vis ≡ v.visibility tree k f → base ≡ v.based user vis (without_user f) → sel ≡ v.rev tree k f →
       all ≡ greater base sel → r ≡ v.raised tree k f.kind all → r ≡ v.truth_equation tree k f user
-  truth_joined f user base sel all r e1 e2 e3 e4 =
-      e4 ∙ ap (v.raised tree k f.kind) (e3 ∙ ap (λ x. greater x sel) e1 ∙ ap (greater (v.based user (v.visibility tree k f) (without_user f))) e2)
+  truth_joined f user vis base sel all r e0 e1 e2 e3 e4 =
+      let based_is : base ≡ v.based user (v.visibility tree k f) (without_user f) = e1 ∙ ap (λ x. v.based user x (without_user f)) e0 in
+      e4 ∙ ap (v.raised tree k f.kind) (e3 ∙ ap (λ x. greater x sel) based_is ∙ ap (greater (v.based user (v.visibility tree k f) (without_user f))) e2)
 
   pub range_joined : (name : List ℕ) (f : SymbolFacts) (user : Option Given) (range : Option Interval) (vis : Tri) (given used default : Option (List ℕ))
       (old mid new : List (List ℕ)) → range ≡ v.active_range tree k f → vis ≡ v.visibility tree k f → given ≡ v.typed user vis → used ≡ if_inside f.kind range given →

@@ -2,6 +2,7 @@ pub mod Same
 pub mod Once
 pub mod OnlyNamed
 pub mod TreeNeeds
+pub mod VisibilityNeeds
 pub mod SameValue
 pub mod Uncounted
 pub mod TruthLines

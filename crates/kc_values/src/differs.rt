@@ -21,31 +21,33 @@ use kc_tree::tree::Tree;
 use kc_user::value::UserValue;
 use std::alloc::{AllocError, Global};
 
-/// Whether the value of a symbol outside a choice is not what its equation gives, under the same values of all others,
-/// without what the user gave for it (our own rule of the minimal file). Fails only when it is out of memory.
+/// Whether the value of a symbol of this visibility outside a choice is not what its equation gives, under the same values of
+/// all others, without what the user gave for it (our own rule of the minimal file). Fails only when it is out of memory.
 pub fn own_differs<V: Values>(
     alloc: Global,
     tree: &Tree,
     id: SymId,
     symbol: &Symbol,
+    shown: Tri,
     values: &V,
 ) -> Result<bool, AllocError>
-    requires { V.kind_of values.now id ≡ symbol.now.kind }
+    requires shown { shown ≡ value.visibility tree.now (known_by (V.kind_of values.now) (V.tri_of values.now) (V.text_of values.now)) (facts_of symbol.now) }
+    requires kind { V.kind_of values.now id ≡ symbol.now.kind }
     ensures { IfOk result (λ b. b ≡ not (same_value (known_by (V.kind_of values.now) (V.tri_of values.now) (V.text_of values.now) id) (value.by_kind tree.now (known_by (V.kind_of values.now) (V.tri_of values.now) (V.text_of values.now)) id (facts_of symbol.now) symbol.now.kind None))) }
 {
     match symbol.kind {
-        Kind::Bool => Ok(values.tri(id) != truth_equation(tree, symbol, None, values)),
-        Kind::Tristate => Ok(values.tri(id) != truth_equation(tree, symbol, None, values)),
+        Kind::Bool => Ok(values.tri(id) != truth_equation(tree, symbol, None, shown, values)),
+        Kind::Tristate => Ok(values.tri(id) != truth_equation(tree, symbol, None, shown, values)),
         Kind::Str => {
-            let without = text_equation(alloc, tree, symbol, None, values)?;
+            let without = text_equation(alloc, tree, symbol, None, shown, values)?;
             Ok(values.text(id) != without.as_slice())
         }
         Kind::Int => {
-            let without = number_equation(alloc, tree, symbol, None, values)?;
+            let without = number_equation(alloc, tree, symbol, None, shown, values)?;
             Ok(values.text(id) != without.as_slice())
         }
         Kind::Hex => {
-            let without = number_equation(alloc, tree, symbol, None, values)?;
+            let without = number_equation(alloc, tree, symbol, None, shown, values)?;
             Ok(values.text(id) != without.as_slice())
         }
         Kind::Undefined => Ok(values.text(id) != name(tree, id)),

@@ -14,39 +14,42 @@ use crate::numbers::number_equation;
 use crate::table::Value;
 use crate::texts::text_equation;
 use crate::truths::truth_equation;
-use kc_expr::expression::{Kind, SymId};
+use kc_expr::expression::{Kind, SymId, Tri};
 use kc_expr::values::Values;
 use kc_tree::parts::Symbol;
 use kc_tree::tree::Tree;
 use kc_user::value::UserValue;
 use std::alloc::{AllocError, Global};
 
-/// The value that the equation of a symbol outside a choice gives, by its type (the kernel's kconfig-language document,
-/// "Menu attributes"; kconfiglib's `tri_value` and `str_value`). Without a type it is the symbol's name, as of a name that
-/// is not defined (kconfiglib). Fails only when it is out of memory.
+/// The value that the equation of a symbol of this visibility outside a choice gives, by its type (the kernel's
+/// kconfig-language document, "Menu attributes"; kconfiglib's `tri_value` and `str_value`). Without a type it is the symbol's
+/// name, as of a name that is not defined (kconfiglib). The caller owes the visibility, so that it is found once for all that
+/// asks for it. Fails only when it is out of memory.
 pub fn own_equation<V: Values>(
     alloc: Global,
     tree: &Tree,
     id: SymId,
     symbol: &Symbol,
     user: Option<&UserValue>,
+    shown: Tri,
     values: &V,
 ) -> Result<Value, AllocError>
+    requires { shown ≡ spec.visibility tree.now (known_by (V.kind_of values.now) (V.tri_of values.now) (V.text_of values.now)) (facts_of symbol.now) }
     ensures { IfOk result (λ x. known_value symbol.now.kind x ≡ spec.by_kind tree.now (known_by (V.kind_of values.now) (V.tri_of values.now) (V.text_of values.now)) id (facts_of symbol.now) symbol.now.kind (place user.entry)) }
 {
     match symbol.kind {
-        Kind::Bool => Ok(Value::Truth(truth_equation(tree, symbol, user, values))),
-        Kind::Tristate => Ok(Value::Truth(truth_equation(tree, symbol, user, values))),
+        Kind::Bool => Ok(Value::Truth(truth_equation(tree, symbol, user, shown, values))),
+        Kind::Tristate => Ok(Value::Truth(truth_equation(tree, symbol, user, shown, values))),
         Kind::Str => {
-            let text = text_equation(alloc, tree, symbol, user, values)?;
+            let text = text_equation(alloc, tree, symbol, user, shown, values)?;
             Ok(Value::Text(text))
         }
         Kind::Int => {
-            let text = number_equation(alloc, tree, symbol, user, values)?;
+            let text = number_equation(alloc, tree, symbol, user, shown, values)?;
             Ok(Value::Text(text))
         }
         Kind::Hex => {
-            let text = number_equation(alloc, tree, symbol, user, values)?;
+            let text = number_equation(alloc, tree, symbol, user, shown, values)?;
             Ok(Value::Text(text))
         }
         Kind::Undefined => {
@@ -56,20 +59,22 @@ pub fn own_equation<V: Values>(
     }
 }
 
-/// The value that the equation of a defined symbol gives: `user` is what was given for it, `users` what was given for
-/// each choice, `selections` those settled so far, to which that of the symbol's own choice is added (the kernel's
-/// kconfig-language document; where that is vague, kconfiglib's documented rules). Fails only when it is out of memory; what
-/// is settled then is right too.
+/// The value that the equation of a defined symbol gives: `user` is what was given for it, `shown` its visibility, which the
+/// caller owes, `users` what was given for each choice, `selections` those settled so far, to which that of the symbol's own
+/// choice is added (the kernel's kconfig-language document; where that is vague, kconfiglib's documented rules). Fails only
+/// when it is out of memory; what is settled then is right too.
 pub fn equation<V: Values>(
     alloc: Global,
     tree: &Tree,
     id: SymId,
     symbol: &Symbol,
     user: Option<&UserValue>,
+    shown: Tri,
     users: &[Option<SymId>],
     selections: &mut Selections,
     values: &V,
 ) -> Result<Value, AllocError>
+    requires shown { shown ≡ spec.visibility tree.now (known_by (V.kind_of values.now) (V.tri_of values.now) (V.text_of values.now)) (facts_of symbol.now) }
     requires users { IfSome symbol.now.choice (λ c. c.0 < length users.now) }
     requires there { IfSome symbol.now.choice (λ c. c.0 < length selections.old.settled.items) }
     requires settled { AreSettled tree.now (known_by (V.kind_of values.now) (V.tri_of values.now) (V.text_of values.now)) users.now selections.old.settled.items }
@@ -84,7 +89,7 @@ pub fn equation<V: Values>(
             Ok(Value::Truth(member))
         }
         None => {
-            let value = own_equation(alloc, tree, id, symbol, user, values)?;
+            let value = own_equation(alloc, tree, id, symbol, user, shown, values)?;
             Ok(value)
         }
     }

@@ -9,8 +9,8 @@ ghost use Rattle.kc_expr.specs.Value.{known_by};
 ghost use Rattle.kc_values.specs.User.{place, text_at};
 
 use crate::conditions::{condition, is_n};
-use crate::texts::{default_text, typed_in};
-use kc_expr::expression::{Kind, Operand};
+use crate::texts::{default_text, typed};
+use kc_expr::expression::{Kind, Operand, Tri};
 use kc_expr::values::{Values, text};
 use kc_text::{read_hex, read_int};
 use kc_tree::parts::{Cond, Symbol};
@@ -145,20 +145,22 @@ pub fn clamped(
     Ok(copy)
 }
 
-/// The value of an int or hex symbol outside a choice: the visible user text that is inside the active range, in exactly its
-/// text, else the first default's text, clamped (kconfiglib's `str_value`); without both it is empty (our own). Fails only when
-/// it is out of memory.
+/// The value of an int or hex symbol of this visibility outside a choice: the visible user text that is inside the active
+/// range, in exactly its text, else the first default's text, clamped (kconfiglib's `str_value`); without both it is empty (our
+/// own). Fails only when it is out of memory.
 pub fn number_equation<V: Values>(
     alloc: Global,
     tree: &Tree,
     symbol: &Symbol,
     user: Option<&UserValue>,
+    shown: Tri,
     values: &V,
 ) -> Result<Vec<u8>, AllocError>
+    requires { shown ≡ spec.visibility tree.now (known_by (V.kind_of values.now) (V.tri_of values.now) (V.text_of values.now)) (facts_of symbol.now) }
     ensures { IfOk result (λ v. v.items ≡ spec.number_equation tree.now (known_by (V.kind_of values.now) (V.tri_of values.now) (V.text_of values.now)) (facts_of symbol.now) (place user.entry)) }
 {
     let range = active_range(tree, symbol, values);
-    let given = typed_in(tree, symbol, user, values);
+    let given = typed(user, shown);
     if let Some(bytes) = if_inside(symbol.kind, range, given) {
         let copy = Vec::from_slice(alloc, bytes)?;
         return Ok(copy);

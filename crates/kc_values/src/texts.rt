@@ -8,7 +8,6 @@ ghost use Rattle.kc_expr.specs.Value.{known_by};
 ghost use Rattle.kc_values.specs.User.{place, text_at};
 
 use crate::conditions::{condition, is_n};
-use crate::truths::visibility;
 use kc_expr::expression::{Expr, Tri};
 use kc_expr::values::{Values, text};
 use kc_tree::parts::{Cond, Symbol};
@@ -57,33 +56,20 @@ pub fn typed(user: Option<&UserValue>, visibility: Tri) -> Option<&[u8]>
     }
 }
 
-/// The same of a symbol, whose visibility is looked at only where the user gave a text (kconfiglib's `str_value`).
-pub fn typed_in<'a, V: Values>(
-    tree: &Tree,
-    symbol: &Symbol,
-    user: Option<&'a UserValue>,
-    values: &V,
-) -> Option<&'a [u8]>
-    ensures { text_at result ≡ spec.typed (place user.entry) (spec.visibility tree.now (known_by (V.kind_of values.now) (V.tri_of values.now) (V.text_of values.now)) (facts_of symbol.now)) }
-{
-    match user {
-        Some(UserValue::Text(_)) => typed(user, visibility(tree, symbol, values)),
-        _ => None,
-    }
-}
-
-/// The value of a string symbol outside a choice: the user's text where it is visible, else the text of the first default
-/// whose condition is not n, else nothing (kconfiglib's `str_value`). Fails only when it is out of memory.
+/// The value of a string symbol of this visibility outside a choice: the user's text where it is visible, else the text of the
+/// first default whose condition is not n, else nothing (kconfiglib's `str_value`). Fails only when it is out of memory.
 pub fn text_equation<V: Values>(
     alloc: Global,
     tree: &Tree,
     symbol: &Symbol,
     user: Option<&UserValue>,
+    shown: Tri,
     values: &V,
 ) -> Result<Vec<u8>, AllocError>
+    requires { shown ≡ spec.visibility tree.now (known_by (V.kind_of values.now) (V.tri_of values.now) (V.text_of values.now)) (facts_of symbol.now) }
     ensures { IfOk result (λ v. v.items ≡ spec.text_equation tree.now (known_by (V.kind_of values.now) (V.tri_of values.now) (V.text_of values.now)) (facts_of symbol.now) (place user.entry)) }
 {
-    if let Some(bytes) = typed_in(tree, symbol, user, values) {
+    if let Some(bytes) = typed(user, shown) {
         let copy = Vec::from_slice(alloc, bytes)?;
         return Ok(copy);
     }

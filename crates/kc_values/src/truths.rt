@@ -117,32 +117,40 @@ fn implied<V: Values>(tree: &Tree, symbol: &Symbol, values: &V) -> Tri
     }
 }
 
-// The user's truth up to the visibility, where the symbol is visible, and else its default. Only what counts is looked at.
-fn based<V: Values>(tree: &Tree, symbol: &Symbol, user: Option<&UserValue>, values: &V) -> Tri
-    ensures { result ≡ spec.based (place user.entry) (spec.visibility tree.now (known_by (V.kind_of values.now) (V.tri_of values.now) (V.text_of values.now)) (facts_of symbol.now)) (spec.implied (spec.default_value tree.now (known_by (V.kind_of values.now) (V.tri_of values.now) (V.text_of values.now)) (spec.first_open tree.now (known_by (V.kind_of values.now) (V.tri_of values.now) (V.text_of values.now)) (facts_of symbol.now).defaults)) (spec.weak tree.now (known_by (V.kind_of values.now) (V.tri_of values.now) (V.text_of values.now)) (facts_of symbol.now)) (spec.direct tree.now (known_by (V.kind_of values.now) (V.tri_of values.now) (V.text_of values.now)) (facts_of symbol.now))) }
+// The user's truth up to the visibility, where the symbol is visible, and else its default.
+fn based<V: Values>(
+    tree: &Tree,
+    symbol: &Symbol,
+    user: Option<&UserValue>,
+    shown: Tri,
+    values: &V,
+) -> Tri
+    ensures { result ≡ spec.based (place user.entry) shown (spec.implied (spec.default_value tree.now (known_by (V.kind_of values.now) (V.tri_of values.now) (V.text_of values.now)) (spec.first_open tree.now (known_by (V.kind_of values.now) (V.tri_of values.now) (V.text_of values.now)) (facts_of symbol.now).defaults)) (spec.weak tree.now (known_by (V.kind_of values.now) (V.tri_of values.now) (V.text_of values.now)) (facts_of symbol.now)) (spec.direct tree.now (known_by (V.kind_of values.now) (V.tri_of values.now) (V.text_of values.now)) (facts_of symbol.now))) }
 {
     match user {
-        Some(UserValue::Tri(given)) => match visibility(tree, symbol, values) {
+        Some(UserValue::Tri(given)) => match shown {
             Tri::N => implied(tree, symbol, values),
-            shown => lesser(*given, shown),
+            _ => lesser(*given, shown),
         },
         _ => implied(tree, symbol, values),
     }
 }
 
-/// The value of a bool or tristate symbol outside a choice: the user's up to the visibility where it is visible, else its
-/// default, which an imply raises up to the direct dependency (that order is our own); at least the reverse dependency,
-/// even against the direct one; raised (the kernel's kconfig-language document, "Menu attributes"; kconfiglib's
-/// `tri_value`).
+/// The value of a bool or tristate symbol of this visibility outside a choice: the user's up to the visibility where it is
+/// visible, else its default, which an imply raises up to the direct dependency (that order is our own); at least the
+/// reverse dependency, even against the direct one; raised (the kernel's kconfig-language document, "Menu attributes";
+/// kconfiglib's `tri_value`).
 pub fn truth_equation<V: Values>(
     tree: &Tree,
     symbol: &Symbol,
     user: Option<&UserValue>,
+    shown: Tri,
     values: &V,
 ) -> Tri
+    requires { shown ≡ spec.visibility tree.now (known_by (V.kind_of values.now) (V.tri_of values.now) (V.text_of values.now)) (facts_of symbol.now) }
     ensures { result ≡ spec.truth_equation tree.now (known_by (V.kind_of values.now) (V.tri_of values.now) (V.text_of values.now)) (facts_of symbol.now) (place user.entry) }
 {
-    let base = based(tree, symbol, user, values);
+    let base = based(tree, symbol, user, shown, values);
     let selected = reverse(tree, symbol, values);
     raised(tree, symbol.kind, greater(base, selected), values)
 }

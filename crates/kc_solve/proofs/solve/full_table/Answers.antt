@@ -16,15 +16,15 @@ pub returns-clause-solves : goal.returns-clause-solves
 returns-clause-solves c =
     let t = c.args.tree.now in
     solves_as_shown t c.symbols-given.result.now c.choices-chosen.result.now c.args.user.now
-    (valuation t c.in_ok-table.table.values.items) c.symbols-given.ensures c.choices-chosen.ensures c.in_ok-table.ensures.solves
+    (valuation t c.in_ok-filled.filled.table.values.items) c.symbols-given.ensures c.choices-chosen.ensures c.in_ok-filled.ensures.solves
 
 pub returns-clause-only : goal.returns-clause-only
 returns-clause-only c =
     let t = c.args.tree.now in
-    let V = valuation t c.in_ok-table.table.values.items in
+    let V = valuation t c.in_ok-filled.filled.table.values.items in
     let orders : Orders (needs t) c.symbols.result.now = subst (λ (n : List (List ℕ)). Orders n c.symbols.result.now) c.requires.order c.symbols.ensures in
     let accepted = c.ordered_are_accepted.ensures (needs t) c.symbols.result.now orders in
-    let solves = solves_as_shown t c.symbols-given.result.now c.choices-chosen.result.now c.args.user.now V c.symbols-given.ensures c.choices-chosen.ensures c.in_ok-table.ensures.solves in
+    let solves = solves_as_shown t c.symbols-given.result.now c.choices-chosen.result.now c.args.user.now V c.symbols-given.ensures c.choices-chosen.ensures c.in_ok-filled.ensures.solves in
     c.accepted_have_one_solution.ensures.agree t (place_at c.args.user.now) accepted V solves
 
 pub returns-clause-accepted : goal.returns-clause-accepted
