@@ -5,7 +5,6 @@ use Rattle.kc_words.specs.declared.options.Options.{Options}
 use Rattle.kc_disk.specs.Drafted.{drafted, longer, made_from, opened_as, shut, unmade}
 use Rattle.kc_disk.specs.Makers.{IsOpen, Made, Tells, Told, appended, closed, none_made, opened, with_made}
 use Rattle.kc_disk.specs.Reached.{unused}
-use Rattle.kc_disk.specs.Replacing.{SameNotes}
 use Rattle.kc_disk.specs.declared.drafts.Draft.{Draft}
 use Rattle.kc_disk.proofs.ToldLemmas.{tells-mapped}
 
@@ -50,6 +49,14 @@ notes-longer config header minimal depfile bytes (Some t) after e = rw e refl
 pub notes-open : (config header minimal depfile : Draft) (told : Option Told) → Tells (drafted config header minimal depfile told) (IsOpen Notes) → Tells told (IsOpen Notes)
 notes-open config header minimal depfile told h = λ t e. h _ (ap (drafted config header minimal depfile) e)
 
+pub notes-made : (config header minimal depfile : Draft) (name : List ℕ) (told after : Option Told) → after ≡ option_map (opened Notes name) told → drafted config header minimal depfile after ≡ option_map (opened Notes name) (drafted config header minimal depfile told)
+notes-made config header minimal depfile name None after e = rw e refl
+notes-made config header minimal depfile name (Some t) after e = rw e refl
+
+pub notes-shut : (config header minimal depfile : Draft) (told after : Option Told) → after ≡ option_map (closed Notes) told → drafted config header minimal depfile after ≡ option_map (closed Notes) (drafted config header minimal depfile told)
+notes-shut config header minimal depfile None after e = rw e refl
+notes-shut config header minimal depfile (Some t) after e = rw e refl
+
 -- a draft is shut
 pub config-shut : (old new header minimal depfile : Draft) (told : Option Told) → made_from new ≡ shut (made_from old) → drafted new header minimal depfile told ≡ option_map (closed Config) (drafted old header minimal depfile told)
 config-shut old new header minimal depfile None e = refl
@@ -91,5 +98,5 @@ one-open : (old : Option Told) (t : Told) → Some t.notes ≡ option_map (λ o.
 one-open None t e h = absurd (cc)
 one-open (Some o) t e h = ap (λ (m : Option Made). (unwrap_or m o.notes).is_open) e ∙ ap (λ (x : Told). x.notes.is_open) (h o refl)
 
-pub same-open : (old new : Option Told) → SameNotes old new → Tells old (λ o. o ≡ none_made) → Tells new (IsOpen Notes)
+pub same-open : (old new : Option Told) → option_map (λ t. t.notes) new ≡ option_map (λ t. t.notes) old → Tells old (λ o. o ≡ none_made) → Tells new (IsOpen Notes)
 same-open old new same h = λ t is. one-open old t (rw is at same) h

@@ -5,4 +5,5 @@ pub mod RanLemmas
 pub mod ReachedLemmas
 pub mod SaysLemmas
 pub mod ShelfLemmas
+pub mod StreamLemmas
 pub mod ToldLemmas

@@ -7,6 +7,7 @@ use Rattle.kc_conf.specs.declared.outputs.Which.{Which}
 use Rattle.kc_conf.specs.declared.outputs.Which.TheVariants.{Config, Header, Minimal, Depfile, Notes}
 use Rattle.kc_disk.specs.Standing.{Stand, is_current, places_of, record_at, record_begun, record_ended, record_failed, waiting, with_record}
 use Rattle.kc_disk.specs.Makers.{AreClosed, IsOpen, Made, Tells, Told, appended, closed, made_of, opened}
+use Rattle.kc_disk.specs.Moved.{Moves}
 use Rattle.kc_disk.specs.declared.records.Record.{Record}
 use Rattle.kc_disk.specs.declared.records.Records.{Records}
 use Rattle.kc_disk.proofs.ToldLemmas.{tells-mapped}
@@ -85,6 +86,19 @@ pub grown-notes : (options : Options) (told : Option Told) (o : Option Which) (b
     places_of options told o bytes (line ++ more) r ≡ with_place (places_of options told o bytes line r) Notes (grown (at (places_of options told o bytes line r) Notes) more)
 grown-notes options None o bytes line more r = refl
 grown-notes options (Some t) o bytes line more r = simp append_assoc
+
+-- some of what waited reached standard error
+pub moved-front : (options : Options) (told after : Option Told) (o : Option Which) (bytes old new : List ℕ) (r : Records) → Moves Notes old new told after → places_of options after o bytes new r ≡ places_of options told o bytes old r
+moved-front options told after o bytes old new r (front, is, moved) =
+    ap (λ t. places_of options t o bytes new r) moved ∙ moved-notes options told o bytes front new r ∙ ap (λ l. places_of options told o bytes l r) (sym is)
+
+pub ended-notes : (options : Options) (told after : Option Told) (o : Option Which) (bytes old new : List ℕ) (r q : Records) → Moves Notes old new told after → q ≡ with_record r Notes (record_ended (record_at r Notes)) →
+    places_of options after o bytes new q ≡ with_place (places_of options told o bytes old r) Notes (ended (at (places_of options told o bytes old r) Notes))
+ended-notes options told after o bytes old new r q moves counted = moved-front options told after o bytes old new q moves ∙ ap (λ x. places_of options told o bytes old x) counted
+
+pub failed-notes : (options : Options) (told after : Option Told) (o : Option Which) (bytes old new : List ℕ) (r q : Records) → Moves Notes old new told after → q ≡ with_record r Notes (record_failed (record_at r Notes)) →
+    places_of options after o bytes new q ≡ with_place (places_of options told o bytes old r) Notes (failed (at (places_of options told o bytes old r) Notes))
+failed-notes options told after o bytes old new r q moves counted = moved-front options told after o bytes old new q moves ∙ ap (λ x. places_of options told o bytes old x) counted
 
 -- ---- what is kept
 

@@ -1,5 +1,7 @@
 -- For proofs: What drafts tell.
-use Rattle.std.specs.Prelude.{ℕ, true, false, List, [], ◌++◌, Option, option_map, string_bytes}
+use Rattle.std.specs.Prelude.{ℕ, Bool, true, false, List, [], ◌++◌, Option, option_map, string_bytes}
+use Rattle.kc_conf.specs.declared.outputs.Which.{Which}
+use Rattle.kc_conf.specs.declared.outputs.Which.TheVariants.{Config, Header, Minimal, Depfile, Notes}
 use Rattle.kc_disk.specs.Makers.{Made, Told}
 use Rattle.kc_disk.specs.declared.drafts.Draft.{Draft}
 
@@ -22,3 +24,11 @@ shut made = record { name = made.name; bytes = made.bytes; is_open = false }
 -- the drafts of the files, and the notes of a maker
 abbrev pub drafted : Draft → Draft → Draft → Draft → Option Told → Option Told
 drafted config header minimal depfile = option_map (λ t. record { config = made_from config; header = made_from header; minimal = made_from minimal; depfile = made_from depfile; notes = t.notes })
+
+-- a draft fails for want of memory, and the notes where their maker may
+abbrev pub drafts_failing : (Which → Bool) → Which → Bool
+drafts_failing failing Config = true
+drafts_failing failing Header = true
+drafts_failing failing Minimal = true
+drafts_failing failing Depfile = true
+drafts_failing failing Notes = failing Notes

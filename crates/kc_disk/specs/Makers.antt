@@ -55,6 +55,22 @@ AreClosed told = (told.config.is_open ≡ false) × (told.header.is_open ≡ fal
 abbrev pub none_made : Told
 none_made = let none : Made = record { name = []; bytes = []; is_open = false } in record { config = none; header = none; minimal = none; depfile = none; notes = record { name = []; bytes = []; is_open = true } }
 
+-- a maker in a call: what it tells before and after, and whether it may fail at the notes
+pub record Making : Type 0 where
+  pub told : Option Told
+  pub told_after : Option Told
+  pub may_fail : Bool
+
+abbrev pub making : Option Told → Option Told → Bool → Making
+making told told_after may_fail = record { told = told; told_after = told_after; may_fail = may_fail }
+
+-- the call until it told this, and from there on
+abbrev pub until : Option Told → Making → Making
+until told maker = record maker { told_after = told }
+
+abbrev pub since : Option Told → Making → Making
+since told maker = record maker { told = told }
+
 -- this holds of what is told
 abbrev pub Tells : Option Told → (Told → Type 0) → Type 0
 Tells told P = (t : Told) → told ≡ Some t → P t

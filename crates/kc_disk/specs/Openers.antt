@@ -1,6 +1,7 @@
 -- Trusted: What files give that are opened by name.
-use Rattle.std.specs.Prelude.{◌≡◌, ◌≢◌, ℕ, Bool, true, false, List, [], Option, None, Some, option_map, unwrap_or}
+use Rattle.std.specs.Prelude.{◌≡◌, ◌≢◌, ℕ, Bool, true, false, not, ◌&&◌, ◌||◌, List, [], ◌∷◌, length, nat_le, Option, None, Some, is_none, option_map, unwrap_or}
 use Rattle.kc_load.specs.Folders.{Told}
+use Rattle.kc_disk.specs.Devices.{most_reads}
 
 -- the files of a folder by their paths, or nothing told, and at which of these it may fail
 pub record Source : Type 0 where
@@ -25,3 +26,30 @@ held told name = option_map (λ files. unwrap_or (files name) []) told
 -- There is a file of this name, or there need not be one.
 abbrev pub IsThere : Told → List ℕ → Bool → Type 0
 IsThere told name may_be_missing = (files : List ℕ → Option (List ℕ)) → told ≡ Some files → may_be_missing ≡ false → files name ≢ None
+
+-- a file that a run reads by name, and whether it may be missing
+pub record Stream : Type 0 where
+  pub name : List ℕ
+  pub may_be_missing : Bool
+
+abbrev pub stream : List ℕ → Bool → Stream
+stream name may_be_missing = record { name = name; may_be_missing = may_be_missing }
+
+-- whether there is no file of this name, where that is told
+abbrev pub may_miss : Told → List ℕ → Bool
+may_miss None name = true
+may_miss (Some files) name = is_none (files name)
+
+-- whether there are no fewer bytes than reads, where they are told
+abbrev pub may_be_endless : Option (List ℕ) → Bool
+may_be_endless None = true
+may_be_endless (Some bytes) = nat_le most_reads (length bytes)
+
+-- whether a stream may fail: the opener may at its name, or there is no file and there has to be one, or it may have no end
+abbrev pub may_fail : Source → Stream → Bool
+may_fail opened s = opened.failing s.name || (not s.may_be_missing && may_miss opened.files s.name) || may_be_endless (held opened.files s.name)
+
+-- whether one of the streams may fail
+abbrev pub one_may_fail : Source → List Stream → Bool
+one_may_fail opened [] = false
+one_may_fail opened (s ∷ streams) = may_fail opened s || one_may_fail opened streams

@@ -19,6 +19,19 @@ pub record Shelf : Type 0 where
   pub begun : Option Text
   pub whole : List Text
 
+-- a mover in a call: what it tells before and after, and whether it may fail
+pub record Moving : Type 0 where
+  pub shelf : Option Shelf
+  pub shelf_after : Option Shelf
+  pub may_fail : Bool
+
+abbrev pub moving : Option Shelf → Option Shelf → Bool → Moving
+moving shelf shelf_after may_fail = record { shelf = shelf; shelf_after = shelf_after; may_fail = may_fail }
+
+-- nothing was moved
+abbrev pub IsStill : Moving → Type 0
+IsStill mover = mover.shelf_after ≡ mover.shelf
+
 -- ---- what a mover does
 
 -- an empty file is made beside the place of this name

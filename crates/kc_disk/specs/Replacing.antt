@@ -6,17 +6,16 @@ use Rattle.kc_read.specs.Files.{Files}
 use Rattle.kc_words.specs.declared.options.Options.{Options}
 use Rattle.kc_load.specs.Expanding.{AreFilesOf}
 use Rattle.kc_load.specs.Faults.{IsLoadFault}
-use Rattle.kc_load.specs.Folders.{Told as FilesTold}
 use Rattle.kc_load.specs.declared.fault.LoadFault.{LoadFault}
 use Rattle.kc_conf.specs.Outcome.{names_of, root_of}
 use Rattle.kc_conf.specs.Places.{Places}
 use Rattle.kc_conf.specs.declared.options.Status.{Status}
 use Rattle.kc_conf.specs.declared.options.Status.TheVariants as ended
 use Rattle.kc_configure.specs.Configured.{Leaves}
-use Rattle.kc_disk.specs.Makers.{Tells, Told}
-use Rattle.kc_disk.specs.Openers.{Source, held}
-use Rattle.kc_disk.specs.Placing.{Shelf, Text, settled}
-use Rattle.kc_disk.specs.Program.{Ends, Says, load_line}
+use Rattle.kc_disk.specs.Makers.{Making, Tells, Told, since, until}
+use Rattle.kc_disk.specs.Openers.{Source, held, one_may_fail}
+use Rattle.kc_disk.specs.Placing.{IsStill, Moving, Text, settled}
+use Rattle.kc_disk.specs.Program.{Ends, Fails, Says, load_line, streams_of}
 use Rattle.kc_disk.specs.Reached.{Reached, unused}
 use Rattle.kc_disk.specs.Stopping.{Stopped}
 use Rattle.kc_disk.specs.declared.settle.Stop.{Stop}
@@ -36,28 +35,29 @@ abbrev pub texts_made : Options → Told → List Text
 texts_made options t = wanted_texts options t.config.bytes t.header.bytes t.minimal.bytes t.depfile.bytes
 
 -- After a run that is done each text is in its place; after another every place is as it was.
-abbrev pub Placed : Status → List Text → Option Shelf → Option Shelf → Type 0
-Placed ended.Done texts old new = new ≡ option_map (settled texts) old
-Placed ended.Refused texts old new = new ≡ old
-Placed ended.Usage texts old new = new ≡ old
-Placed ended.Faulted texts old new = new ≡ old
+abbrev pub Placed : Status → List Text → Moving → Type 0
+Placed ended.Done texts mover = mover.shelf_after ≡ option_map (settled texts) mover.shelf
+Placed ended.Refused texts mover = IsStill mover
+Placed ended.Usage texts mover = IsStill mover
+Placed ended.Faulted texts mover = IsStill mover
 
 -- The run's status is answered where all that it asks for was done. Else the run was done, and a text could not take its
 -- place.
-abbrev pub Replaces : List Text → Status → Result Status Stop → Option Shelf → Option Shelf → Type 0
-Replaces texts ran (Ok s) old new = (s ≡ ran) × Placed ran texts old new
-Replaces texts ran (Err stop) old new = (ran ≡ ended.Done) × Stopped stop texts old new
+abbrev pub Replaces : List Text → Status → Result Status Stop → Moving → Type 0
+Replaces texts ran (Ok s) mover = (s ≡ ran) × Placed ran texts mover
+Replaces texts ran (Err stop) mover = (ran ≡ ended.Done) × Stopped stop texts mover
 
 -- A run over the folder's files and over what the opener holds under the names of the streams: it leaves their outcome, or a
 -- part of it and a cause; what it handed out was made, and took its places where the run is done.
-pub record RanReplacing (folder : Source) (opened : FilesTold) (options : Options) (result : Result Status Stop) (told told_after : Option Told) (shelf shelf_after : Option Shelf) : Type 0 where
+pub record RanReplacing (folder opened : Source) (options : Options) (result : Result Status Stop) (maker : Making) (mover : Moving) : Type 0 where
   pub files : Files
   pub are_files : AreFilesOf folder.files (string_bytes options.root) files
   pub counts : List ℕ
   pub ran : Status
   pub places : Places
-  pub leaves : Leaves files options (map (held opened) (names_of options)) (map (λ _. 0) (names_of options)) counts ran (unused options told) places
-  pub reached : Tells told_after (λ n. (t : Told) × (t.notes ≡ n.notes) × Reached places t × Replaces (texts_made options t) ran result shelf shelf_after)
+  pub leaves : Leaves files options (map (held opened.files) (names_of options)) (map (λ _. 0) (names_of options)) counts ran (unused options maker.told) places
+  pub fails : Fails (one_may_fail opened (streams_of options)) maker.may_fail counts places
+  pub reached : Tells maker.told_after (λ n. (t : Told) × (t.notes ≡ n.notes) × Reached places t × Replaces (texts_made options t) ran result mover)
 
 -- the line of a text that could not take its place
 abbrev pub stop_line : Stop → List ℕ
@@ -65,19 +65,19 @@ stop_line Memory = codes "error E20: out of memory\n"
 stop_line (Write name moved) = codes "error E19: cannot write " ++ name.now ++ codes "\n"
 
 -- standard error is as it was
-abbrev pub SameNotes : Option Told → Option Told → Type 0
-SameNotes told told_after = option_map (λ t. t.notes) told_after ≡ option_map (λ t. t.notes) told
+abbrev pub SameNotes : Making → Type 0
+SameNotes maker = option_map (λ t. t.notes) maker.told_after ≡ option_map (λ t. t.notes) maker.told
 
 -- A run: as above, or some text could not take its place, which its one line tells; or the tree could not be loaded, and no
 -- place was touched.
-pub data EndsReplacing (folder : Source) (opened : FilesTold) (options : Options) (status : Status) (told told_after : Option Told) (shelf shelf_after : Option Shelf) : Type 0 where
-  ran : RanReplacing folder opened options (Ok status) told told_after shelf shelf_after → EndsReplacing folder opened options status told told_after shelf shelf_after
-  stopped : (stop : Stop) (told_then : Option Told) → RanReplacing folder opened options (Err stop) told told_then shelf shelf_after → status ≡ ended.Faulted →
-      Says (stop_line stop) told_then told_after → EndsReplacing folder opened options status told told_after shelf shelf_after
-  unloaded : (fault : LoadFault) (told_then : Option Told) → IsLoadFault folder.files folder.failing (string_bytes options.root) (root_of options) fault → status ≡ ended.Faulted →
-      SameNotes told told_then → Says (load_line fault) told_then told_after → shelf_after ≡ shelf → EndsReplacing folder opened options status told told_after shelf shelf_after
+pub data EndsReplacing (folder opened : Source) (options : Options) (status : Status) (maker : Making) (mover : Moving) : Type 0 where
+  ran : RanReplacing folder opened options (Ok status) maker mover → EndsReplacing folder opened options status maker mover
+  stopped : (stop : Stop) (told : Option Told) → RanReplacing folder opened options (Err stop) (until told maker) mover → status ≡ ended.Faulted →
+      Says (stop_line stop) (since told maker) → EndsReplacing folder opened options status maker mover
+  unloaded : (fault : LoadFault) (told : Option Told) → IsLoadFault folder.files folder.failing (string_bytes options.root) (root_of options) fault → status ≡ ended.Faulted →
+      SameNotes (until told maker) → Says (load_line fault) (since told maker) → IsStill mover → EndsReplacing folder opened options status maker mover
 
 -- A run with --replace ends so; one without touches no place beside its own.
-abbrev pub EndsBy : Bool → Source → FilesTold → Options → Status → Option Told → Option Told → Option Shelf → Option Shelf → Type 0
-EndsBy true folder opened options status told told_after shelf shelf_after = EndsReplacing folder opened options status told told_after shelf shelf_after
-EndsBy false folder opened options status told told_after shelf shelf_after = Ends folder opened options status told told_after × (shelf_after ≡ shelf)
+abbrev pub EndsBy : Bool → Source → Source → Options → Status → Making → Moving → Type 0
+EndsBy true folder opened options status maker mover = EndsReplacing folder opened options status maker mover
+EndsBy false folder opened options status maker mover = Ends folder opened options status maker × IsStill mover

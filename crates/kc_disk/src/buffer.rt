@@ -1,5 +1,5 @@
 //! Bytes on their way to a file.
-ghost use Rattle.std.specs.Prelude.{◌≡◌, ◌<◌, ◌≤◌, ◌-◌, ◌++◌, List, ℕ, [], length, take, drop, option_map, IfOk, OnOk, OnErr};
+ghost use Rattle.std.specs.Prelude.{◌≡◌, ◌<◌, ◌≤◌, ◌-◌, ◌⊎◌, ◌++◌, List, ℕ, [], true, length, take, drop, option_map, vec_capacity, IfOk, OnOk, OnErr};
 ghost use Rattle.kc_disk.specs.Makers.{IsOpen, Tells, Told, appended};
 ghost use Rattle.kc_disk.specs.Moved.{Moves};
 
@@ -18,20 +18,24 @@ const CAPACITY: usize = 65_536;
 #[derive(Drop)]
 pub(crate) struct Buffer {
     bytes: Vec<u8>,
+    // No growth is needed.
+    ghost has_room: { 65536 ≤ vec_capacity bytes },
 }
 
-/// Writes the bytes until all are written or a write fails or takes none, and answers how many were written.
+/// Writes the bytes until all are written or a write fails, and answers how many were written.
 pub(crate) fn write_front<M: Maker>(bytes: &[u8], which: Which, maker: &mut M) -> usize
     requires { Tells (M.told maker.old) (IsOpen which) }
     ensures within { result ≤ length bytes.now }
     ensures told { M.told maker.new ≡ option_map (appended which (take result bytes.now)) (M.told maker.old) }
+    // All of them are written, or the maker may fail there.
+    ensures whole { (result ≡ length bytes.now) ⊎ (M.failing maker.old which ≡ true) }
+    ensures failing_stays { M.failing maker.new ≡ M.failing maker.old }
 {
     let mut at = 0;
     while at < bytes.len() {
         match maker.write(which, &bytes[at..]) {
-            Ok(count) if count > 0 => at += count,
-            Ok(_) => return at,
-            Err(_) => return at,
+            Ok(count) => at += count,
+            Err(Fault) => return at,
         }
     }
     at
@@ -58,6 +62,8 @@ impl Buffer {
         requires { Tells (M.told maker.old) (IsOpen which) }
         ensures moves { Moves which self.old.bytes.items self.new.bytes.items (M.told maker.old) (M.told maker.new) }
         ensures whole { OnOk result (self.new.bytes.items ≡ []) }
+        ensures fault { OnErr result (M.failing maker.old which ≡ true) }
+        ensures failing_stays { M.failing maker.new ≡ M.failing maker.old }
     {
         let count = write_front(&self.bytes, which, maker);
         if count == self.bytes.len() {
@@ -84,6 +90,8 @@ impl Buffer {
         ensures within { IfOk result (λ count. count ≤ length bytes.now) }
         ensures ok { IfOk result (λ count. (rest : List ℕ) × Moves which self.old.bytes.items rest (M.told maker.old) (M.told maker.new) × (self.new.bytes.items ≡ rest ++ take count bytes.now)) }
         ensures err { OnErr result (Moves which self.old.bytes.items self.new.bytes.items (M.told maker.old) (M.told maker.new)) }
+        ensures fault { OnErr result (M.failing maker.old which ≡ true) }
+        ensures failing_stays { M.failing maker.new ≡ M.failing maker.old }
     {
         if self.bytes.len() >= CAPACITY {
             self.flush(which, maker)?;

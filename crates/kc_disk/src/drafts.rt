@@ -1,5 +1,5 @@
 //! The files of a run, kept in memory until all of them are whole.
-ghost use Rattle.std.specs.Prelude.{◌≡◌, ◌≤◌, length, take, IfOk, OnOk, OnErr};
+ghost use Rattle.std.specs.Prelude.{◌≡◌, ◌<◌, ◌≤◌, length, take, IfOk, OnOk, OnErr};
 
 use crate::maker::Maker;
 use kc_conf::Which;
@@ -45,6 +45,8 @@ impl Draft {
 
     // Takes all of the bytes, or none where there is no memory.
     fn take(&mut self, bytes: &[u8]) -> Result<usize, Fault>
+        requires { 0 < length bytes.now }
+        ensures some { IfOk result (λ count. 0 < count) }
         ensures within { IfOk result (λ count. count ≤ length bytes.now) }
         ensures ok { IfOk result (λ count. made_from self.new ≡ longer (take count bytes.now) (made_from self.old)) }
         ensures err { OnErr result (made_from self.new ≡ made_from self.old) }
@@ -103,9 +105,11 @@ impl<M: Maker + Drop> Drafts<M> {
 }
 
 impl<M: Maker + Drop> Maker for Drafts<M> {
-    ghost use Rattle.kc_disk.specs.Drafted.{drafted};
+    ghost use Rattle.kc_disk.specs.Drafted.{drafted, drafts_failing};
 
     ghost told = { λ s. drafted s.config s.header s.minimal s.depfile (M.told s.notes) };
+
+    ghost failing = { λ s. drafts_failing (M.failing s.notes) };
 
     fn create(&mut self, which: Which, name: &str) -> Result<(), Fault> {
         match which {
@@ -113,7 +117,7 @@ impl<M: Maker + Drop> Maker for Drafts<M> {
             Which::Header => self.header.begin(self.alloc, name),
             Which::Minimal => self.minimal.begin(self.alloc, name),
             Which::Depfile => self.depfile.begin(self.alloc, name),
-            Which::Notes => Err(Fault),
+            Which::Notes => self.notes.create(Which::Notes, name),
         }
     }
 
@@ -133,7 +137,7 @@ impl<M: Maker + Drop> Maker for Drafts<M> {
             Which::Header => self.header.end(),
             Which::Minimal => self.minimal.end(),
             Which::Depfile => self.depfile.end(),
-            Which::Notes => return Err(Fault),
+            Which::Notes => return self.notes.close(Which::Notes),
         }
         Ok(())
     }

@@ -1,13 +1,16 @@
 //! Files that are read a piece at a time.
-ghost use Rattle.std.specs.Prelude.{◌≡◌, ◌≢◌, ◌<◌, ◌-◌, ◌≤◌, length, take, IfOk, OnOk, OnErr};
+ghost use Rattle.std.specs.Prelude.{◌≡◌, ◌≢◌, ◌<◌, ◌-◌, ◌≤◌, length, take, true, IfOk, OnOk, OnErr};
+ghost use Rattle.kc_dot.specs.Sink.{next_failure};
 ghost use Rattle.kc_conf.specs.Given.{preceded, IsAtEnd};
 ghost use Rattle.kc_disk.specs.Devices.{most_reads};
-ghost use Rattle.kc_disk.specs.Openers.{IsThere};
-ghost use Rattle.kc_disk.specs.Stages.{Settled, left};
+ghost use Rattle.kc_disk.specs.Openers.{IsThere, held, may_fail, source, stream};
+ghost use Rattle.kc_disk.specs.Stages.{Counted, breaks_in, Settled, left};
 
+use crate::devices::Devices;
 use crate::opener::{OpenFault, Opener};
 use kc_conf::Input;
 use kc_dot::Fault;
+use std::marker::PhantomData;
 
 /// How many reads that give bytes there may be: a file that gives more has no end.
 const MOST_READS: u64 = 1 << 63;
@@ -25,14 +28,19 @@ pub(crate) enum Stage<F> {
 /// A read is a fault where the file cannot be opened, but for one that does not exist and need not, which is empty; where
 /// the opener's read fails; and after 2^63 reads that gave bytes.
 #[derive(Drop)]
-pub(crate) struct FileInput<'a, P: Opener> {
+pub(crate) struct FileInput<'a, P: Opener, K: Devices> {
     opener: &'a P,
     name: &'a str,
     may_be_missing: bool,
     stage: Stage<P::File>,
     reads: u64,
     failures: u64,
+    of: PhantomData<K>,
+    ghost asked: { may_fail (source (P.files opener.now) (P.failing opener.now)) (stream name.now may_be_missing) ≡ true → K.streams_fail ≡ true },
     ghost settled: { Settled (P.files opener.now) name.now may_be_missing stage },
+    ghost breaks: { breaks_in P.breaks stage ≡ true → P.failing opener.now name.now ≡ true },
+    ghost counted: { Counted (held (P.files opener.now) name.now) (left P.rest (P.files opener.now) name.now stage) reads },
+    ghost fails: { failures ≢ 0 → K.streams_fail ≡ true },
 }
 
 // Opens the file before the first read. One that does not exist and need not is at its end.
@@ -42,17 +50,25 @@ fn open<P: Opener>(
     may_be_missing: bool,
     stage: &mut Stage<P::File>,
 ) -> Result<(), Fault>
-    requires { Settled (P.files opener.now) name.now may_be_missing stage.old }
+    requires settled { Settled (P.files opener.now) name.now may_be_missing stage.old }
+    requires breaks { breaks_in P.breaks stage.old ≡ true → P.failing opener.now name.now ≡ true }
     ensures left { left P.rest (P.files opener.now) name.now stage.new ≡ left P.rest (P.files opener.now) name.now stage.old }
     ensures there { OnOk result (IsThere (P.files opener.now) name.now may_be_missing) }
+    ensures breaks { breaks_in P.breaks stage.new ≡ true → P.failing opener.now name.now ≡ true }
     ensures opened { OnOk result (stage.new ≢ Stage.Unopened) }
     ensures err { OnErr result (stage.new ≡ stage.old) }
+    ensures fault { OnErr result (may_fail (source (P.files opener.now) (P.failing opener.now)) (stream name.now may_be_missing) ≡ true) }
 {
     if let Stage::Unopened = stage {
         *stage = match opener.open(name) {
             Ok(file) => Stage::Open(file),
-            Err(OpenFault::Missing) if may_be_missing => Stage::Ended,
-            Err(_) => return Err(Fault),
+            Err(OpenFault::Missing) => {
+                if !may_be_missing {
+                    return Err(Fault);
+                }
+                Stage::Ended
+            }
+            Err(OpenFault::Device) => return Err(Fault),
         };
     }
     Ok(())
@@ -66,13 +82,16 @@ fn next<P: Opener>(
     stage: &mut Stage<P::File>,
     buffer: &mut [u8],
 ) -> Result<usize, Fault>
-    requires { Settled (P.files opener.now) name.now may_be_missing stage.old }
+    requires settled { Settled (P.files opener.now) name.now may_be_missing stage.old }
+    requires breaks { breaks_in P.breaks stage.old ≡ true → P.failing opener.now name.now ≡ true }
     ensures settled { Settled (P.files opener.now) name.now may_be_missing stage.new }
     ensures there { OnOk result (IsThere (P.files opener.now) name.now may_be_missing) }
+    ensures breaks { breaks_in P.breaks stage.new ≡ true → P.failing opener.now name.now ≡ true }
     ensures within { IfOk result (λ count. count ≤ length buffer.old) }
     ensures given { IfOk result (λ count. left P.rest (P.files opener.now) name.now stage.old ≡ preceded (take count buffer.new) (left P.rest (P.files opener.now) name.now stage.new)) }
     ensures end { IfOk result (λ count. count ≡ 0 → 0 < length buffer.old → IsAtEnd (left P.rest (P.files opener.now) name.now stage.new)) }
     ensures err { OnErr result (left P.rest (P.files opener.now) name.now stage.new ≡ left P.rest (P.files opener.now) name.now stage.old) }
+    ensures fault { OnErr result (may_fail (source (P.files opener.now) (P.failing opener.now)) (stream name.now may_be_missing) ≡ true) }
 {
     open(opener, name, may_be_missing, stage)?;
     let Stage::Open(file) = stage else {
@@ -85,9 +104,18 @@ fn next<P: Opener>(
     Ok(count)
 }
 
-impl<'a, P: Opener> FileInput<'a, P> {
+// One failure more is counted.
+fn fail(failures: &mut u64) -> Fault
+    ensures { failures.new ≡ next_failure failures.old }
+{
+    *failures = failures.saturating_add(1);
+    Fault
+}
+
+impl<'a, P: Opener, K: Devices> FileInput<'a, P, K> {
     /// The file of this name, which nothing was read from. One that may be missing is empty where there is none.
-    pub(crate) fn new(opener: &'a P, name: &'a str, may_be_missing: bool) -> FileInput<'a, P>
+    pub(crate) fn new(opener: &'a P, name: &'a str, may_be_missing: bool) -> FileInput<'a, P, K>
+        requires { may_fail (source (P.files opener.now) (P.failing opener.now)) (stream name.now may_be_missing) ≡ true → K.streams_fail ≡ true }
         ensures opener { result.opener.now ≡ opener.now }
         ensures name { result.name.now ≡ name.now }
         ensures missing { result.may_be_missing ≡ may_be_missing }
@@ -101,11 +129,12 @@ impl<'a, P: Opener> FileInput<'a, P> {
             stage: Stage::Unopened,
             reads: 0,
             failures: 0,
+            of: PhantomData,
         }
     }
 }
 
-impl<'a, P: Opener> Input for FileInput<'a, P> {
+impl<'a, P: Opener, K: Devices> Input for FileInput<'a, P, K> {
     ghost remaining = { λ s. left P.rest (P.files s.opener.now) s.name.now s.stage };
 
     ghost failures = { λ s. s.failures };
@@ -113,21 +142,23 @@ impl<'a, P: Opener> Input for FileInput<'a, P> {
     ghost reads_left = { λ s. most_reads - s.reads };
 
     fn read(&mut self, buffer: &mut [u8]) -> Result<usize, Fault> {
-        if self.reads < MOST_READS
-            && let Ok(count) = next(
-                self.opener,
-                self.name,
-                self.may_be_missing,
-                &mut self.stage,
-                buffer,
-            )
-        {
-            if count > 0 {
-                self.reads += 1;
-            }
-            return Ok(count);
+        if self.reads >= MOST_READS {
+            return Err(fail(&mut self.failures));
         }
-        self.failures = self.failures.saturating_add(1);
-        Err(Fault)
+        match next(
+            self.opener,
+            self.name,
+            self.may_be_missing,
+            &mut self.stage,
+            buffer,
+        ) {
+            Ok(count) => {
+                if count > 0 {
+                    self.reads += 1;
+                }
+                Ok(count)
+            }
+            Err(Fault) => Err(fail(&mut self.failures)),
+        }
     }
 }

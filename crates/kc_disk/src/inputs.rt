@@ -1,9 +1,11 @@
 //! The inputs of a run.
 ghost use Rattle.std.specs.Prelude.{◌≡◌, ◌∷◌, false, not, map, IfOk};
 ghost use Rattle.kc_conf.specs.Outcome.{names_of};
-ghost use Rattle.kc_disk.specs.Openers.{held};
+ghost use Rattle.kc_disk.specs.Openers.{held, one_may_fail, source};
+ghost use Rattle.kc_disk.specs.Program.{streams_of};
 ghost use Rattle.kc_disk.specs.Stages.{left};
 
+use crate::devices::Devices;
 use crate::input::FileInput;
 use crate::opener::Opener;
 use kc_words::Options;
@@ -11,11 +13,12 @@ use std::alloc::{AllocError, Global};
 
 /// The `.config`, which may be missing where `--must-exist` was not given, and then the fragments in order, each of which has
 /// to be there.
-pub(crate) fn inputs_of<'a, P: Opener>(
+pub(crate) fn inputs_of<'a, P: Opener, K: Devices>(
     alloc: Global,
     opener: &'a P,
     options: &'a Options,
-) -> Result<Vec<FileInput<'a, P>>, AllocError>
+) -> Result<Vec<FileInput<'a, P, K>>, AllocError>
+    requires { K.streams_fail ≡ one_may_fail (source (P.files opener.now) (P.failing opener.now)) (streams_of options.now) }
     ensures names { IfOk result (λ inputs. map (λ i. i.name.now) inputs.items ≡ names_of options.now) }
     ensures missing { IfOk result (λ inputs. map (λ i. i.may_be_missing) inputs.items ≡ not options.now.must_exist ∷ map (λ _. false) options.now.fragments.items) }
     // Each gives what the file of its name holds, from its beginning on.

@@ -2,6 +2,7 @@
 #![tactic(auto)]
 
 mod buffer;
+mod devices;
 mod drafts;
 mod folder;
 mod input;

@@ -1,5 +1,6 @@
 //! What makes files and takes their bytes.
-ghost use Rattle.std.specs.Prelude.{◌≡◌, ◌≤◌, Option, length, take, option_map, IfOk, OnOk, OnErr};
+ghost use Rattle.std.specs.Prelude.{◌≡◌, ◌≢◌, ◌<◌, ◌≤◌, Bool, true, Option, length, take, option_map, IfOk, OnOk, OnErr};
+ghost use Rattle.kc_conf.specs.declared.outputs.Which.{Which};
 ghost use Rattle.kc_disk.specs.Makers.{AreClosed, IsOpen, Tells, Told, appended, closed, opened};
 
 use kc_conf::Which;
@@ -13,22 +14,31 @@ pub trait Maker {
     /// The files that were made and their bytes, or nothing told.
     ghost told: { Self → Option Told };
 
+    /// The outputs at which a call may fail: it fails at no other. No call changes them.
+    ghost failing: { Self → Which → Bool };
+
     /// Makes the file of this name for an output: it is empty, and open.
     ///
-    /// The caller owes that no file is open. On `Fault` nothing was made.
+    /// The caller owes that no file is open, but for the notes. On `Fault` nothing was made.
     fn create(&mut self, which: Which, name: &str) -> Result<(), Fault>
-        requires { Tells (told self.old) AreClosed }
+        requires { which ≢ Which.Notes → Tells (told self.old) AreClosed }
         ensures ok { OnOk result (told self.new ≡ option_map (opened which name.now) (told self.old)) }
-        ensures err { OnErr result (told self.new ≡ told self.old) };
+        ensures err { OnErr result (told self.new ≡ told self.old) }
+        ensures fault { OnErr result (failing self.old which ≡ true) }
+        ensures failing_stays { failing self.new ≡ failing self.old };
 
-    /// Takes a beginning of the bytes, and answers how many it took.
+    /// Takes a beginning of the bytes, of at least one byte, and answers how many it took.
     ///
-    /// The caller owes that the output's file is open. On `Fault` nothing was taken.
+    /// The caller owes that the output's file is open, and at least one byte. On `Fault` nothing was taken.
     fn write(&mut self, which: Which, bytes: &[u8]) -> Result<usize, Fault>
-        requires { Tells (told self.old) (IsOpen which) }
+        requires is_open { Tells (told self.old) (IsOpen which) }
+        requires some { 0 < length bytes.now }
+        ensures some { IfOk result (λ count. 0 < count) }
         ensures within { IfOk result (λ count. count ≤ length bytes.now) }
         ensures ok { IfOk result (λ count. told self.new ≡ option_map (appended which (take count bytes.now)) (told self.old)) }
-        ensures err { OnErr result (told self.new ≡ told self.old) };
+        ensures err { OnErr result (told self.new ≡ told self.old) }
+        ensures fault { OnErr result (failing self.old which ≡ true) }
+        ensures failing_stays { failing self.new ≡ failing self.old };
 
     /// Closes the file of an output. On `Fault` nothing is changed.
     ///
@@ -36,5 +46,7 @@ pub trait Maker {
     fn close(&mut self, which: Which) -> Result<(), Fault>
         requires { Tells (told self.old) (IsOpen which) }
         ensures ok { OnOk result (told self.new ≡ option_map (closed which) (told self.old)) }
-        ensures err { OnErr result (told self.new ≡ told self.old) };
+        ensures err { OnErr result (told self.new ≡ told self.old) }
+        ensures fault { OnErr result (failing self.old which ≡ true) }
+        ensures failing_stays { failing self.new ≡ failing self.old };
 }

@@ -1,5 +1,5 @@
 //! What makes files beside their places and moves them there.
-ghost use Rattle.std.specs.Prelude.{◌≡◌, ◌≤◌, Option, length, take, option_map, IfOk, OnOk, OnErr};
+ghost use Rattle.std.specs.Prelude.{◌≡◌, ◌<◌, ◌≤◌, Bool, true, Option, length, take, option_map, IfOk, OnOk, OnErr};
 ghost use Rattle.kc_disk.specs.Placing.{Shelf, Shows, cleared, finished, grown_by, is_held, moved, started};
 
 use kc_dot::Fault;
@@ -11,6 +11,9 @@ pub trait Mover {
     /// What the places hold and what stands beside them, or nothing told.
     ghost told: { Self → Option Shelf };
 
+    /// Whether a call may fail. No call changes it.
+    ghost failing: { Self → Bool };
+
     /// Whether the file of this name holds these bytes and no others.
     fn holds(&self, name: &str, bytes: &[u8]) -> bool
         ensures { Shows (told self.now) (λ s. result ≡ is_held s.held name.now bytes.now) };
@@ -18,25 +21,38 @@ pub trait Mover {
     /// Makes an empty file beside the place of this name. On `Fault` none was made.
     fn start(&mut self, name: &str) -> Result<(), Fault>
         ensures ok { OnOk result (told self.new ≡ option_map (started name.now) (told self.old)) }
-        ensures err { OnErr result (told self.new ≡ told self.old) };
+        ensures err { OnErr result (told self.new ≡ told self.old) }
+        ensures fault { OnErr result (failing self.old ≡ true) }
+        ensures failing_stays { failing self.new ≡ failing self.old };
 
-    /// Takes a beginning of the bytes for the file that was started, and answers how many it took. On `Fault` none was.
+    /// Takes a beginning of the bytes for the file that was started, of at least one byte, and answers how many it took.
+    ///
+    /// The caller owes at least one byte. On `Fault` none was taken.
     fn write(&mut self, bytes: &[u8]) -> Result<usize, Fault>
+        requires { 0 < length bytes.now }
+        ensures some { IfOk result (λ count. 0 < count) }
         ensures within { IfOk result (λ count. count ≤ length bytes.now) }
         ensures ok { IfOk result (λ count. told self.new ≡ option_map (grown_by (take count bytes.now)) (told self.old)) }
-        ensures err { OnErr result (told self.new ≡ told self.old) };
+        ensures err { OnErr result (told self.new ≡ told self.old) }
+        ensures fault { OnErr result (failing self.old ≡ true) }
+        ensures failing_stays { failing self.new ≡ failing self.old };
 
     /// Waits until the disk has the file that was started, which is whole from then on. On `Fault` nothing is changed.
     fn finish(&mut self) -> Result<(), Fault>
         ensures ok { OnOk result (told self.new ≡ option_map finished (told self.old)) }
-        ensures err { OnErr result (told self.new ≡ told self.old) };
+        ensures err { OnErr result (told self.new ≡ told self.old) }
+        ensures fault { OnErr result (failing self.old ≡ true) }
+        ensures failing_stays { failing self.new ≡ failing self.old };
 
     /// Moves the first of the whole files to its place. On `Fault` nothing is changed.
     fn move_first(&mut self) -> Result<(), Fault>
         ensures ok { OnOk result (told self.new ≡ option_map moved (told self.old)) }
-        ensures err { OnErr result (told self.new ≡ told self.old) };
+        ensures err { OnErr result (told self.new ≡ told self.old) }
+        ensures fault { OnErr result (failing self.old ≡ true) }
+        ensures failing_stays { failing self.new ≡ failing self.old };
 
     /// Removes each file that stands beside a place.
     fn clear(&mut self)
-        ensures { told self.new ≡ option_map cleared (told self.old) };
+        ensures told { told self.new ≡ option_map cleared (told self.old) }
+        ensures failing_stays { failing self.new ≡ failing self.old };
 }

@@ -1,18 +1,21 @@
 //! The files of a run, and standard error for its notes.
-ghost use Rattle.std.specs.Prelude.{◌≡◌, [], ◌≢◌, ◌<◌, ◌≤◌, ◌++◌, length, take, IfOk, OnOk, OnErr, List, ℕ, Some, None, false};
+ghost use Rattle.std.specs.Prelude.{◌≡◌, [], ◌≢◌, ◌<◌, ◌≤◌, ◌++◌, length, take, IfOk, OnOk, OnErr, List, ℕ, Some, None, true, false};
 ghost use Rattle.kc_conf.specs.Faults.{name_of};
 ghost use Rattle.kc_conf.specs.Places.{at, begun, ended, failed, grown, with_place};
 ghost use Rattle.kc_disk.specs.Lines.{ends_line};
 ghost use Rattle.kc_disk.specs.Makers.{Tells, none_made};
 ghost use Rattle.kc_disk.specs.Reached.{Reached, unused};
+ghost use Rattle.kc_conf.specs.declared.outputs.Which.TheVariants.{Notes};
 ghost use Rattle.kc_disk.specs.Standing.{Stand, places_of, record_at, record_ended, with_record};
 
 use crate::buffer::Buffer;
+use crate::devices::Devices;
 use crate::maker::Maker;
 use crate::records::Records;
 use kc_conf::{Outputs, Which};
 use kc_dot::Fault;
 use kc_words::Options;
+use std::marker::PhantomData;
 
 /// Config, Header, Minimal and Depfile are files that are made at their begin and closed at their end; the notes are standard error.
 ///
@@ -20,9 +23,9 @@ use kc_words::Options;
 /// only where the one before was ended; after a fault it takes no more, and no other is begun.
 ///
 /// A line of the notes waits until its line feed has come and goes out in one write, so that lines of several processes
-/// on one log do not mix. A line of more than 65,536 bytes goes out in pieces.
+/// on one log do not mix. A line of more than 65,536 bytes goes out in pieces. The notes fail only where the maker does.
 #[derive(Drop)]
-pub(crate) struct FileOutputs<'a, M: Maker + Drop> {
+pub(crate) struct FileOutputs<'a, M: Maker + Drop, K: Devices> {
     maker: M,
     options: &'a Options,
     buffer: Buffer,
@@ -30,8 +33,11 @@ pub(crate) struct FileOutputs<'a, M: Maker + Drop> {
     is_broken: bool,
     line: Buffer,
     records: Records,
+    of: PhantomData<K>,
     ghost line_waits: { records.notes.failures ≡ 0 → ends_line line.bytes.items ≡ false },
     ghost stand: { Tells (M.told maker) (Stand options.now current records) },
+    ghost failing: { M.failing maker Notes ≡ K.notes_fail },
+    ghost notes_fail: { records.notes.failures ≢ 0 → K.notes_fail ≡ true },
 }
 
 // The name of an output, as the options have it.
@@ -56,15 +62,16 @@ fn name_of(options: &Options, which: Which) -> &str
     }
 }
 
-impl<'a, M: Maker + Drop> FileOutputs<'a, M> {
+impl<'a, M: Maker + Drop, K: Devices> FileOutputs<'a, M, K> {
     /// Outputs of which none was begun or has failed, over a maker that has made nothing. The caller owes two empty buffers.
     pub(crate) fn new(
         maker: M,
         options: &'a Options,
         buffer: Buffer,
         line: Buffer,
-    ) -> FileOutputs<'a, M>
+    ) -> FileOutputs<'a, M, K>
         requires maker { Tells (M.told maker) (λ t. t ≡ none_made) }
+        requires failing { M.failing maker Notes ≡ K.notes_fail }
         requires buffer { buffer.bytes.items ≡ [] }
         requires line { line.bytes.items ≡ [] }
         ensures options { result.options.now ≡ options.now }
@@ -79,6 +86,7 @@ impl<'a, M: Maker + Drop> FileOutputs<'a, M> {
             is_broken: false,
             line,
             records: Records::new(),
+            of: PhantomData,
         }
     }
 
@@ -154,22 +162,57 @@ impl<'a, M: Maker + Drop> FileOutputs<'a, M> {
         }
     }
 
+    // Makes standard error empty, where the maker can.
+    fn begin_notes(&mut self) -> Result<(), Fault>
+        ensures ok { OnOk result (places_of self.new.options.now (M.told self.new.maker) self.new.current self.new.buffer.bytes.items self.new.line.bytes.items self.new.records ≡ with_place (places_of self.old.options.now (M.told self.old.maker) self.old.current self.old.buffer.bytes.items self.old.line.bytes.items self.old.records) Which.Notes (begun (at (places_of self.old.options.now (M.told self.old.maker) self.old.current self.old.buffer.bytes.items self.old.line.bytes.items self.old.records) Which.Notes))) }
+        ensures err { OnErr result (places_of self.new.options.now (M.told self.new.maker) self.new.current self.new.buffer.bytes.items self.new.line.bytes.items self.new.records ≡ with_place (places_of self.old.options.now (M.told self.old.maker) self.old.current self.old.buffer.bytes.items self.old.line.bytes.items self.old.records) Which.Notes (failed (at (places_of self.old.options.now (M.told self.old.maker) self.old.current self.old.buffer.bytes.items self.old.line.bytes.items self.old.records) Which.Notes))) }
+    {
+        match self
+            .maker
+            .create(Which::Notes, name_of(self.options, Which::Notes))
+        {
+            Ok(()) => {
+                self.line.clear();
+                self.records.begin(Which::Notes);
+                Ok(())
+            }
+            Err(Fault) => Err(self.records.fail(Which::Notes)),
+        }
+    }
+
+    // Writes what waits of the notes.
+    fn end_notes(&mut self) -> Result<(), Fault>
+        ensures ok { OnOk result (places_of self.new.options.now (M.told self.new.maker) self.new.current self.new.buffer.bytes.items self.new.line.bytes.items self.new.records ≡ with_place (places_of self.old.options.now (M.told self.old.maker) self.old.current self.old.buffer.bytes.items self.old.line.bytes.items self.old.records) Which.Notes (ended (at (places_of self.old.options.now (M.told self.old.maker) self.old.current self.old.buffer.bytes.items self.old.line.bytes.items self.old.records) Which.Notes))) }
+        ensures err { OnErr result (places_of self.new.options.now (M.told self.new.maker) self.new.current self.new.buffer.bytes.items self.new.line.bytes.items self.new.records ≡ with_place (places_of self.old.options.now (M.told self.old.maker) self.old.current self.old.buffer.bytes.items self.old.line.bytes.items self.old.records) Which.Notes (failed (at (places_of self.old.options.now (M.told self.old.maker) self.old.current self.old.buffer.bytes.items self.old.line.bytes.items self.old.records) Which.Notes))) }
+    {
+        if self.line.flush(Which::Notes, &mut self.maker).is_err() {
+            return Err(self.records.fail(Which::Notes));
+        }
+        self.records.end(Which::Notes);
+        Ok(())
+    }
+
     /// The maker, which tells what reached the files. What still waits is let go.
     pub(crate) fn into_maker(self) -> M
         ensures same { M.told result ≡ M.told self.entry.maker }
+        ensures failing { M.failing result Notes ≡ K.notes_fail }
+        ensures notes_fail { self.entry.records.notes.failures ≢ 0 → K.notes_fail ≡ true }
         ensures reached { Tells (M.told result) (Reached (places_of self.entry.options.now (M.told self.entry.maker) self.entry.current self.entry.buffer.bytes.items self.entry.line.bytes.items self.entry.records)) }
     {
         self.maker
     }
 }
 
-impl<'a, M: Maker + Drop> Outputs for FileOutputs<'a, M> {
+impl<'a, M: Maker + Drop, K: Devices> Outputs for FileOutputs<'a, M, K> {
     ghost seen = { λ s. places_of s.options.now (M.told s.maker) s.current s.buffer.bytes.items s.line.bytes.items s.records };
 
     fn begin(&mut self, which: Which) -> Result<(), Fault> {
+        if which == Which::Notes {
+            return self.begin_notes();
+        }
         match self.current {
-            None if which != Which::Notes => {}
-            _ => return Err(self.records.fail(which)),
+            None => {}
+            Some(_) => return Err(self.records.fail(which)),
         }
         match self.maker.create(which, name_of(self.options, which)) {
             Ok(()) => {
@@ -194,7 +237,10 @@ impl<'a, M: Maker + Drop> Outputs for FileOutputs<'a, M> {
     }
 
     fn end(&mut self, which: Which) -> Result<(), Fault> {
-        if which == Which::Notes || self.close(which).is_err() {
+        if which == Which::Notes {
+            return self.end_notes();
+        }
+        if self.close(which).is_err() {
             return Err(self.records.fail(which));
         }
         self.records.end(which);

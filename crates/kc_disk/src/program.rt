@@ -1,11 +1,11 @@
 //! The work of the program.
-ghost use Rattle.std.specs.Prelude.{◌≡◌, None};
+ghost use Rattle.std.specs.Prelude.{◌≡◌, true, None};
 ghost use Rattle.kc_conf.specs.declared.outputs.Which.TheVariants.{Notes};
 ghost use Rattle.kc_disk.specs.Devices.{exit_status};
 ghost use Rattle.kc_disk.specs.Answering.{Answers};
 ghost use Rattle.kc_disk.specs.Openers.{source, untold};
-ghost use Rattle.kc_disk.specs.Makers.{IsOpen, Tells, none_made};
-ghost use Rattle.kc_disk.specs.Placing.{IsClear, Shows};
+ghost use Rattle.kc_disk.specs.Makers.{IsOpen, Tells, making, none_made};
+ghost use Rattle.kc_disk.specs.Placing.{IsClear, Shows, moving};
 ghost use Rattle.kc_disk.specs.Program.{Complains, usage_status};
 ghost use Rattle.kc_disk.specs.Replacing.{EndsBy};
 
@@ -29,7 +29,7 @@ use std::mem;
 fn print_usage<M: Maker>(rt: &HostRuntime, maker: &mut M, usage: &Usage) -> Status
     requires { Tells (M.told maker.old) (IsOpen Notes) }
     ensures status { result ≡ usage_status usage.now }
-    ensures tells { Complains usage.now (M.told maker.old) (M.told maker.new) }
+    ensures tells { Complains usage.now (making (M.told maker.old) (M.told maker.new) (M.failing maker.old Notes)) }
 {
     let text = usage.text().as_bytes();
     match usage {
@@ -61,7 +61,7 @@ fn run_by<F: Folder, P: Opener, M: Maker + Drop, V: Mover>(
 ) -> (Status, M)
     requires maker { Tells (M.told maker) (λ t. t ≡ none_made) }
     requires clear { Shows (V.told mover.old) IsClear }
-    ensures { EndsBy options.now.replace (source (F.files folder.old) (F.failing folder.old)) (P.files opener.now) options.now result.0 (M.told maker) (M.told result.1) (V.told mover.old) (V.told mover.new) }
+    ensures { EndsBy options.now.replace (source (F.files folder.old) (F.failing folder.old)) (source (P.files opener.now) (P.failing opener.now)) options.now result.0 (making (M.told maker) (M.told result.1) (M.failing maker Notes)) (moving (V.told mover.old) (V.told mover.new) (V.failing mover.old)) }
 {
     if options.replace {
         run_replacing(alloc, folder, opener, options, maker, mover, files, kept)
@@ -89,7 +89,7 @@ pub fn kconf_over<F: Folder, P: Opener, M: Maker + Drop, V: Mover>(
 ) -> (Status, M)
     requires maker { Tells (M.told maker) (λ t. t ≡ none_made) }
     requires clear { Shows (V.told mover.old) IsClear }
-    ensures { Answers (source (F.files folder.old) (F.failing folder.old)) (P.files opener.now) words.now result.0 (M.told maker) (M.told result.1) (V.told mover.old) (V.told mover.new) }
+    ensures { Answers (source (F.files folder.old) (F.failing folder.old)) (source (P.files opener.now) (P.failing opener.now)) words.now result.0 (making (M.told maker) (M.told result.1) (M.failing maker Notes)) (moving (V.told mover.old) (V.told mover.new) (V.failing mover.old)) }
 {
     match options_of(rt.alloc(), words) {
         Ok(options) => run_by(
@@ -112,12 +112,12 @@ pub fn kconf_over<F: Folder, P: Opener, M: Maker + Drop, V: Mover>(
 /// Runs `kconf` with these words after the program's name: loads the tree, reads the `.config` and the fragments, and
 /// writes the files and the notes (our own).
 ///
-/// It is `kconf_over` over the disk, which tells nothing, and the same holds of it.
+/// It is `kconf_over` over the disk, which tells nothing and may fail anywhere, and the same holds of it.
 ///
 /// It is made for a program that ends afterwards: the memory of the tree and of its files is left to the end of the
 /// process, so each call of a process that goes on keeps that much.
 pub fn kconf_of(rt: &HostRuntime, words: &[String]) -> Status
-    ensures { Answers untold None words.now result None None None None }
+    ensures { Answers untold untold words.now result (making None None true) (moving None None true) }
 {
     let mut system = System::new(rt);
     let Ok(mut disk) = Disk::new(rt) else {

@@ -2,9 +2,10 @@
 ghost use Rattle.std.specs.Prelude.{◌≡◌, ◌++◌, string_bytes, IfErr, IfOk, OnErr, OnOk};
 ghost use Rattle.kc_load.specs.Faults.{IsLoadFault};
 ghost use Rattle.kc_conf.specs.Outcome.{root_of};
+ghost use Rattle.kc_conf.specs.declared.outputs.Which.TheVariants.{Notes};
 ghost use Rattle.kc_disk.specs.Openers.{source};
-ghost use Rattle.kc_disk.specs.Makers.{Tells, none_made};
-ghost use Rattle.kc_disk.specs.Placing.{IsClear, Shows};
+ghost use Rattle.kc_disk.specs.Makers.{Tells, making, none_made};
+ghost use Rattle.kc_disk.specs.Placing.{IsClear, Shows, moving};
 ghost use Rattle.kc_disk.specs.Replacing.{EndsReplacing, RanReplacing, Replaces, SameNotes, text_at, wanted_texts};
 ghost use Rattle.kc_disk.specs.Texts.{texts_of};
 
@@ -68,7 +69,7 @@ fn place<'n, N: Maker + Drop, M: Mover>(
     mover: &mut M,
 ) -> Result<Status, Stop<'n>>
     requires { Shows (M.told mover.old) IsClear }
-    ensures { Replaces (wanted_texts options.now drafts.now.config.bytes.items drafts.now.header.bytes.items drafts.now.minimal.bytes.items drafts.now.depfile.bytes.items) ran result (M.told mover.old) (M.told mover.new) }
+    ensures { Replaces (wanted_texts options.now drafts.now.config.bytes.items drafts.now.header.bytes.items drafts.now.minimal.bytes.items drafts.now.depfile.bytes.items) ran result (moving (M.told mover.old) (M.told mover.new) (M.failing mover.old)) }
 {
     let Status::Done = ran else {
         return Ok(ran);
@@ -106,12 +107,13 @@ pub fn replace_over<'n, F: Folder, P: Opener, N: Maker + Drop, M: Mover>(
     requires clear { Shows (M.told mover.old) IsClear }
     // The run leaves the outcome of the folder's files and of the streams by their names, or a part of it and a cause; what it
     // handed out was made, and took its places where it is done.
-    ensures ran { IfOk result.0 (λ ended. RanReplacing (source (F.files folder.old) (F.failing folder.old)) (P.files opener.now) options.now ended (N.told notes) (N.told result.1) (M.told mover.old) (M.told mover.new)) }
+    ensures ran { IfOk result.0 (λ ended. RanReplacing (source (F.files folder.old) (F.failing folder.old)) (source (P.files opener.now) (P.failing opener.now)) options.now ended (making (N.told notes) (N.told result.1) (N.failing notes Notes)) (moving (M.told mover.old) (M.told mover.new) (M.failing mover.old))) }
     // A file of the tree that could not be read is one whose turn it was.
     ensures fault { IfErr result.0 (IsLoadFault (F.files folder.old) (F.failing folder.old) (string_bytes options.now.root) (root_of options.now)) }
     // After a fault of loading nothing was told or moved.
-    ensures silent { OnErr result.0 (SameNotes (N.told notes) (N.told result.1)) }
+    ensures silent { OnErr result.0 (SameNotes (making (N.told notes) (N.told result.1) (N.failing notes Notes))) }
     ensures untouched { OnErr result.0 (M.told mover.new ≡ M.told mover.old) }
+    ensures failing_stays { N.failing result.1 Notes ≡ N.failing notes Notes }
 {
     let drafts = Drafts::new(alloc, notes);
     let (ran, drafts) = configure_over(alloc, folder, opener, options, drafts, files, kept);
@@ -138,7 +140,7 @@ pub fn run_replacing<F: Folder, P: Opener, N: Maker + Drop, M: Mover>(
 ) -> (Status, N)
     requires notes { Tells (N.told notes) (λ t. t ≡ none_made) }
     requires clear { Shows (M.told mover.old) IsClear }
-    ensures { EndsReplacing (source (F.files folder.old) (F.failing folder.old)) (P.files opener.now) options.now result.0 (N.told notes) (N.told result.1) (M.told mover.old) (M.told mover.new) }
+    ensures { EndsReplacing (source (F.files folder.old) (F.failing folder.old)) (source (P.files opener.now) (P.failing opener.now)) options.now result.0 (making (N.told notes) (N.told result.1) (N.failing notes Notes)) (moving (M.told mover.old) (M.told mover.new) (M.failing mover.old)) }
 {
     let (ended, mut notes) = replace_over(
         alloc, folder, opener, options, notes, mover, files, kept,

@@ -1,6 +1,6 @@
 //! The texts of a run take their places.
 ghost use Rattle.std.specs.Prelude.{◌≡◌, ◌<◌, ◌||◌, not, length, option_map, None, true, IfOk, IfErr, OnOk, OnErr};
-ghost use Rattle.kc_disk.specs.Placing.{IsClear, Shows, changed, cleared, grown_by, has_name, is_held, picked, settled, share};
+ghost use Rattle.kc_disk.specs.Placing.{IsClear, Shows, changed, cleared, grown_by, has_name, is_held, moving, picked, settled, share};
 ghost use Rattle.kc_disk.specs.Stopping.{Stopped};
 ghost use Rattle.kc_disk.specs.Texts.{added, moved_times, stacked, text_of, texts_of};
 
@@ -102,12 +102,13 @@ fn changed<'n, 'b, M: Mover>(
 fn write_whole<M: Mover>(bytes: &[u8], mover: &mut M) -> Result<(), Fault>
     ensures ok { OnOk result (M.told mover.new ≡ option_map (grown_by bytes.now) (M.told mover.old)) }
     ensures err { OnErr result (option_map cleared (M.told mover.new) ≡ option_map cleared (M.told mover.old)) }
+    ensures fault { OnErr result (M.failing mover.old ≡ true) }
+    ensures failing_stays { M.failing mover.new ≡ M.failing mover.old }
 {
     let mut at = 0;
     while at < bytes.len() {
         match mover.write(&bytes[at..]) {
-            Ok(count) if count > 0 => at += count,
-            Ok(_) => return Err(Fault),
+            Ok(count) => at += count,
             Err(Fault) => return Err(Fault),
         }
     }
@@ -118,6 +119,8 @@ fn write_whole<M: Mover>(bytes: &[u8], mover: &mut M) -> Result<(), Fault>
 fn make<M: Mover>(text: Text<'_, '_>, mover: &mut M) -> Result<(), Fault>
     ensures ok { OnOk result (M.told mover.new ≡ option_map (added (text_of text.entry)) (M.told mover.old)) }
     ensures err { OnErr result (option_map cleared (M.told mover.new) ≡ option_map cleared (M.told mover.old)) }
+    ensures fault { OnErr result (M.failing mover.old ≡ true) }
+    ensures failing_stays { M.failing mover.new ≡ M.failing mover.old }
 {
     mover.start(text.name)?;
     write_whole(text.bytes, mover)?;
@@ -131,6 +134,8 @@ fn make_all<'n, M: Mover>(texts: &[Text<'n, '_>], mover: &mut M) -> Result<(), &
     ensures ok { OnOk result (M.told mover.new ≡ option_map (stacked (texts_of texts.now)) (M.told mover.old)) }
     ensures err { OnErr result (option_map cleared (M.told mover.new) ≡ option_map cleared (M.told mover.old)) }
     ensures named { IfErr result (λ name. has_name name.now (texts_of texts.now) ≡ true) }
+    ensures fault { OnErr result (M.failing mover.old ≡ true) }
+    ensures failing_stays { M.failing mover.new ≡ M.failing mover.old }
 {
     for text in texts {
         match make(*text, mover) {
@@ -146,6 +151,7 @@ fn move_all<M: Mover>(texts: &[Text<'_, '_>], mover: &mut M) -> Result<(), usize
     ensures ok { OnOk result (M.told mover.new ≡ option_map (moved_times (length texts.now)) (M.told mover.old)) }
     ensures err { IfErr result (λ moved. M.told mover.new ≡ option_map (moved_times moved) (M.told mover.old)) }
     ensures within { IfErr result (λ moved. moved < length texts.now) }
+    ensures fault { OnErr result (M.failing mover.old ≡ true) }
 {
     for moved in 0..texts.len() {
         match mover.move_first() {
@@ -168,7 +174,7 @@ pub(crate) fn settle<'n, M: Mover>(
 ) -> Result<(), Stop<'n>>
     requires { Shows (M.told mover.old) IsClear }
     ensures ok { OnOk result (M.told mover.new ≡ option_map (settled (texts_of texts.now)) (M.told mover.old)) }
-    ensures err { IfErr result (λ stop. Stopped stop (texts_of texts.now) (M.told mover.old) (M.told mover.new)) }
+    ensures err { IfErr result (λ stop. Stopped stop (texts_of texts.now) (moving (M.told mover.old) (M.told mover.new) (M.failing mover.old))) }
 {
     let some = changed(alloc, texts, mover)?;
     if let Err(name) = make_all(&some, mover) {

@@ -1,5 +1,5 @@
 //! The calls of the system that make files beside their places and move them there.
-ghost use Rattle.std.specs.Prelude.{None};
+ghost use Rattle.std.specs.Prelude.{true, None};
 
 use crate::mover::Mover;
 use kc_dot::Fault;
@@ -147,6 +147,8 @@ fn remove(rt: &HostRuntime, beside: &Option<Beside>) {
 impl<'a> Mover for Shelf<'a> {
     ghost told = { λ _. None };
 
+    ghost failing = { λ _. true };
+
     fn holds(&self, name: &str, bytes: &[u8]) -> bool {
         matches!(is_same(self.rt, name, bytes), Ok(true))
     }
@@ -166,8 +168,8 @@ impl<'a> Mover for Shelf<'a> {
             return Err(Fault);
         };
         match file.write(bytes) {
-            Ok(count) => Ok(count),
-            Err(_) => Err(Fault),
+            Ok(count) if count > 0 => Ok(count),
+            _ => Err(Fault),
         }
     }
 

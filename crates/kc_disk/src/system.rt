@@ -1,5 +1,5 @@
 //! The calls of the system that open files, make them, read and write.
-ghost use Rattle.std.specs.Prelude.{[], None};
+ghost use Rattle.std.specs.Prelude.{[], true, None};
 
 use crate::maker::Maker;
 use crate::opener::{OpenFault, Opener};
@@ -12,7 +12,7 @@ use std::os::fd::AsFd;
 // What the system answers where a descriptor is not open.
 const NOT_OPEN: i32 = 9;
 
-/// The files of a disk, and standard error for the notes. It tells nothing.
+/// The files of a disk, and standard error for the notes, which is not made or closed. It tells nothing.
 ///
 /// Where standard error was closed when this was made, the notes fail: its descriptor may be that of a file that was opened
 /// since.
@@ -41,7 +41,12 @@ impl<'a> System<'a> {
 impl<'a> Maker for System<'a> {
     ghost told = { λ _. None };
 
-    fn create(&mut self, _which: Which, name: &str) -> Result<(), Fault> {
+    ghost failing = { λ _ _. true };
+
+    fn create(&mut self, which: Which, name: &str) -> Result<(), Fault> {
+        if which == Which::Notes {
+            return Err(Fault);
+        }
         match File::create(self.rt, name) {
             Ok(file) => {
                 self.file = Some(file);
@@ -59,12 +64,15 @@ impl<'a> Maker for System<'a> {
             _ => return Err(Fault),
         };
         match written {
-            Ok(count) => Ok(count),
-            Err(_) => Err(Fault),
+            Ok(count) if count > 0 => Ok(count),
+            _ => Err(Fault),
         }
     }
 
-    fn close(&mut self, _which: Which) -> Result<(), Fault> {
+    fn close(&mut self, which: Which) -> Result<(), Fault> {
+        if which == Which::Notes {
+            return Err(Fault);
+        }
         self.file = None;
         Ok(())
     }
@@ -88,6 +96,10 @@ impl<'a> Opener for SystemFiles<'a> {
     ghost files = { λ _. None };
 
     ghost rest = { λ _. [] };
+
+    ghost failing = { λ _ _. true };
+
+    ghost breaks = { λ _. true };
 
     fn open(&self, name: &str) -> Result<File, OpenFault> {
         match File::open(self.rt, name) {

@@ -1,6 +1,6 @@
 //! What is told on standard error beside a run.
 ghost use Rattle.std.specs.Prelude.{◌≡◌, flat_map, IfOk};
-ghost use Rattle.kc_disk.specs.Makers.{IsOpen, Tells};
+ghost use Rattle.kc_disk.specs.Makers.{IsOpen, Tells, making};
 ghost use Rattle.kc_disk.specs.Program.{Says, load_line};
 ghost use Rattle.kc_disk.specs.Replacing.{stop_line};
 
@@ -25,7 +25,7 @@ fn joined(alloc: Global, parts: &[&[u8]]) -> Result<Vec<u8>, AllocError>
 // Writes the parts to standard error, one behind another, until one of them is not taken whole.
 fn write_parts<M: Maker>(maker: &mut M, parts: &[&[u8]])
     requires { Tells (M.told maker.old) (IsOpen Which.Notes) }
-    ensures { Says (flat_map (λ part. part.now) parts.now) (M.told maker.old) (M.told maker.new) }
+    ensures { Says (flat_map (λ part. part.now) parts.now) (making (M.told maker.old) (M.told maker.new) (M.failing maker.old Which.Notes)) }
 {
     for part in parts {
         if write_front(part, Which::Notes, maker) < part.len() {
@@ -34,11 +34,11 @@ fn write_parts<M: Maker>(maker: &mut M, parts: &[&[u8]])
     }
 }
 
-/// Writes a line to standard error in one write, or part by part where there is no memory for it. A fault in it changes
-/// nothing else.
+/// Writes a line to standard error in one write, or part by part where there is no memory for it: all of it, or a beginning
+/// where standard error fails. A fault in it changes nothing else.
 pub(crate) fn complain<M: Maker>(alloc: Global, maker: &mut M, parts: &[&[u8]])
     requires { Tells (M.told maker.old) (IsOpen Which.Notes) }
-    ensures { Says (flat_map (λ part. part.now) parts.now) (M.told maker.old) (M.told maker.new) }
+    ensures { Says (flat_map (λ part. part.now) parts.now) (making (M.told maker.old) (M.told maker.new) (M.failing maker.old Which.Notes)) }
 {
     match joined(alloc, parts) {
         Ok(line) => {
@@ -51,7 +51,7 @@ pub(crate) fn complain<M: Maker>(alloc: Global, maker: &mut M, parts: &[&[u8]])
 /// Tells why the tree could not be loaded.
 pub(crate) fn tell_fault<M: Maker>(alloc: Global, maker: &mut M, fault: &LoadFault)
     requires { Tells (M.told maker.old) (IsOpen Which.Notes) }
-    ensures { Says (load_line fault.now) (M.told maker.old) (M.told maker.new) }
+    ensures { Says (load_line fault.now) (making (M.told maker.old) (M.told maker.new) (M.failing maker.old Which.Notes)) }
 {
     match fault {
         LoadFault::CannotRead(name) => complain(
@@ -66,7 +66,7 @@ pub(crate) fn tell_fault<M: Maker>(alloc: Global, maker: &mut M, fault: &LoadFau
 /// Tells why a text could not take its place.
 pub(crate) fn tell_stop<M: Maker>(alloc: Global, maker: &mut M, stop: &Stop<'_>)
     requires { Tells (M.told maker.old) (IsOpen Which.Notes) }
-    ensures { Says (stop_line stop.now) (M.told maker.old) (M.told maker.new) }
+    ensures { Says (stop_line stop.now) (making (M.told maker.old) (M.told maker.new) (M.failing maker.old Which.Notes)) }
 {
     match stop {
         Stop::Write { name, .. } => complain(

@@ -1,5 +1,5 @@
 //! Files in memory: a folder, and what opens files by name.
-ghost use Rattle.std.specs.Prelude.{◌≡◌, Some, IfOk, bytes_eq, option_map};
+ghost use Rattle.std.specs.Prelude.{◌≡◌, ◌||◌, Some, IfOk, bytes_eq, option_map};
 ghost use Rattle.kc_read.specs.Files.{bytes_in};
 
 use kc_conf::FileMap;
@@ -68,6 +68,10 @@ impl<'a> Opener for Store<'a> {
     ghost files = { λ s. Some (bytes_in s.files.now) };
 
     ghost rest = { λ f. f.rest.now };
+
+    ghost failing = { λ s name. bytes_eq name s.shut.now || bytes_eq name s.broken.now };
+
+    ghost breaks = { λ f. f.is_broken };
 
     fn open(&self, name: &str) -> Result<OpenFile<'a>, OpenFault> {
         if name == self.shut {

@@ -1,5 +1,5 @@
 //! Worked rows of whole runs of the program over devices in memory that tell what they hold: tests alone, in a crate of
-//! their own so that they do not have kc_disk proved once more.
+//! their own so that they do not have kc_disk proved once more. The maker is no test's own, since a definition speaks of it.
 #![tactic(auto)]
 
 #[cfg(test)]
@@ -8,7 +8,6 @@ mod faults;
 mod files;
 #[cfg(test)]
 mod loads;
-#[cfg(test)]
 mod maker;
 #[cfg(test)]
 mod mover;

@@ -1,5 +1,5 @@
 //! A maker of files in memory, of which a call of choice fails.
-ghost use Rattle.std.specs.Prelude.{◌≡◌, ◌≤◌, ◌++◌, [], true, false, length, take, string_bytes, Some, IfOk, OnOk, OnErr};
+ghost use Rattle.std.specs.Prelude.{◌≡◌, ◌<◌, ◌≤◌, ◌++◌, [], true, false, length, take, string_bytes, Some, IfOk, OnOk, OnErr};
 
 use kc_conf::Which;
 use kc_disk::Maker;
@@ -40,14 +40,18 @@ impl MemoryFile {
         Ok(())
     }
 
-    fn write(&mut self, bytes: &[u8]) -> Result<usize, Fault>
+    // Takes at most so many bytes.
+    fn write(&mut self, bytes: &[u8], most: usize) -> Result<usize, Fault>
+        requires some { 0 < length bytes.now }
+        requires most { 0 < most }
+        ensures some { IfOk result (λ count. 0 < count) }
         ensures within { IfOk result (λ count. count ≤ length bytes.now) }
         ensures bytes { IfOk result (λ count. self.new.bytes.items ≡ self.old.bytes.items ++ take count bytes.now) }
         ensures name { self.new.name ≡ self.old.name }
         ensures is_open { self.new.is_open ≡ self.old.is_open }
         ensures err { OnErr result (self.new.bytes.items ≡ self.old.bytes.items) }
     {
-        let count = bytes.len().min(PIECE);
+        let count = bytes.len().min(most);
         match self.bytes.extend_from_slice(&bytes[..count]) {
             Ok(()) => Ok(count),
             Err(_) => Err(Fault),
@@ -55,7 +59,7 @@ impl MemoryFile {
     }
 }
 
-// The most bytes that a write takes, so that each text takes several.
+// The most bytes of a file that a write takes, so that each text takes several.
 const PIECE: usize = 40;
 
 /// The files of a run, and standard error.
@@ -68,6 +72,8 @@ pub(crate) struct MemoryMaker {
     pub notes: MemoryFile,
     /// A line for each file that was made and for each that was closed, in order.
     pub log: String,
+    /// The writes to standard error so far.
+    pub note_writes: u64,
     /// The calls so far.
     pub calls: u64,
     /// The call that fails, counted from 1; 0 for none.
@@ -90,6 +96,7 @@ impl MemoryMaker {
             depfile: MemoryFile::new(alloc, false),
             notes: MemoryFile::new(alloc, true),
             log: String::new(alloc),
+            note_writes: 0,
             calls: 0,
             fail_at,
             alloc,
@@ -130,6 +137,9 @@ impl Maker for MemoryMaker {
 
     ghost told = { λ s. Some (told_by s) };
 
+    // Memory may be refused.
+    ghost failing = { λ _ _. true };
+
     fn create(&mut self, which: Which, name: &str) -> Result<(), Fault> {
         if self.fails() || self.note("make ", name).is_err() {
             return Err(Fault);
@@ -149,11 +159,14 @@ impl Maker for MemoryMaker {
             return Err(Fault);
         }
         match which {
-            Which::Config => self.config.write(bytes),
-            Which::Header => self.header.write(bytes),
-            Which::Minimal => self.minimal.write(bytes),
-            Which::Depfile => self.depfile.write(bytes),
-            Which::Notes => self.notes.write(bytes),
+            Which::Config => self.config.write(bytes, PIECE),
+            Which::Header => self.header.write(bytes, PIECE),
+            Which::Minimal => self.minimal.write(bytes, PIECE),
+            Which::Depfile => self.depfile.write(bytes, PIECE),
+            Which::Notes => {
+                self.note_writes = self.note_writes.saturating_add(1);
+                self.notes.write(bytes, bytes.len())
+            }
         }
     }
 

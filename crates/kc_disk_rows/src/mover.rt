@@ -1,5 +1,5 @@
 //! Places in memory, and files that are moved there.
-ghost use Rattle.std.specs.Prelude.{None};
+ghost use Rattle.std.specs.Prelude.{true, None};
 
 use kc_disk::Mover;
 use kc_dot::Fault;
@@ -93,6 +93,8 @@ fn note(moved: &mut String, name: &str) -> Result<(), AllocError> {
 
 impl Mover for MemoryMover {
     ghost told = { λ _. None };
+
+    ghost failing = { λ _. true };
 
     fn holds(&self, name: &str, bytes: &[u8]) -> bool {
         bytes_of(&self.held, name) == Some(bytes)

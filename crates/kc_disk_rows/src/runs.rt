@@ -88,9 +88,21 @@ pub(crate) fn is_so(holds: bool, name: &'static str) -> Result<(), Fail> {
     if holds { Ok(()) } else { Err(Fail::from(name)) }
 }
 
-// The maker holds what the row says.
+// How many lines a text has.
+fn lines(text: &[u8]) -> u64 {
+    let mut count: u64 = 0;
+    for byte in text {
+        if *byte == b'\n' {
+            count = count.saturating_add(1);
+        }
+    }
+    count
+}
+
+// The maker holds what the row says, and each line of the notes came in one write.
 fn holds(row: &Row, maker: &MemoryMaker) -> bool {
     maker.log.as_str() == row.log
+        && maker.note_writes == lines(row.notes)
         && maker.notes.bytes.as_slice() == row.notes
         && maker.config.bytes.as_slice() == row.config
         && maker.header.bytes.as_slice() == row.header

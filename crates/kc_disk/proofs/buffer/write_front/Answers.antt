@@ -1,5 +1,5 @@
 -- The bytes are written from their front on.
-use Rattle.std.proofs.Common.{◌-◌, length, drop, arith, length-take}
+use Rattle.std.proofs.Common.{◌-◌, ◌∙◌, ap, sym, inl, inr, length, drop, arith, length-take}
 use Rattle.kc_disk.proofs.ToldLemmas.{appended-next}
 use Rattle.kc_disk.proofs.buffer.write_front.Goals as goal
 
@@ -9,4 +9,14 @@ loop-at-preserved g c =
     let at = c.loop-at.at in
     let fits = c.in-Ok.ensures.within in
     let most = length-take (length text - at) (drop at text) in
-    (omega arith, appended-next c.args.which text at c.in-Ok.count _ _ _ c.loop-at.invariant.1 c.in-Ok.ensures.ok)
+    record {
+      within = omega arith;
+      told = appended-next c.args.which text at c.in-Ok.count _ _ _ c.loop-at.invariant.told c.in-Ok.ensures.ok;
+      stays = c.in-Ok.ensures.failing_stays ∙ c.loop-at.invariant.stays;
+    }
+
+pub returns-in-Err-clause-whole : goal.returns-in-Err-clause-whole
+returns-in-Err-clause-whole g c = inr (ap (λ f. f c.args.which) (sym c.loop-at.invariant.stays) ∙ c.in-Err.ensures.fault)
+
+pub returns-clause-whole : goal.returns-clause-whole
+returns-clause-whole g c = inl (omega (arith, c.loop-at.invariant.within))

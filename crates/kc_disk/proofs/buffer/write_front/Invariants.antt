@@ -5,7 +5,11 @@ use Rattle.kc_disk.proofs.buffer.write_front.Given as goal
 
 -- the first l.at bytes are written
 abbrev pub invariant-loop-at : goal.invariant-loop-at
-invariant-loop-at g l = (l.at ≤ length l.bytes) × (g.M.Maker.told l.maker ≡ option_map (appended l.which (take l.at l.bytes)) (g.M.Maker.told l.initial.maker))
+invariant-loop-at g l = record {
+  within : l.at ≤ length l.bytes;
+  told : g.M.Maker.told l.maker ≡ option_map (appended l.which (take l.at l.bytes)) (g.M.Maker.told l.initial.maker);
+  stays : g.M.Maker.failing l.maker ≡ g.M.Maker.failing l.initial.maker;
+}
 
 abbrev pub decreases-loop-at : goal.decreases-loop-at
 decreases-loop-at g l = length l.bytes - l.at

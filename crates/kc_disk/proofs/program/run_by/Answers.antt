@@ -1,25 +1,22 @@
 -- The files take their places at the end, or are written as they are made.
 use Rattle.std.proofs.Common.{◌≡◌, refl, Bool, true, false, Option}
 use Rattle.kc_words.specs.declared.options.Options.{Options}
-use Rattle.kc_load.specs.Folders.{Told as FilesTold}
 use Rattle.kc_conf.specs.declared.options.Status.{Status}
 use Rattle.kc_disk.specs.Openers.{Source}
-use Rattle.kc_disk.specs.Makers.{Told}
-use Rattle.kc_disk.specs.Placing.{Shelf}
+use Rattle.kc_disk.specs.Makers.{Making}
+use Rattle.kc_disk.specs.Placing.{Moving, Shelf, moving}
 use Rattle.kc_disk.specs.Program.{Ends}
 use Rattle.kc_disk.specs.Replacing.{EndsBy, EndsReplacing}
 use Rattle.kc_disk.proofs.program.run_by.Goals as goal
 
-at_the_end : (b : Bool) (folder : Source) (opened : FilesTold) (options : Options) (status : Status) (told told_after : Option Told) (shelf shelf_after : Option Shelf) → b ≡ true →
-    EndsReplacing folder opened options status told told_after shelf shelf_after → EndsBy b folder opened options status told told_after shelf shelf_after
-at_the_end b folder opened options status told told_after shelf shelf_after e h = rw e h
+at_the_end : (b : Bool) (folder opened : Source) (options : Options) (status : Status) (maker : Making) (mover : Moving) → b ≡ true → EndsReplacing folder opened options status maker mover → EndsBy b folder opened options status maker mover
+at_the_end b folder opened options status maker mover e h = rw e h
 
-as_they_are_made : (b : Bool) (folder : Source) (opened : FilesTold) (options : Options) (status : Status) (told told_after : Option Told) (shelf : Option Shelf) → b ≡ false →
-    Ends folder opened options status told told_after → EndsBy b folder opened options status told told_after shelf shelf
-as_they_are_made b folder opened options status told told_after shelf e h = rw e (h, refl)
+as_they_are_made : (b : Bool) (folder opened : Source) (options : Options) (status : Status) (maker : Making) (shelf : Option Shelf) (may_fail : Bool) → b ≡ false → Ends folder opened options status maker → EndsBy b folder opened options status maker (moving shelf shelf may_fail)
+as_they_are_made b folder opened options status maker shelf may_fail e h = rw e (h, refl)
 
 pub returns-then-options : goal.returns-then-options
-returns-then-options g c = at_the_end _ _ _ _ _ _ _ _ _ c.if-options.true c.run_replacing.ensures
+returns-then-options g c = at_the_end _ _ _ _ _ _ _ c.if-options.true c.run_replacing.ensures
 
 pub returns-else-options : goal.returns-else-options
 returns-else-options g c = as_they_are_made _ _ _ _ _ _ _ _ c.if-options.false c.run_over.ensures

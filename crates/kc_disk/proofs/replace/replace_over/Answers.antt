@@ -1,7 +1,8 @@
 -- What the run made took its places.
 use Rattle.std.proofs.Common.{◌≡◌, ◌∙◌, ap, refl, sym, Option, Some, option_map}
 use Rattle.kc_disk.specs.Drafted.{drafted, made_from}
-use Rattle.kc_disk.specs.Makers.{Made, Told}
+use Rattle.kc_conf.specs.declared.outputs.Which.TheVariants.{Notes}
+use Rattle.kc_disk.specs.Makers.{Made, Told, making}
 use Rattle.kc_disk.specs.Openers.{source}
 use Rattle.kc_disk.specs.Program.{Ran}
 use Rattle.kc_disk.specs.Reached.{unused}
@@ -13,8 +14,8 @@ returns-in-Ok-clause-ran g c =
     let fresh = c.new-drafts.result in
     let d = c.configure_over-ran.result.1 in
     let options = c.args.options.now in
-    let r : Ran (source (g.F.Folder.files c.args.folder.now) (g.F.Folder.failing c.args.folder.now)) (g.P.Opener.files c.args.opener.now) options c.in-Ok.ran
-    (drafted fresh.config fresh.header fresh.minimal fresh.depfile (g.N.Maker.told fresh.notes)) (drafted d.config d.header d.minimal d.depfile (g.N.Maker.told d.notes)) =
+    let r : Ran (source (g.F.Folder.files c.args.folder.now) (g.F.Folder.failing c.args.folder.now)) (source (g.P.Opener.files c.args.opener.now) (g.P.Opener.failing c.args.opener.now)) options c.in-Ok.ran
+    (making (drafted fresh.config fresh.header fresh.minimal fresh.depfile (g.N.Maker.told fresh.notes)) (drafted d.config d.header d.minimal d.depfile (g.N.Maker.told d.notes)) (g.N.Maker.failing fresh.notes Notes)) =
     rw c.in-Ok.is at c.configure_over-ran.ensures.ran in
     let first = unused-drafted options fresh.config fresh.header fresh.minimal fresh.depfile (g.N.Maker.told fresh.notes) ∙ ap (λ n. unused options (g.N.Maker.told n)) c.new-drafts.ensures.notes in
     record {
@@ -24,6 +25,7 @@ returns-in-Ok-clause-ran g c =
       ran = c.in-Ok.ran;
       places = r.places;
       leaves = rw (sym first) r.leaves;
+      fails = rw (sym c.new-drafts.ensures.notes) r.fails;
       reached = λ n is.
           let t : Told = record { config = made_from d.config; header = made_from d.header; minimal = made_from d.minimal; depfile = made_from d.depfile; notes = n.notes } in
           let here : g.N.Maker.told d.notes ≡ Some n = ap (g.N.Maker.told) (sym c.into_notes.ensures) ∙ is in

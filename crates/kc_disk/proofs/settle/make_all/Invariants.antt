@@ -4,4 +4,7 @@ use Rattle.kc_disk.specs.Texts.{stacked, texts_of}
 use Rattle.kc_disk.proofs.settle.make_all.Given as goal
 
 abbrev pub invariant-loop-text : goal.invariant-loop-text
-invariant-loop-text g l = g.M.Mover.told l.mover ≡ option_map (stacked (texts_of (take l.text-index l.texts))) (g.M.Mover.told l.initial.mover)
+invariant-loop-text g l = record {
+  told : g.M.Mover.told l.mover ≡ option_map (stacked (texts_of (take l.text-index l.texts))) (g.M.Mover.told l.initial.mover);
+  stays : g.M.Mover.failing l.mover ≡ g.M.Mover.failing l.initial.mover;
+}

@@ -5,4 +5,7 @@ use Rattle.kc_disk.proofs.ShelfLemmas.{moved-next}
 use Rattle.kc_disk.proofs.settle.move_all.Goals as goal
 
 pub loop-moved-preserved : goal.loop-moved-preserved
-loop-moved-preserved g c = c.in-Ok.ensures.ok ∙ ap (option_map moved) c.loop-moved.invariant ∙ moved-next _ _
+loop-moved-preserved g c = record {
+  told = c.in-Ok.ensures.ok ∙ ap (option_map moved) c.loop-moved.invariant.told ∙ moved-next _ _;
+  stays = c.in-Ok.ensures.failing_stays ∙ c.loop-moved.invariant.stays;
+}

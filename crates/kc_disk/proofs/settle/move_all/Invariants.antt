@@ -4,4 +4,7 @@ use Rattle.kc_disk.specs.Texts.{moved_times}
 use Rattle.kc_disk.proofs.settle.move_all.Given as goal
 
 abbrev pub invariant-loop-moved : goal.invariant-loop-moved
-invariant-loop-moved g l = g.M.Mover.told l.mover ≡ option_map (moved_times l.moved) (g.M.Mover.told l.initial.mover)
+invariant-loop-moved g l = record {
+  told : g.M.Mover.told l.mover ≡ option_map (moved_times l.moved) (g.M.Mover.told l.initial.mover);
+  stays : g.M.Mover.failing l.mover ≡ g.M.Mover.failing l.initial.mover;
+}

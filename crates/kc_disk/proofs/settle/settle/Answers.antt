@@ -12,7 +12,7 @@ returns-in-Err-move_all-clause-err g c =
     let made = c.in_default.ensures.ok ∙ ap (λ l. option_map (stacked (texts_of l)) (g.M.Mover.told c.args.mover.now)) c.deref.ensures.value in
     let within : moved < length some = rw (sym c.deref-2.ensures.value) c.in-Err-move_all.ensures.within in
     let front = settled-front moved (texts_of c.args.texts.now) (texts_of some) _ _ _ c.requires c.in_ok-some.ensures made c.in-Err-move_all.ensures.err in
-    (c.clear-in-Err-move_all.ensures ∙ front, λ s is. rw (sym (c.in_ok-some.ensures s is), c.index.ensures) (named some moved _ within, λ _. named-at some moved _ within))
+    (sym c.in_default.ensures.failing_stays ∙ c.in-Err-move_all.ensures.fault, c.clear-in-Err-move_all.ensures.told ∙ front, λ s is. rw (sym (c.in_ok-some.ensures s is), c.index.ensures) (named some moved _ within, λ _. named-at some moved _ within))
 
 pub returns-clause-ok : goal.returns-clause-ok
 returns-clause-ok g c =

@@ -1,5 +1,5 @@
 -- The bytes are written from their front on.
-use Rattle.std.proofs.Common.{◌-◌, length, drop, arith, length-take}
+use Rattle.std.proofs.Common.{◌-◌, ◌∙◌, length, drop, arith, length-take}
 use Rattle.kc_disk.proofs.ShelfLemmas.{grown-next}
 use Rattle.kc_disk.proofs.settle.write_whole.Goals as goal
 
@@ -9,4 +9,8 @@ loop-at-preserved g c =
     let at = c.loop-at.at in
     let fits = c.in-Ok.ensures.within in
     let most = length-take (length text - at) (drop at text) in
-    (omega arith, grown-next text at c.in-Ok.count _ _ _ c.loop-at.invariant.1 c.in-Ok.ensures.ok)
+    record {
+      within = omega arith;
+      told = grown-next text at c.in-Ok.count _ _ _ c.loop-at.invariant.told c.in-Ok.ensures.ok;
+      stays = c.in-Ok.ensures.failing_stays ∙ c.loop-at.invariant.stays;
+    }

@@ -5,7 +5,11 @@ use Rattle.kc_disk.proofs.settle.write_whole.Given as goal
 
 -- the first l.at bytes are written
 abbrev pub invariant-loop-at : goal.invariant-loop-at
-invariant-loop-at g l = (l.at ≤ length l.bytes) × (g.M.Mover.told l.mover ≡ option_map (grown_by (take l.at l.bytes)) (g.M.Mover.told l.initial.mover))
+invariant-loop-at g l = record {
+  within : l.at ≤ length l.bytes;
+  told : g.M.Mover.told l.mover ≡ option_map (grown_by (take l.at l.bytes)) (g.M.Mover.told l.initial.mover);
+  stays : g.M.Mover.failing l.mover ≡ g.M.Mover.failing l.initial.mover;
+}
 
 abbrev pub decreases-loop-at : goal.decreases-loop-at
 decreases-loop-at g l = length l.bytes - l.at

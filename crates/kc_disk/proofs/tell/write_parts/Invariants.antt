@@ -6,4 +6,7 @@ use Rattle.kc_disk.specs.Makers.{appended}
 use Rattle.kc_disk.proofs.tell.write_parts.Given as goal
 
 abbrev pub invariant-loop-part : goal.invariant-loop-part
-invariant-loop-part g l = g.M.Maker.told l.maker ≡ option_map (appended Notes (flat_map (λ part. part.now) (take l.part-index l.parts))) (g.M.Maker.told l.initial.maker)
+invariant-loop-part g l = record {
+  told : g.M.Maker.told l.maker ≡ option_map (appended Notes (flat_map (λ part. part.now) (take l.part-index l.parts))) (g.M.Maker.told l.initial.maker);
+  stays : g.M.Maker.failing l.maker Notes ≡ g.M.Maker.failing l.initial.maker Notes;
+}

@@ -6,9 +6,9 @@ use Rattle.kc_disk.specs.Makers.{IsOpen, Tells}
 use Rattle.kc_disk.proofs.DraftLemmas.{notes-open}
 use Rattle.kc_disk.proofs.drafts.DraftsMaker.write.Goals as goal
 
-pub write-requires : goal.write-requires
-write-requires g c =
+pub write-requires-clause-is_open : goal.write-requires-clause-is_open
+write-requires-clause-is_open g c =
     let s = c.args.self.now in
     let told = g.M.Maker.told s.notes in
     let P : Which → Type 0 = λ w. Tells (drafted s.config s.header s.minimal s.depfile told) (IsOpen w) in
-    notes-open s.config s.header s.minimal s.depfile told (subst P c.in-Notes.is c.requires)
+    notes-open s.config s.header s.minimal s.depfile told (subst P c.in-Notes.is c.requires.is_open)
