@@ -1,6 +1,7 @@
 //! Files, trees and orders.
 
 use crate::end::{End, done, refused};
+use kc_build::build_tree;
 use kc_expr::expression::SymId;
 use kc_read::file_map::FileMap;
 use kc_read::refusal::{Code, Refusal};
@@ -99,7 +100,7 @@ fn files_of(alloc: Global, kconfig: &[u8]) -> Result<FileMap, AllocError> {
 // The tree of this one file.
 fn tree_with(alloc: Global, kconfig: &[u8]) -> Result<Tree, AllocError> {
     let files = files_of(alloc, kconfig)?;
-    match Tree::build(alloc, &files, b"Kconfig") {
+    match build_tree(alloc, &files, b"Kconfig") {
         Ok(tree) => Ok(tree),
         Err(_) => Err(AllocError),
     }
@@ -118,7 +119,7 @@ fn is_memory(refusal: &Refusal) -> bool {
 /// `build`.
 pub(crate) fn call_build(alloc: Global) -> Result<End, AllocError> {
     let files = files_of(alloc, KCONFIG)?;
-    match Tree::build(alloc, &files, b"Kconfig") {
+    match build_tree(alloc, &files, b"Kconfig") {
         Ok(tree) => {
             let has_symbols = tree.symbol_count() == 4 && tree.find(b"N") == Some(SymId(2));
             let warned = are_named(

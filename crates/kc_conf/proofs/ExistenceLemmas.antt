@@ -8,7 +8,7 @@ use Rattle.kc_make.specs.Opened.{OpenedAreThere}
 use Rattle.kc_read.specs.Expansion.{Expands, Log, Refused}
 use Rattle.kc_read.specs.Files.{Files}
 use Rattle.kc_tree.specs.TreeFacts.{TreeFacts}
-use Rattle.kc_tree.specs.Trees.{IsTreeOf, TreesAreWellFormed, tree_of_log}
+use Rattle.kc_build.specs.Trees.{IsTreeOf, TreesAreWellFormed, tree_of_log}
 use Rattle.kc_user.specs.Places.{ArePlaces, IsUserOf, Places, no_places, place_at}
 use Rattle.kc_order.specs.Laws as order
 use Rattle.kc_order.specs.Needs.{needs_in}

@@ -4,7 +4,7 @@ use Rattle.kc_make.specs.Opened.{AreOpened, OpenedAreOne}
 use Rattle.kc_read.specs.Expansion.{Expands, Log, Refused}
 use Rattle.kc_read.specs.Files.{Files}
 use Rattle.kc_tree.specs.TreeFacts.{TreeFacts}
-use Rattle.kc_tree.specs.Trees.{IsTreeOf, OneTree, tree_of_log}
+use Rattle.kc_build.specs.Trees.{IsTreeOf, OneTree, tree_of_log}
 use Rattle.kc_user.specs.Places.{Places, place_at}
 use Rattle.kc_expr.specs.Value.{Written}
 use Rattle.kc_expr.specs.declared.expression.Kind.TheVariants.{Undefined}

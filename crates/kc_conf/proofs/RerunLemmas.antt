@@ -6,7 +6,7 @@ use Rattle.kc_expr.specs.declared.expression.Kind.TheVariants.{Undefined}
 use Rattle.std.proofs.lemmas.List.{ext_get_or}
 use Rattle.kc_read.specs.Files.{Files}
 use Rattle.kc_tree.specs.TreeFacts.{Shown, SymbolShown, MenuShown, EndShown, CommentShown, TreeFacts}
-use Rattle.kc_tree.specs.Trees.{TreesAreWellFormed}
+use Rattle.kc_build.specs.Trees.{TreesAreWellFormed}
 use Rattle.kc_user.specs.Given.{Given, Slot}
 use Rattle.kc_user.specs.Places.{ArePlaces, Places, no_places, place_at}
 use Rattle.kc_order.specs.Solution.{Solves}

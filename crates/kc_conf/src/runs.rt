@@ -29,6 +29,8 @@ use crate::outputs::{Outputs, Which};
 use crate::reading::LongLine;
 use crate::telling::tell_streams;
 use crate::writing::{make_depfile, make_files};
+use kc_build::build_tree;
+use kc_build::laws::one_tree;
 use kc_dot::Fault;
 use kc_make::laws::opened_are_one_list;
 use kc_order::one_named_loop;
@@ -37,7 +39,6 @@ use kc_read::refusal::{Code, Refusal};
 use kc_solve::order::Order;
 use kc_solve::solve::solve;
 use kc_solve::solved::Solved;
-use kc_tree::laws::one_tree;
 use kc_tree::tree::Tree;
 use kc_user::user::User;
 use kc_words::Options;
@@ -58,7 +59,7 @@ fn accepted(alloc: Global, files: &FileMap, root: &[u8]) -> Result<(Tree, Order)
     ensures order { IfOk result (λ both. both.1 ≡ needs both.0) }
     ensures refused { IfErr result (λ r. r.code ≢ Memory → IsRefusedTree (bytes_in files.now) root.now (refusal_view r)) }
 {
-    match Tree::build(alloc, files, root) {
+    match build_tree(alloc, files, root) {
         Ok(tree) => match Order::of(alloc, &tree) {
             Ok(order) => Ok((tree, order)),
             Err(refusal) => Err(refusal),

@@ -3,7 +3,7 @@ use Rattle.std.proofs.Common.{◌≡◌, ◌≢◌, ℕ, List, [], ◌∷◌, Op
 use Rattle.kc_read.specs.Expansion.{Refused}
 use Rattle.kc_read.specs.Files.{Files}
 use Rattle.kc_tree.specs.TreeFacts.{TreeFacts}
-use Rattle.kc_tree.specs.Trees.{IsTreeOf}
+use Rattle.kc_build.specs.Trees.{IsTreeOf}
 use Rattle.kc_load.specs.Expanding.{ExpandsAlike, OpensAlike}
 use Rattle.kc_make.specs.Opened.{AreOpened}
 use Rattle.kc_expr.specs.Names.{all_mentioned}

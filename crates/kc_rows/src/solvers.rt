@@ -5,6 +5,7 @@ ghost use Rattle.kc_values.specs.Needs.{needs};
 
 use crate::row::Accepted;
 use crate::rows::tables;
+use kc_build::build_tree;
 use kc_dot::prefix::Prefix;
 use kc_dot::reader::DotReader;
 use kc_dot::{Fault, Sink};
@@ -121,7 +122,7 @@ fn agree(rt: &impl Abort, alloc: Global, tree: &Tree, user: &User, name: &str) -
 // The row's tree.
 fn tree_of(alloc: Global, row: &Accepted) -> Result<Tree, Fail> {
     let files = files(alloc, "Kconfig", row.kconfig, row.others)?;
-    match Tree::build(alloc, &files, b"Kconfig") {
+    match build_tree(alloc, &files, b"Kconfig") {
         Ok(tree) => Ok(tree),
         Err(_refusal) => Err(Fail::from("a refusal")),
     }

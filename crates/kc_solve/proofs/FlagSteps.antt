@@ -17,7 +17,7 @@ use Rattle.kc_values.specs.Solution.{symbol_count, slot, slot_by, slot_of_facts,
 use Rattle.kc_values.proofs.SameValue.{same_value_itself}
 use Rattle.kc_values.proofs.Uncounted.{uncounted}
 use Rattle.kc_values.specs.Differs.{same_value, selection, default_selection, differs, differs_at}
-use Rattle.kc_tree.specs.Facts.{is_symbol_of}
+use Rattle.kc_tree.specs.Words.{is_symbol_of}
 use Rattle.kc_values.specs.Values.{selected, equation, by_choice, by_kind, is_n, visibility}
 use Rattle.kc_values.specs.Written.{written}
 use Rattle.kc_values.specs.declared.table.Value.{Value}

@@ -21,7 +21,7 @@ use Rattle.kc_values.specs.Laws.{MinimalRestores, MinimalHasNothingToSpare, Sett
 use Rattle.kc_values.specs.Lookups.{choice_at, is_defined, facts, name}
 use Rattle.kc_values.specs.Solution.{equations, rhs, seen, slot, symbol_count}
 use Rattle.kc_values.specs.Table.{kind_in, value_in, tri_in, text_in}
-use Rattle.kc_tree.specs.Facts.{is_symbol_of}
+use Rattle.kc_tree.specs.Words.{is_symbol_of}
 use Rattle.kc_values.specs.Values.{equation, selected, visibility}
 use Rattle.kc_values.specs.Warnings.{warnings_of}
 use Rattle.kc_values.specs.Written as writing

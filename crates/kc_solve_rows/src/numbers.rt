@@ -4,6 +4,7 @@
 ghost use Rattle.std.specs.Prelude.{[]};
 ghost use Rattle.kc_expr.specs.declared.expression.Kind.TheVariants as kind;
 
+use kc_build::build_tree;
 use kc_expr::expression::{Expr, Kind, Operand, SymId, Tri};
 use kc_expr::values::Values;
 use kc_read::file_map::FileMap;
@@ -47,7 +48,7 @@ fn tree_of(alloc: Global, text: &str) -> Result<Tree, Fail> {
     let bytes = Vec::from_slice(alloc, text.as_bytes())?;
     let mut files = FileMap::new(alloc);
     files.insert(name, bytes)?;
-    match Tree::build(alloc, &files, b"Kconfig") {
+    match build_tree(alloc, &files, b"Kconfig") {
         Ok(tree) => Ok(tree),
         Err(_refusal) => Err(Fail::from("a refusal")),
     }

@@ -5,7 +5,7 @@ use Rattle.kc_expr.specs.Form.{Form}
 use Rattle.kc_read.specs.Reads.{when_view}
 use Rattle.kc_tree.specs.declared.parts.ChoiceId.{ChoiceId}
 use Rattle.kc_tree.specs.declared.parts.Context.{Context}
-use Rattle.kc_tree.specs.Facts.{listed}
+use Rattle.kc_tree.specs.Words.{listed}
 use Rattle.kc_tree.specs.TreeFacts.{Condition}
 
 -- nothing is asked for

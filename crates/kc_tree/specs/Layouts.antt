@@ -25,7 +25,7 @@ use Rattle.kc_tree.specs.declared.parts.Title.{Title}
 use Rattle.kc_tree.specs.declared.parts.TitleId.{TitleId}
 use Rattle.kc_tree.specs.Chains.{chain_of, chains_of}
 use Rattle.kc_tree.specs.Contexts.{condition_in, mode_view}
-use Rattle.kc_tree.specs.Facts.{listed}
+use Rattle.kc_tree.specs.Words.{listed}
 use Rattle.kc_tree.specs.Parts.{part_of, definition_ids}
 use Rattle.kc_tree.specs.TreeFacts.{Condition, Guarded, Bounds, SymbolFacts, ChoiceFacts, Shown, SymbolShown, MenuShown, EndShown, CommentShown, TreeFacts}
 

@@ -3,7 +3,7 @@ use Rattle.std.specs.Prelude.{◌-◌, ◌&&◌, List, [], ◌++◌, length, tak
 use Rattle.kc_tree.specs.declared.parts.DefinitionId.{DefinitionId}
 use Rattle.kc_tree.specs.declared.parts.Span.{Span}
 use Rattle.kc_tree.specs.declared.parts.Symbol.{Symbol}
-use Rattle.kc_tree.specs.Facts.{listed}
+use Rattle.kc_tree.specs.Words.{listed}
 
 -- the part of a table that a span names; no part where it is not there
 abbrev pub part_of : {X : Type 0} → List X → Span → List X

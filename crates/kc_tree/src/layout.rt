@@ -17,14 +17,14 @@ use std::alloc::{AllocError, Global};
 /// The tables that the menu entries of a tree fill.
 #[derive(Debug, Drop)]
 pub struct Tables {
-    pub(crate) contexts: Contexts,
-    pub(crate) definitions: Vec<Definition>,
-    pub(crate) defaults: Vec<SymbolDefault>,
-    pub(crate) ranges: Vec<SymbolRange>,
-    pub(crate) reverses: Reverses,
-    pub(crate) choices: Vec<Choice>,
-    pub(crate) titles: Vec<Title>,
-    pub(crate) entries: Vec<Entry>,
+    pub contexts: Contexts,
+    pub definitions: Vec<Definition>,
+    pub defaults: Vec<SymbolDefault>,
+    pub ranges: Vec<SymbolRange>,
+    pub reverses: Reverses,
+    pub choices: Vec<Choice>,
+    pub titles: Vec<Title>,
+    pub entries: Vec<Entry>,
     ghost within: { AreWithin contexts definitions.items },
     ghost prompts_within: { ArePromptsWithin contexts definitions.items },
     ghost prompts_plain: { ArePromptsPlain contexts definitions.items },
@@ -43,7 +43,7 @@ impl Tables {
     ghost use Rattle.kc_tree.specs.Empty.{AreEmpty};
 
     /// Tables without rows, with room for so many symbols. Fails only when it is out of memory.
-    pub(crate) fn empty(alloc: Global, count: usize) -> Result<Tables, AllocError>
+    pub fn empty(alloc: Global, count: usize) -> Result<Tables, AllocError>
         ensures empty { IfOk result AreEmpty }
         ensures selects { IfOk result (λ t. length t.reverses.selects.items ≡ count) }
         ensures implies { IfOk result (λ t. length t.reverses.implies.items ≡ count) }
@@ -65,9 +65,18 @@ impl Tables {
 /// round an entry, and then the entry, ask for; it stands once, however many entries depend on it.
 #[derive(Debug, Drop)]
 pub struct Layout {
-    pub(crate) symbols: Vec<Symbol>,
-    pub(crate) tables: Tables,
+    pub symbols: Vec<Symbol>,
+    pub tables: Tables,
     ghost few: { length symbols.items + length tables.contexts + length tables.choices.items < 2 ^ 32 },
+}
+
+/// What a tree is made of, but for the names.
+#[derive(Debug, Drop)]
+pub struct TreeParts {
+    pub layout: Layout,
+    pub warnings: Vec<Vec<u8>>,
+    pub main_menu: Vec<u8>,
+    pub modules: Option<SymId>,
 }
 
 // The part of a table that a span names; no part where it is not there.

@@ -1,21 +1,8 @@
-//! From the statements of a Kconfig tree to its symbols, choices, entries and warnings.
+//! What a Kconfig tree says: its symbols, choices, entries and warnings, and the tables that they are laid out in.
 #![tactic(auto)]
 
-mod assembly;
-mod attributes;
-mod blocks;
-mod build;
-mod contexts;
-mod copies;
-mod diagnostics;
-mod entries;
-pub mod laws;
+pub mod contexts;
 pub mod layout;
-mod lines;
-mod numbering;
 pub mod parts;
-mod renaming;
-mod reverses;
-mod symbols;
+pub mod reverses;
 pub mod tree;
-mod warning;

@@ -3,13 +3,12 @@
 ghost use Rattle.std.specs.Prelude.{◌≡◌, ◌<◌, length, map, Some, slice_get, position};
 ghost use Rattle.std.specs.Option.{option_map};
 ghost use Rattle.kc_expr.specs.Names.{symbol, same_name};
-ghost use Rattle.kc_tree.specs.Assemblies.{tree_of};
+ghost use Rattle.kc_tree.specs.Wholes.{tree_of};
 ghost use Rattle.kc_tree.specs.Heads.{IsHeadOf, AreChoicesOf, AreEntriesOf};
 ghost use Rattle.kc_tree.specs.Layouts.{IsLayoutOf};
 ghost use Rattle.kc_tree.specs.TreeFacts.{IsWellFormed};
 
-use crate::assembly::TreeParts;
-use crate::layout::Layout;
+use crate::layout::{Layout, TreeParts};
 use crate::parts::{Choice, Entry, Symbol};
 use kc_expr::expression::SymId;
 use kc_expr::names::Names;
@@ -44,8 +43,8 @@ impl Model for Tree {
 }
 
 impl Tree {
-    /// The tree with these names and parts.
-    pub(crate) fn of(names: Names, parts: TreeParts) -> Tree
+    /// The tree with these names and parts. The caller owes that they are well formed.
+    pub fn of(names: Names, parts: TreeParts) -> Tree
         requires { IsWellFormed (tree_of names parts) }
         ensures { result ≡ tree_of names parts }
     {

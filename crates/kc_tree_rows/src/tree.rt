@@ -1,13 +1,12 @@
 //! Worked trees from the bytes of their files on: what a tree says of its symbols, choices and entries, its warnings,
 //! and the refusals that come after the last line.
 
+use kc_build::build_tree;
 use kc_expr::expression::{Expr, SymId};
 use kc_read::file_map::FileMap;
 use kc_read::refusal::{Code, Refusal};
 use kc_tree::layout::Layout;
-use kc_tree::parts::{
-    Choice, ContextId, Definition, Entry, Prompt, ReverseId, Symbol, TitleId,
-};
+use kc_tree::parts::{Choice, ContextId, Definition, Entry, Prompt, ReverseId, Symbol, TitleId};
 use kc_tree::tree::Tree;
 use std::alloc::{AllocError, Global};
 use std::process::Abort;
@@ -36,7 +35,7 @@ fn files_of(alloc: Global, files: &[(&str, &str)]) -> Result<FileMap, AllocError
 // The tree of `Kconfig`, one of these files. What is owned is dropped by a call, as in all that follows.
 fn build(alloc: Global, files: &[(&str, &str)]) -> Result<Result<Tree, Refusal>, AllocError> {
     let map = files_of(alloc, files)?;
-    let built = Tree::build(alloc, &map, b"Kconfig");
+    let built = build_tree(alloc, &map, b"Kconfig");
     drop(map);
     Ok(built)
 }
@@ -87,10 +86,7 @@ fn condition(
 const TOP: ContextId = ContextId(0);
 
 // The definitions of a symbol.
-fn definitions<'l>(
-    view: View<'l>,
-    symbol: &Symbol,
-) -> Result<Vec<&'l Definition>, AllocError> {
+fn definitions<'l>(view: View<'l>, symbol: &Symbol) -> Result<Vec<&'l Definition>, AllocError> {
     let mut all = Vec::new(view.alloc);
     for i in 0..symbol.definition_count() {
         if let Some(id) = symbol.definition(i) {
@@ -102,11 +98,7 @@ fn definitions<'l>(
     Ok(all)
 }
 
-fn dependencies(
-    out: &mut String,
-    view: View<'_>,
-    all: &[&Definition],
-) -> Result<(), AllocError> {
+fn dependencies(out: &mut String, view: View<'_>, all: &[&Definition]) -> Result<(), AllocError> {
     for definition in all {
         write!(out, "dep ")?;
         condition(out, view, definition.within, TOP, &None)?;
@@ -129,11 +121,7 @@ fn prompt(
     }
 }
 
-fn defaults(
-    out: &mut String,
-    view: View<'_>,
-    definition: &Definition,
-) -> Result<(), AllocError> {
+fn defaults(out: &mut String, view: View<'_>, definition: &Definition) -> Result<(), AllocError> {
     for default in view.layout.defaults(definition) {
         write!(out, "default {:?} ", default.value)?;
         condition(out, view, definition.within, TOP, &default.when)?;
@@ -176,12 +164,7 @@ fn reverses(
 }
 
 // What a tree says of a symbol.
-fn symbol(
-    out: &mut String,
-    view: View<'_>,
-    id: SymId,
-    symbol: &Symbol,
-) -> Result<(), AllocError> {
+fn symbol(out: &mut String, view: View<'_>, id: SymId, symbol: &Symbol) -> Result<(), AllocError> {
     write!(out, "{:?} {:?}\n", symbol.kind, symbol.choice)?;
     let all = definitions(view, symbol)?;
     dependencies(out, view, &all)?;
@@ -210,12 +193,7 @@ fn choice(out: &mut String, view: View<'_>, choice: &Choice) -> Result<(), Alloc
 }
 
 // What is shown under a condition; its text by the length.
-fn shown(
-    out: &mut String,
-    view: View<'_>,
-    word: &str,
-    title: TitleId,
-) -> Result<(), AllocError> {
+fn shown(out: &mut String, view: View<'_>, word: &str, title: TitleId) -> Result<(), AllocError> {
     match view.layout.title(title) {
         Some(title) => {
             write!(out, "[{word} of {}] ", title.text.len())?;

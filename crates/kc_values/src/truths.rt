@@ -2,7 +2,7 @@
 
 ghost use Rattle.std.specs.Prelude.{◌≡◌};
 ghost use Rattle.kc_expr.specs.Value.{known_by, truth_of_known};
-ghost use Rattle.kc_tree.specs.Facts.{listed};
+ghost use Rattle.kc_tree.specs.Words.{listed};
 ghost use Rattle.kc_tree.specs.Layouts.{definition_facts, facts_of, reverse_facts, reverses_from};
 ghost use Rattle.kc_values.specs.Known.{known_at, IsDefinitionAt, IsDefinitionOf, IsOpenDefault};
 ghost use Rattle.kc_values.specs.User.{place};

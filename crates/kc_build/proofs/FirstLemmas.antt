@@ -1,0 +1,91 @@
+-- The first definition of each symbol, one place more.
+use Rattle.std.proofs.Common.{◌≡◌, ℕ, zero, suc, ◌+◌, ◌≤◌, Bool, true, false, not, cond, ◌||◌, if◌then◌else◌, List, [], ◌∷◌, ◌++◌, length, map, take, Option, Some, None, refl, ap, sym, ◌∙◌, arith, add-one, nat_lt}
+use Rattle.std.specs.List.{list_any, position, position_or_len, cons_option}
+use Rattle.std.specs.Option.{is_none}
+use Rattle.std.proofs.lemmas.Bool.Decides.{nat_tests}
+use Rattle.std.proofs.lemmas.List.Elements.{filter_map-append}
+use Rattle.std.proofs.lemmas.List.Folds.{list_any-append}
+use Rattle.kc_expr.specs.declared.expression.SymId.{SymId}
+use Rattle.kc_expr.specs.Names.{symbol}
+use Rattle.kc_read.specs.Statements.{Numbered, ConfigLine}
+use Rattle.kc_read.specs.Blocks.{numbers, definitions, name_at}
+use Rattle.kc_tree.specs.Words.{same_symbol, is_symbol_of}
+use Rattle.kc_build.specs.Facts.{symbol_at, symbol_of, is_first_definition}
+use Rattle.kc_build.specs.Firsts.{is_first_at, first_of_symbol}
+use Rattle.kc_build.specs.Known.{AreBelow, first_seen}
+use Rattle.kc_build.specs.Passes.{changed}
+use Rattle.kc_build.proofs.BlockLemmas.{take-next, there}
+use Rattle.kc_build.proofs.PlaceLemmas.{get-map_numbers, filter-next}
+use Rattle.kc_build.proofs.TableLemmas.{defined_before, defined_next}
+
+lt_suc : (k n : ℕ) → nat_lt (1 + k) (suc n) ≡ nat_lt k n
+lt_suc k n = grind (arith, nat_tests)
+
+lt_none : (n : ℕ) → nat_lt 0 (suc n) ≡ true
+lt_none n = grind (arith, nat_tests)
+
+module _ {A : Type 0} (p : A → Bool) where
+  by_first : (b : Bool) (k n : ℕ) (rest : Bool) → nat_lt k n ≡ rest → nat_lt (cond (not b) (1 + k) 0) (suc n) ≡ (b || rest)
+  by_first true k n rest h = lt_none n
+  by_first false k n rest h = lt_suc k n ∙ h
+
+  found-any : (xs : List A) → nat_lt (position_or_len p xs) (length xs) ≡ list_any p xs
+  found-any [] = refl
+  found-any (x ∷ xs) = by_first (p x) (position_or_len p xs) (length xs) (list_any p xs) (found-any xs)
+
+  by_test : (b : Bool) (k : ℕ) → is_none (cond b (Some k) None) ≡ not b
+  by_test true k = refl
+  by_test false k = refl
+
+  none-any : (xs : List A) → is_none (position p xs) ≡ not (list_any p xs)
+  none-any xs = by_test (nat_lt (position_or_len p xs) (length xs)) (position_or_len p xs) ∙ ap not (found-any xs)
+
+abbrev pub some_places : List ℕ → Bool
+some_places [] = false
+some_places (d ∷ ds) = true
+
+some_append : (ds : List ℕ) (b : Bool) (i : ℕ) → some_places (ds ++ (if b then i ∷ [] else [])) ≡ (some_places ds || b)
+some_append [] true i = refl
+some_append [] false i = refl
+some_append (d ∷ ds) b i = refl
+
+by_name : (s : SymId) (x : Numbered) → list_any (same_symbol s) (cons_option (name_at x) []) ≡ is_symbol_of s (symbol_of (Some x))
+by_name s (ConfigLine t) = or_false (same_symbol s t)
+  where
+    or_false : (b : Bool) → (b || false) ≡ b
+    or_false true = refl
+    or_false false = refl
+by_name s _ = refl
+
+module _ (ss : List Numbered) where
+  any-before : (i : ℕ) (s : ℕ) → i ≤ length ss → list_any (same_symbol (symbol s)) (definitions (take i ss)) ≡ some_places (defined_before ss i s)
+  any-before zero s h = refl
+  any-before (suc i) s h =
+      let x = there ss i (omega arith) in
+      let more : definitions (take (suc i) ss) ≡ definitions (take i ss) ++ cons_option (name_at x.0) [] = ap definitions (take-next ss i x.0 x.1) ∙ filter_map-append name_at (take i ss) (x.0 ∷ []) in
+      let here : is_symbol_of (symbol s) (symbol_at ss i) ≡ is_symbol_of (symbol s) (symbol_of (Some x.0)) = ap (λ o. is_symbol_of (symbol s) (symbol_of o)) x.1 in
+      let next : defined_before ss (suc i) s ≡ defined_before ss i s ++ (if is_symbol_of (symbol s) (symbol_at ss i) then i ∷ [] else []) = (rw add-one at (filter-next (λ j. is_symbol_of (symbol s) (symbol_at ss j)) i)) in
+      ap (list_any (same_symbol (symbol s))) more ∙ list_any-append (same_symbol (symbol s)) (definitions (take i ss)) (cons_option (name_at x.0) []) ∙ (rw (any-before i s (omega arith), by_name (symbol s) x.0, ← here) (sym (ap some_places next ∙ some_append (defined_before ss i s) (is_symbol_of (symbol s) (symbol_at ss i)) i)))
+
+  pub first-is : (i : ℕ) (s : SymId) → i ≤ length ss → is_first_definition ss i s ≡ not (some_places (defined_before ss i s.0))
+  first-is i s h = none-any (same_symbol s) (definitions (take i ss)) ∙ ap not (any-before i s.0 h)
+
+  abbrev pub seen_at : ℕ → ℕ → Bool
+  seen_at i s = some_places (defined_before ss i s)
+
+  some_snoc : (ds : List ℕ) (i : ℕ) → true ≡ some_places (ds ++ i ∷ [])
+  some_snoc [] i = refl
+  some_snoc (d ∷ ds) i = refl
+
+  pub seen_next : (i count : ℕ) (seen new : List Bool) (o : Option SymId) → seen ≡ map (seen_at i) (numbers count) → o ≡ symbol_at ss i → new ≡ changed (λ _. true) o seen → new ≡ map (seen_at (i + 1)) (numbers count)
+  seen_next i count seen new o h e n =
+      n ∙ rw h (defined_next ss (λ s ds. some_places ds) (λ _. true) i count o (sym e) (λ s ds q. some_snoc ds i))
+
+  first_by : (i count : ℕ) (o : Option SymId) (seen : List Bool) → i ≤ length ss → AreBelow count ss → symbol_at ss i ≡ o → seen ≡ map (seen_at i) (numbers count) → first_seen o seen ≡ first_of_symbol ss i o
+  first_by i count None seen h below e p = refl
+  first_by i count (Some s) seen h below e p =
+      rw (p, get-map_numbers (seen_at i) count s.0 (below i s e)) (sym (first-is i s h))
+
+  pub first_next : (i count : ℕ) (o : Option SymId) (seen : List Bool) (first : Bool) → i ≤ length ss → AreBelow count ss → o ≡ symbol_at ss i → seen ≡ map (seen_at i) (numbers count) → first ≡ first_seen o seen → first ≡ is_first_at ss i
+  first_next i count o seen first h below e p q =
+      q ∙ first_by i count o seen h below (sym e) p ∙ ap (first_of_symbol ss i) e

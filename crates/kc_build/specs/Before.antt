@@ -1,0 +1,52 @@
+-- For proofs: What the entries before a place say.
+use Rattle.std.specs.Prelude.{ℕ, List, [], codes, filter, map, length, take, if◌then◌else◌, Option, slice_get, unwrap_or}
+use Rattle.std.specs.Option.{option_map}
+use Rattle.std.specs.List.{filter_map, flat_map}
+use Rattle.kc_expr.specs.declared.expression.SymId.{SymId}
+use Rattle.kc_read.specs.Blocks.{attributes, last_of, numbers}
+use Rattle.kc_read.specs.Statements.{Numbered}
+use Rattle.kc_read.specs.declared.statement.Block.TheVariants as block
+use Rattle.kc_build.specs.Facts.{can_be_target, choice_facts, defaults_at, dep, entry_at, imply_of, is_member_place, naming_at, of_block, prompt_at, range_under, select_of, symbol_at, title_of}
+use Rattle.kc_tree.specs.Layouts.{DefinitionFacts}
+use Rattle.kc_tree.specs.TreeFacts.{Guarded, ChoiceFacts, Shown}
+
+module _ (ss : List Numbered) where
+  -- the definition that begins at a place; those that begin before a place
+  abbrev pub definition_at : ℕ → SymId → DefinitionFacts
+  definition_at i s = record {
+    symbol = s;
+    dep = dep ss i;
+    prompt = prompt_at ss i;
+    defaults = defaults_at ss i;
+    ranges = filter_map (range_under ss i) (attributes ss i);
+  }
+
+  abbrev pub definition_line : ℕ → Option DefinitionFacts
+  definition_line i = option_map (definition_at i) (symbol_at ss i)
+
+  abbrev pub definitions_before : ℕ → List DefinitionFacts
+  definitions_before i = filter_map definition_line (numbers i)
+
+  -- the lines before a place that select a symbol; that imply it
+  abbrev pub selectors_before : ℕ → SymId → List (Guarded SymId)
+  selectors_before i t = if can_be_target ss t then flat_map (naming_at ss (select_of t)) (numbers i) else []
+
+  abbrev pub impliers_before : ℕ → SymId → List (Guarded SymId)
+  impliers_before i t = if can_be_target ss t then flat_map (naming_at ss (imply_of t)) (numbers i) else []
+
+  -- the choices that open before a place, with their members before it
+  abbrev pub members_before : ℕ → ℕ → List SymId
+  members_before i k = filter_map (symbol_at ss) (filter (is_member_place ss k) (numbers i))
+
+  abbrev pub choice_before : ℕ → ℕ → ChoiceFacts
+  choice_before i j = record (choice_facts ss j) { members = members_before i (length (filter (of_block ss block.Choice) (numbers j))) }
+
+  abbrev pub choices_before : ℕ → List ChoiceFacts
+  choices_before i = map (choice_before i) (filter (of_block ss block.Choice) (numbers i))
+
+  -- the entries before a place
+  abbrev pub entries_before : ℕ → List Shown
+  entries_before i = filter_map (λ j. entry_at ss j (slice_get ss j)) (numbers i)
+
+  abbrev pub main_menu_before : ℕ → List ℕ
+  main_menu_before i = unwrap_or (last_of (filter_map title_of (take i ss))) (codes "Main menu")
