@@ -1,6 +1,6 @@
 //! The expanded list of a root file.
 
-ghost use Rattle.std.specs.Prelude.{◌≡◌, ◌≢◌, ◌≤◌, Err, IfErr, IfOk, Ok, OnOk, length};
+ghost use Rattle.std.specs.Prelude.{◌≡◌, ◌≢◌, ◌≤◌, Err, IfErr, IfOk, Ok, OnOk};
 ghost use Rattle.kc_read.specs.Limits.{most_lines};
 ghost use Rattle.kc_expr.specs.Names.{Extends};
 ghost use Rattle.kc_read.specs.Expansion.{Expands, Log};
@@ -87,7 +87,6 @@ pub fn expand(
     ensures expanded { IfOk result (λ e. (log : Log) × Expands (bytes_in map.now) root.now (Ok log) × IsExpansion names.old modules names.new log e) }
     ensures refused { IfErr result (λ r. r.code ≢ Memory → Expands (bytes_in map.now) root.now (Err (refusal_view r))) }
     ensures memory { IfErr result IsMemory }
-    ensures few { IfOk result (λ e. length e.lines.items ≤ most_lines) }
     ensures names { Extends names.old names.new }
 {
     let (bytes, counted) = match open(map, root, 0) {
