@@ -14,7 +14,8 @@ use Rattle.kc_build.specs.Passes.{range_of, said_by, taken_view}
 use Rattle.kc_read.specs.declared.line.Line.{Line}
 use Rattle.kc_read.specs.declared.statement.Statement.{Statement}
 use Rattle.kc_read.specs.declared.statement.Statement.TheVariants as made
-use Rattle.kc_read.specs.Reads.{statement_view, when_view}
+use Rattle.kc_expr.specs.When.{when_view}
+use Rattle.kc_read.specs.Reads.{statement_view}
 use Rattle.std.specs.declared.alloc.Global.{Global}
 use Rattle.std.specs.declared.rc.Rc.{Rc}
 use Rattle.kc_tree.specs.Views.{condition_of, default_view, range_view}

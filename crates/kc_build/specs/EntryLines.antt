@@ -3,7 +3,7 @@ use Rattle.std.specs.Prelude.{ℕ, List, Option, Some, None, if◌then◌else◌
 use Rattle.std.specs.Option.{option_map, option_and_then}
 use Rattle.kc_expr.specs.declared.expression.SymId.{SymId}
 use Rattle.kc_expr.specs.Form.{Form, Leaf, form_of, leaf_of}
-use Rattle.kc_read.specs.Reads.{when_view}
+use Rattle.kc_expr.specs.When.{when_view}
 use Rattle.kc_read.specs.Statements.{Numbered, RangeLine}
 use Rattle.kc_tree.specs.declared.parts.ChoiceDefault.{ChoiceDefault}
 use Rattle.kc_tree.specs.declared.parts.Prompt.{Prompt}
@@ -21,7 +21,7 @@ abbrev pub default_row : SymbolDefault → Form × Option Form
 default_row d = (form_of d.value.value, when_view d.when)
 
 abbrev pub range_row : SymbolRange → Leaf × Leaf × Option Form
-range_row r = (leaf_of r.bounds.low, leaf_of r.bounds.high, when_view r.when)
+range_row r = (leaf_of r.low, leaf_of r.high, when_view r.when)
 
 abbrev pub choice_default_line : ChoiceDefault → SymId × Option Form
 choice_default_line d = (d.member, when_view d.when)

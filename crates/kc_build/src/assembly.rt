@@ -1,7 +1,7 @@
 //! All that lines say that were read whole.
 
 ghost use Rattle.std.specs.Prelude.{◌≡◌, ◌<◌, ◌≤◌, ◌+◌, ◌*◌, ◌^◌, length, map, nat_lt, if◌then◌else◌, IfOk, Some, None};
-ghost use Rattle.kc_read.specs.Limits.{most_symbols};
+ghost use Rattle.kc_expr.specs.Limits.{most_symbols};
 ghost use Rattle.kc_read.specs.Reads.{line_view};
 ghost use Rattle.kc_build.specs.Assemblies.{assembled_view};
 ghost use Rattle.kc_build.specs.Known.{AreBelow, AreChoicesApart};

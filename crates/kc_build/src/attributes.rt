@@ -4,7 +4,8 @@ ghost use Rattle.std.specs.Prelude.{◌≡◌, ◌<◌, ◌≤◌, ◌+◌, ◌+
 ghost use Rattle.std.specs.List.{filter_map, prefix_len};
 ghost use Rattle.kc_expr.specs.Form.{form_of};
 ghost use Rattle.kc_read.specs.Blocks as blocks;
-ghost use Rattle.kc_read.specs.Reads.{asked_view, when_view};
+ghost use Rattle.kc_expr.specs.When.{when_view};
+ghost use Rattle.kc_read.specs.Reads.{asked_view};
 ghost use Rattle.kc_tree.specs.Contexts.{condition_in};
 ghost use Rattle.kc_build.specs.Facts as facts;
 ghost use Rattle.kc_build.specs.Growth.{and_all, IsGrown, Stands};
@@ -19,7 +20,6 @@ use crate::symbols::is_member;
 use kc_expr::expression::{Expr, Kind};
 use kc_read::line::Line;
 use kc_read::statement;
-use kc_read::statement::Bounds;
 use kc_tree::contexts::Contexts;
 use kc_tree::parts::{
     ChoiceDefault, ChoiceId, ContextId, Prompt, Span, Symbol, SymbolDefault, SymbolRange,
@@ -179,10 +179,7 @@ pub fn add_ranges(
             let low = operand_copy(alloc, range.low)?;
             let high = operand_copy(alloc, range.high)?;
             let when = share(range.when)?;
-            ranges.push(SymbolRange {
-                bounds: Bounds { low, high },
-                when,
-            })?;
+            ranges.push(SymbolRange { low, high, when })?;
         }
     }
     Ok(Span {

@@ -2,7 +2,8 @@
 
 ghost use Rattle.std.specs.Prelude.{◌≡◌, map, option_map, OnOk};
 ghost use Rattle.kc_expr.specs.Form.{form_of, leaf_of};
-ghost use Rattle.kc_read.specs.Reads.{line_view, statement_view, when_view};
+ghost use Rattle.kc_expr.specs.When.{when_view};
+ghost use Rattle.kc_read.specs.Reads.{line_view, statement_view};
 ghost use Rattle.kc_build.specs.Renamings.{final, renamed, leaf_renamed, statement_renamed, line_renamed};
 
 use crate::copies::expression_copy;

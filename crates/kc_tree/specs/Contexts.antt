@@ -2,7 +2,7 @@
 use Rattle.std.specs.Prelude.{◌≡◌, ◌<◌, ◌≤◌, ℕ, List, [], ◌∷◌, ◌++◌, take, is_some, false, Option, Some, None, option_map, slice_get, slice_index_or}
 use Rattle.std.specs.Borrow.{Bor}
 use Rattle.kc_expr.specs.Form.{Form}
-use Rattle.kc_read.specs.Reads.{when_view}
+use Rattle.kc_expr.specs.When.{when_view}
 use Rattle.kc_tree.specs.declared.parts.ChoiceId.{ChoiceId}
 use Rattle.kc_tree.specs.declared.parts.Context.{Context}
 use Rattle.kc_tree.specs.Words.{listed}

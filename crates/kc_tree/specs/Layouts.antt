@@ -1,12 +1,11 @@
 -- Trusted: How the tables of a tree are seen in contracts: what they say of symbols, choices and entries.
 use Rattle.std.specs.Prelude.{◌≡◌, ℕ, List, [], ◌++◌, map, length, reverse, Option, Some, None, slice_get, slice_index_or}
 use Rattle.std.specs.Option.{option_map, option_and_then}
-use Rattle.std.specs.List.{filter_map, flat_map}
+use Rattle.std.specs.List.{filter_map, flat_map, range_with_len}
 use Rattle.kc_expr.specs.declared.expression.SymId.{SymId}
 use Rattle.kc_expr.specs.declared.expression.Kind.{Kind}
 use Rattle.kc_expr.specs.Form.{Form, form_of, leaf_of}
-use Rattle.kc_read.specs.Blocks.{numbers}
-use Rattle.kc_read.specs.Reads.{when_view}
+use Rattle.kc_expr.specs.When.{when_view}
 use Rattle.kc_tree.specs.declared.layout.Layout.{Layout}
 use Rattle.kc_tree.specs.declared.layout.Tables.{Tables}
 use Rattle.kc_tree.specs.declared.parts.Choice.{Choice}
@@ -45,7 +44,7 @@ module _ (conditions : List Condition) (dep : Condition) where
   default_view d = record { what = form_of d.value.value; when = with_when dep (when_view d.when) }
 
   abbrev pub range_view : SymbolRange → Guarded Bounds
-  range_view r = record { what = record { low = leaf_of r.bounds.low; high = leaf_of r.bounds.high }; when = with_when dep (when_view r.when) }
+  range_view r = record { what = record { low = leaf_of r.low; high = leaf_of r.high }; when = with_when dep (when_view r.when) }
 
   abbrev pub choice_default_view : ChoiceDefault → Guarded SymId
   choice_default_view d = record { what = d.member; when = with_when dep (when_view d.when) }
@@ -145,7 +144,7 @@ module _ (l : Layout) where
   facts_at i = option_map (facts_of i) (slice_get l.symbols.items i)
 
   abbrev pub symbols_in : List SymbolFacts
-  symbols_in = filter_map facts_at (numbers (length l.symbols.items))
+  symbols_in = filter_map facts_at (range_with_len 0 (length l.symbols.items))
 
   abbrev pub choices_in : List ChoiceFacts
   choices_in = map (choice_facts l.tables) l.tables.choices.items

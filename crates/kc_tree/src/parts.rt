@@ -1,8 +1,7 @@
 //! What a tree is made of: contexts, definitions, symbols, choices and entries, each in one table. What the lines of a Kconfig
 //! file say of them is the kernel's kconfig-language document's; where it is silent, kconfiglib's documentation decides.
 
-use kc_expr::expression::{Expr, Kind, SymId};
-use kc_read::statement::Bounds;
+use kc_expr::expression::{Expr, Kind, Operand, SymId};
 use std::rc::Rc;
 
 /// The number of a choice: its place among the tree's choices, in the order in which they open. The numbers are our
@@ -54,7 +53,8 @@ pub struct SymbolDefault {
 /// A range: its bounds and its own `if` (the kernel's kconfig-language document, "Menu attributes": numerical ranges).
 #[derive(Debug, Drop)]
 pub struct SymbolRange {
-    pub bounds: Bounds,
+    pub low: Operand,
+    pub high: Operand,
     pub when: Option<Rc<Expr>>,
 }
 

@@ -131,7 +131,7 @@ fn defaults(out: &mut String, view: View<'_>, definition: &Definition) -> Result
 
 fn ranges(out: &mut String, view: View<'_>, definition: &Definition) -> Result<(), AllocError> {
     for range in view.layout.ranges(definition) {
-        write!(out, "range {:?} {:?} ", range.bounds.low, range.bounds.high)?;
+        write!(out, "range {:?} {:?} ", range.low, range.high)?;
         condition(out, view, definition.within, TOP, &range.when)?;
     }
     Ok(())

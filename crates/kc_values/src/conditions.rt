@@ -2,7 +2,7 @@
 
 ghost use Rattle.std.specs.Prelude.{◌≡◌};
 ghost use Rattle.kc_expr.specs.Value.{lesser};
-ghost use Rattle.kc_read.specs.Reads.{when_view};
+ghost use Rattle.kc_expr.specs.When.{when_view};
 ghost use Rattle.kc_tree.specs.Contexts.{IsPlain, mode_view};
 ghost use Rattle.kc_tree.specs.Layouts.{choice_facts, prompt_view, title_condition, with_when};
 ghost use Rattle.kc_tree.specs.Soundness.{IsChoiceThere};

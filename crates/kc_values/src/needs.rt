@@ -5,7 +5,7 @@ ghost use Rattle.std.specs.List.{flat_map};
 ghost use Rattle.kc_expr.specs.Form.{leaf_of, leaf_symbols};
 ghost use Rattle.kc_order.specs.Graph.{IsGraph, needs_of};
 ghost use Rattle.kc_order.specs.Needs.{AreAlike};
-ghost use Rattle.kc_read.specs.Reads.{when_view};
+ghost use Rattle.kc_expr.specs.When.{when_view};
 ghost use Rattle.kc_tree.specs.declared.layout.Layout.{Layout};
 ghost use Rattle.kc_tree.specs.Layouts.{IsLayoutOf};
 ghost use Rattle.kc_tree.specs.Soundness.{IsChoiceThere, IsDefinitionThere, IsPromptThere};
@@ -158,8 +158,8 @@ fn bound_into(bound: &Operand, out: &mut Row) -> Result<(), AllocError>
 fn range_into(range: &SymbolRange, out: &mut Row) -> Result<(), AllocError>
     ensures { OnOk result (Adds out.old out.new [] (rows.range_names range.now)) }
 {
-    bound_into(&range.bounds.low, out)?;
-    bound_into(&range.bounds.high, out)?;
+    bound_into(&range.low, out)?;
+    bound_into(&range.high, out)?;
     own_into(&range.when, out)
 }
 

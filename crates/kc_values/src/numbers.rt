@@ -57,8 +57,8 @@ fn bounds_of(table: &Table<'_>, kind: Kind, range: &SymbolRange) -> Interval
     ensures small { IsSmall result }
 {
     Interval {
-        low: counted(kind, text(&range.bounds.low, table)),
-        high: counted(kind, text(&range.bounds.high, table)),
+        low: counted(kind, text(&range.low, table)),
+        high: counted(kind, text(&range.high, table)),
     }
 }
 
