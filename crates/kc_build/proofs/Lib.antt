@@ -13,6 +13,7 @@ mod EntryWalkLemmas
 mod ExpansionLemmas
 mod FirstLemmas
 mod FormedLemmas
+mod GrownLemmas
 mod KnownLemmas
 mod LateLemmas
 mod LineTextLemmas
