@@ -1,6 +1,7 @@
 mod AssemblyLemmas
 mod BlockLemmas
 mod BuildLemmas
+mod ChainLemmas
 mod ChoiceLemmas
 mod CollectLemmas
 mod ConditionLemmas
@@ -25,10 +26,12 @@ mod NameLemmas
 mod NestLemmas
 mod NumberingLemmas
 mod OwnerLemmas
+mod PassedLemmas
 mod PlaceLemmas
 mod RaiseLemmas
 mod ReadTextLemmas
 mod RenamedLemmas
+mod ReverseLemmas
 mod RenamingLemmas
 mod RoundLemmas
 mod Rows
