@@ -7,6 +7,7 @@ mod CollectLemmas
 mod ConditionLemmas
 mod CopyLemmas
 mod DefinedLemmas
+mod DiagnosedLemmas
 mod ElementLemmas
 mod EntryLemmas
 mod EntrySoundLemmas
@@ -22,17 +23,17 @@ mod MemberLemmas
 mod MemberSoundLemmas
 mod MembersLemmas
 mod MenuEndLemmas
+mod MenuEntryLemmas
 mod NameLemmas
 mod NestLemmas
 mod NumberingLemmas
-mod OwnerLemmas
 mod PassedLemmas
 mod PlaceLemmas
 mod RaiseLemmas
 mod ReadTextLemmas
 mod RenamedLemmas
-mod ReverseLemmas
 mod RenamingLemmas
+mod ReverseLemmas
 mod RoundLemmas
 mod Rows
 mod ScanLemmas
