@@ -31,6 +31,7 @@ mod RenamedLemmas
 mod RenamingLemmas
 mod RoundLemmas
 mod Rows
+mod SaidLemmas
 mod ScanLemmas
 mod ShapeLemmas
 mod ShownLemmas
