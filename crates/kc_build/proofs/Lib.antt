@@ -36,6 +36,7 @@ mod RenamingLemmas
 mod ReverseLemmas
 mod RoundLemmas
 mod Rows
+mod SaidLemmas
 mod ScanLemmas
 mod ShapeLemmas
 mod ShownLemmas
