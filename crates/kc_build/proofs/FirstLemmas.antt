@@ -13,7 +13,6 @@ use Rattle.kc_tree.specs.Words.{same_symbol, is_symbol_of}
 use Rattle.kc_build.specs.Facts.{symbol_at, symbol_of, is_first_definition}
 use Rattle.kc_build.proofs.BlockLemmas.{take-next, there}
 use Rattle.kc_build.proofs.PlaceLemmas.{filter-next}
-use Rattle.kc_build.proofs.TableLemmas.{defined_before}
 
 lt_suc : (k n : ℕ) → nat_lt (1 + k) (suc n) ≡ nat_lt k n
 lt_suc k n = grind (arith, nat_tests)
