@@ -7,6 +7,7 @@ mod ConditionLemmas
 mod CopyLemmas
 mod DefinedLemmas
 mod ElementLemmas
+mod EnterLemmas
 mod EntryLemmas
 mod EntrySoundLemmas
 mod EntryWalkLemmas
