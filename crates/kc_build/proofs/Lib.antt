@@ -25,6 +25,7 @@ mod MenuEndLemmas
 mod NameLemmas
 mod NestLemmas
 mod NumberingLemmas
+mod OpenLemmas
 mod OwnerLemmas
 mod PlaceLemmas
 mod RaiseLemmas
