@@ -41,5 +41,6 @@ mod SoundLemmas
 mod StackLemmas
 mod TableLemmas
 mod TreeTextLemmas
+mod WalkLemmas
 mod WarningLemmas
 mod WholeLemmas
