@@ -9,6 +9,7 @@ mod CopyLemmas
 mod DefinedLemmas
 mod DiagnosedLemmas
 mod ElementLemmas
+mod EnterLemmas
 mod EntryLemmas
 mod EntrySoundLemmas
 mod EntryWalkLemmas
@@ -28,6 +29,8 @@ mod NameLemmas
 mod NestLemmas
 mod NumberingLemmas
 mod PassedLemmas
+mod OpenLemmas
+mod OwnerLemmas
 mod PlaceLemmas
 mod RaiseLemmas
 mod ReadTextLemmas
@@ -44,5 +47,6 @@ mod SoundLemmas
 mod StackLemmas
 mod TableLemmas
 mod TreeTextLemmas
+mod WalkLemmas
 mod WarningLemmas
 mod WholeLemmas
