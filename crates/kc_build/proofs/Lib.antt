@@ -8,12 +8,14 @@ mod ConditionLemmas
 mod CopyLemmas
 mod DefinedLemmas
 mod ElementLemmas
+mod EnterLemmas
 mod EntryLemmas
 mod EntrySoundLemmas
 mod EntryWalkLemmas
 mod ExpansionLemmas
 mod FirstLemmas
 mod FormedLemmas
+mod GrownLemmas
 mod KnownLemmas
 mod LateLemmas
 mod LineTextLemmas
