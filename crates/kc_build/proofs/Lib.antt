@@ -1,6 +1,7 @@
 mod AssemblyLemmas
 mod BlockLemmas
 mod BuildLemmas
+mod ChainLemmas
 mod ChoiceLemmas
 mod CollectLemmas
 mod ConditionLemmas
@@ -14,6 +15,7 @@ mod EntryWalkLemmas
 mod ExpansionLemmas
 mod FirstLemmas
 mod FormedLemmas
+mod GrownLemmas
 mod KnownLemmas
 mod LateLemmas
 mod LineTextLemmas
@@ -25,13 +27,16 @@ mod MenuEntryLemmas
 mod NameLemmas
 mod NestLemmas
 mod NumberingLemmas
+mod PassedLemmas
 mod PlaceLemmas
 mod RaiseLemmas
 mod ReadTextLemmas
 mod RenamedLemmas
 mod RenamingLemmas
+mod ReverseLemmas
 mod RoundLemmas
 mod Rows
+mod SaidLemmas
 mod ScanLemmas
 mod ShapeLemmas
 mod ShownLemmas
