@@ -1,4 +1,4 @@
-use Rattle.std.proofs.Common.{◌≡◌, ◌+◌, ◌≤◌, ap, ◌∙◌, sym, map, length, arith, refl, lit<}
+use Rattle.std.proofs.Common.{ap, ◌∙◌, map, length, arith, refl}
 use Rattle.std.proofs.lemmas.List.{length_push}
 use Rattle.kc_expr.specs.declared.expression.Expr.{Expr}
 use Rattle.kc_expr.specs.Form.{form_of}

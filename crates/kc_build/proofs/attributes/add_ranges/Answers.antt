@@ -1,4 +1,4 @@
-use Rattle.std.proofs.Common.{◌≡◌, ◌+◌, ◌≤◌, ap, ◌∙◌, sym, map, length, arith, refl}
+use Rattle.std.proofs.Common.{ap, ◌∙◌, map, length, arith, refl}
 use Rattle.std.proofs.lemmas.List.{length_push}
 use Rattle.kc_read.specs.Reads.{statement_view}
 use Rattle.kc_tree.specs.declared.parts.SymbolRange.{SymbolRange}

@@ -1,4 +1,4 @@
-use Rattle.std.proofs.Common.{◌≡◌, ◌∙◌, ap, sym, map, refl, filter_map}
+use Rattle.std.proofs.Common.{◌∙◌, ap, sym, map, refl}
 use Rattle.kc_expr.specs.declared.expression.Expr.{Expr}
 use Rattle.kc_expr.specs.Form.{form_of}
 use Rattle.kc_read.specs.Reads.{statement_view}

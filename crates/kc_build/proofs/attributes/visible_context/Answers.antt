@@ -1,10 +1,7 @@
-use Rattle.std.proofs.Common.{◌≡◌, ◌≤◌, Some, ap, sym, ◌∙◌, arith, length}
+use Rattle.std.proofs.Common.{Some, ap, sym, ◌∙◌, arith}
 use Rattle.kc_expr.specs.declared.expression.Expr.{Expr}
 use Rattle.kc_expr.specs.Form.{form_of}
-use Rattle.kc_tree.specs.Contexts.{condition_in}
-use Rattle.kc_tree.specs.TreeFacts.{Condition}
 use Rattle.kc_build.specs.Facts.{visible_form}
-use Rattle.kc_build.specs.Growth.{IsGrown}
 use Rattle.kc_build.proofs.AttributeLemmas.{asks_start, asks_none, asks_more, asks_grown, asks_end}
 use Rattle.kc_build.proofs.attributes.visible_context.Goals as goal
 use Rattle.kc_build.proofs.attributes.visible_context.Goals.{in-Some+in_ok-clone+in_ok-at, in_default}
