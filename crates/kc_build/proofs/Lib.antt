@@ -1,4 +1,5 @@
 mod AssemblyLemmas
+mod AttributeLemmas
 mod BlockLemmas
 mod BuildLemmas
 mod ChainLemmas
