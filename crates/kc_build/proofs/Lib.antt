@@ -15,6 +15,7 @@ mod FirstLemmas
 mod FormedLemmas
 mod KnownLemmas
 mod LateLemmas
+mod LayoutLemmas
 mod LineTextLemmas
 mod MemberLemmas
 mod MemberSoundLemmas
