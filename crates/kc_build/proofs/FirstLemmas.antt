@@ -1,5 +1,5 @@
--- The first definition of each symbol, one place more.
-use Rattle.std.proofs.Common.{◌≡◌, ℕ, zero, suc, ◌+◌, ◌≤◌, Bool, true, false, not, cond, ◌||◌, if◌then◌else◌, List, [], ◌∷◌, ◌++◌, length, map, take, Option, Some, None, refl, ap, sym, ◌∙◌, arith, add-one, nat_lt}
+-- Where a definition is the first of its symbol.
+use Rattle.std.proofs.Common.{◌≡◌, ℕ, zero, suc, ◌+◌, ◌≤◌, Bool, true, false, not, cond, ◌||◌, if◌then◌else◌, List, [], ◌∷◌, ◌++◌, length, filter, take, Option, Some, None, refl, ap, sym, ◌∙◌, arith, add-one, nat_lt}
 use Rattle.std.specs.List.{list_any, position, position_or_len, cons_option}
 use Rattle.std.specs.Option.{is_none}
 use Rattle.std.proofs.lemmas.Bool.Decides.{nat_tests}
@@ -13,7 +13,6 @@ use Rattle.kc_tree.specs.Words.{same_symbol, is_symbol_of}
 use Rattle.kc_build.specs.Facts.{symbol_at, symbol_of, is_first_definition}
 use Rattle.kc_build.proofs.BlockLemmas.{take-next, there}
 use Rattle.kc_build.proofs.PlaceLemmas.{filter-next}
-use Rattle.kc_build.proofs.TableLemmas.{defined_before}
 
 lt_suc : (k n : ℕ) → nat_lt (1 + k) (suc n) ≡ nat_lt k n
 lt_suc k n = grind (arith, nat_tests)
@@ -53,6 +52,10 @@ by_name s (ConfigLine t) = or_false (same_symbol s t)
     or_false true = refl
     or_false false = refl
 by_name s _ = refl
+
+-- the places before one that define the symbol with a number
+abbrev pub defined_before : List Numbered → ℕ → ℕ → List ℕ
+defined_before ss i s = filter (λ j. is_symbol_of (symbol s) (symbol_at ss j)) (numbers i)
 
 module _ (ss : List Numbered) where
   any-before : (i : ℕ) (s : ℕ) → i ≤ length ss → list_any (same_symbol (symbol s)) (definitions (take i ss)) ≡ some_places (defined_before ss i s)

@@ -6,6 +6,7 @@ mod CollectLemmas
 mod ConditionLemmas
 mod CopyLemmas
 mod DefinedLemmas
+mod DiagnosedLemmas
 mod ElementLemmas
 mod EntryLemmas
 mod EntrySoundLemmas
@@ -21,10 +22,10 @@ mod MemberLemmas
 mod MemberSoundLemmas
 mod MembersLemmas
 mod MenuEndLemmas
+mod MenuEntryLemmas
 mod NameLemmas
 mod NestLemmas
 mod NumberingLemmas
-mod OwnerLemmas
 mod PlaceLemmas
 mod RaiseLemmas
 mod ReadTextLemmas
