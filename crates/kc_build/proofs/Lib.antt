@@ -8,12 +8,14 @@ mod CopyLemmas
 mod DefinedLemmas
 mod DiagnosedLemmas
 mod ElementLemmas
+mod EnterLemmas
 mod EntryLemmas
 mod EntrySoundLemmas
 mod EntryWalkLemmas
 mod ExpansionLemmas
 mod FirstLemmas
 mod FormedLemmas
+mod GrownLemmas
 mod KnownLemmas
 mod LateLemmas
 mod LayoutLemmas
@@ -26,6 +28,8 @@ mod MenuEntryLemmas
 mod NameLemmas
 mod NestLemmas
 mod NumberingLemmas
+mod OpenLemmas
+mod OwnerLemmas
 mod PlaceLemmas
 mod RaiseLemmas
 mod ReadTextLemmas
@@ -41,5 +45,6 @@ mod SoundLemmas
 mod StackLemmas
 mod TableLemmas
 mod TreeTextLemmas
+mod WalkLemmas
 mod WarningLemmas
 mod WholeLemmas
