@@ -20,6 +20,7 @@ mod FormedLemmas
 mod GrownLemmas
 mod KnownLemmas
 mod LateLemmas
+mod LayoutLemmas
 mod LineTextLemmas
 mod MemberLemmas
 mod MemberSoundLemmas
