@@ -3,7 +3,7 @@ use Rattle.std.specs.Prelude.{ℕ, List, [], Option, option_map}
 use Rattle.std.specs.declared.rc.Rc.{Rc}
 use Rattle.std.specs.declared.alloc.Global.{Global}
 use Rattle.kc_expr.specs.declared.expression.Expr.{Expr}
-use Rattle.kc_expr.specs.Form.{form_of, leaf_of}
+use Rattle.kc_expr.specs.Form.{Form, form_of, leaf_of}
 use Rattle.kc_expr.specs.When.{when_view}
 use Rattle.kc_expr.specs.Names.{number_of, Extends}
 use Rattle.kc_read.specs.declared.line.Line.{Line}

@@ -214,10 +214,15 @@ impl Symbol {
     pub fn definition(&self, i: usize) -> Option<DefinitionId>
         ensures { result ≡ slice_get (definition_ids self.now) i }
     {
-        if i == 0 {
-            self.first
-        } else {
-            self.more.get(i - 1).copied()
+        match self.first {
+            None => None,
+            Some(first) => {
+                if i == 0 {
+                    Some(first)
+                } else {
+                    self.more.get(i - 1).copied()
+                }
+            }
         }
     }
 }
