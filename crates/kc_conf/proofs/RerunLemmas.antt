@@ -20,7 +20,7 @@ use Rattle.kc_dot.specs.Streams.{StreamsLeavePlaces}
 use Rattle.kc_dot.specs.Texts.{config_heading, config_text, entries_text, entry_text, ends_after, minimal_text, shown_title}
 use Rattle.kc_dot.specs.Prefixes.{is_prefix}
 use Rattle.kc_dot.proofs.SolutionLemmas.{solution_of}
-use Rattle.kc_words.specs.declared.options.Options.{Options}
+use Rattle.kc_conf.specs.declared.options.Options.{Options}
 use Rattle.kc_conf.specs.Outcome.{IsAcceptedTree, IsLenientOutcome, IsOutcome, IsOutcomeOfReading, IsRefusedTree, IsSolutionFor, OneAnswer, Outcome, accepted_tree, lines_text, long_line, names_of, noted, outcome_of, read_of, refused, refused_tree, root_of, streams, strictly, text_if, whole, with_rule}
 use Rattle.kc_conf.proofs.OutcomeLemmas.{strictly-config, strictly-minimal, strictly-off}
 use Rattle.kc_conf.proofs.RuleLemmas.{rule-config, rule-minimal}

@@ -14,6 +14,7 @@ ghost use Rattle.kc_conf.specs.Lost as spec;
 ghost use Rattle.kc_conf.specs.LostView.{given_by};
 ghost use Rattle.kc_conf.specs.Outcome.{lost_told};
 
+use crate::options::Options;
 use kc_expr::expression::{Kind, SymId, Tri};
 use kc_expr::values::{Values, tri_text};
 use kc_solve::solved::Solved;
@@ -23,7 +24,6 @@ use kc_tree::parts::{DefinitionId, Symbol};
 use kc_user::user::User;
 use kc_user::value::UserValue;
 use kc_values::lookups::name;
-use kc_words::Options;
 use std::alloc::{AllocError, Global};
 
 // Adds a text as a `.config` writes it.

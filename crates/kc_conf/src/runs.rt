@@ -24,7 +24,7 @@ use crate::input::Input;
 use crate::laws::exactly_one_outcome;
 use crate::lost::lost_told;
 use crate::notes::{note_lines, note_refusal, note_strict, note_too_long, report};
-use crate::options::Status;
+use crate::options::{Options, Status};
 use crate::outputs::{Outputs, Which};
 use crate::reading::LongLine;
 use crate::telling::tell_streams;
@@ -41,7 +41,6 @@ use kc_solve::solve::solve;
 use kc_solve::solved::Solved;
 use kc_tree::tree::Tree;
 use kc_user::user::User;
-use kc_words::Options;
 use std::alloc::Global;
 
 /// What a run made of a tree that it accepted.
