@@ -32,7 +32,6 @@ mod NestLemmas
 mod NumberingLemmas
 mod PassedLemmas
 mod OpenLemmas
-mod OwnerLemmas
 mod PlaceLemmas
 mod RaiseLemmas
 mod ReadTextLemmas
