@@ -15,6 +15,7 @@ mod ExpansionLemmas
 mod FirstLemmas
 mod FormedLemmas
 mod GrownLemmas
+mod HeldLemmas
 mod KnownLemmas
 mod LateLemmas
 mod LineTextLemmas
@@ -26,6 +27,7 @@ mod NameLemmas
 mod NestLemmas
 mod NumberingLemmas
 mod OpenLemmas
+mod OpenerLemmas
 mod OwnerLemmas
 mod PlaceLemmas
 mod RaiseLemmas
