@@ -50,6 +50,7 @@ mod ShownLemmas
 mod SoundLemmas
 mod StackLemmas
 mod TableLemmas
+mod TitleLemmas
 mod TreeTextLemmas
 mod WalkLemmas
 mod WarningLemmas
