@@ -445,6 +445,7 @@ keeping_title w b t new e v p =
     plain_by : (i : ℕ) (x : Title) → (slice_get w.tables.titles.items i ≡ Some x) ⊎ (t ≡ x) → IsPlain w.tables.contexts x.visible.0
     plain_by i x (inl a) = w.tables.titles_plain i x a
     plain_by i x (inr a) = subst (λ (y : Title). IsPlain w.tables.contexts y.visible.0) a p
+
     within_by : (i : ℕ) (x : Title) → (slice_get w.tables.titles.items i ≡ Some x) ⊎ (t ≡ x) → x.visible.0 < length w.tables.contexts
     within_by i x (inl a) = w.titles i x a
     within_by i x (inr a) = subst (λ (y : Title). y.visible.0 < length w.tables.contexts) a v

@@ -6,6 +6,7 @@ mod ChoiceLemmas
 mod CollectLemmas
 mod ConditionLemmas
 mod CopyLemmas
+mod DefineLemmas
 mod DefinedLemmas
 mod ElementLemmas
 mod EnterLemmas
@@ -27,7 +28,6 @@ mod NameLemmas
 mod NestLemmas
 mod NumberingLemmas
 mod OwnerLemmas
-mod PassedLemmas
 mod PlaceLemmas
 mod RaiseLemmas
 mod ReadTextLemmas
