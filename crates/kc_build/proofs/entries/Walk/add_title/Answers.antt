@@ -1,6 +1,5 @@
 use Rattle.std.proofs.Common.{is_ok}
 use Rattle.kc_build.proofs.GrownLemmas.{keeping_title}
-use Rattle.kc_build.proofs.EnterLemmas.{attribute_title}
 use Rattle.kc_build.proofs.entries.Walk.add_title.Goals as goal
 
 pub invariant_of-self : goal.invariant_of-self
