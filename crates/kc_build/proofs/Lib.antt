@@ -19,6 +19,7 @@ mod ExpansionLemmas
 mod FirstLemmas
 mod FormedLemmas
 mod GrownLemmas
+mod HeldLemmas
 mod KnownLemmas
 mod LateLemmas
 mod LayoutLemmas
@@ -31,6 +32,8 @@ mod MenuEntryLemmas
 mod NameLemmas
 mod NestLemmas
 mod NumberingLemmas
+mod OpenLemmas
+mod OpenerLemmas
 mod OwnerLemmas
 mod PassedLemmas
 mod OpenLemmas
