@@ -33,7 +33,7 @@ use Rattle.kc_build.specs.ReverseRows.{HaveSources}
 use Rattle.kc_build.specs.Stacks as stacks
 use Rattle.kc_build.specs.Stacks.{block_view}
 use Rattle.kc_build.specs.WalkSteps.{AddsDefinition, dep_in, made_definition, made_prompt}
-use Rattle.kc_build.proofs.GrownLemmas.{AreKept, Carries, Keeping, bounds_under, carries_grown, default_under, defaults_by_row, definition_carries, get_pushed, get_pushed_if, held_by, held_carries, keeping, kept_by, kept_carries, map_alike, plain_carries, pushed, ranges_by_row, titles_stay}
+use Rattle.kc_build.proofs.GrownLemmas.{AreKept, Carries, Keeping, bounds_under, carries_grown, default_under, defaults_by_row, definition_carries, get_pushed, get_pushed_if, held_by, held_carries, Holding, holding, keeping, kept_by, kept_carries, map_alike, plain_carries, pushed, ranges_by_row, titles_stay}
 
 -- Prompts.
 pub prompt_visible : (o : Option Prompt) (v : ℕ) (x : Option (Asked Form)) → option_map prompt_line o ≡ option_map (λ (p : Asked Form). (v, p.when)) x → (p : Prompt) → o ≡ Some p → p.visible.0 ≡ v
@@ -111,23 +111,24 @@ module _ (w : Walk) (new : List Condition) (g : Carries w.tables.contexts new) (
       let n : p.visible.0 ≡ w.blocks.innermost.visible.0 = q p (ap (λ (y : Definition). y.prompt) a ∙ e) in
       subst (IsPlain new) (sym n) (plain_carries w.tables.contexts new g w.blocks.innermost.visible.0 visible_there (w.plain 0 w.blocks.innermost refl))
 
-  pub keeping_definition : (b : Bool) (ds : List Definition) → ds ≡ pushed b w.tables.definitions.items d → Keeping new ds w.tables.choices.items w.tables.titles.items w.blocks
-  keeping_definition b ds e =
-      keeping new ds w.tables.choices.items w.tables.titles.items w.blocks
-      (record {
-        within = λ i x at. within_by i x (get_pushed_if b w.tables.definitions.items ds d i x e at);
-        prompts_within = λ i x p at r. prompt_by i x p r (get_pushed_if b w.tables.definitions.items ds d i x e at);
-        prompts_plain = λ i x p at r. plain_by i x p r (get_pushed_if b w.tables.definitions.items ds d i x e at);
-        choices_within = kept.choices_within;
-        choices_plain = kept.choices_plain;
-        choice_prompts_within = kept.choice_prompts_within;
-        choice_prompts_plain = kept.choice_prompts_plain;
-        titles_plain = kept.titles_plain;
-        modes_below = kept.modes_below;
-        modes_behind = kept.modes_behind;
-        mode_prompts_behind = kept.mode_prompts_behind;
-      })
-      (held_carries w.tables.contexts new w.blocks w.tables.titles.items g (held_by w))
+  pub keeping_definition : (b : Bool) (ds : List Definition) → ds ≡ pushed b w.tables.definitions.items d → Keeping new ds w.tables.choices.items w.tables.titles.items × Holding new w.tables.titles.items w.blocks
+  keeping_definition b ds e = (
+    keeping new ds w.tables.choices.items w.tables.titles.items
+        (record {
+          within = λ i x at. within_by i x (get_pushed_if b w.tables.definitions.items ds d i x e at);
+          prompts_within = λ i x p at r. prompt_by i x p r (get_pushed_if b w.tables.definitions.items ds d i x e at);
+          prompts_plain = λ i x p at r. plain_by i x p r (get_pushed_if b w.tables.definitions.items ds d i x e at);
+          choices_within = kept.choices_within;
+          choices_plain = kept.choices_plain;
+          choice_prompts_within = kept.choice_prompts_within;
+          choice_prompts_plain = kept.choice_prompts_plain;
+          titles_plain = kept.titles_plain;
+          modes_below = kept.modes_below;
+          modes_behind = kept.modes_behind;
+          mode_prompts_behind = kept.mode_prompts_behind;
+        }),
+    holding new w.tables.titles.items w.blocks (held_carries w.tables.contexts new w.blocks w.tables.titles.items g (held_by w)),
+  )
 
 -- A row of a definition, as its parts were made.
 pub record IsMade (symbol : SymId) (own : List Numbered) (old new : Walk) (d : Definition) : Type 0 where

@@ -20,7 +20,7 @@ pub invariant_of-self : goal.invariant_of-self
 invariant_of-self c =
     let w = c.args.self.now in
     let g = entry_carries w c.entry_context.new.contexts _ (round_grown w c.innermost-round.result c.entry_context.new.contexts _ c.innermost-round.ensures c.entry_context.ensures.kept) in
-    (keeping_carries w c.entry_context.new.contexts g).0
+    keeping_carries w c.entry_context.new.contexts g
 
 pub invariant_of-self-in-Break-1 : goal.invariant_of-self-in-Break-1
 invariant_of-self-in-Break-1 c =
