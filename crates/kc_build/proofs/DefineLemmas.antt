@@ -1,17 +1,20 @@
 -- One definition more: what it says, what the other rows say with it, and what the tables keep.
-use Rattle.std.proofs.Common.{◌≡◌, subst, ◌&&◌, if◌then◌else◌, ℕ, ◌+◌, ◌-◌, ◌<◌, ◌≤◌, Bool, true, false, List, [], ◌∷◌, ◌++◌, length, take, drop, map, Option, Some, None, refl, ap, sym, ◌∙◌, arith, inl, inr, length-append}
+use Rattle.std.proofs.Common.{◌≡◌, subst, ◌&&◌, if◌then◌else◌, ℕ, zero, suc, get_or, slice_set, ◌+◌, ◌-◌, ◌<◌, ◌≤◌, Bool, true, false, List, [], ◌∷◌, ◌++◌, length, take, drop, map, Option, Some, None, refl, ap, sym, ◌∙◌, arith, inl, inr, length-append}
 use Rattle.std.specs.Prelude.{◌⊎◌, nat_le}
 use Rattle.std.specs.Global.{Vec}
 use Rattle.std.specs.List.{All, slice_get, filter_map, cons_option}
 use Rattle.std.specs.Option.{option_map}
 use Rattle.std.proofs.Math.Seq.{take-length, drop-append_seam}
 use Rattle.std.proofs.lemmas.Bool.Decides.{nat_tests}
-use Rattle.std.proofs.lemmas.List.{length-map, map_push, take-map, drop-map, length_push}
+use Rattle.std.proofs.lemmas.List.{length-map, map_push, take-map, drop-map, length_push, length-set}
 use Rattle.std.proofs.lemmas.List.Elements.{All-weaker}
+use Rattle.std.proofs.lemmas.Option.{slice_get_read}
 use Rattle.kc_expr.specs.declared.expression.SymId.{SymId}
 use Rattle.kc_expr.specs.Form.{Form, Leaf}
 use Rattle.kc_read.specs.Blocks.{last_of}
 use Rattle.kc_read.specs.Statements.{Asked, Numbered}
+use Rattle.kc_tree.specs.declared.parts.Choice.{Choice}
+use Rattle.kc_tree.specs.declared.parts.ContextId.{ContextId}
 use Rattle.kc_tree.specs.declared.parts.Definition.{Definition}
 use Rattle.kc_tree.specs.declared.parts.Entry.{Entry}
 use Rattle.kc_tree.specs.declared.parts.Prompt.{Prompt}
@@ -270,3 +273,41 @@ round_stands w round new i fs e h = subst (λ (b : Block). Stands new i (and_all
 
 pub round_prompt : (w : Walk) (round : Block) (o : Option Prompt) (x : Option (Asked Form)) → round ≡ w.blocks.innermost → option_map prompt_line o ≡ option_map (λ (p : Asked Form). (round.visible.0, p.when)) x → option_map prompt_line o ≡ option_map (λ (p : Asked Form). (w.blocks.innermost.visible.0, p.when)) x
 round_prompt w round o x e h = subst (λ (b : Block). option_map prompt_line o ≡ option_map (λ (p : Asked Form). (b.visible.0, p.when)) x) e h
+
+-- A choice with one member more.
+set_found : {A : Type 0} (xs : List A) (k : ℕ) (x y : A) → k < length xs → slice_get xs k ≡ Some y → (j : ℕ) (z : A) → slice_get (slice_set xs k x) j ≡ Some z → (slice_get xs j ≡ Some z) ⊎ ((slice_get xs j ≡ Some y) × (x ≡ z))
+set_found [] k x y h at j z e = absurd (omega arith)
+set_found (w ∷ xs) zero x y h at zero z e = inr (at, cc)
+set_found (w ∷ xs) zero x y h at (suc j) z e = inl e
+set_found (w ∷ xs) (suc k) x y h at zero z e = inl e
+set_found (w ∷ xs) (suc k) x y h at (suc j) z e = set_found xs k x y (omega arith) at j z e
+
+-- of another choice, or of this one, whose context and prompt are as they were
+same_rows : (cs : List Choice) (k : ℕ) (x y : Choice) → k < length cs → slice_get cs k ≡ Some y → x.within ≡ y.within → x.prompt ≡ y.prompt → (j : ℕ) (z : Choice) → slice_get (slice_set cs k x) j ≡ Some z → (c : Choice) × (slice_get cs j ≡ Some c) × (c.within ≡ z.within) × (c.prompt ≡ z.prompt)
+same_rows cs k x y h at v p j z e =
+    elim (set_found cs k x y h at j z e) as (λ _. (c : Choice) × (slice_get cs j ≡ Some c) × (c.within ≡ z.within) × (c.prompt ≡ z.prompt)) [
+      | inl same ↦ (z, same, refl, refl)
+      | inr made ↦ (y, made.0, sym v ∙ ap (λ (c : Choice). c.within) made.1, sym p ∙ ap (λ (c : Choice). c.prompt) made.1)
+    ]
+
+pub keeping_member : (w : Walk) (k : ℕ) (x y : Choice) → k < length w.tables.choices.items → y ≡ get_or w.tables.choices.items k y → x.within ≡ y.within → x.prompt ≡ y.prompt → Keeping w.tables.contexts w.tables.definitions.items (slice_set w.tables.choices.items k x) w.tables.titles.items × Holding w.tables.contexts w.tables.titles.items w.blocks
+keeping_member w k x y h is v p =
+    let cs = w.tables.choices.items in
+    let kept = kept_by w.tables in
+    let at : slice_get cs k ≡ Some y = slice_get_read cs (length cs) k y refl h is in (
+      keeping w.tables.contexts w.tables.definitions.items (slice_set cs k x) w.tables.titles.items
+          (record {
+            within = kept.within;
+            prompts_within = kept.prompts_within;
+            prompts_plain = kept.prompts_plain;
+            choices_within = λ i c e. (let r = same_rows cs k x y h at v p i c e in subst (λ (o : ContextId). o.0 < length w.tables.contexts) r.2 (kept.choices_within i r.0 r.1));
+            choices_plain = λ i c e. (let r = same_rows cs k x y h at v p i c e in subst (λ (o : ContextId). IsPlain w.tables.contexts o.0) r.2 (kept.choices_plain i r.0 r.1));
+            choice_prompts_within = λ i c q e f. (let r = same_rows cs k x y h at v p i c e in kept.choice_prompts_within i r.0 q r.1 (r.3 ∙ f));
+            choice_prompts_plain = λ i c q e f. (let r = same_rows cs k x y h at v p i c e in kept.choice_prompts_plain i r.0 q r.1 (r.3 ∙ f));
+            titles_plain = kept.titles_plain;
+            modes_below = λ i n e. (let l = kept.modes_below i n e in omega (arith, length-set cs k x));
+            modes_behind = λ i n c e f. (let r = same_rows cs k x y h at v p n c f in subst (λ (o : ContextId). o.0 < i) r.2 (kept.modes_behind i n r.0 e r.1));
+            mode_prompts_behind = λ i n c q e f t. (let r = same_rows cs k x y h at v p n c f in kept.mode_prompts_behind i n r.0 q e r.1 (r.3 ∙ t));
+          }),
+      holding w.tables.contexts w.tables.titles.items w.blocks (held_by w),
+    )

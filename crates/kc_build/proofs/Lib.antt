@@ -35,8 +35,6 @@ mod NumberingLemmas
 mod OpenLemmas
 mod OpenerLemmas
 mod OwnerLemmas
-mod PassedLemmas
-mod OpenLemmas
 mod PlaceLemmas
 mod RaiseLemmas
 mod ReadTextLemmas
