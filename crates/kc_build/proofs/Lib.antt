@@ -7,6 +7,7 @@ mod ChoiceLemmas
 mod CollectLemmas
 mod ConditionLemmas
 mod CopyLemmas
+mod DefineLemmas
 mod DefinedLemmas
 mod DiagnosedLemmas
 mod ElementLemmas
@@ -31,7 +32,6 @@ mod MenuEntryLemmas
 mod NameLemmas
 mod NestLemmas
 mod NumberingLemmas
-mod PassedLemmas
 mod OpenLemmas
 mod OpenerLemmas
 mod OwnerLemmas
