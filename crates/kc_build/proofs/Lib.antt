@@ -21,7 +21,6 @@ mod FormedLemmas
 mod GrownLemmas
 mod HeldLemmas
 mod KnownLemmas
-mod LateLemmas
 mod LayoutLemmas
 mod LineTextLemmas
 mod MemberLemmas
@@ -53,5 +52,4 @@ mod TableLemmas
 mod TitleLemmas
 mod TreeTextLemmas
 mod WalkLemmas
-mod WarningLemmas
 mod WholeLemmas
