@@ -1,12 +1,12 @@
 -- What lines have against them, from one line to the next and from one entry to the next.
-use Rattle.std.proofs.Common.{◌≡◌, ℕ, zero, suc, ◌+◌, ◌<◌, ◌≤◌, Bool, true, false, ◌||◌, ◌&&◌, ◌==◌, nat_lt, if◌then◌else◌, List, [], ◌∷◌, ◌++◌, length, filter, map, take, drop, get_or, Option, Some, None, Ok, Err, refl, ap, sym, ◌∙◌, arith, inl, inr, add-one}
+use Rattle.std.proofs.Common.{◌≡◌, ℕ, zero, suc, ◌+◌, ◌<◌, ◌≤◌, Bool, true, false, ◌||◌, ◌==◌, nat_lt, if◌then◌else◌, List, [], ◌∷◌, ◌++◌, length, filter, map, take, drop, get_or, Option, Some, None, Err, refl, ap, sym, ◌∙◌, arith, inl, inr, add-one}
 use Rattle.std.specs.Prelude.{◌⊎◌, All}
 use Rattle.std.specs.List.{slice_get, flat_map, list_any, take_while}
 use Rattle.std.specs.Option.{option_map, option_or, is_some}
 use Rattle.std.proofs.lemmas.Bool.Decides.{nat_tests}
 use Rattle.std.proofs.lemmas.Grind.{flat_map-append}
-use Rattle.std.proofs.lemmas.Option.{slice_get-map, slice_get_within}
-use Rattle.std.proofs.lemmas.List.{append-nil, length-map, length-append, length-drop, take-append-drop, drop-drop}
+use Rattle.std.proofs.lemmas.Option.{slice_get-get_or, slice_get-map, slice_get_within}
+use Rattle.std.proofs.lemmas.List.{append-nil, length-map, length-append, length-drop, take-append-drop, drop-drop, take-map, drop-map}
 use Rattle.std.proofs.lemmas.List.Elements.{filter-append, All-nil, All-cons, All-head, All-tail, All-same}
 use Rattle.std.proofs.lemmas.List.Sums.{take_while-cons}
 use Rattle.kc_expr.specs.declared.expression.SymId.{SymId}
@@ -17,6 +17,8 @@ use Rattle.kc_read.specs.Blocks.{attributes, is_attribute, numbers}
 use Rattle.kc_read.specs.Expansion.{Refused}
 use Rattle.kc_read.specs.Statements.{Numbered, Placed, ConfigLine, TypeLine, PromptLine}
 use Rattle.kc_read.specs.Steps.{refusal_view}
+use Rattle.kc_read.specs.Reads.{line_view, statement_view}
+use Rattle.kc_read.specs.declared.line.Line.{Line}
 use Rattle.kc_read.specs.declared.refusal.Refusal.{Refusal}
 use Rattle.kc_tree.specs.declared.parts.ChoiceId.{ChoiceId}
 use Rattle.kc_tree.specs.declared.parts.Symbol.{Symbol}
@@ -25,12 +27,12 @@ use Rattle.kc_tree.specs.Words.{listed}
 use Rattle.kc_build.specs.declared.diagnostics.Diagnostics.{Diagnostics}
 use Rattle.kc_build.specs.declared.diagnostics.EntryPlace.{EntryPlace}
 use Rattle.kc_build.specs.declared.diagnostics.MenuEntry.{MenuEntry}
-use Rattle.kc_build.specs.declared.warning.Warning.{Warning}
 use Rattle.kc_build.specs.Diagnosed.{Diagnosis, AreLookedAt, all_looked_at, diagnosis_view, looked_at}
-use Rattle.kc_build.specs.Facts.{asked_of, choice_of, choice_round, first_of, is_member, kind_of, places, symbol_of}
+use Rattle.kc_build.specs.Facts.{asked_of, choice_of, choice_round, first_of, is_member, kind_of, symbol_of}
 use Rattle.kc_build.specs.Firsts.{is_first_at}
 use Rattle.kc_build.specs.Known.{AreBelow, AreSymbols, IsPlace, choice_by, kind_by, member_by, said_by_place}
-use Rattle.kc_build.specs.Late.{bad_default_of, bad_member_of, late}
+use Rattle.kc_build.specs.Late.{late}
+use Rattle.kc_build.specs.Passes.{said_by}
 use Rattle.kc_build.specs.Said.{IsDiagnosed}
 use Rattle.kc_build.specs.Trees.{unless_refused}
 use Rattle.kc_build.specs.Warnings.{bad_defaults, bad_members, is_bad_default, is_bad_member, late_refusals, line_of, menu_entry_at, menu_entry_before, numbered_statements, prompt_before, refused_at, said, said_with, warned_at, warnings}
@@ -327,3 +329,130 @@ module _ (names : List (List ℕ)) (ls : List (Placed Numbered)) (symbols : List
       let tail : drop (i + 1) ls ≡ own ++ drop k (drop (i + 1) ls) = sym (take-append-drop k (drop (i + 1) ls)) ∙ ap (λ l. l ++ drop k (drop (i + 1) ls)) (sym from) in
       let fits : i + 1 + length own ≤ length ls = omega (arith, ap length tail, length-append own (drop k (drop (i + 1) ls)), length-drop (i + 1) ls) in
       diagnosed names ls (i + 1 + length own) new fits (rw looked (entry_next i head own (drop k (drop (i + 1) ls)) (diagnosis_view old) at tail are_own begins is (found names ls i old (omega arith) old_is)))
+
+-- The same of lines as the code has them.
+pub statements-is : (lines : List Line) → numbered_statements (map line_view lines) ≡ said_by lines
+statements-is [] = refl
+statements-is (x ∷ lines) = ap (λ (l : List Numbered). statement_view x.statement ∷ l) (statements-is lines)
+
+line_read : (lines : List Line) (i : ℕ) (x : Line) → i < length lines → x ≡ get_or lines i x → slice_get (map line_view lines) i ≡ Some (line_view x)
+line_read lines i x h e = slice_get-map line_view lines i ∙ ap (option_map line_view) (slice_get-get_or lines i x h ∙ ap Some (sym e))
+
+-- one entry more, of a walk over lines
+pub entry_of_lines : (names : List (List ℕ)) (lines : List Line) (symbols : List Symbol) (place : EntryPlace) (i k : ℕ) (head : Line) (own : List Line) (old new : Diagnostics) → AreBelow (length symbols) (said_by lines) → AreSymbols (said_by lines) symbols → i < length lines → head ≡ get_or lines i head → own ≡ take k (drop (i + 1) lines) → attributes (said_by lines) i ≡ said_by own → ((is_attribute (statement_view head.statement) ≡ false) ⊎ (i ≡ 0)) → IsPlace (said_by lines) i place → IsDiagnosed names (map line_view lines) i old → AreLookedAt names symbols place (line_view head) (map line_view own) old new → IsDiagnosed names (map line_view lines) (i + 1 + length (said_by own)) new
+entry_of_lines names lines symbols place i k head own old new below are h at from are_own begins is old_is looked =
+    let ls = map line_view lines in
+    let same : said_by lines ≡ numbered_statements ls = sym (statements-is lines) in
+    let taken : map line_view own ≡ take k (drop (i + 1) ls) = ap (map line_view) from ∙ sym (take-map line_view k (drop (i + 1) lines)) ∙ ap (take k) (sym (drop-map line_view (i + 1) lines)) in
+    let attributes_are : attributes (numbered_statements ls) i ≡ numbered_statements (map line_view own) = ap (λ (ss : List Numbered). attributes ss i) (sym same) ∙ are_own ∙ sym (statements-is own) in
+    let passed = entry_diagnosed names ls symbols (rw same at below) (rw same at are) place i k (line_view head) (map line_view own) old new (line_read lines i head h at) taken attributes_are begins (rw same at is) old_is looked in
+    let count : length (map line_view own) ≡ length (said_by own) = length-map own line_view ∙ sym (length-map own (λ (l : Line). statement_view l.statement)) in
+    rw count at passed
+
+-- The line behind an entry begins the next one.
+after_taken : {A : Type 0} (p : A → Bool) (b : Bool) (x y : A) (xs : List A) → p y ≡ b → slice_get (y ∷ xs) (length (take_while p (y ∷ xs))) ≡ Some x → (slice_get xs (length (take_while p xs)) ≡ Some x → p x ≡ false) → p x ≡ false
+after_taken p true x y xs e h ih = ih (rw (take_while-cons p y xs, e) at h)
+after_taken p false x y xs e h ih =
+    let same : y ≡ x = (let q : Some y ≡ Some x = (rw (take_while-cons p y xs, e) at h) in cc) in
+    ap p (sym same) ∙ e
+
+stops_at : {A : Type 0} (p : A → Bool) (xs : List A) (x : A) → slice_get xs (length (take_while p xs)) ≡ Some x → p x ≡ false
+stops_at p [] x h = cc
+stops_at p (y ∷ xs) x h = after_taken p (p y) x y xs refl h (stops_at p xs x)
+
+get-drop : {A : Type 0} (xs : List A) (n k : ℕ) → slice_get (drop n xs) k ≡ slice_get xs (n + k)
+get-drop xs zero k = let e : 0 + k ≡ k = omega arith in rw e refl
+get-drop [] (suc n) k = refl
+get-drop (x ∷ xs) (suc n) k = let e : suc n + k ≡ suc (n + k) = omega arith in rw e (get-drop xs n k)
+
+pub begins_behind : (ss : List Numbered) (i : ℕ) (s : Numbered) → slice_get ss (i + 1 + length (attributes ss i)) ≡ Some s → is_attribute s ≡ false
+begins_behind ss i s h =
+    let there : suc i + length (attributes ss i) ≡ i + 1 + length (attributes ss i) = omega arith in
+    stops_at is_attribute (drop (suc i) ss) s (get-drop ss (suc i) (length (attributes ss i)) ∙ ap (slice_get ss) there ∙ h)
+
+-- Behind the last line.
+no_left : {A : Type 0} (xs ys : List A) → xs ++ ys ≡ [] → xs ≡ []
+no_left [] ys h = refl
+no_left (x ∷ xs) ys h = cc
+
+no_right : {A : Type 0} (xs ys : List A) → xs ++ ys ≡ [] → ys ≡ []
+no_right [] ys h = h
+no_right (x ∷ xs) ys h = cc
+
+none_first : {A : Type 0} (xs : List A) → first_of xs ≡ None → xs ≡ []
+none_first [] h = refl
+none_first (x ∷ xs) h = cc
+
+module _ {A : Type 0} (R : ℕ → List A) (q : ℕ → Bool) where
+  none_more : (n : ℕ) (b : Bool) → q n ≡ b → (R n ≡ [] → ⊥) → flat_map R (filter q (numbers (suc n))) ≡ [] → (flat_map R (filter q (numbers n)) ≡ [] → filter q (numbers n) ≡ []) → filter q (numbers (suc n)) ≡ []
+  none_more n b e some h ih =
+      let more : filter q (numbers (suc n)) ≡ filter q (numbers n) ++ one_if b n = (rw add-one at (filter-next q n)) ∙ ap (λ c. filter q (numbers n) ++ one_if c n) e in
+      let none : flat_map R (filter q (numbers n)) ++ flat_map R (one_if b n) ≡ [] = sym (flat_map-append R (filter q (numbers n)) (one_if b n)) ∙ ap (flat_map R) (sym more) ∙ h in
+      let front = ih (no_left (flat_map R (filter q (numbers n))) (flat_map R (one_if b n)) none) in
+      more ∙ ap (λ l. l ++ one_if b n) front ∙ last b (no_right (flat_map R (filter q (numbers n))) (flat_map R (one_if b n)) none)
+    where
+      last : (c : Bool) → flat_map R (one_if c n) ≡ [] → one_if c n ≡ []
+      last false g = refl
+      last true g = absurd (some (sym (append-nil (R n)) ∙ g))
+
+  none_kept : (n : ℕ) → ((i : ℕ) → i < n → R i ≡ [] → ⊥) → flat_map R (filter q (numbers n)) ≡ [] → filter q (numbers n) ≡ []
+  none_kept zero some h = refl
+  none_kept (suc n) some h = none_more n (q n) refl (some n (omega arith)) h (none_kept n (λ i l. some i (omega arith)))
+
+line_there : {A : Type 0} (xs : List A) (i : ℕ) → i < length xs → (x : A) × (slice_get xs i ≡ Some x)
+line_there [] i h = absurd (omega arith)
+line_there (x ∷ xs) zero h = (x, refl)
+line_there (x ∷ xs) (suc i) h = line_there xs i (omega arith)
+
+-- no refusal, and the warnings are all there is
+pub record IsAccepted (names : List (List ℕ)) (ls : List (Placed Numbered)) (d : Diagnostics) : Type 0 where
+  pub refusals : late_refusals names ls ≡ []
+  pub warnings_are : map (λ v. v.items) d.warnings.items ≡ warnings names ls
+
+module _ (names : List (List ℕ)) (ls : List (Placed Numbered)) (d : Diagnostics) (is : IsDiagnosed names ls (length ls) d) where
+  all_found : Found names ls (length ls) (diagnosis_view d)
+  all_found = found names ls (length ls) d (omega arith) is
+
+  first_member : first_of (flat_map (refused_at names ls code.ChoiceMember) (bad_members (numbered_statements ls))) ≡ option_map refusal_view d.bad_member
+  first_member = ap (λ n. first_of (flat_map (refused_at names ls code.ChoiceMember) (filter (bad_member_at names ls) (numbers n)))) (statement_count names ls) ∙ sym all_found.member
+
+  first_default : first_of (flat_map (refused_at names ls code.BadDefault) (bad_defaults (numbered_statements ls))) ≡ option_map refusal_view d.bad_default
+  first_default = ap (λ n. first_of (flat_map (refused_at names ls code.BadDefault) (filter (bad_default_at names ls) (numbers n)))) (statement_count names ls) ∙ sym all_found.default
+
+  first_late : first_of (late_refusals names ls) ≡ option_or (option_map refusal_view d.bad_member) (option_map refusal_view d.bad_default)
+  first_late =
+      first_append (flat_map (refused_at names ls code.ChoiceMember) (bad_members (numbered_statements ls))) (flat_map (refused_at names ls code.BadDefault) (bad_defaults (numbered_statements ls)))
+      ∙ ap (λ (o : Option Refused). option_or o (first_of (flat_map (refused_at names ls code.BadDefault) (bad_defaults (numbered_statements ls))))) first_member
+      ∙ ap (option_or (option_map refusal_view d.bad_member)) first_default
+
+  refused_some : (c : Code) (i : ℕ) → i < length (numbered_statements ls) → refused_at names ls c i ≡ [] → ⊥
+  refused_some c i h none =
+      let l = line_there ls i (omega (arith, statement_count names ls)) in
+      let some = refused_one names ls c i l.0 l.1 in
+      cc
+
+  -- no member is refused where none is found
+  no_bad_member : d.bad_member ≡ None → bad_members (numbered_statements ls) ≡ []
+  no_bad_member none =
+      none_kept (refused_at names ls code.ChoiceMember) (bad_member_at names ls) (length (numbered_statements ls)) (refused_some code.ChoiceMember) (none_first (flat_map (refused_at names ls code.ChoiceMember) (bad_members (numbered_statements ls))) (first_member ∙ ap (option_map refusal_view) none))
+
+  by_option : (o p : Option Refusal) → option_map refusal_view (option_or o p) ≡ option_or (option_map refusal_view o) (option_map refusal_view p)
+  by_option None p = refl
+  by_option (Some r) p = refl
+
+  -- the first refusal is that of the list
+  pub refused_tree : (r : Refusal) (t : TreeFacts) → option_or d.bad_member d.bad_default ≡ Some r → unless_refused (late_refusals names ls) t ≡ Err (refusal_view r)
+  refused_tree r t e = by (late_refusals names ls) (first_late ∙ sym (by_option d.bad_member d.bad_default) ∙ ap (option_map refusal_view) e)
+    where
+      by : (rs : List Refused) → first_of rs ≡ Some (refusal_view r) → unless_refused rs t ≡ Err (refusal_view r)
+      by [] h = cc
+      by (x ∷ rs) h = cc
+
+  -- without one the warnings are those of the list
+  pub accepted : d.bad_member ≡ None → d.bad_default ≡ None → IsAccepted names ls d
+  accepted m e =
+      let none = first_late ∙ ap (λ (o : Option Refusal). option_or (option_map refusal_view o) (option_map refusal_view d.bad_default)) m ∙ ap (option_map refusal_view) e in
+      record {
+        refusals = none_first (late_refusals names ls) none;
+        warnings_are = all_found.warnings (no_bad_member m) ∙ ap (λ n. flat_map (λ j. warned_at names ls j (slice_get ls j)) (numbers n)) (sym (statement_count names ls));
+      }

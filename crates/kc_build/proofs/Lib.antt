@@ -1,6 +1,8 @@
 mod AssemblyLemmas
+mod AttributeLemmas
 mod BlockLemmas
 mod BuildLemmas
+mod ChainLemmas
 mod ChoiceLemmas
 mod CollectLemmas
 mod ConditionLemmas
@@ -28,13 +30,14 @@ mod MenuEntryLemmas
 mod NameLemmas
 mod NestLemmas
 mod NumberingLemmas
+mod PassedLemmas
 mod OpenLemmas
-mod OwnerLemmas
 mod PlaceLemmas
 mod RaiseLemmas
 mod ReadTextLemmas
 mod RenamedLemmas
 mod RenamingLemmas
+mod ReverseLemmas
 mod RoundLemmas
 mod Rows
 mod SaidLemmas

@@ -46,7 +46,7 @@ struct Walk {
 
 impl Walk {
     ghost use Rattle.kc_build.specs.Walks.{Enters, IsHead, IsWalk};
-    ghost use Rattle.kc_build.specs.WalkSteps.{AddsTitle, KeepsAllButChoices, with_member};
+    ghost use Rattle.kc_build.specs.WalkSteps.{AddsDefinition, AddsTitle, KeepsAllButChoices, with_member};
 
     // The number of the next definition.
     fn next_definition(&self) -> DefinitionId
@@ -64,6 +64,31 @@ impl Walk {
         self.tables.entries.len() as u32
     }
 
+    // A definition of a symbol: what its entry depends on, its prompt, its defaults and its ranges.
+    fn add_definition(
+        &mut self,
+        alloc: Global,
+        symbol: SymId,
+        own: &[Line],
+    ) -> Result<(), AllocError>
+        requires { HasRoom (length own.now) self.old.tables }
+        ensures { OnOk result (AddsDefinition symbol (said_by own.now) self.old self.new) }
+    {
+        let round = self.blocks.innermost();
+        let within = entry_context(&mut self.tables.contexts, round.within, own)?;
+        let prompt = prompt(own, round.visible)?;
+        let defaults = add_defaults(own, &mut self.tables.defaults)?;
+        let ranges = add_ranges(alloc, own, &mut self.tables.ranges)?;
+        self.tables.definitions.push(Definition {
+            symbol,
+            within,
+            prompt,
+            defaults,
+            ranges,
+        })?;
+        Ok(())
+    }
+
     // A `config` entry.
     fn define(
         &mut self,
@@ -77,18 +102,7 @@ impl Walk {
         ensures { OnOk result (Enters symbols.now (ConfigLine symbol) (said_by own.now) self.old self.new) }
     {
         let id = self.next_definition();
-        let round = self.blocks.innermost();
-        let within = entry_context(&mut self.tables.contexts, round.within, own)?;
-        let prompt = prompt(own, round.visible)?;
-        let defaults = add_defaults(own, &mut self.tables.defaults)?;
-        let ranges = add_ranges(alloc, own, &mut self.tables.ranges)?;
-        self.tables.definitions.push(Definition {
-            symbol,
-            within,
-            prompt,
-            defaults,
-            ranges,
-        })?;
+        self.add_definition(alloc, symbol, own)?;
         add_reverses(&mut self.tables.reverses, symbols, id, own)?;
         if is_first(symbols, symbol, id) {
             self.tables.entries.push(Entry::Symbol(symbol))?;

@@ -1,3 +1,4 @@
+pub mod TableSteps
 pub mod FillSteps
 pub mod UserSteps
 pub mod WarningSteps

@@ -42,6 +42,7 @@ fn fill_symbol(
 ) -> Result<(), AllocError>
     requires defined { id.0 < length table.old.values.items }
     requires given { length given.now ≡ length table.old.values.items }
+    requires full { length table.old.values.items ≡ symbol_count table.old.tree.now }
     requires selected { AreSelected table.old chosen.now }
     requires unread { IsUnread table.old id.0 }
     ensures { OnOk result (IsFilledSymbol given.now chosen.now id table.old table.new) }
