@@ -19,7 +19,6 @@ mod FirstLemmas
 mod FormedLemmas
 mod GrownLemmas
 mod KnownLemmas
-mod LateLemmas
 mod LayoutLemmas
 mod LineTextLemmas
 mod MemberLemmas
@@ -49,5 +48,4 @@ mod StackLemmas
 mod TableLemmas
 mod TreeTextLemmas
 mod WalkLemmas
-mod WarningLemmas
 mod WholeLemmas
