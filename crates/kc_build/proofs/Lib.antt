@@ -21,6 +21,7 @@ mod GrownLemmas
 mod KnownLemmas
 mod LayoutLemmas
 mod LineTextLemmas
+mod LineWalkLemmas
 mod MemberLemmas
 mod MemberSoundLemmas
 mod MembersLemmas
@@ -29,8 +30,8 @@ mod MenuEntryLemmas
 mod NameLemmas
 mod NestLemmas
 mod NumberingLemmas
-mod PassedLemmas
 mod OpenLemmas
+mod PassedLemmas
 mod PlaceLemmas
 mod RaiseLemmas
 mod ReadTextLemmas
