@@ -23,6 +23,7 @@ mod HeldLemmas
 mod KnownLemmas
 mod LayoutLemmas
 mod LineTextLemmas
+mod LineWalkLemmas
 mod MemberLemmas
 mod MemberSoundLemmas
 mod MembersLemmas
@@ -34,6 +35,7 @@ mod NumberingLemmas
 mod OpenLemmas
 mod OpenerLemmas
 mod OwnerLemmas
+mod PassedLemmas
 mod PlaceLemmas
 mod RaiseLemmas
 mod ReadTextLemmas
