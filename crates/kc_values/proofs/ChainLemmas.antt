@@ -1,17 +1,24 @@
 -- The chain of a line that selects or implies: the line, and then the chain of the one that it leads on to.
-use Rattle.std.proofs.Common.{◌≡◌, ℕ, zero, suc, ◌+◌, ◌<◌, ◌≤◌, List, [], ◌∷◌, ◌++◌, length, Option, Some, None, refl, ap, sym, ◌∙◌, arith, get_or, length-append, slice_index_or}
+use Rattle.std.proofs.Common.{◌≡◌, ℕ, zero, suc, ◌+◌, ◌<◌, ◌≤◌, List, [], ◌∷◌, ◌++◌, length, reverse, Option, Some, None, refl, ap, sym, ◌∙◌, arith, get_or, length-append, slice_index_or}
 use Rattle.std.specs.List.{slice_get, filter_map, cons_option}
 use Rattle.std.specs.Option.{option_and_then}
 use Rattle.std.proofs.Math.Seq.{get_or-append_seam}
 use Rattle.std.proofs.lemmas.List.{get_or_append_left, get_or_past}
 use Rattle.std.proofs.lemmas.Option.{slice_get-get_or}
 use Rattle.kc_expr.specs.declared.expression.SymId.{SymId}
+use Rattle.kc_expr.specs.declared.expression.Tri.{Tri}
+use Rattle.kc_expr.specs.declared.expression.Tri.TheVariants.{N}
+use Rattle.kc_expr.specs.Value.{Known, truth_of_known, lesser, greater}
 use Rattle.kc_tree.specs.declared.layout.Tables.{Tables}
 use Rattle.kc_tree.specs.declared.parts.Reverse.{Reverse}
 use Rattle.kc_tree.specs.declared.parts.ReverseId.{ReverseId}
 use Rattle.kc_tree.specs.Chains.{chain_of, chains_from, chains_of, AreChained}
 use Rattle.kc_tree.specs.Layouts.{reverse_at, reverse_facts, reverses_from}
-use Rattle.kc_tree.specs.TreeFacts.{Guarded}
+use Rattle.kc_tree.specs.TreeFacts.{Guarded, TreeFacts}
+use Rattle.kc_tree.specs.Words.{listed}
+use Rattle.kc_values.specs.Values.{condition, pulled}
+use Rattle.kc_values.proofs.DefinitionLemmas.{greatest-cons}
+use Rattle.kc_values.proofs.TriLemmas.{greatest-reverse}
 
 -- how far a walk along a chain has still to go
 abbrev pub steps_left : Option ReverseId → ℕ
@@ -87,3 +94,22 @@ module _ (t : Tables) where
       past [] i e = omega arith
       past (x ∷ xs) zero e = absurd cc
       past (x ∷ xs) (suc i) e = let h = past xs i e in omega (arith, h)
+
+  -- the greatest of what they are worth
+  module _ (tree : TreeFacts) (known : SymId → Known) where
+    abbrev pub worth : Guarded SymId → Tri
+    worth g = lesser (truth_of_known (known g.what)) (condition tree known g.when)
+
+    abbrev pub pulled_from : Option ReverseId → Tri
+    pulled_from last = pulled tree known (reverses_from t last)
+
+    pub pulled-at : (id : ReverseId) (r : Reverse) → slice_get t.reverses.lines.items id.0 ≡ Some r → (at : Option ReverseId) → at ≡ Some id →
+        pulled_from at ≡ greater (pulled tree known (listed (reverse_facts t r))) (pulled_from r.next)
+    pulled-at id r e at is = ap pulled_from is ∙ ap (pulled tree known) (reverses-at id r e) ∙ greatest-cons worth (reverse_facts t r) (reverses_from t r.next)
+
+    pub pulled-past : (id : ReverseId) → slice_get t.reverses.lines.items id.0 ≡ None → (at : Option ReverseId) → at ≡ Some id → pulled_from at ≡ N
+    pulled-past id e at is = ap pulled_from is ∙ ap (pulled tree known) (reverses-past id e)
+
+    -- in the order of the lines
+    pub pulled-reverse : (last : Option ReverseId) → pulled tree known (reverse (reverses_from t last)) ≡ pulled_from last
+    pulled-reverse last = greatest-reverse worth (reverses_from t last)

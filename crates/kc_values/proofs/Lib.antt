@@ -19,6 +19,7 @@ pub mod ConditionLemmas
 pub mod Laid
 pub mod ChainLemmas
 pub mod DefinitionLemmas
+pub mod OpenLemmas
 pub mod SmallNumbers
 pub mod SettledWrites
 pub mod NameRows
