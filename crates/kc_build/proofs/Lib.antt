@@ -34,8 +34,6 @@ mod NestLemmas
 mod NumberingLemmas
 mod OpenLemmas
 mod OpenerLemmas
-mod OwnerLemmas
-mod PassedLemmas
 mod PlaceLemmas
 mod RaiseLemmas
 mod ReadTextLemmas
