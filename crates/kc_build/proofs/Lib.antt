@@ -8,6 +8,7 @@ mod CloserLemmas
 mod CollectLemmas
 mod ConditionLemmas
 mod CopyLemmas
+mod DefineLemmas
 mod DefinedLemmas
 mod DiagnosedLemmas
 mod ElementLemmas
@@ -21,9 +22,9 @@ mod FormedLemmas
 mod GrownLemmas
 mod HeldLemmas
 mod KnownLemmas
-mod LateLemmas
 mod LayoutLemmas
 mod LineTextLemmas
+mod LineWalkLemmas
 mod MemberLemmas
 mod MemberSoundLemmas
 mod MembersLemmas
@@ -32,10 +33,8 @@ mod MenuEntryLemmas
 mod NameLemmas
 mod NestLemmas
 mod NumberingLemmas
-mod PassedLemmas
 mod OpenLemmas
 mod OpenerLemmas
-mod OwnerLemmas
 mod PlaceLemmas
 mod RaiseLemmas
 mod ReadTextLemmas
@@ -54,5 +53,4 @@ mod TableLemmas
 mod TitleLemmas
 mod TreeTextLemmas
 mod WalkLemmas
-mod WarningLemmas
 mod WholeLemmas
