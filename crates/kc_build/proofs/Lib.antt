@@ -46,6 +46,7 @@ mod ShapeLemmas
 mod ShownLemmas
 mod SoundLemmas
 mod StackLemmas
+mod SurroundingLemmas
 mod TableLemmas
 mod TreeTextLemmas
 mod WalkLemmas
