@@ -7,6 +7,7 @@ mod ChoiceLemmas
 mod CollectLemmas
 mod ConditionLemmas
 mod CopyLemmas
+mod DefineLemmas
 mod DefinedLemmas
 mod DiagnosedLemmas
 mod ElementLemmas
@@ -18,10 +19,11 @@ mod ExpansionLemmas
 mod FirstLemmas
 mod FormedLemmas
 mod GrownLemmas
+mod HeldLemmas
 mod KnownLemmas
-mod LateLemmas
 mod LayoutLemmas
 mod LineTextLemmas
+mod LineWalkLemmas
 mod MemberLemmas
 mod MemberSoundLemmas
 mod MembersLemmas
@@ -30,8 +32,8 @@ mod MenuEntryLemmas
 mod NameLemmas
 mod NestLemmas
 mod NumberingLemmas
-mod PassedLemmas
 mod OpenLemmas
+mod OpenerLemmas
 mod PlaceLemmas
 mod RaiseLemmas
 mod ReadTextLemmas
@@ -48,7 +50,7 @@ mod SoundLemmas
 mod StackLemmas
 mod SurroundingLemmas
 mod TableLemmas
+mod TitleLemmas
 mod TreeTextLemmas
 mod WalkLemmas
-mod WarningLemmas
 mod WholeLemmas

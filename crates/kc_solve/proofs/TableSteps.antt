@@ -4,10 +4,11 @@ use Rattle.std.proofs.Math.Logic.{∥∥₁_elim}
 use Rattle.std.proofs.Math.Nat.{ℕ_set}
 use Rattle.std.specs.Prelude.{slice_index_or, slice_set, slice_get}
 use Rattle.std.specs.Coded.{coded_option}
-use Rattle.std.specs.Option.{option_map}
+use Rattle.std.specs.Borrow.{Bor}
+use Rattle.std.specs.Option.{option_copied, option_map}
 use Rattle.std.specs.List.{AllByRecursion}
 use Rattle.std.proofs.lemmas.Bool.{cases_Bool, ltb-false}
-use Rattle.std.proofs.lemmas.List.{get_or_past, length-set}
+use Rattle.std.proofs.lemmas.List.{get_or_default, get_or_past, length-set}
 use Rattle.std.proofs.lemmas.Option.{slice_get_past}
 use base.Stored.{Coded-set}
 use Rattle.kc_expr.specs.Names.{symbol}
@@ -35,6 +36,7 @@ use Rattle.kc_values.specs.Needs.{names_of}
 use Rattle.kc_values.specs.Selections.{given_for}
 use Rattle.kc_values.specs.Solution.{slot_by, slot_of_facts, symbol_count, seen, slot, equations}
 use Rattle.kc_values.specs.Table.{kind_in, value_in, tri_in, text_in, known_value, known_in}
+use Rattle.kc_values.specs.User.{place}
 use Rattle.kc_values.specs.Values.{equation, by_choice, by_kind}
 use Rattle.kc_values.specs.declared.table.Table.{Table}
 use Rattle.kc_values.specs.declared.table.Value.{Value}
@@ -128,6 +130,12 @@ equation_seen : (tree : TreeFacts) (values : List (Option Value)) → length val
 equation_seen tree values l s f user =
     same_equation depends_on_symbols tree (known_in tree values) (seen tree (valuation tree values)) s f user
     (each (λ (t : SymId). known_in tree values t ≡ seen tree (valuation tree values) t) (known_seen tree values l) (names_of tree f))
+
+-- what was given for a symbol, as it is looked up
+pub place_given : (given : List (Option UserValue)) (i : ℕ) (v : Option UserValue) (own : Option (Bor UserValue)) → i < length given → v ≡ get_or given i v → option_copied own ≡ v →
+    place own ≡ given_at (slice_index_or given i None)
+place_given given i v None l e o = ap given_at (o ∙ e ∙ get_or_default given i v None l)
+place_given given i v (Some u) l e o = ap given_at (o ∙ e ∙ get_or_default given i v None l)
 
 -- a symbol filled with the value that its equation gives
 pub filled_value : (t : Table) (id : SymId) (s : Symbol) (given : List (Option UserValue)) (chosen : List (Option SymId)) (x : Value) → IsRowOf t id s →

@@ -1,2 +1,3 @@
 mod ContextLemmas
-mod TreeLemmas
+pub mod ContextLemmas
+pub mod TreeLemmas

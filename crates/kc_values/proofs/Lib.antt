@@ -17,6 +17,9 @@ pub mod Joined
 pub mod TriLemmas
 pub mod ConditionLemmas
 pub mod Laid
+pub mod ChainLemmas
+pub mod DefinitionLemmas
+pub mod OpenLemmas
 pub mod SmallNumbers
 pub mod SettledWrites
 pub mod NameRows
