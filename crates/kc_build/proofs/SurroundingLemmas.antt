@@ -2,13 +2,20 @@
 use Rattle.std.proofs.Common.{◌≡◌, ℕ, zero, suc, ◌+◌, ◌<◌, ◌≤◌, Bool, true, false, if◌then◌else◌, List, [], ◌∷◌, ◌++◌, length, map, filter, Option, Some, None, refl, ap, sym, ◌∙◌, arith, add-one}
 use Rattle.std.specs.List.{slice_get, filter_map, cons_option}
 use Rattle.std.specs.Option.{option_map}
+use Rattle.std.specs.declared.alloc.Global.{Global}
+use Rattle.std.specs.declared.rc.Rc.{Rc}
+use Rattle.std.specs.declared.vec.Vec.{Vec}
 use Rattle.std.proofs.lemmas.List.{append-nil, length_push, map-append}
 use Rattle.std.proofs.lemmas.List.Sums.{count_by-le-length}
 use Rattle.std.proofs.lemmas.Option.{slice_get_within}
 use Rattle.kc_expr.specs.declared.expression.SymId.{SymId}
 use Rattle.kc_read.specs.declared.statement.Block as opener
 use Rattle.kc_read.specs.declared.statement.Block.TheVariants as block
-use Rattle.kc_read.specs.Statements.{Numbered, ConfigLine, ChoiceLine}
+use Rattle.kc_expr.specs.declared.expression.Expr.{Expr}
+use Rattle.kc_read.specs.declared.statement.Statement.{Statement}
+use Rattle.kc_read.specs.declared.statement.Statement.TheVariants as made
+use Rattle.kc_read.specs.Reads.{statement_view}
+use Rattle.kc_read.specs.Statements.{Numbered, ChoiceLine, EndChoiceLine, EndIfLine, EndMenuLine}
 use Rattle.kc_read.specs.Blocks.{Bracket, Opens, Closes, NoBracket, bracket, bracket_of, enclosing, is_attribute, last_of, numbers, opened}
 use Rattle.kc_tree.specs.declared.parts.ChoiceId.{ChoiceId}
 use Rattle.kc_build.specs.declared.symbols.Surroundings.{Surroundings}
@@ -18,10 +25,14 @@ use Rattle.kc_build.specs.Rounds as rounds
 use Rattle.kc_build.specs.SymbolWalk.{IsRound, choice_view}
 use Rattle.kc_build.specs.Walks.{IsHead, place_after}
 use Rattle.kc_build.proofs.BlockLemmas.{enclosing-closes, enclosing-last, enclosing-no, enclosing-opens, front}
-use Rattle.kc_build.proofs.PassedLemmas.{IsAttributeAt, behind_entry, enclosing_behind, no_bracket, no_symbol}
+use Rattle.kc_build.proofs.EnterLemmas.{attribute_symbol, enclosing_passed, over}
 use Rattle.kc_build.proofs.PlaceLemmas.{filter_map-next, length-numbers}
 use Rattle.kc_build.proofs.RoundLemmas.{choice_number-next, round_snoc}
 use Rattle.kc_build.proofs.StackLemmas.{front_snoc, none_given, split_last}
+
+-- how many definitions a line makes
+abbrev pub made_by : Numbered → ℕ
+made_by s = length (cons_option (symbol_of (Some s)) [])
 
 module _ (ss : List Numbered) where
   -- the choice of the innermost of these openers that is one
@@ -30,10 +41,6 @@ module _ (ss : List Numbered) where
 
   mode_snoc : (places : List ℕ) (k : ℕ) → mode_in (places ++ k ∷ []) ≡ (if of_block ss block.Choice k then Some (choice_number ss k) else mode_in places)
   mode_snoc places k = ap (λ (r : rounds.Surroundings). r.mode) (round_snoc ss places k)
-
-  -- how many definitions a line makes
-  abbrev pub made_by : Numbered → ℕ
-  made_by s = length (cons_option (symbol_of (Some s)) [])
 
   grows : (xs : List SymId) (o : Option SymId) → length (xs ++ cons_option o []) ≡ length xs + length (cons_option o [])
   grows xs None = ap length (append-nil xs) ∙ omega arith
@@ -104,27 +111,58 @@ module _ (ss : List Numbered) where
         passed [] (enclosing-closes ss i s at e ∙ ap front none) (ap choice_view c ∙ h.choice ∙ ap mode_in none) (ap (map choice_view) (o ∙ p))
 
   -- Behind an entry the same surrounds a line as behind its first line.
-  attribute_makes : (j : ℕ) → IsAttributeAt ss j → definition_number ss (suc j) ≡ definition_number ss j
-  attribute_makes j a =
-      let none : made_by a.line ≡ 0 = ap (λ (o : Option SymId). length (cons_option o [])) (no_symbol a.line a.is) in
-      let more : definition_number ss (suc j) ≡ definition_number ss j + made_by a.line = (rw add-one at (defined-next j a.line a.at)) in
+  attribute_makes : (j : ℕ) (s : Numbered) → slice_get ss j ≡ Some s → is_attribute s ≡ true → definition_number ss (j + 1) ≡ definition_number ss j
+  attribute_makes j s at e =
+      let none : made_by s ≡ 0 = ap (λ (o : Option SymId). length (cons_option o [])) (attribute_symbol s e) in
+      let more = defined-next j s at in
       omega arith
 
   no_choice : (s : Numbered) (n : ℕ) → is_attribute s ≡ true → rounds.next_count s n ≡ n
   no_choice ChoiceLine n e = absurd cc
   no_choice _ n e = refl
 
-  attribute_opens : (j : ℕ) → IsAttributeAt ss j → choice_number ss (suc j) ≡ choice_number ss j
-  attribute_opens j a =
-      sym ((rw add-one at (choice_number-next ss j a.line a.at))) ∙ no_choice a.line (choice_number ss j) a.is
+  attribute_opens : (j : ℕ) (s : Numbered) → slice_get ss j ≡ Some s → is_attribute s ≡ true → choice_number ss (j + 1) ≡ choice_number ss j
+  attribute_opens j s at e = sym (choice_number-next ss j s at) ∙ no_choice s (choice_number ss j) e
 
   pub round_behind : (i : ℕ) (head : Numbered) (own : List Numbered) (r : Surroundings) → IsHead ss i head own → IsRound ss (i + 1) r → IsRound ss (place_after i own) r
   round_behind i head own r h w =
-      let n : i + 1 ≡ suc i = omega arith in
-      let around : enclosing ss (place_after i own) ≡ enclosing ss (i + 1) = enclosing_behind ss i head own h ∙ sym (ap (enclosing ss) n) in
+      let around : enclosing ss (place_after i own) ≡ enclosing ss (i + 1) = enclosing_passed ss i head own h ∙ sym (ap (enclosing ss) (add-one i)) in
       record {
         choice = w.choice ∙ sym (ap mode_in around);
         outside = w.outside ∙ sym (ap (map (choice_round ss)) around);
-        choices = w.choices ∙ sym (behind_entry (choice_number ss) ss i head own h attribute_opens ∙ sym (ap (choice_number ss) n));
-        definitions = w.definitions ∙ sym (behind_entry (definition_number ss) ss i head own h attribute_makes ∙ sym (ap (definition_number ss) n));
+        choices = w.choices ∙ sym (over ss i head own h (choice_number ss) attribute_opens);
+        definitions = w.definitions ∙ sym (over ss i head own h (definition_number ss) attribute_makes);
       }
+
+-- What statements are no openers, no closers and no definitions; what only close.
+pub record IsFlat (s : Numbered) : Type 0 where
+  pub flat : bracket s ≡ NoBracket
+  pub no_choice : (n : ℕ) → n ≡ rounds.next_count s n
+  pub none : (n : ℕ) → n ≡ n + made_by s
+
+pub record IsCloser (s : Numbered) : Type 0 where
+  pub closes : bracket s ≡ Closes
+  pub no_choice : (n : ℕ) → n ≡ rounds.next_count s n
+  pub none : (n : ℕ) → n ≡ n + made_by s
+
+nothing_more : (n : ℕ) → n ≡ n + 0
+nothing_more n = omega arith
+
+pub end_if : IsCloser EndIfLine
+end_if = record { closes = refl; no_choice = λ n. refl; none = nothing_more }
+
+pub end_menu : IsCloser EndMenuLine
+end_menu = record { closes = refl; no_choice = λ n. refl; none = nothing_more }
+
+pub end_choice : IsCloser EndChoiceLine
+end_choice = record { closes = refl; no_choice = λ n. refl; none = nothing_more }
+
+pub other_flat : (s : Statement) → ((x : SymId) → s ≡ made.Config x → ⊥) → ((e : Rc Expr Global) → s ≡ made.If e → ⊥) → (s ≡ made.EndIf → ⊥) → ((t : Vec ℕ Global) → s ≡ made.Menu t → ⊥) → (s ≡ made.EndMenu → ⊥) → (s ≡ made.Choice → ⊥) → (s ≡ made.EndChoice → ⊥) → IsFlat (statement_view s)
+other_flat (made.Config x) a b c d e f g = absurd (a x refl)
+other_flat (made.If x) a b c d e f g = absurd (b x refl)
+other_flat made.EndIf a b c d e f g = absurd (c refl)
+other_flat (made.Menu t) a b c d e f g = absurd (d t refl)
+other_flat made.EndMenu a b c d e f g = absurd (e refl)
+other_flat made.Choice a b c d e f g = absurd (f refl)
+other_flat made.EndChoice a b c d e f g = absurd (g refl)
+other_flat _ a b c d e f g = record { flat = refl; no_choice = λ n. refl; none = nothing_more }
