@@ -1,5 +1,6 @@
 -- What surrounds the lines, as the first walk keeps it: from one line to the next, and behind an entry.
-use Rattle.std.proofs.Common.{◌≡◌, ℕ, zero, suc, ◌+◌, ◌<◌, ◌≤◌, Bool, true, false, if◌then◌else◌, List, [], ◌∷◌, ◌++◌, length, map, filter, Option, Some, None, refl, ap, sym, ◌∙◌, arith, add-one}
+use Rattle.std.proofs.Common.{◌≡◌, ℕ, zero, suc, ◌+◌, ◌<◌, ◌≤◌, Bool, true, false, if◌then◌else◌, List, [], ◌∷◌, ◌++◌, length, map, filter, Option, Some, None, refl, ap, sym, ◌∙◌, arith, add-one, inl, inr}
+use Rattle.std.specs.Prelude.{◌⊎◌}
 use Rattle.std.specs.List.{slice_get, filter_map, cons_option}
 use Rattle.std.specs.Option.{option_map}
 use Rattle.std.specs.declared.alloc.Global.{Global}
@@ -15,7 +16,7 @@ use Rattle.kc_expr.specs.declared.expression.Expr.{Expr}
 use Rattle.kc_read.specs.declared.statement.Statement.{Statement}
 use Rattle.kc_read.specs.declared.statement.Statement.TheVariants as made
 use Rattle.kc_read.specs.Reads.{statement_view}
-use Rattle.kc_read.specs.Statements.{Numbered, ChoiceLine, EndChoiceLine, EndIfLine, EndMenuLine}
+use Rattle.kc_read.specs.Statements.{Numbered, ChoiceLine}
 use Rattle.kc_read.specs.Blocks.{Bracket, Opens, Closes, NoBracket, bracket, bracket_of, enclosing, is_attribute, last_of, numbers, opened}
 use Rattle.kc_tree.specs.declared.parts.ChoiceId.{ChoiceId}
 use Rattle.kc_build.specs.declared.symbols.Surroundings.{Surroundings}
@@ -148,14 +149,10 @@ pub record IsCloser (s : Numbered) : Type 0 where
 nothing_more : (n : ℕ) → n ≡ n + 0
 nothing_more n = omega arith
 
-pub end_if : IsCloser EndIfLine
-end_if = record { closes = refl; no_choice = λ n. refl; none = nothing_more }
-
-pub end_menu : IsCloser EndMenuLine
-end_menu = record { closes = refl; no_choice = λ n. refl; none = nothing_more }
-
-pub end_choice : IsCloser EndChoiceLine
-end_choice = record { closes = refl; no_choice = λ n. refl; none = nothing_more }
+pub closer_is : (s : Statement) → (s ≡ made.EndIf) ⊎ ((s ≡ made.EndMenu) ⊎ (s ≡ made.EndChoice)) → IsCloser (statement_view s)
+closer_is s (inl e) = rw e (record { closes = refl; no_choice = λ n. refl; none = nothing_more })
+closer_is s (inr (inl e)) = rw e (record { closes = refl; no_choice = λ n. refl; none = nothing_more })
+closer_is s (inr (inr e)) = rw e (record { closes = refl; no_choice = λ n. refl; none = nothing_more })
 
 pub other_flat : (s : Statement) → ((x : SymId) → s ≡ made.Config x → ⊥) → ((e : Rc Expr Global) → s ≡ made.If e → ⊥) → (s ≡ made.EndIf → ⊥) → ((t : Vec ℕ Global) → s ≡ made.Menu t → ⊥) → (s ≡ made.EndMenu → ⊥) → (s ≡ made.Choice → ⊥) → (s ≡ made.EndChoice → ⊥) → IsFlat (statement_view s)
 other_flat (made.Config x) a b c d e f g = absurd (a x refl)

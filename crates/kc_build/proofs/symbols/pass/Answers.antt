@@ -3,7 +3,8 @@ use Rattle.kc_read.specs.declared.statement.Block.TheVariants as block
 use Rattle.kc_read.specs.declared.statement.Statement.{Statement}
 use Rattle.kc_read.specs.Blocks.{bracket}
 use Rattle.kc_read.specs.Reads.{statement_view}
-use Rattle.kc_build.proofs.SurroundingLemmas.{IsCloser, end_if, end_menu, end_choice, other_flat, round_flat, round_opens, round_closes, round_closes_none}
+use Rattle.kc_build.proofs.SurroundingLemmas.{closer_is, other_flat, round_flat, round_opens, round_closes, round_closes_none}
+use Rattle.kc_build.proofs.StackLemmas.{no_length}
 use Rattle.kc_build.proofs.symbols.pass.Goals as goal
 
 pub returns-in-Config : goal.returns-in-Config
@@ -22,12 +23,20 @@ returns-in_default c = λ ss i at h.
 
 pub returns-in-Some : goal.returns-in-Some
 returns-in-Some c = λ ss i at h.
-    let k : IsCloser (statement_view c.args.statement.now) = elim c.in-EndIf.is [ | inl e ↦ rw e end_if | inr e ↦ ? ] in
+    let k = closer_is c.args.statement.now c.in-EndIf.is in
     round_closes ss i (statement_view c.args.statement.now) c.args.round.now _ at h (k.no_choice c.args.round.now.choices) (k.none c.args.round.now.definitions) c.pop.new.self.items c.in-Some.choice k.closes c.in-Some.ensures.items refl refl
 
 pub returns-in_default-pop : goal.returns-in_default-pop
-returns-in_default-pop c = ?
+returns-in_default-pop c = λ ss i at h.
+    let k = closer_is c.args.statement.now c.in-EndIf.is in
+    let old = c.args.round.now.outside in
+    let empty : length old.items ≡ 0 = omega (arith, c.in_default-pop.ensures.cases, old.ok) in
+    let same = c.in_default-pop.ensures.items ∙ append-nil c.pop.new.self.items in
+    round_closes_none ss i (statement_view c.args.statement.now) c.args.round.now _ at h (k.no_choice c.args.round.now.choices) (k.none c.args.round.now.definitions) k.closes (no_length old.items empty) refl (sym same)
 
 pub returns-in_ok-push-in-If : goal.returns-in_ok-push-in-If
 returns-in_ok-push-in-If c = λ ss i at h.
-    elim c.in-If.is [ | inl e ↦ ? | inr e ↦ ? ]
+    elim c.in-If.is [
+      | inl e ↦ round_opens ss i (statement_view c.args.statement.now) c.args.round.now _ at h (rw e.1 refl) (rw e.1 (omega arith)) block.If (rw e.1 refl) refl c.in_ok-push-in-If.ensures.items
+      | inr e ↦ round_opens ss i (statement_view c.args.statement.now) c.args.round.now _ at h (rw e.1 refl) (rw e.1 (omega arith)) block.Menu (rw e.1 refl) refl c.in_ok-push-in-If.ensures.items
+    ]
