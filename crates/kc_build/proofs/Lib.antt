@@ -49,6 +49,7 @@ mod ShownLemmas
 mod SoundLemmas
 mod StackLemmas
 mod SurroundingLemmas
+mod SymbolRowLemmas
 mod TableLemmas
 mod TitleLemmas
 mod TreeTextLemmas

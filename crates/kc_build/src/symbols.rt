@@ -122,8 +122,8 @@ fn settle_kinds(symbols: &mut Vec<Symbol>)
     ensures { AreSettled (map row_view symbols.old.items) (map row_view symbols.new.items) }
 {
     for i in 0..symbols.len() {
-        if symbols[i].kind == Kind::Undefined && symbols[i].choice.is_some() {
-            symbols[i].kind = Kind::Bool;
+        if symbols[i].choice.is_some() {
+            symbols[i].kind = first_kind(symbols[i].kind, Some(Kind::Bool));
         }
     }
 }
