@@ -16,6 +16,7 @@ pub mod NumberRows
 pub mod Joined
 pub mod SmallNumbers
 pub mod SettledWrites
-pub mod NameRows
-pub mod RowMarks
 pub mod RowSteps
+pub mod RowsMade
+pub mod ChainSteps
+pub mod ReverseRows
