@@ -1,7 +1,8 @@
 -- A tree is what the numbered lines of a root file give.
-use Rattle.std.proofs.Common.{◌≡◌, ◌≢◌, ℕ, List, [], ◌∷◌, length, map, Result, Ok, Err, refl, ap, sym, ◌∙◌, subst}
+use Rattle.std.proofs.Common.{◌≡◌, ◌≢◌, ◌≤◌, ℕ, List, [], ◌∷◌, length, map, Result, Ok, Err, refl, ap, sym, ◌∙◌, subst, arith}
 use Rattle.std.specs.Prelude.{All}
 use Rattle.std.specs.List.{slice_get, flat_map}
+use Rattle.std.specs.Option.{is_some}
 use Rattle.std.proofs.lemmas.List.Elements.{All-append, All-head}
 use Rattle.kc_expr.specs.declared.expression.SymId.{SymId}
 use Rattle.kc_expr.specs.Names.{AreDistinct}
@@ -15,20 +16,23 @@ use Rattle.kc_read.specs.Numbering.{modules_id, names_of, numbered_lines}
 use Rattle.kc_read.specs.Reads.{line_view}
 use Rattle.kc_read.specs.Statements.{Numbered, Placed, Written}
 use Rattle.kc_read.specs.Steps.{IsMemory, refusal_view}
-use Rattle.kc_build.specs.declared.assembly.Assembled.{Assembled}
 use Rattle.kc_build.specs.declared.numbering.Listing.{Listing}
 use Rattle.kc_build.specs.Assemblies.{assembled_view}
 use Rattle.kc_tree.specs.Words.{listed}
-use Rattle.kc_build.specs.Known.{AreBelow}
+use Rattle.kc_build.specs.Known.{AreBelow, AreChoicesApart, AreMenusOpened}
 use Rattle.kc_build.specs.Numberings.{IsListing}
 use Rattle.kc_build.specs.Passes.{said_by}
 use Rattle.kc_tree.specs.TreeFacts.{TreeFacts, IsWellFormed}
+use Rattle.kc_tree.specs.declared.layout.TreeParts.{TreeParts}
+use Rattle.kc_expr.specs.Limits.{most_symbols}
 use Rattle.kc_build.specs.Trees.{OneTree, facts_with, tree_of_lines, tree_of_log, tree_with, unless_refused}
-use Rattle.kc_build.specs.Warnings.{bad_defaults, bad_members, entry_name, late_refusals, owner_at, owner_symbol, refused_at}
+use Rattle.kc_build.specs.Warnings.{bad_defaults, bad_members, entry_name, late_refusals, menu_entry_at, entry_symbol, refused_at}
 use Rattle.kc_build.proofs.DefinedLemmas.{AreNames, expanded_known}
 use Rattle.kc_build.proofs.ElementLemmas.{All-flat_map, All-map_each}
+use Rattle.kc_build.proofs.NestLemmas.{choice_alone, menu_closed}
 use Rattle.kc_build.proofs.NumberingLemmas.{numbered_below}
-use Rattle.kc_build.proofs.WarningLemmas.{statements-is}
+use Rattle.kc_build.proofs.SaidLemmas.{statements-are}
+use Rattle.kc_build.proofs.ShapeLemmas.{nested}
 use Rattle.kc_build.proofs.WholeLemmas.{IsShaped, shaped, well_formed}
 
 -- Each late refusal is of a member or of a default.
@@ -40,7 +44,7 @@ late_codes names ls =
     said = map (λ l. l.statement) ls
 
     one_code : (c : Code) → c ≢ code.Memory → (i : ℕ) → All (λ r. r.code ≢ code.Memory) (refused_at names ls c i)
-    one_code c ne i = All-map_each (λ (r : Refused). r.code ≢ code.Memory) (λ (l : Placed Numbered). refused (record { code = c; detail = entry_name names (owner_symbol (owner_at said i)) }) l.file l.line) (λ l. ne) (listed (slice_get ls i))
+    one_code c ne i = All-map_each (λ (r : Refused). r.code ≢ code.Memory) (λ (l : Placed Numbered). refused (record { code = c; detail = entry_name names (entry_symbol (menu_entry_at said i)) }) l.file l.line) (λ l. ne) (listed (slice_get ls i))
 
 not_memory : (rs : List Refused) (t : TreeFacts) (v : Refused) → All (λ r. r.code ≢ code.Memory) rs → Err v ≡ unless_refused rs t → v.code ≢ code.Memory
 not_memory [] t v a h = absurd cc
@@ -64,13 +68,32 @@ whole-formed ls t known distinct shaped h =
 
 -- what the numbered lines of an expanded list give
 module _ (log : Log) (l : Listing) (h : IsListing log l) where
+  abbrev given : List Numbered
+  given = map (λ x. x.statement) (numbered_lines log.lines)
+
+  said-are : (ls : List Line) → ls ≡ l.lines.items → given ≡ said_by ls
+  said-are ls same =
+      ap (λ (ps : List (Placed Numbered)). map (λ x. x.statement) ps) (sym h.lines_are) ∙ statements-are l.lines.items ∙ ap said_by (sym same)
+
   pub lines-below : (ls : List Line) → ls ≡ l.lines.items → AreBelow l.count (said_by ls)
   lines-below ls same =
-      let said : map (λ x. x.statement) (numbered_lines log.lines) ≡ said_by l.lines.items = ap (λ (ps : List (Placed Numbered)). map (λ x. x.statement) ps) (sym h.lines_are) ∙ statements-is l.names l.lines.items in
-      let below : AreBelow l.count (said_by l.lines.items) = subst (λ (ss : List Numbered). AreBelow l.count ss) said (subst (λ (k : ℕ). AreBelow k (map (λ x. x.statement) (numbered_lines log.lines))) (sym h.count_is) (numbered_below log.lines)) in
-      subst (λ (xs : List Line). AreBelow l.count (said_by xs)) (sym same) below
+      subst (λ (ss : List Numbered). AreBelow l.count ss) (said-are ls same) (subst (λ (k : ℕ). AreBelow k given) (sym h.count_is) (numbered_below log.lines))
 
-  pub assembled-lines : (ls : List Line) (s : Assembled) → ls ≡ l.lines.items → assembled_view l.names s ≡ tree_with l.names l.count l.modules (map line_view ls) → assembled_view l.names s ≡ tree_of_lines log.lines
+  pub lines-apart : (files : Files) (root : List ℕ) → Expands files root (Ok log) → (ls : List Line) → ls ≡ l.lines.items → AreChoicesApart (said_by ls)
+  lines-apart files root x ls same =
+      subst AreChoicesApart (said-are ls same) (choice_alone given (nested files root log x))
+
+  pub lines-opened : (files : Files) (root : List ℕ) → Expands files root (Ok log) → (ls : List Line) → ls ≡ l.lines.items → AreMenusOpened (said_by ls)
+  lines-opened files root x ls same =
+      subst AreMenusOpened (said-are ls same) (λ i e. ap is_some (menu_closed given (nested files root log x) i e).1)
+
+  pub count-few : (files : Files) (root : List ℕ) → Expands files root (Ok log) → l.count ≤ most_symbols
+  count-few files root x =
+      let n = h.count_is in
+      let few = (expanded_known files root log x).few in
+      omega arith
+
+  pub assembled-lines : (ls : List Line) (s : Result TreeParts Refusal) → ls ≡ l.lines.items → assembled_view l.names s ≡ tree_with l.names l.count l.modules (map line_view ls) → assembled_view l.names s ≡ tree_of_lines log.lines
   assembled-lines ls s same a =
       let ss = statements log.lines in
       a

@@ -3,7 +3,6 @@ use Rattle.std.proofs.Common.{◌≡◌, ℕ, List, [], ◌∷◌, ◌++◌, map
 use Rattle.std.proofs.lemmas.List.{append-nil, map-append, length-map}
 use Rattle.std.specs.declared.vec.Vec.{Vec}
 use Rattle.std.specs.declared.alloc.Global.{Global}
-use Rattle.kc_build.specs.Facts.{joined}
 use Rattle.kc_build.proofs.ScanLemmas.{drop_at, drop_past}
 use mathlib.Core.Former.{Count}
 use Rattle.kc_expr.specs.declared.expression.Expr.{Expr, All, All', Any, Row_of-Expr, end_of-Expr, more_of-Expr, items-the_row-Expr, items_hidden-the_row-Expr-0}
@@ -55,18 +54,3 @@ end_all e v i items h b = form_of-All v ∙ copies_end Every e v.items i items h
 
 pub end_any : (e : Expr) (v : Vec Expr Global) (i : ℕ) (items : List Expr) → Copies Some_of e v.items i items → length items ≤ i → form_of (Any v) ≡ form_of e
 end_any e v i items h b = form_of-Any v ∙ copies_end Some_of e v.items i items h b
-
-joined_many : (fs : List Form) → 2 ≤ length fs → joined fs ≡ Every (forms fs) ∷ []
-joined_many [] h = absurd (omega arith)
-joined_many (f ∷ []) h = absurd (omega arith)
-joined_many (f ∷ g ∷ fs) h = refl
-
-joined-All : (v : Vec Expr Global) → 2 ≤ length v.items → form_of (All v) ∷ [] ≡ joined (map form_of v.items)
-joined-All v h =
-    ap (λ f. f ∷ []) (form_of-All v) ∙ sym (joined_many (map form_of v.items) (omega (arith, length-map v.items form_of)))
-
--- Copies of two parts and more, joined by `&&`.
-pub conjoined : {A : Type 0} (form : A → Form) (parts : List A) (v : Vec Expr Global) → 2 ≤ length parts → map form_of v.items ≡ map form parts → form_of (All v) ∷ [] ≡ joined (map form parts)
-conjoined form parts v h same =
-    let long : length v.items ≡ length parts = sym (length-map v.items form_of) ∙ ap length same ∙ length-map parts form in
-    joined-All v (omega (arith, long, h)) ∙ ap joined same

@@ -1,5 +1,5 @@
--- The first definition of each symbol, one place more.
-use Rattle.std.proofs.Common.{◌≡◌, ℕ, zero, suc, ◌+◌, ◌≤◌, Bool, true, false, not, cond, ◌||◌, if◌then◌else◌, List, [], ◌∷◌, ◌++◌, length, map, take, Option, Some, None, refl, ap, sym, ◌∙◌, arith, add-one, nat_lt}
+-- Where a definition is the first of its symbol.
+use Rattle.std.proofs.Common.{◌≡◌, ℕ, zero, suc, ◌+◌, ◌≤◌, Bool, true, false, not, cond, ◌||◌, if◌then◌else◌, List, [], ◌∷◌, ◌++◌, length, filter, take, Option, Some, None, refl, ap, sym, ◌∙◌, arith, add-one, nat_lt}
 use Rattle.std.specs.List.{list_any, position, position_or_len, cons_option}
 use Rattle.std.specs.Option.{is_none}
 use Rattle.std.proofs.lemmas.Bool.Decides.{nat_tests}
@@ -11,12 +11,8 @@ use Rattle.kc_read.specs.Statements.{Numbered, ConfigLine}
 use Rattle.kc_read.specs.Blocks.{numbers, definitions, name_at}
 use Rattle.kc_tree.specs.Words.{same_symbol, is_symbol_of}
 use Rattle.kc_build.specs.Facts.{symbol_at, symbol_of, is_first_definition}
-use Rattle.kc_build.specs.Firsts.{is_first_at, first_of_symbol}
-use Rattle.kc_build.specs.Known.{AreBelow, first_seen}
-use Rattle.kc_build.specs.Passes.{changed}
 use Rattle.kc_build.proofs.BlockLemmas.{take-next, there}
-use Rattle.kc_build.proofs.PlaceLemmas.{get-map_numbers, filter-next}
-use Rattle.kc_build.proofs.TableLemmas.{defined_before, defined_next}
+use Rattle.kc_build.proofs.PlaceLemmas.{filter-next}
 
 lt_suc : (k n : ℕ) → nat_lt (1 + k) (suc n) ≡ nat_lt k n
 lt_suc k n = grind (arith, nat_tests)
@@ -57,6 +53,10 @@ by_name s (ConfigLine t) = or_false (same_symbol s t)
     or_false false = refl
 by_name s _ = refl
 
+-- the places before one that define the symbol with a number
+abbrev pub defined_before : List Numbered → ℕ → ℕ → List ℕ
+defined_before ss i s = filter (λ j. is_symbol_of (symbol s) (symbol_at ss j)) (numbers i)
+
 module _ (ss : List Numbered) where
   any-before : (i : ℕ) (s : ℕ) → i ≤ length ss → list_any (same_symbol (symbol s)) (definitions (take i ss)) ≡ some_places (defined_before ss i s)
   any-before zero s h = refl
@@ -69,23 +69,3 @@ module _ (ss : List Numbered) where
 
   pub first-is : (i : ℕ) (s : SymId) → i ≤ length ss → is_first_definition ss i s ≡ not (some_places (defined_before ss i s.0))
   first-is i s h = none-any (same_symbol s) (definitions (take i ss)) ∙ ap not (any-before i s.0 h)
-
-  abbrev pub seen_at : ℕ → ℕ → Bool
-  seen_at i s = some_places (defined_before ss i s)
-
-  some_snoc : (ds : List ℕ) (i : ℕ) → true ≡ some_places (ds ++ i ∷ [])
-  some_snoc [] i = refl
-  some_snoc (d ∷ ds) i = refl
-
-  pub seen_next : (i count : ℕ) (seen new : List Bool) (o : Option SymId) → seen ≡ map (seen_at i) (numbers count) → o ≡ symbol_at ss i → new ≡ changed (λ _. true) o seen → new ≡ map (seen_at (i + 1)) (numbers count)
-  seen_next i count seen new o h e n =
-      n ∙ rw h (defined_next ss (λ s ds. some_places ds) (λ _. true) i count o (sym e) (λ s ds q. some_snoc ds i))
-
-  first_by : (i count : ℕ) (o : Option SymId) (seen : List Bool) → i ≤ length ss → AreBelow count ss → symbol_at ss i ≡ o → seen ≡ map (seen_at i) (numbers count) → first_seen o seen ≡ first_of_symbol ss i o
-  first_by i count None seen h below e p = refl
-  first_by i count (Some s) seen h below e p =
-      rw (p, get-map_numbers (seen_at i) count s.0 (below i s e)) (sym (first-is i s h))
-
-  pub first_next : (i count : ℕ) (o : Option SymId) (seen : List Bool) (first : Bool) → i ≤ length ss → AreBelow count ss → o ≡ symbol_at ss i → seen ≡ map (seen_at i) (numbers count) → first ≡ first_seen o seen → first ≡ is_first_at ss i
-  first_next i count o seen first h below e p q =
-      q ∙ first_by i count o seen h below (sym e) p ∙ ap (first_of_symbol ss i) e

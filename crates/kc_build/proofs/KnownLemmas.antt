@@ -1,4 +1,4 @@
--- What is known of the first symbols is what the statements say of all.
+-- What the first walk knows of the symbols is what the statements say of all.
 use Rattle.std.proofs.Common.{◌≡◌, ℕ, zero, suc, ◌<◌, ◌≤◌, Bool, false, List, [], length, filter, map, Option, Some, None, refl, ap, sym, ◌∙◌, arith, inl, inr, add-one}
 use Rattle.std.specs.Prelude.{◌⊎◌}
 use Rattle.std.specs.List.{slice_get}
@@ -11,28 +11,24 @@ use Rattle.kc_expr.specs.declared.expression.Kind.TheVariants as kind
 use Rattle.kc_read.specs.Statements.{Numbered}
 use Rattle.kc_read.specs.Blocks.{numbers}
 use Rattle.kc_tree.specs.declared.parts.ChoiceId.{ChoiceId}
-use Rattle.kc_tree.specs.declared.known.Known.{Known}
-use Rattle.kc_tree.specs.Definitions.{known_symbol}
+use Rattle.kc_tree.specs.declared.parts.Symbol.{Symbol}
 use Rattle.kc_tree.specs.Words.{is_symbol_of}
 use Rattle.kc_build.specs.Facts.{symbol_at, kind_of, choice_of, definitions_of}
-use Rattle.kc_build.specs.Known.{AreBelow, IsKnown, kind_by, choice_by, known_view}
+use Rattle.kc_build.specs.Known.{AreBelow, AreSymbols, Row, kind_by, choice_by, row_of, row_view}
 use Rattle.kc_build.proofs.MemberLemmas.{below_or_past}
 use Rattle.kc_build.proofs.PlaceLemmas.{filter-next, get-map_numbers, length-map_numbers}
 
-abbrev Fact : Type 0
-Fact = Kind × Option ℕ
+abbrev row_kind : Option Row → Kind
+row_kind o = unwrap_or (option_map (λ (r : Row). r.kind) o) kind.Undefined
 
-abbrev fact_kind : Option Fact → Kind
-fact_kind o = unwrap_or (option_map (λ (f : Fact). f.0) o) kind.Undefined
+abbrev row_choice : Option Row → Option ℕ
+row_choice o = option_and_then (λ (r : Row). r.choice) o
 
-abbrev fact_choice : Option Fact → Option ℕ
-fact_choice o = option_and_then (λ (f : Fact). f.1) o
-
-seen_kind : (o : Option Known) → unwrap_or (option_map (λ (f : Known). f.kind) o) kind.Undefined ≡ fact_kind (option_map known_view o)
+seen_kind : (o : Option Symbol) → unwrap_or (option_map (λ (f : Symbol). f.kind) o) kind.Undefined ≡ row_kind (option_map row_view o)
 seen_kind None = refl
 seen_kind (Some f) = refl
 
-seen_choice : (o : Option Known) → option_and_then (λ (f : Known). option_map (λ (c : ChoiceId). c.0) f.choice) o ≡ fact_choice (option_map known_view o)
+seen_choice : (o : Option Symbol) → option_and_then (λ (f : Symbol). option_map (λ (c : ChoiceId). c.0) f.choice) o ≡ row_choice (option_map row_view o)
 seen_choice None = refl
 seen_choice (Some f) = refl
 
@@ -57,28 +53,31 @@ module _ (ss : List Numbered) (count : ℕ) (below : AreBelow count ss) where
   no_choice : (s : SymId) → count ≤ s.0 → choice_of ss s ≡ None
   no_choice s h = rw (not_defined s h) refl
 
-  abbrev said_of : ℕ → Fact
-  said_of k = known_symbol ss k
+  kind_at : (s : SymId) (rs : List Row) → rs ≡ map (row_of ss) (numbers count) → ((s.0 < count) ⊎ (count ≤ s.0)) → row_kind (slice_get rs s.0) ≡ kind_of ss s
+  kind_at s rs e (inl h) =
+      let there : slice_get rs s.0 ≡ Some (row_of ss s.0) = rw e (get-map_numbers (row_of ss) count s.0 h) in
+      ap row_kind there
+  kind_at s rs e (inr h) =
+      let n : length rs ≡ count = ap length e ∙ length-map_numbers (row_of ss) count in
+      ap row_kind (slice_get_past rs s.0 (omega arith)) ∙ sym (no_kind s h)
 
-  kind_at : (s : SymId) (fs : List Fact) → fs ≡ map said_of (numbers count) → ((s.0 < count) ⊎ (count ≤ s.0)) → fact_kind (slice_get fs s.0) ≡ kind_of ss s
-  kind_at s fs e (inl h) =
-      let there : slice_get fs s.0 ≡ Some (said_of s.0) = rw e (get-map_numbers said_of count s.0 h) in
-      ap fact_kind there
-  kind_at s fs e (inr h) =
-      let n : length fs ≡ count = ap length e ∙ length-map_numbers said_of count in
-      ap fact_kind (slice_get_past fs s.0 (omega arith)) ∙ sym (no_kind s h)
+  choice_at : (s : SymId) (rs : List Row) → rs ≡ map (row_of ss) (numbers count) → ((s.0 < count) ⊎ (count ≤ s.0)) → row_choice (slice_get rs s.0) ≡ choice_of ss s
+  choice_at s rs e (inl h) =
+      let there : slice_get rs s.0 ≡ Some (row_of ss s.0) = rw e (get-map_numbers (row_of ss) count s.0 h) in
+      ap row_choice there
+  choice_at s rs e (inr h) =
+      let n : length rs ≡ count = ap length e ∙ length-map_numbers (row_of ss) count in
+      ap row_choice (slice_get_past rs s.0 (omega arith)) ∙ sym (no_choice s h)
 
-  choice_at : (s : SymId) (fs : List Fact) → fs ≡ map said_of (numbers count) → ((s.0 < count) ⊎ (count ≤ s.0)) → fact_choice (slice_get fs s.0) ≡ choice_of ss s
-  choice_at s fs e (inl h) =
-      let there : slice_get fs s.0 ≡ Some (said_of s.0) = rw e (get-map_numbers said_of count s.0 h) in
-      ap fact_choice there
-  choice_at s fs e (inr h) =
-      let n : length fs ≡ count = ap length e ∙ length-map_numbers said_of count in
-      ap fact_choice (slice_get_past fs s.0 (omega arith)) ∙ sym (no_choice s h)
+module _ (ss : List Numbered) (symbols : List Symbol) (below : AreBelow (length symbols) ss) (are : AreSymbols ss symbols) where
+  -- the types by the first walk are those of the statements
+  pub kinds_known : kind_by symbols ≡ kind_of ss
+  kinds_known =
+      let at : (s : SymId) → kind_by symbols s ≡ kind_of ss s = λ s. seen_kind (slice_get symbols s.0) ∙ ap row_kind (sym (slice_get-map row_view symbols s.0)) ∙ kind_at ss (length symbols) below s (map row_view symbols) are (below_or_past s.0 (length symbols)) in
+      λ i s. at s i
 
-  -- what the first passes say of the symbols is what warnings and refusals ask for
-  pub known_is : (ks : List Known) → map known_view ks ≡ map (known_symbol ss) (numbers count) → IsKnown ss ks
-  known_is ks e =
-      let kinds : (s : SymId) → kind_by ks s ≡ kind_of ss s = λ s. seen_kind (slice_get ks s.0) ∙ ap fact_kind (sym (slice_get-map known_view ks s.0)) ∙ kind_at s (map known_view ks) e (below_or_past s.0 count) in
-      let choices : (s : SymId) → choice_by ks s ≡ choice_of ss s = λ s. seen_choice (slice_get ks s.0) ∙ ap fact_choice (sym (slice_get-map known_view ks s.0)) ∙ choice_at s (map known_view ks) e (below_or_past s.0 count) in
-      record { kinds = λ i s. kinds s i; choices = λ i s. choices s i }
+  -- and so are the choices
+  pub choices_known : choice_by symbols ≡ choice_of ss
+  choices_known =
+      let at : (s : SymId) → choice_by symbols s ≡ choice_of ss s = λ s. seen_choice (slice_get symbols s.0) ∙ ap row_choice (sym (slice_get-map row_view symbols s.0)) ∙ choice_at ss (length symbols) below s (map row_view symbols) are (below_or_past s.0 (length symbols)) in
+      λ i s. at s i

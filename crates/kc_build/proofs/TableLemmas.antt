@@ -12,15 +12,11 @@ use Rattle.kc_expr.specs.declared.expression.Kind.{Kind}
 use Rattle.kc_expr.specs.Names.{symbol}
 use Rattle.kc_read.specs.Statements.{Numbered}
 use Rattle.kc_read.specs.Blocks.{numbers, attributes}
-use Rattle.kc_tree.specs.Words.{is_symbol_of, listed}
-use Rattle.kc_build.specs.Facts.{symbol_of, symbol_at, first_of, type_of, choice_round, dep, prompt_at, kind_of, choice_of, selectors_of, impliers_of}
-use Rattle.kc_tree.specs.Definitions.{facts_from}
-use Rattle.kc_tree.specs.TreeFacts.{SymbolFacts}
-use Rattle.kc_build.specs.Rounds.{Surroundings, round}
-use Rattle.kc_tree.specs.Conditions.{default_line, range_line, defined_by}
+use Rattle.kc_tree.specs.Words.{is_symbol_of}
+use Rattle.kc_build.specs.Facts.{symbol_of, symbol_at, first_of, type_of, choice_round}
 use Rattle.kc_read.specs.declared.line.Line.{Line}
 use Rattle.kc_read.specs.Reads.{statement_view}
-use Rattle.kc_build.specs.Passes.{said_by, change, changed, type_at}
+use Rattle.kc_build.specs.Passes.{said_by, change, changed}
 use Rattle.kc_build.proofs.BlockLemmas.{numbers_from, numbers-from}
 use Rattle.kc_build.proofs.PlaceLemmas.{filter-next, statement_at, length-said_by}
 
@@ -114,16 +110,6 @@ module _ (ss : List Numbered) where
   first-append [] ys = refl
   first-append (x ∷ xs) ys = refl
 
-  type_step : (i : ℕ) (o : Option SymId) → symbol_at ss i ≡ o → (s : ℕ) (ds : List ℕ) → o ≡ Some (symbol s) → option_or (first_type_of s ds) (type_at ss i) ≡ first_type_of s (ds ++ i ∷ [])
-  type_step i o e s ds q =
-      let found : type_at ss i ≡ first_of (filter_map type_of (attributes ss i)) = rw (e, q) refl in
-      let more : flat_map (attributes ss) (ds ++ i ∷ []) ≡ flat_map (attributes ss) ds ++ attributes ss i = flat_map-append (attributes ss) ds (i ∷ []) ∙ ap (λ l. flat_map (attributes ss) ds ++ l) (append-nil (attributes ss i)) in
-      rw (found, more, filter_map-append type_of (flat_map (attributes ss) ds) (attributes ss i)) (sym (first-append (filter_map type_of (flat_map (attributes ss) ds)) (filter_map type_of (attributes ss i))))
-
-  pub types_next : (i count : ℕ) (table new : List (Option Kind)) (o : Option SymId) (found : Option Kind) → table ≡ map (λ s. first_type_of s (defined_before i s)) (numbers count) → o ≡ symbol_at ss i → found ≡ type_at ss i → new ≡ changed (λ t. option_or t found) o table → new ≡ map (λ s. first_type_of s (defined_before (i + 1) s)) (numbers count)
-  types_next i count table new o found h e f n =
-      n ∙ rw (h, f) (defined_next first_type_of (λ t. option_or t (type_at ss i)) i count o (sym e) (λ s ds q. type_step i o (sym e) s ds q))
-
   -- The first choices.
   abbrev pub first_choice_of : ℕ → List ℕ → Option ℕ
   first_choice_of s ds = first_of (filter_map (choice_round ss) ds)
@@ -139,29 +125,6 @@ module _ (ss : List Numbered) where
   pub choices_next : (i count : ℕ) (table new : List (Option ℕ)) (o : Option SymId) (found : Option ℕ) → table ≡ map (λ s. first_choice_of s (defined_before i s)) (numbers count) → o ≡ symbol_at ss i → found ≡ choice_round ss i → new ≡ changed (λ t. option_or t found) o table → new ≡ map (λ s. first_choice_of s (defined_before (i + 1) s)) (numbers count)
   choices_next i count table new o found h e f n =
       n ∙ rw (h, f) (defined_next first_choice_of (λ t. option_or t (choice_round ss i)) i count o (sym e) (λ s ds q. choice_step i s ds))
-
-  -- The facts that the definitions so far give.
-  more : {A : Type 0} (f : ℕ → List A) (ds : List ℕ) (i : ℕ) → flat_map f ds ++ f i ≡ flat_map f (ds ++ i ∷ [])
-  more f ds i = sym (flat_map-append f ds (i ∷ []) ∙ ap (λ l. flat_map f ds ++ l) (append-nil (f i)))
-
-  as_list : {A : Type 0} (o : Option A) → listed o ≡ cons_option o []
-  as_list None = refl
-  as_list (Some a) = refl
-
-  facts_step : (i s : ℕ) (ds : List ℕ) → defined_by (round ss i) (attributes ss i) (facts_from ss (symbol s) ds) ≡ facts_from ss (symbol s) (ds ++ i ∷ [])
-  facts_step i s ds =
-      let d = sym (map-append (dep ss) ds (i ∷ [])) in
-      let p = ap (λ l. filter_map (prompt_at ss) ds ++ l) (as_list (prompt_at ss i)) ∙ sym (filter_map-append (prompt_at ss) ds (i ∷ [])) in
-      let v = more (λ j. filter_map (default_line (dep ss j)) (attributes ss j)) ds i in
-      let r = more (λ j. filter_map (range_line (dep ss j)) (attributes ss j)) ds i in
-      λ k. record { kind = kind_of ss (symbol s); choice = choice_of ss (symbol s); deps = d k; prompts = p k; defaults = v k; ranges = r k; selectors = selectors_of ss (symbol s); impliers = impliers_of ss (symbol s) }
-
-  abbrev pub facts_so_far : ℕ → ℕ → SymbolFacts
-  facts_so_far i s = facts_from ss (symbol s) (defined_before i s)
-
-  pub facts_next : (i count : ℕ) (table new : List SymbolFacts) (around : Surroundings) → table ≡ map (facts_so_far i) (numbers count) → around ≡ round ss i → new ≡ changed (defined_by around (attributes ss i)) (symbol_at ss i) table → new ≡ map (facts_so_far (i + 1)) (numbers count)
-  facts_next i count table new around h e n =
-      n ∙ rw (h, e) (defined_next (λ s ds. facts_from ss (symbol s) ds) (defined_by (round ss i) (attributes ss i)) i count (symbol_at ss i) refl (λ s ds q. facts_step i s ds))
 
 -- The symbol of a line.
 pub symbol-at : (ls : List Line) (i : ℕ) (x : Line) (o : Option SymId) → i < length ls → x ≡ get_or ls i x → o ≡ symbol_of (Some (statement_view x.statement)) → o ≡ symbol_at (said_by ls) i

@@ -24,7 +24,7 @@ use Rattle.kc_tree.specs.Words.{listed}
 use Rattle.kc_build.specs.Facts.{entries, choice_round, choice_of, kind_of, of_block, symbol_facts, places}
 use Rattle.kc_build.specs.Trees.{facts_with}
 use Rattle.kc_build.specs.Firsts.{is_first_at}
-use Rattle.kc_build.specs.Warnings.{bad_members, bad_defaults, is_bad_member, entry_name, late_refusals, owner_at, owner_symbol, refused_at}
+use Rattle.kc_build.specs.Warnings.{bad_members, bad_defaults, is_bad_member, entry_name, late_refusals, menu_entry_at, entry_symbol, refused_at}
 use Rattle.kc_build.proofs.DefinedLemmas.{AreNames}
 use Rattle.kc_build.proofs.ElementLemmas.{All-at}
 use Rattle.kc_build.proofs.EntrySoundLemmas.{entries_sound}
@@ -105,7 +105,7 @@ module _ (names : List (List ℕ)) (ls : List (Placed Numbered)) where
 
   not_refused : (c : Code) (i : ℕ) → bad_at i (slice_get numbered i) ≡ true → refused_at names ls c i ≡ [] → ⊥
   not_refused c i h n =
-      let gone : slice_get ls i ≡ None = listed_none (slice_get ls i) (map_none (λ l. refused (record { code = c; detail = entry_name names (owner_symbol (owner_at numbered i)) }) l.file l.line) (listed (slice_get ls i)) n) in
+      let gone : slice_get ls i ≡ None = listed_none (slice_get ls i) (map_none (λ l. refused (record { code = c; detail = entry_name names (entry_symbol (menu_entry_at numbered i)) }) l.file l.line) (listed (slice_get ls i)) n) in
       let none : slice_get numbered i ≡ None = slice_get-map (λ l. l.statement) ls i ∙ ap (option_map (λ l. l.statement)) gone in
       let no : bad_at i (slice_get numbered i) ≡ false = ap (bad_at i) none in
       (let e : true ≡ false = sym h ∙ no in cc)

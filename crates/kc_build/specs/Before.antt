@@ -1,12 +1,14 @@
 -- For proofs: What the entries before a place say.
-use Rattle.std.specs.Prelude.{ℕ, List, [], codes, filter, map, length, take, if◌then◌else◌, Option, slice_get, unwrap_or}
-use Rattle.std.specs.Option.{option_map}
+use Rattle.std.specs.Prelude.{ℕ, List, [], codes, filter, map, take, if◌then◌else◌, Option, Some, None, slice_get, unwrap_or}
+use Rattle.std.specs.Option.{option_and_then, option_map}
 use Rattle.std.specs.List.{filter_map, flat_map}
 use Rattle.kc_expr.specs.declared.expression.SymId.{SymId}
 use Rattle.kc_read.specs.Blocks.{attributes, last_of, numbers}
 use Rattle.kc_read.specs.Statements.{Numbered}
 use Rattle.kc_read.specs.declared.statement.Block.TheVariants as block
-use Rattle.kc_build.specs.Facts.{can_be_target, choice_facts, defaults_at, dep, entry_at, imply_of, is_member_place, naming_at, of_block, prompt_at, range_under, select_of, symbol_at, title_of}
+use Rattle.kc_tree.specs.declared.parts.Symbol.{Symbol}
+use Rattle.kc_build.specs.Facts.{Given, can_be_target, choice_number, defaults_at, dep, entry_at, given_of, imply_of, is_member_place, named_under, naming_at, of_block, prompt_at, range_under, select_of, single_symbol, symbol_at, title_of}
+use Rattle.kc_build.specs.Known.{member_by}
 use Rattle.kc_tree.specs.Layouts.{DefinitionFacts}
 use Rattle.kc_tree.specs.TreeFacts.{Guarded, ChoiceFacts, Shown}
 
@@ -34,15 +36,22 @@ module _ (ss : List Numbered) where
   abbrev pub impliers_before : ℕ → SymId → List (Guarded SymId)
   impliers_before i t = if can_be_target ss t then flat_map (naming_at ss (imply_of t)) (numbers i) else []
 
-  -- the choices that open before a place, with their members before it
+  -- the choices that open before a place, with their members before it; what is a member is said by the symbols
   abbrev pub members_before : ℕ → ℕ → List SymId
   members_before i k = filter_map (symbol_at ss) (filter (is_member_place ss k) (numbers i))
 
-  abbrev pub choice_before : ℕ → ℕ → ChoiceFacts
-  choice_before i j = record (choice_facts ss j) { members = members_before i (length (filter (of_block ss block.Choice) (numbers j))) }
+  abbrev pub default_by : List Symbol → ℕ → Given → Option (Guarded SymId)
+  default_by symbols j g = option_and_then (λ s. if member_by symbols (choice_number ss j) s then Some (named_under ss j s g.when) else None) (single_symbol g.value)
 
-  abbrev pub choices_before : ℕ → List ChoiceFacts
-  choices_before i = map (choice_before i) (filter (of_block ss block.Choice) (numbers i))
+  abbrev pub choice_before : List Symbol → ℕ → ℕ → ChoiceFacts
+  choice_before symbols i j = record {
+    prompt = prompt_at ss j;
+    defaults = filter_map (default_by symbols j) (filter_map given_of (attributes ss j));
+    members = members_before i (choice_number ss j);
+  }
+
+  abbrev pub choices_before : List Symbol → ℕ → List ChoiceFacts
+  choices_before symbols i = map (choice_before symbols i) (filter (of_block ss block.Choice) (numbers i))
 
   -- the entries before a place
   abbrev pub entries_before : ℕ → List Shown

@@ -1,5 +1,5 @@
 -- For proofs: What the first walk knows of symbols, and what there is to say of lines by it.
-use Rattle.std.specs.Prelude.{◌≡◌, ℕ, ◌<◌, List, map, length, Option, Some, None, slice_get, option_map, unwrap_or, ◌==◌, ◌&&◌, nat_lt, is_none, Bool}
+use Rattle.std.specs.Prelude.{◌≡◌, ℕ, ◌<◌, List, map, length, Option, Some, None, slice_get, option_map, unwrap_or, ◌==◌, ◌&&◌, nat_lt, is_none, is_some, Bool, true}
 use Rattle.std.specs.List.{filter_map, list_any}
 use Rattle.std.specs.Option.{option_and_then}
 use Rattle.kc_expr.specs.declared.expression.SymId.{SymId}
@@ -7,14 +7,14 @@ use Rattle.kc_expr.specs.declared.expression.Kind.{Kind}
 use Rattle.kc_expr.specs.declared.expression.Kind.TheVariants as kind
 use Rattle.kc_expr.specs.Names.{symbol}
 use Rattle.kc_read.specs.Blocks.{numbers}
-use Rattle.kc_read.specs.Statements.{Numbered, ChoiceLine}
+use Rattle.kc_read.specs.Statements.{Numbered, ChoiceLine, EndMenuLine}
 use Rattle.kc_build.specs.declared.diagnostics.EntryPlace.{EntryPlace}
 use Rattle.kc_tree.specs.declared.parts.ChoiceId.{ChoiceId}
 use Rattle.kc_tree.specs.declared.parts.DefinitionId.{DefinitionId}
 use Rattle.kc_tree.specs.declared.parts.Symbol.{Symbol}
 use Rattle.kc_build.specs.declared.warning.Warning.{Warning}
 use Rattle.kc_tree.specs.Words.{listed}
-use Rattle.kc_build.specs.Facts.{kind_of, choice_of, choice_round, definitions_of, given_of, single_symbol, symbol_at, takes_kind}
+use Rattle.kc_build.specs.Facts.{kind_of, choice_of, choice_round, definitions_of, given_of, opener_of, single_symbol, symbol_at, takes_kind}
 use Rattle.kc_build.specs.Firsts.{is_first_at}
 use Rattle.kc_tree.specs.Parts.{definition_ids}
 use Rattle.kc_build.specs.Warnings.{menu_entry_at, said_with}
@@ -26,6 +26,10 @@ AreBelow count ss = (i : ℕ) (s : SymId) → symbol_at ss i ≡ Some s → s.0 
 -- no choice stands in another one
 abbrev pub AreChoicesApart : List Numbered → Type 0
 AreChoicesApart ss = (i : ℕ) → slice_get ss i ≡ Some ChoiceLine → choice_round ss i ≡ None
+
+-- each end of a menu closes a block
+abbrev pub AreMenusOpened : List Numbered → Type 0
+AreMenusOpened ss = (i : ℕ) → slice_get ss i ≡ Some EndMenuLine → is_some (opener_of ss i) ≡ true
 
 -- What the first walk finds of a symbol: its type, its choice and the numbers of its definitions.
 pub record Row : Type 0 where
@@ -55,6 +59,12 @@ row_of ss s = record {
 -- the symbols of a list of statements
 abbrev pub AreSymbols : List Numbered → List Symbol → Type 0
 AreSymbols ss symbols = map row_view symbols ≡ map (row_of ss) (numbers (length symbols))
+
+-- a list that is walked over whole, and the symbols that are known of it
+pub record IsWhole (ss : List Numbered) (symbols : List Symbol) : Type 0 where
+  pub symbols_are : AreSymbols ss symbols
+  pub below : AreBelow (length symbols) ss
+  pub ends : AreMenusOpened ss
 
 -- the choice and the type of a symbol, by what is known of the symbols
 abbrev pub choice_by : List Symbol → SymId → Option ℕ

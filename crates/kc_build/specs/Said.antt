@@ -82,6 +82,6 @@ pub record AreSaid (ss : List Numbered) (symbols : List Symbol) (t : Tables) (ma
   pub definitions : map (definition_facts t) t.definitions.items ≡ definitions_before ss (length ss)
   pub selectors : (s : ℕ) → s < length symbols → selectors_at t s ≡ selectors_before ss (length ss) (symbol s)
   pub impliers : (s : ℕ) → s < length symbols → impliers_at t s ≡ impliers_before ss (length ss) (symbol s)
-  pub choices : map (choice_in t) t.choices.items ≡ choices_before ss (length ss)
+  pub choices : map (choice_in t) t.choices.items ≡ choices_before ss symbols (length ss)
   pub entries : map (shown_of t) t.entries.items ≡ entries_before ss (length ss)
   pub main_menu_is : main_menu ≡ main_menu_before ss (length ss)

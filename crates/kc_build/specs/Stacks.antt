@@ -8,6 +8,7 @@ use Rattle.kc_tree.specs.Contexts.{IsPlain, condition_in}
 use Rattle.kc_build.specs.Facts.{entry_number, opener_of}
 use Rattle.kc_build.specs.Rounds.{round}
 use Rattle.kc_tree.specs.TreeFacts.{Condition}
+use Rattle.kc_tree.specs.declared.parts.Title.{Title}
 use Rattle.kc_build.specs.declared.blocks.Block.{Block}
 use Rattle.kc_build.specs.declared.blocks.Blocks.{Blocks}
 
@@ -59,6 +60,10 @@ AreBlocksVisible conditions blocks = (j : ℕ) (b : Block) → slice_get (open_b
 
 abbrev pub AreBlocksPlain : List Condition → Blocks → Type 0
 AreBlocksPlain conditions blocks = (j : ℕ) (b : Block) → slice_get (open_blocks blocks) j ≡ Some b → IsPlain conditions b.visible.0
+
+-- what is asked of what is visible round a title is there
+abbrev pub AreTitlesWithin : List Condition → List Title → Type 0
+AreTitlesWithin conditions ts = (i : ℕ) (t : Title) → slice_get ts i ≡ Some t → t.visible.0 < length conditions
 
 -- the context with the number 0 asks for nothing
 abbrev pub AsksNothing : List Condition → Type 0

@@ -5,10 +5,10 @@ ghost use Rattle.kc_expr.specs.Form.{form_of};
 ghost use Rattle.kc_read.specs.Reads.{line_view, statement_view};
 ghost use Rattle.kc_read.specs.Statements.{Numbered, ConfigLine, IfLine, MenuLine, CommentLine, ChoiceLine, EndMenuLine};
 ghost use Rattle.kc_tree.specs.declared.parts.Symbol.{Symbol};
-ghost use Rattle.kc_build.specs.Known.{AreBelow, AreChoicesApart, AreSymbols, IsPlace};
+ghost use Rattle.kc_build.specs.Known.{AreBelow, AreChoicesApart, AreMenusOpened, AreSymbols, IsPlace, IsWhole};
 ghost use Rattle.kc_build.specs.Passes.{said_by};
 ghost use Rattle.kc_build.specs.Said.{AreSaid, HasHeads, HasRoom, IsDiagnosed, IsSmall};
-ghost use Rattle.kc_build.specs.Stacks.{AreBlocksPlain, AreBlocksVisible, AreBlocksWithin, AsksNothing, IsPlainHead};
+ghost use Rattle.kc_build.specs.Stacks.{AreBlocksPlain, AreBlocksVisible, AreBlocksWithin, AreTitlesWithin, AsksNothing, IsPlainHead};
 ghost use Rattle.kc_tree.specs.Contexts.{IsPlain, condition_in};
 ghost use Rattle.kc_tree.specs.Layouts.{choice_facts as choice_in};
 
@@ -41,11 +41,12 @@ struct Walk {
     ghost within: { AreBlocksWithin tables.contexts blocks },
     ghost visible: { AreBlocksVisible tables.contexts blocks },
     ghost plain: { AreBlocksPlain tables.contexts blocks },
+    ghost titles: { AreTitlesWithin tables.contexts tables.titles.items },
 }
 
 impl Walk {
     ghost use Rattle.kc_build.specs.Walks.{Enters, IsHead, IsWalk};
-    ghost use Rattle.kc_build.specs.WalkSteps.{AddsTitle, KeepsAllButChoices, with_member};
+    ghost use Rattle.kc_build.specs.WalkSteps.{AddsDefinition, AddsTitle, KeepsAllButChoices, with_member};
 
     // The number of the next definition.
     fn next_definition(&self) -> DefinitionId
@@ -63,6 +64,31 @@ impl Walk {
         self.tables.entries.len() as u32
     }
 
+    // A definition of a symbol: what its entry depends on, its prompt, its defaults and its ranges.
+    fn add_definition(
+        &mut self,
+        alloc: Global,
+        symbol: SymId,
+        own: &[Line],
+    ) -> Result<(), AllocError>
+        requires { HasRoom (length own.now) self.old.tables }
+        ensures { OnOk result (AddsDefinition symbol (said_by own.now) self.old self.new) }
+    {
+        let round = self.blocks.innermost();
+        let within = entry_context(&mut self.tables.contexts, round.within, own)?;
+        let prompt = prompt(own, round.visible)?;
+        let defaults = add_defaults(own, &mut self.tables.defaults)?;
+        let ranges = add_ranges(alloc, own, &mut self.tables.ranges)?;
+        self.tables.definitions.push(Definition {
+            symbol,
+            within,
+            prompt,
+            defaults,
+            ranges,
+        })?;
+        Ok(())
+    }
+
     // A `config` entry.
     fn define(
         &mut self,
@@ -76,18 +102,7 @@ impl Walk {
         ensures { OnOk result (Enters symbols.now (ConfigLine symbol) (said_by own.now) self.old self.new) }
     {
         let id = self.next_definition();
-        let round = self.blocks.innermost();
-        let within = entry_context(&mut self.tables.contexts, round.within, own)?;
-        let prompt = prompt(own, round.visible)?;
-        let defaults = add_defaults(own, &mut self.tables.defaults)?;
-        let ranges = add_ranges(alloc, own, &mut self.tables.ranges)?;
-        self.tables.definitions.push(Definition {
-            symbol,
-            within,
-            prompt,
-            defaults,
-            ranges,
-        })?;
+        self.add_definition(alloc, symbol, own)?;
         add_reverses(&mut self.tables.reverses, symbols, id, own)?;
         if is_first(symbols, symbol, id) {
             self.tables.entries.push(Entry::Symbol(symbol))?;
@@ -249,7 +264,7 @@ impl Walk {
     // What is known of the entry that a statement begins, before the walk goes into it.
     fn place_of(&self, symbols: &[Symbol], head: &Statement) -> EntryPlace
         requires { length self.now.tables.definitions.items < 2 ^ 32 }
-        ensures { (ss : List Numbered) (i : ℕ) (own : List Numbered) → AreSymbols ss symbols.now → IsHead ss i (statement_view head.now) own → IsWalk ss symbols.now i self.now → IsPlace ss i result }
+        ensures { (ss : List Numbered) (i : ℕ) (own : List Numbered) → IsWhole ss symbols.now → IsHead ss i (statement_view head.now) own → IsWalk ss symbols.now i self.now → IsPlace ss i result }
     {
         let round = self.tables.contexts.mode(self.blocks.innermost().within);
         match head {
@@ -293,6 +308,7 @@ pub fn walk_entries(
     requires symbols { AreSymbols (said_by lines.now) symbols.now }
     requires below { AreBelow (length symbols.now) (said_by lines.now) }
     requires apart { AreChoicesApart (said_by lines.now) }
+    requires ends { AreMenusOpened (said_by lines.now) }
     requires few { 4 * length lines.now + 8 < 2 ^ 32 }
     ensures said { IfOk result (λ s. AreSaid (said_by lines.now) symbols.now s.tables s.main_menu.items) }
     ensures small { IfOk result (λ s. IsSmall (length lines.now) s.tables) }

@@ -67,11 +67,23 @@ fn add_reverse(
         return Ok(());
     }
     let when = share(target.when)?;
-    let heads = match target.kind {
-        ReverseKind::Select => &mut reverses.selects,
-        ReverseKind::Imply => &mut reverses.implies,
-    };
-    add_line(&mut reverses.lines, heads, target.symbol, source, when)
+    let symbol = target.symbol;
+    match target.kind {
+        ReverseKind::Select => add_line(
+            &mut reverses.lines,
+            &mut reverses.selects,
+            symbol,
+            source,
+            when,
+        ),
+        ReverseKind::Imply => add_line(
+            &mut reverses.lines,
+            &mut reverses.implies,
+            symbol,
+            source,
+            when,
+        ),
+    }
 }
 
 /// Adds what the attributes of a definition select and imply.

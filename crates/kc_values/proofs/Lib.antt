@@ -14,6 +14,12 @@ pub mod Trees
 pub mod WorkedRows
 pub mod NumberRows
 pub mod Joined
+pub mod TriLemmas
+pub mod ConditionLemmas
+pub mod Laid
+pub mod ChainLemmas
+pub mod DefinitionLemmas
+pub mod OpenLemmas
 pub mod SmallNumbers
 pub mod SettledWrites
 pub mod RowSteps

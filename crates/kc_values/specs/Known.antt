@@ -53,7 +53,7 @@ IsOpenDefault t (Some g) (Some found) = (form_of found.0.now.value.value ≡ g.w
 abbrev pub IsOpenRange : Table → Option (Guarded Bounds) → Option (Bor SymbolRange) → Type 0
 IsOpenRange t None o = o ≡ None
 IsOpenRange t (Some g) None = ⊥
-IsOpenRange t (Some g) (Some r) = (leaf_of r.now.bounds.low ≡ g.what.low) × (leaf_of r.now.bounds.high ≡ g.what.high)
+IsOpenRange t (Some g) (Some r) = (leaf_of r.now.low ≡ g.what.low) × (leaf_of r.now.high ≡ g.what.high)
 
 -- where the selection of a choice is settled, it is the selection under this member of the user's
 abbrev pub IsSelected : Table → ℕ → Option SymId → Type 0

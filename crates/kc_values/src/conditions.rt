@@ -49,8 +49,8 @@ pub fn own(when: &Option<Rc<Expr>>, table: &Table<'_>) -> Tri
 
 // The least of a value and of what the contexts from this one outwards ask for, up to one that is settled.
 fn asked(table: &Table<'_>, within: ContextId, first: Tri) -> Tri
-    requires { lesser first (spec.mode_value table.now.tree.now (known_at table.now) (condition_at table.now within).mode) ≡ first }
-    ensures { result ≡ lesser first (spec.all_hold (known_at table.now) (condition_at table.now within).parts) }
+    requires { lesser first (spec.mode_value table.now.tree.now (known_at table.now) (condition_at table.now within.0).mode) ≡ first }
+    ensures { result ≡ lesser first (spec.all_hold (known_at table.now) (condition_at table.now within.0).parts) }
 {
     let mut least = first;
     let mut at = within;
@@ -102,7 +102,7 @@ fn mode_value(table: &Table<'_>, mode: Option<ChoiceId>) -> Tri
 /// What a context is worth: the `&&` of what it and those outside ask for, and of the mode of the choice round it (the
 /// kernel's kconfig-language document, "Menu dependencies").
 pub fn context(table: &Table<'_>, within: ContextId) -> Tri
-    ensures { result ≡ spec.condition table.now.tree.now (known_at table.now) (condition_at table.now within) }
+    ensures { result ≡ spec.condition table.now.tree.now (known_at table.now) (condition_at table.now within.0) }
 {
     match table.settled_context(within) {
         Some(value) => value,
@@ -123,7 +123,7 @@ fn guarded(first: Tri, when: &Option<Rc<Expr>>, table: &Table<'_>) -> Tri
 
 /// What a line is worth that depends on a context and on its own `if`.
 pub fn condition(table: &Table<'_>, within: ContextId, when: &Option<Rc<Expr>>) -> Tri
-    ensures { result ≡ spec.condition table.now.tree.now (known_at table.now) (with_when (condition_at table.now within) (when_view when.now)) }
+    ensures { result ≡ spec.condition table.now.tree.now (known_at table.now) (with_when (condition_at table.now within.0) (when_view when.now)) }
 {
     guarded(context(table, within), when, table)
 }
@@ -131,7 +131,7 @@ pub fn condition(table: &Table<'_>, within: ContextId, when: &Option<Rc<Expr>>) 
 /// The condition of a prompt, whose entry depends on a context.
 pub fn prompt_condition(table: &Table<'_>, within: ContextId, prompt: &Prompt) -> Tri
     requires { IsPlain table.now.layout.now.tables.contexts prompt.now.visible.0 }
-    ensures { result ≡ spec.condition table.now.tree.now (known_at table.now) (prompt_view table.now.layout.now.tables.contexts (condition_at table.now within) prompt.now) }
+    ensures { result ≡ spec.condition table.now.tree.now (known_at table.now) (prompt_view table.now.layout.now.tables.contexts (condition_at table.now within.0) prompt.now) }
 {
     let first = lesser(context(table, within), context(table, prompt.visible));
     guarded(first, &prompt.when, table)
