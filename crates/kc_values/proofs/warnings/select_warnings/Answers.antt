@@ -14,4 +14,4 @@ returns c =
     c.is_above.ensures
     c.if-not-is_above.false
     c.in_ok-line.ensures
-    (ap (map (λ w. w.items)) c.push.ensures.items ∙ map-append (λ w. w.items) c.args.out.now.items (c.in_ok-line.line ∷ []))
+    (ap (map (λ w. w.items)) c.in_ok-push.ensures.items ∙ map-append (λ w. w.items) c.args.out.now.items (c.in_ok-line.line ∷ []))
