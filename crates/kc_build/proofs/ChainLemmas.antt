@@ -1,5 +1,5 @@
 -- Chains of the lines that select and imply: what a chain says of the lines, and one line more.
-use Rattle.std.proofs.Common.{◌≡◌, ℕ, zero, suc, ◌+◌, ◌<◌, List, [], ◌∷◌, ◌++◌, length, reverse, Option, Some, None, refl, ap, sym, ◌∙◌, arith, get_or, length-append}
+use Rattle.std.proofs.Common.{◌≡◌, ℕ, zero, suc, ◌+◌, ◌<◌, List, [], ◌∷◌, ◌++◌, length, reverse, Option, Some, None, refl, ap, sym, ◌∙◌, arith, get_or, length-append, subst}
 use Rattle.std.specs.List.{slice_get, filter_map, All, cons_option}
 use Rattle.std.specs.Option.{option_map}
 use Rattle.std.proofs.Math.Seq.{get_or-append_seam}
@@ -95,7 +95,7 @@ below-from chains (x ∷ rs) h =
 pub chain-there : (lines : List Reverse) (last : Option ReverseId) → AllBelow (length lines) (chain_of (chains_of lines) last)
 chain-there lines last =
     let all : All (AllBelow (length (chains_of lines))) (chains_of lines) = below-from [] lines (All-nil (AllBelow (length {A = List ℕ} []))) in
-    chain-below (length lines) (chains_of lines) last (rw (length-chains lines) at all)
+    chain-below (length lines) (chains_of lines) last (subst (λ n. All (AllBelow n) (chains_of lines)) (length-chains lines) all)
 
 -- what is read of the lines of a chain
 module _ {A : Type 0} (read : Option Reverse → Option A) where

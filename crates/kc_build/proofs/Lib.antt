@@ -1,4 +1,5 @@
 mod AssemblyLemmas
+mod AttributeLemmas
 mod BlockLemmas
 mod BuildLemmas
 mod ChainLemmas
@@ -6,9 +7,11 @@ mod ChoiceLemmas
 mod CollectLemmas
 mod ConditionLemmas
 mod CopyLemmas
+mod DefineLemmas
 mod DefinedLemmas
 mod DiagnosedLemmas
 mod ElementLemmas
+mod EnterLemmas
 mod EntryLemmas
 mod EntrySoundLemmas
 mod EntryWalkLemmas
@@ -16,9 +19,11 @@ mod ExpansionLemmas
 mod FirstLemmas
 mod FormedLemmas
 mod GrownLemmas
+mod HeldLemmas
 mod KnownLemmas
-mod LateLemmas
+mod LayoutLemmas
 mod LineTextLemmas
+mod LineWalkLemmas
 mod MemberLemmas
 mod MemberSoundLemmas
 mod MembersLemmas
@@ -27,7 +32,8 @@ mod MenuEntryLemmas
 mod NameLemmas
 mod NestLemmas
 mod NumberingLemmas
-mod PassedLemmas
+mod OpenLemmas
+mod OpenerLemmas
 mod PlaceLemmas
 mod RaiseLemmas
 mod ReadTextLemmas
@@ -43,6 +49,7 @@ mod ShownLemmas
 mod SoundLemmas
 mod StackLemmas
 mod TableLemmas
+mod TitleLemmas
 mod TreeTextLemmas
-mod WarningLemmas
+mod WalkLemmas
 mod WholeLemmas

@@ -1,12 +1,18 @@
 -- The lines of a definition that select and imply, as they are added.
 use Rattle.std.proofs.Common.{◌≡◌, ◌≢◌, ℕ, ◌+◌, ◌<◌, ◌≤◌, Bool, true, false, ◌&&◌, ◌==◌, if◌then◌else◌, List, [], ◌∷◌, ◌++◌, length, drop, Option, Some, None, refl, ap, sym, ◌∙◌, arith, get_or, slice_set, append_assoc, length-append, subst, inl, inr, nat_lt}
-use Rattle.std.specs.Prelude.{◌⊎◌}
+use Rattle.std.specs.Prelude.{◌⊎◌, OnOk, OnErr, Result, Ok, Err}
 use Rattle.std.specs.List.{slice_get, flat_map, All}
+use Rattle.std.specs.Global.{Vec}
+use Rattle.std.specs.Vec.{with_items}
 use Rattle.std.specs.Option.{option_map}
 use Rattle.std.proofs.lemmas.Bool.{cases_lt, eq-eqb, eqb-true, false≢true, ltb-true}
-use Rattle.std.proofs.lemmas.List.{append-nil, length-set, get_or-set_same, get_or-set_other}
+use Rattle.std.proofs.lemmas.List.{append-nil, length-set, get_or-set_same, get_or-set_other, with_items_is}
 use Rattle.std.proofs.lemmas.List.Elements.{All-push}
 use Rattle.std.proofs.lemmas.Option.{none-some, same_Some}
+use Rattle.std.specs.declared.alloc.AllocError.{AllocError}
+use Rattle.std.specs.declared.alloc.Global.{Global}
+use Rattle.std.specs.declared.rc.Rc.{Rc}
+use Rattle.kc_expr.specs.declared.expression.Expr.{Expr}
 use Rattle.kc_expr.specs.declared.expression.SymId.{SymId}
 use Rattle.kc_expr.specs.Form.{Form}
 use Rattle.kc_expr.specs.When.{when_view}
@@ -191,6 +197,54 @@ module _ (symbols : List Symbol) (source : DefinitionId) where
     count = ap length q;
     same = pushed-count _ _ s when _ _ p;
   }
+
+  -- What one line more comes to: it is there, or nothing changed.
+  abbrev pub Pushes : List Reverse → List (Option ReverseId) → SymId → Option Form → List Reverse → List (Option ReverseId) → Result (Unit {0}) AllocError → Type 0
+  Pushes old heads s when new after (Ok u) = IsPushed old heads s when new after
+  Pushes old heads s when new after (Err e) = (new ≡ old) × (after ≡ heads)
+
+  pub pushes : (r : Result (Unit {0}) AllocError) (old new : List Reverse) (heads now raw after : List (Option ReverseId)) (s : SymId) (w : Option (Rc Expr Global)) (when : Option Form) → when_view w ≡ when → now ≡ heads → after ≡ raw → OnOk r (new ≡ old ++ record { source = source; when = w; next = get_or now s.0 None } ∷ []) → OnOk r (raw ≡ slice_set now s.0 (Some (record { 0 = length old }))) → OnErr r (new ≡ old) → OnErr r (raw ≡ now) → Pushes old heads s when new after r
+  pushes (Ok u) old new heads now raw after s w when v e a line head stay same = record {
+    row = record { source = source; when = w; next = get_or heads s.0 None };
+    source_is = refl;
+    when_is = v;
+    next_is = refl;
+    lines_are = line ∙ ap (λ (hs : List (Option ReverseId)). old ++ record { source = source; when = w; next = get_or hs s.0 None } ∷ []) e;
+    heads_are = a ∙ head ∙ ap (λ (hs : List (Option ReverseId)). slice_set hs s.0 (Some (record { 0 = length old }))) e;
+  }
+  pushes (Err x) old new heads now raw after s w when v e a line head stay same = (stay, a ∙ same ∙ e)
+
+  -- the same where the heads are those of a vector that was lent as a slice
+  pub pushes_in : (r : Result (Unit {0}) AllocError) (old new : List Reverse) (v : Vec (Option ReverseId)) (now ws : List (Option ReverseId)) (s : SymId) (w : Option (Rc Expr Global)) (when : Option Form) → when_view w ≡ when → now ≡ v.items → length ws ≡ length now → length now ≡ v.len → OnOk r (new ≡ old ++ record { source = source; when = w; next = get_or now s.0 None } ∷ []) → OnOk r (ws ≡ slice_set now s.0 (Some (record { 0 = length old }))) → OnErr r (new ≡ old) → OnErr r (ws ≡ now) → Pushes old v.items s when new (with_items v ws).items r
+  pushes_in r old new v now ws s w when a e m n line head stay same =
+      pushes r old new v.items now ws (with_items v ws).items s w when a e (with_items_is v ws (m ∙ n)) line head stay same
+
+  module _ (old : List Reverse) (heads : List (Option ReverseId)) (s : SymId) (when : Option Form) (new : List Reverse) (after : List (Option ReverseId)) (l : s.0 < length heads) (h : AreHeads old heads) where
+    pub chained_by : (r : Result (Unit {0}) AllocError) → Pushes old heads s when new after r → AreChained old → AreChained new
+    chained_by (Ok u) p c = pushed-chained old heads s when new after p h c
+    chained_by (Err e) p c = subst AreChained (sym p.0) c
+
+    pub heads_by : (r : Result (Unit {0}) AllocError) → Pushes old heads s when new after r → AreHeads new after
+    heads_by (Ok u) p = pushed-heads old heads s when new after p l h
+    heads_by (Err e) p = subst (λ (xs : List Reverse). AreHeads xs after) (sym p.0) (subst (AreHeads old) (sym p.1) h)
+
+    pub others_by : (r : Result (Unit {0}) AllocError) (others : List (Option ReverseId)) → Pushes old heads s when new after r → AreHeads old others → AreHeads new others
+    others_by (Ok u) others p k = pushed-stay old heads s when new after p others k
+    others_by (Err e) others p k = subst (λ (xs : List Reverse). AreHeads xs others) (sym p.0) k
+
+    pub sources_by : (r : Result (Unit {0}) AllocError) → Pushes old heads s when new after r → KeepSources source.0 old new
+    sources_by (Ok u) p = pushed-sources old heads s when new after p
+    sources_by (Err e) p = sources-same source.0 old new p.0
+
+  pub select_by : (r : Result (Unit {0}) AllocError) (old new : Reverses) (s : SymId) (when : Option Form) (kind : ReverseKind) → kind ≡ reverse_kind.Select → true ≡ can_be_target symbols s → s.0 < length old.selects.items → Pushes old.lines.items old.selects.items s when new.lines.items new.selects.items r → new.implies.items ≡ old.implies.items → OnOk r (IsAdded symbols source old (kind, s, when) new)
+  select_by (Ok u) old new s when kind k t l p q =
+      subst (λ (x : ReverseKind). IsAdded symbols source old (x, s, when) new) (sym k) (select_added old new s when t l p q)
+  select_by (Err e) old new s when kind k t l p q = tt
+
+  pub imply_by : (r : Result (Unit {0}) AllocError) (old new : Reverses) (s : SymId) (when : Option Form) (kind : ReverseKind) → kind ≡ reverse_kind.Imply → true ≡ can_be_target symbols s → s.0 < length old.implies.items → Pushes old.lines.items old.implies.items s when new.lines.items new.implies.items r → new.selects.items ≡ old.selects.items → OnOk r (IsAdded symbols source old (kind, s, when) new)
+  imply_by (Ok u) old new s when kind k t l p q =
+      subst (λ (x : ReverseKind). IsAdded symbols source old (x, s, when) new) (sym k) (imply_added old new s when t l p q)
+  imply_by (Err e) old new s when kind k t l p q = tt
 
   -- Along the lines of a definition.
   pub record IsAdding (own : List Line) (old : Reverses) (i : ℕ) (new : Reverses) : Type 0 where

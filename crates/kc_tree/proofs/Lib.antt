@@ -1,2 +1,3 @@
 mod ContextLemmas
+pub mod ContextLemmas
 pub mod TreeLemmas

@@ -8,4 +8,4 @@ number_lines-requires-clause-expanded c =
 pub returns-in-Ok-clause-listed : goal.returns-in-Ok-clause-listed
 returns-in-Ok-clause-listed c =
     let x = c.in_ok-expansion.ensures.expanded in
-    (x.0, x.1, c.in-Ok.ensures x.0 (rw c.new-mentioned.ensures at x.2))
+    (x.0, x.1, c.in-Ok.ensures.listed x.0 (rw c.new-mentioned.ensures at x.2))
