@@ -156,7 +156,7 @@ module _ (old new : List Condition) (g : Carries old new) where
   pub plain_carries : (v : ℕ) → v < length old → IsPlain old v → IsPlain new v
   plain_carries v h p = ap (λ (c : Condition). is_some c.mode) (g.keeps v h) ∙ p
 
-  further : (n : ℕ) → n < length old → n < length new
+  pub further : (n : ℕ) → n < length old → n < length new
   further n h = let l = g.longer in omega arith
 
   pub titles_carry : (ts : List Title) → AreTitlesWithin old ts → AreTitlesWithin new ts

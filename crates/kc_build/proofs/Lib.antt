@@ -4,6 +4,7 @@ mod BlockLemmas
 mod BuildLemmas
 mod ChainLemmas
 mod ChoiceLemmas
+mod CloserLemmas
 mod CollectLemmas
 mod ConditionLemmas
 mod CopyLemmas
@@ -17,6 +18,7 @@ mod EntrySoundLemmas
 mod EntryWalkLemmas
 mod ExpansionLemmas
 mod FirstLemmas
+mod FirstNumberLemmas
 mod FormedLemmas
 mod GrownLemmas
 mod HeldLemmas
@@ -30,12 +32,12 @@ mod MembersLemmas
 mod MenuEndLemmas
 mod MenuEntryLemmas
 mod NameLemmas
+mod NamedLemmas
 mod NestLemmas
 mod NumberingLemmas
 mod OpenLemmas
 mod OpenerLemmas
 mod PlaceLemmas
-mod RaiseLemmas
 mod ReadTextLemmas
 mod RenamedLemmas
 mod RenamingLemmas

@@ -22,6 +22,7 @@ pub mod DefinitionLemmas
 pub mod OpenLemmas
 pub mod SmallNumbers
 pub mod SettledWrites
-pub mod NameRows
-pub mod RowMarks
 pub mod RowSteps
+pub mod RowsMade
+pub mod ChainSteps
+pub mod ReverseRows
