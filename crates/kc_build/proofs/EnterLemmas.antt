@@ -78,7 +78,7 @@ module _ (ss : List Numbered) (i : ℕ) (head : Numbered) (own : List Numbered) 
       (s.0, ap (slice_get ss) (sym z) ∙ sym (get_behind ss (suc i) k) ∙ s.1, s.2)
 
   -- what no attribute changes, the line itself alone changes
-  over : {X : Type 0} (f : ℕ → X) → ((j : ℕ) (s : Numbered) → slice_get ss j ≡ Some s → is_attribute s ≡ true → f (j + 1) ≡ f j) → f after ≡ f (i + 1)
+  pub over : {X : Type 0} (f : ℕ → X) → ((j : ℕ) (s : Numbered) → slice_get ss j ≡ Some s → is_attribute s ≡ true → f (j + 1) ≡ f j) → f after ≡ f (i + 1)
   over f g = stay f (i + 1) (length own) (λ k l. let s = between k l in g (i + 1 + k) s.0 s.1 s.2)
 
   filter_map_over : {X : Type 0} (f : ℕ → Option X) → ((j : ℕ) (s : Numbered) → slice_get ss j ≡ Some s → is_attribute s ≡ true → f j ≡ None) → filter_map f (numbers after) ≡ filter_map f (numbers i) ++ cons_option (f i) []

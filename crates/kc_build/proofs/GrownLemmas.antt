@@ -156,7 +156,7 @@ module _ (old new : List Condition) (g : Carries old new) where
   pub plain_carries : (v : ℕ) → v < length old → IsPlain old v → IsPlain new v
   plain_carries v h p = ap (λ (c : Condition). is_some c.mode) (g.keeps v h) ∙ p
 
-  further : (n : ℕ) → n < length old → n < length new
+  pub further : (n : ℕ) → n < length old → n < length new
   further n h = let l = g.longer in omega arith
 
   pub titles_carry : (ts : List Title) → AreTitlesWithin old ts → AreTitlesWithin new ts
@@ -392,22 +392,28 @@ held_carries old new blocks ts g h =
       titles = titles_carry old new g ts h.titles;
     }
 
--- All of it as the ghost fields of a walk ask for it.
-abbrev pub Keeping : List Condition → List Definition → List Choice → List Title → Blocks → Type 0
-Keeping conditions ds cs ts blocks =
-    (AreWithin conditions ds × (ArePromptsWithin conditions ds × (ArePromptsPlain conditions ds × (AreChoicesWithin conditions cs × (AreChoicesPlain conditions cs × (AreChoicePromptsWithin conditions cs × (AreChoicePromptsPlain conditions cs × (AreTitlesPlain conditions ts × (AreModesBelow conditions (length cs) × (AreModesBehind conditions cs × (AreModePromptsBehind conditions cs × Unit {0})))))))))))
-    × (AsksNothing conditions × (IsPlain conditions 0 × (AreBlocksWithin conditions blocks × (AreBlocksVisible conditions blocks × (AreBlocksPlain conditions blocks × (AreTitlesWithin conditions ts × Unit {0}))))))
+-- All of it as the ghost fields of the tables and of a walk ask for it.
+abbrev pub Keeping : List Condition → List Definition → List Choice → List Title → Type 0
+Keeping conditions ds cs ts =
+    AreWithin conditions ds × (ArePromptsWithin conditions ds × (ArePromptsPlain conditions ds × (AreChoicesWithin conditions cs × (AreChoicesPlain conditions cs × (AreChoicePromptsWithin conditions cs × (AreChoicePromptsPlain conditions cs × (AreTitlesPlain conditions ts × (AreModesBelow conditions (length cs) × (AreModesBehind conditions cs × (AreModePromptsBehind conditions cs × Unit {0}))))))))))
 
-pub keeping : (conditions : List Condition) (ds : List Definition) (cs : List Choice) (ts : List Title) (blocks : Blocks) → AreKept conditions ds cs ts → AreHeld conditions blocks ts → Keeping conditions ds cs ts blocks
-keeping conditions ds cs ts blocks k h =
-    ((k.within, (k.prompts_within, (k.prompts_plain, (k.choices_within, (k.choices_plain, (k.choice_prompts_within, (k.choice_prompts_plain, (k.titles_plain, (k.modes_below, (k.modes_behind, (k.mode_prompts_behind, tt))))))))))), (h.asks_nothing, (h.top_plain, (h.within, (h.visible, (h.plain, (h.titles, tt)))))))
+pub keeping : (conditions : List Condition) (ds : List Definition) (cs : List Choice) (ts : List Title) → AreKept conditions ds cs ts → Keeping conditions ds cs ts
+keeping conditions ds cs ts k =
+    (k.within, (k.prompts_within, (k.prompts_plain, (k.choices_within, (k.choices_plain, (k.choice_prompts_within, (k.choice_prompts_plain, (k.titles_plain, (k.modes_below, (k.modes_behind, (k.mode_prompts_behind, tt)))))))))))
+
+abbrev pub Holding : List Condition → List Title → Blocks → Type 0
+Holding conditions ts blocks =
+    AsksNothing conditions × (IsPlain conditions 0 × (AreBlocksWithin conditions blocks × (AreBlocksVisible conditions blocks × (AreBlocksPlain conditions blocks × (AreTitlesWithin conditions ts × Unit {0})))))
+
+pub holding : (conditions : List Condition) (ts : List Title) (blocks : Blocks) → AreHeld conditions blocks ts → Holding conditions ts blocks
+holding conditions ts blocks h =
+    (h.asks_nothing, (h.top_plain, (h.within, (h.visible, (h.plain, (h.titles, tt))))))
 
 -- The same with more contexts.
-pub keeping_carries : (w : Walk) (new : List Condition) → Carries w.tables.contexts new → Keeping new w.tables.definitions.items w.tables.choices.items w.tables.titles.items w.blocks
+pub keeping_carries : (w : Walk) (new : List Condition) → Carries w.tables.contexts new → Keeping new w.tables.definitions.items w.tables.choices.items w.tables.titles.items
 keeping_carries w new g =
-    keeping new w.tables.definitions.items w.tables.choices.items w.tables.titles.items w.blocks
+    keeping new w.tables.definitions.items w.tables.choices.items w.tables.titles.items
     (kept_carries w.tables.contexts new g w.tables.definitions.items w.tables.choices.items w.tables.titles.items w.titles (kept_by w.tables))
-    (held_carries w.tables.contexts new w.blocks w.tables.titles.items g (held_by w))
 
 -- One row more, where there was room.
 abbrev pub pushed : {X : Type 0} → Bool → List X → X → List X
@@ -422,11 +428,11 @@ get_pushed_if {X} true xs new y i x e h = by_end (get_pushed xs y i x (sym (ap (
 get_pushed_if {X} false xs new y i x e h = inl (sym (ap (λ (l : List X). slice_get l i) e) ∙ h)
 
 -- a title more, which is shown under a context that is there and in which no mode counts
-pub keeping_title : (w : Walk) (b : Bool) (t : Title) (new : List Title) → new ≡ pushed b w.tables.titles.items t → t.visible.0 < length w.tables.contexts → IsPlain w.tables.contexts t.visible.0 → Keeping w.tables.contexts w.tables.definitions.items w.tables.choices.items new w.blocks
+pub keeping_title : (w : Walk) (b : Bool) (t : Title) (new : List Title) → new ≡ pushed b w.tables.titles.items t → t.visible.0 < length w.tables.contexts → IsPlain w.tables.contexts t.visible.0 → Keeping w.tables.contexts w.tables.definitions.items w.tables.choices.items new × Holding w.tables.contexts new w.blocks
 keeping_title w b t new e v p =
     let k = kept_by w.tables in
     let h = held_by w in
-    keeping w.tables.contexts w.tables.definitions.items w.tables.choices.items new w.blocks
+    (keeping w.tables.contexts w.tables.definitions.items w.tables.choices.items new
     (record {
       within = k.within;
       prompts_within = k.prompts_within;
@@ -439,8 +445,8 @@ keeping_title w b t new e v p =
       modes_below = k.modes_below;
       modes_behind = k.modes_behind;
       mode_prompts_behind = k.mode_prompts_behind;
-    })
-    (record { asks_nothing = h.asks_nothing; top_plain = h.top_plain; within = h.within; visible = h.visible; plain = h.plain; titles = λ i x at. within_by i x (get_pushed_if b w.tables.titles.items new t i x e at) })
+    }), holding w.tables.contexts new w.blocks
+    (record { asks_nothing = h.asks_nothing; top_plain = h.top_plain; within = h.within; visible = h.visible; plain = h.plain; titles = λ i x at. within_by i x (get_pushed_if b w.tables.titles.items new t i x e at) }))
   where
     plain_by : (i : ℕ) (x : Title) → (slice_get w.tables.titles.items i ≡ Some x) ⊎ (t ≡ x) → IsPlain w.tables.contexts x.visible.0
     plain_by i x (inl a) = w.tables.titles_plain i x a

@@ -45,7 +45,7 @@ fold_snoc : (g : ℕ → ℕ → ℕ) (a : ℕ) (xs : List ℕ) (x : ℕ) → fo
 fold_snoc g a [] x = refl
 fold_snoc g a (y ∷ xs) x = fold_snoc g (g a y) xs x
 
-count_next : (p : ℕ → Bool) (n : ℕ) → count_by p (numbers (suc n)) ≡ count_by p (numbers n) + cond (p n) 1 0
+pub count_next : (p : ℕ → Bool) (n : ℕ) → count_by p (numbers (suc n)) ≡ count_by p (numbers n) + cond (p n) 1 0
 count_next p n = fold_snoc (λ (a x : ℕ). a + cond (p x) 1 0) 0 (numbers n) n
 
 if_some : (b : Bool) (s : SymId) → b ≡ is_some (if b then Some (SymbolShown s) else None)

@@ -1,9 +1,9 @@
 -- One more node of the table filled, along an order of the nodes of a tree.
-use Rattle.std.proofs.Common.{◌≡◌, ◌≢◌, ◌⊎◌, ℕ, ◌<◌, ◌≤◌, ◌+◌, List, [], ◌∷◌, ◌++◌, length, Option, Some, None, sym, ◌∙◌, ap, inl, inr, refl, subst, arith, get_or, take, eqb}
+use Rattle.std.proofs.Common.{◌≡◌, ◌≢◌, ◌⊎◌, ℕ, ◌<◌, ◌≤◌, ◌+◌, List, [], ◌∷◌, ◌++◌, length, Option, Some, None, sym, ◌∙◌, ap, inl, inr, refl, subst, arith, get_or, take, eqb, flat_map}
 use Rattle.std.specs.Prelude.{slice_index_or, replicate}
 use Rattle.std.specs.List.{AllByRecursion, Contains}
 use Rattle.std.proofs.lemmas.Bool.{cases_eq, cases_lt, eqb-false}
-use Rattle.std.proofs.lemmas.List.{get_or_past, get_or-take, length-take-le, get_or_default, take_more, get_or-replicate, length-replicate}
+use Rattle.std.proofs.lemmas.List.{get_or_past, get_or-take, length-take-le, get_or_default, take_more, get_or-replicate, length-replicate, length-map}
 use Rattle.std.proofs.lemmas.List.Elements.{Contains-get_or, Contains-append_left, Contains-append_right, Contains-push_cases}
 use Rattle.std.proofs.lemmas.Map.Keys.{apart_from_distinct}
 use Rattle.kc_expr.specs.Names.{symbol}
@@ -17,9 +17,11 @@ use Rattle.kc_order.specs.Solution.{Solves}
 use Rattle.kc_order.proofs.Alike.{symbols_first}
 use Rattle.kc_order.proofs.Groups.{group_stands, needs_stand}
 use Rattle.kc_tree.specs.Contexts.{condition_in}
-use Rattle.kc_tree.specs.Layouts.{IsLayoutOf}
+use Rattle.kc_tree.specs.Layouts.{IsLayoutOf, choice_facts}
 use Rattle.kc_tree.specs.TreeFacts.{TreeFacts}
 use Rattle.kc_tree.specs.declared.layout.Layout.{Layout}
+use Rattle.kc_tree.proofs.TreeLemmas.{symbols-length}
+use Rattle.kc_user.specs.Given.{Given, Slot}
 use Rattle.kc_user.specs.Places.{member_place}
 use Rattle.kc_user.specs.declared.value.UserValue.{UserValue}
 use Rattle.kc_values.specs.Lookups.{choice_at}
@@ -29,11 +31,12 @@ use Rattle.kc_values.specs.Settled.{AreContextsSettled, rank}
 use Rattle.kc_values.specs.Solution.{symbol_count, equations}
 use Rattle.kc_values.specs.Table.{known_in}
 use Rattle.kc_values.specs.Values.{condition, selected}
+use Rattle.kc_values.specs.declared.table.Table.{Table}
 use Rattle.kc_values.specs.declared.table.Value.{Value}
 use Rattle.kc_values.proofs.OnlyNamed.{same_condition, same_selected}
 use Rattle.kc_values.proofs.TreeNeeds.{reads_rows}
 use Rattle.kc_solve.specs.Places.{places, valuation}
-use Rattle.kc_solve.specs.Filling.{IsNodeOrder, IsUnreadIn, AreFilledValues, OnlyAt, IsSelection, IsFilledTo}
+use Rattle.kc_solve.specs.Filling.{IsNodeOrder, IsUnreadIn, AreFilledValues, OnlyAt, IsSelection, IsFilledTo, IsFilledTable, IsFilledSymbol, IsSettledContext, IsSettledChoice}
 
 -- a front of a list
 in_front : (xs : List ℕ) (k t : ℕ) → k ≤ length xs → Contains (take k xs) t → (i : ℕ) × (i < k) × (get_or xs i 0 ≡ t)
@@ -57,14 +60,14 @@ front_cases xs k t l c = Contains-push_cases (take k xs) (get_or xs k 0) t (subs
 
 -- what is known stays but for one symbol
 known_but : (k m : SymId → Known) (id : SymId) → ((s : SymId) → (s.0 ≡ id.0 → ⊥) → m s ≡ k s) → (names : List SymId) → (Contains names id → ⊥) → AllByRecursion (λ s. k s ≡ m s) names
-known_but k m id others [] no = tt
-known_but k m id others (s ∷ names) no =
+known_but k m id others [] without = tt
+known_but k m id others (s ∷ names) without =
     let numbered : ℕ → SymId = λ n. record { 0 = n } in
     let here : k s ≡ m s =
     elim (cases_eq s.0 id.0) [
-      | inl same ↦ absurd (no (0, omega arith, ap numbered same))
+      | inl same ↦ absurd (without (0, omega arith, ap numbered same))
       | inr other ↦ sym (others s other)
-    ] in (here, known_but k m id others names (λ c. no (Contains-append_right (s ∷ []) names id c)))
+    ] in (here, known_but k m id others names (λ c. without (Contains-append_right (s ∷ []) names id c)))
 
 -- a place that is filled is there
 there : {A : Type 0} (xs : List (Option A)) (i : ℕ) (x : A) → slice_index_or xs i None ≡ Some x → i < length xs
@@ -73,6 +76,10 @@ there xs i x e =
       | inl l ↦ l
       | inr past ↦ let n = get_or_past xs i None past in cc
     ]
+
+-- as many choices as a tree has
+pub choices_length : (tree : TreeFacts) (l : Layout) → IsLayoutOf tree l → length tree.choices ≡ length l.tables.choices.items
+choices_length tree l laid = ap length laid.choices ∙ length-map l.tables.choices.items (choice_facts l.tables)
 
 -- what the contexts and choices of a tree name, their nodes stand for
 pub record AreNamesThere (tree : TreeFacts) (l : Layout) (g : Nodes) : Type 0 where
@@ -111,7 +118,8 @@ module _ (tree : TreeFacts) (l : Layout) (nodes : List ℕ) (order : IsNodeOrder
 
 module _ (tree : TreeFacts) (l : Layout) (given : List (Option UserValue)) (chosen : List (Option SymId)) (nodes : List ℕ) (k : ℕ) (values : List (Option Value)) (contexts : List (Option Tri))
     (selections : List (Option (Option SymId))) (now : IsFilledTo tree l given chosen nodes k values contexts selections) (b : k < length nodes) where
-  abbrev P = places given chosen
+  abbrev P : Slot → Option Given
+  P = places given chosen
 
   longer : (t : ℕ) → Contains (take k nodes) t → Contains (take (k + 1) nodes) t
   longer t c = front_longer nodes k (k + 1) t (omega arith) (omega arith) c
@@ -229,29 +237,31 @@ module _ (tree : TreeFacts) (l : Layout) (given : List (Option UserValue)) (chos
       let n = node_below tree l nodes now.order k b in
       omega (arith, n, at, now.order.rows.count, now.choice_count)
 
+empty_at : {A : Type 0} (n i : ℕ) (x : A) → get_or (replicate n None) i None ≡ Some x → ⊥
+empty_at {A} n i x e =
+    let len : length (replicate {A = Option A} n None) ≡ n = length-replicate n None in
+    let l = there (replicate n None) i x e in
+    let none = get_or-replicate {A = Option A} n i None None (omega (arith, l, len)) in
+    cc
+
 -- nothing is filled yet
-pub begins : (tree : TreeFacts) (l : Layout) (given : List (Option UserValue)) (chosen : List (Option SymId)) (nodes : List ℕ) → IsLayoutOf tree l → IsNodeOrder tree l nodes →
-    (values : List (Option Value)) (contexts : List (Option Tri)) (selections : List (Option (Option SymId))) →
-    values ≡ replicate (length l.symbols.items) None → contexts ≡ replicate (length l.tables.contexts) None → selections ≡ replicate (length l.tables.choices.items) None →
-    IsFilledTo tree l given chosen nodes 0 values contexts selections
-begins tree l given chosen nodes laid order values contexts selections v c s = record {
-  laid = laid;
-  order = order;
-  value_count = ap length v ∙ length-replicate _ _;
-  context_count = ap length c ∙ length-replicate _ _;
-  choice_count = ap length s ∙ length-replicate _ _;
-  symbols_are = λ n lt m. absurd (omega (arith, m.1));
-  contexts_among = λ i x e. absurd (empty_at (length l.tables.contexts) i x (sym (ap (λ xs. get_or xs i None) c) ∙ e));
-  choices_among = λ i x e. absurd (empty_at (length l.tables.choices.items) i x (sym (ap (λ xs. get_or xs i None) s) ∙ e));
-  selected_are = λ i x e. absurd (empty_at (length l.tables.choices.items) i x (sym (ap (λ xs. get_or xs i None) s) ∙ e));
-}
-where
-  empty_at : {A : Type 0} (n i : ℕ) (x : A) → get_or (replicate n None) i None ≡ Some x → ⊥
-  empty_at n i x e =
-      let l = there (replicate n None) i x e in
-      let len : length (replicate n None) ≡ n = length-replicate _ _ in
-      let none = get_or-replicate n i None None (omega arith) in
-      cc
+pub begins : (tree : TreeFacts) (l : Layout) (given : List (Option UserValue)) (chosen : List (Option SymId)) (nodes : List ℕ) (t : Table) → t.tree.now ≡ tree → t.layout.now ≡ l →
+    IsLayoutOf tree l → IsNodeOrder tree l nodes → t.values.items ≡ replicate (symbol_count tree) None → t.contexts.items ≡ replicate (length l.tables.contexts) None →
+    t.selections.items ≡ replicate (length l.tables.choices.items) None → IsFilledTable tree given chosen nodes 0 t
+begins tree l given chosen nodes t same at laid order v c s =
+    let to : IsFilledTo tree l given chosen nodes 0 t.values.items t.contexts.items t.selections.items =
+    record {
+      laid = laid;
+      order = order;
+      value_count = ap length v ∙ length-replicate _ None ∙ ap length laid.symbols ∙ symbols-length l;
+      context_count = ap length c ∙ length-replicate _ None;
+      choice_count = ap length s ∙ length-replicate _ None;
+      symbols_are = λ n lt m. absurd (omega (arith, m.1));
+      contexts_among = λ i x e. absurd (empty_at (length l.tables.contexts) i x (sym (ap (λ xs. get_or xs i None) c) ∙ e));
+      choices_among = λ i x e. absurd (empty_at (length l.tables.choices.items) i x (sym (ap (λ xs. get_or xs i None) s) ∙ e));
+      selected_are = λ i x e. absurd (empty_at (length l.tables.choices.items) i x (sym (ap (λ xs. get_or xs i None) s) ∙ e));
+    }
+    in (same, subst (λ m. IsFilledTo tree m given chosen nodes 0 t.values.items t.contexts.items t.selections.items) (sym at) to)
 
 -- after all nodes the equations hold
 pub solves : (tree : TreeFacts) (l : Layout) (given : List (Option UserValue)) (chosen : List (Option SymId)) (nodes : List ℕ) (values : List (Option Value)) (contexts : List (Option Tri))
@@ -272,3 +282,37 @@ settled_stays tree l values values' contexts selections id free others right i t
     right i t e
     ∙ ap rank (same_condition depends_on_symbols tree (known_in tree values) (known_in tree values') (condition_in l.tables.contexts i)
     (known_but (known_in tree values) (known_in tree values') id others (condition_names tree (condition_in l.tables.contexts i)) (free.contexts i t e)))
+
+-- one more node of a table
+module _ (tree : TreeFacts) (given : List (Option UserValue)) (chosen : List (Option SymId)) (nodes : List ℕ) (k : ℕ) (old new : Table) (now : IsFilledTable tree given chosen nodes k old)
+    (b : k < length nodes) where
+  abbrev At : Layout → List (Option Value) → List (Option Tri) → List (Option (Option SymId)) → Type 0
+  At l values contexts selections = IsFilledTo tree l given chosen nodes (k + 1) values contexts selections
+
+  pub symbol_next : AreNamesThere tree old.layout.now now.1.order.graph → (id : SymId) → get_or nodes k 0 ≡ id.0 → id.0 < length old.layout.now.symbols.items →
+      IsFilledSymbol given chosen id old new → IsFilledTable tree given chosen nodes (k + 1) new
+  symbol_next names id at below f =
+      let l = old.layout.now in
+      let free = unread tree l given chosen nodes k old.values.items old.contexts.items old.selections.items now.1 b names id.0 at below in
+      let values = subst (λ u. AreFilledValues u given chosen id old.values.items new.values.items) now.0 f.values in
+      let next = filled tree l given chosen nodes k old.values.items old.contexts.items old.selections.items now.1 b id new.values.items at below free values in
+      let a = subst (λ v. At l new.values.items v.items old.selections.items) (sym f.contexts) next in
+      let c = subst (λ v. At l new.values.items new.contexts.items v.items) (sym f.selections) a in
+      (ap (λ t. t.now) f.keeps.tree ∙ now.0, subst (λ r. At r.now new.values.items new.contexts.items new.selections.items) (sym f.keeps.layout) c)
+
+  pub context_next : (i : ℕ) → get_or nodes k 0 ≡ context_number old.layout.now i → IsSettledContext i old new → IsFilledTable tree given chosen nodes (k + 1) new
+  context_next i at f =
+      let l = old.layout.now in
+      let next = settled tree l given chosen nodes k old.values.items old.contexts.items old.selections.items now.1 b i new.contexts.items at f.contexts in
+      let a = subst (λ v. At l v.items new.contexts.items old.selections.items) (sym f.values) next in
+      let c = subst (λ v. At l new.values.items new.contexts.items v.items) (sym f.selections) a in
+      (ap (λ t. t.now) f.keeps.tree ∙ now.0, subst (λ r. At r.now new.values.items new.contexts.items new.selections.items) (sym f.keeps.layout) c)
+
+  pub choice_next : (i : ℕ) → get_or nodes k 0 ≡ choice_number old.layout.now i → IsSettledChoice chosen i old new → IsFilledTable tree given chosen nodes (k + 1) new
+  choice_next i at f =
+      let l = old.layout.now in
+      let here = subst (λ u. IsSelection u old.values.items new.selections.items i (slice_index_or chosen i None)) now.0 f.here in
+      let next = chosen_one tree l given chosen nodes k old.values.items old.contexts.items old.selections.items now.1 b i new.selections.items at here f.selections in
+      let a = subst (λ v. At l v.items old.contexts.items new.selections.items) (sym f.values) next in
+      let c = subst (λ v. At l new.values.items v.items new.selections.items) (sym f.contexts) a in
+      (ap (λ t. t.now) f.keeps.tree ∙ now.0, subst (λ r. At r.now new.values.items new.contexts.items new.selections.items) (sym f.keeps.layout) c)

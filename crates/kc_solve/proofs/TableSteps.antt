@@ -2,13 +2,14 @@
 use Rattle.std.proofs.Common.{◌≡◌, ℕ, ◌<◌, ◌≤◌, List, [], ◌∷◌, length, Option, Some, None, cond, sym, ◌∙◌, ap, inl, inr, refl, subst, arith, get_or, get_or-set_same, get_or-set_other}
 use Rattle.std.proofs.Math.Logic.{∥∥₁_elim}
 use Rattle.std.proofs.Math.Nat.{ℕ_set}
-use Rattle.std.specs.Prelude.{slice_index_or, slice_set, slice_get}
+use Rattle.std.specs.Prelude.{slice_index_or, slice_set, slice_get, IfSome}
 use Rattle.std.specs.Coded.{coded_option}
-use Rattle.std.specs.Option.{option_map}
+use Rattle.std.specs.Borrow.{Bor}
+use Rattle.std.specs.Option.{option_copied, option_map}
 use Rattle.std.specs.List.{AllByRecursion}
 use Rattle.std.proofs.lemmas.Bool.{cases_Bool, ltb-false}
-use Rattle.std.proofs.lemmas.List.{get_or_past, length-set}
-use Rattle.std.proofs.lemmas.Option.{slice_get_past}
+use Rattle.std.proofs.lemmas.List.{get_or_default, get_or_past, length-set}
+use Rattle.std.proofs.lemmas.Option.{slice_get_past, slice_get_within}
 use base.Stored.{Coded-set}
 use Rattle.kc_expr.specs.Names.{symbol}
 use Rattle.kc_expr.specs.Value.{Known, Truth, Written, known_of}
@@ -22,7 +23,7 @@ use Rattle.kc_order.specs.Solution.{IsUpdate}
 use Rattle.kc_tree.specs.Contexts.{mode_view}
 use Rattle.kc_tree.specs.Layouts.{IsLayoutOf, facts_of, choices_in, choice_facts}
 use Rattle.kc_tree.specs.TreeCode.{symbol_code}
-use Rattle.kc_tree.specs.TreeFacts.{SymbolFacts, TreeFacts}
+use Rattle.kc_tree.specs.TreeFacts.{IsWellFormed, SymbolFacts, TreeFacts}
 use Rattle.kc_tree.specs.declared.layout.Layout.{Layout}
 use Rattle.kc_tree.specs.declared.parts.ChoiceId.{ChoiceId}
 use Rattle.kc_tree.specs.declared.parts.Symbol.{Symbol}
@@ -35,6 +36,7 @@ use Rattle.kc_values.specs.Needs.{names_of}
 use Rattle.kc_values.specs.Selections.{given_for}
 use Rattle.kc_values.specs.Solution.{slot_by, slot_of_facts, symbol_count, seen, slot, equations}
 use Rattle.kc_values.specs.Table.{kind_in, value_in, tri_in, text_in, known_value, known_in}
+use Rattle.kc_values.specs.User.{place}
 use Rattle.kc_values.specs.Values.{equation, by_choice, by_kind}
 use Rattle.kc_values.specs.declared.table.Table.{Table}
 use Rattle.kc_values.specs.declared.table.Value.{Value}
@@ -51,6 +53,11 @@ each P h (x ∷ xs) = (h x, each P h xs)
 -- the facts of a symbol, by its row
 pub row_facts : (t : Table) (id : SymId) (s : Symbol) → IsRowOf t id s → facts t.tree.now id ≡ Some (facts_of t.layout.now id.0 s)
 row_facts t id s e =
+    ∥∥₁_elim t.laid (Coded-set (coded_option symbol_code) _ _) (λ laid.
+    ap (λ xs. slice_get xs id.0) laid.symbols ∙ symbols-at t.layout.now id.0 ∙ ap (option_map (facts_of t.layout.now id.0)) e)
+
+pub row_none : (t : Table) (id : SymId) → slice_get t.layout.now.symbols.items id.0 ≡ None → facts t.tree.now id ≡ None
+row_none t id e =
     ∥∥₁_elim t.laid (Coded-set (coded_option symbol_code) _ _) (λ laid.
     ap (λ xs. slice_get xs id.0) laid.symbols ∙ symbols-at t.layout.now id.0 ∙ ap (option_map (facts_of t.layout.now id.0)) e)
 
@@ -129,6 +136,12 @@ equation_seen tree values l s f user =
     same_equation depends_on_symbols tree (known_in tree values) (seen tree (valuation tree values)) s f user
     (each (λ (t : SymId). known_in tree values t ≡ seen tree (valuation tree values) t) (known_seen tree values l) (names_of tree f))
 
+-- what was given for a symbol, as it is looked up
+pub place_given : (given : List (Option UserValue)) (i : ℕ) (v : Option UserValue) (own : Option (Bor UserValue)) → i < length given → v ≡ get_or given i v → option_copied own ≡ v →
+    place own ≡ given_at (slice_index_or given i None)
+place_given given i v None l e o = ap given_at (o ∙ e ∙ get_or_default given i v None l)
+place_given given i v (Some u) l e o = ap given_at (o ∙ e ∙ get_or_default given i v None l)
+
 -- a symbol filled with the value that its equation gives
 pub filled_value : (t : Table) (id : SymId) (s : Symbol) (given : List (Option UserValue)) (chosen : List (Option SymId)) (x : Value) → IsRowOf t id s →
     length t.values.items ≡ symbol_count t.tree.now → id.0 < length t.values.items →
@@ -154,3 +167,12 @@ filled_value t id s given chosen x row count below e =
       others = λ n ne. u.others n.0 ne;
       count = length-set values id.0 (Some x);
     }
+
+-- the choice of a symbol is one of the tree's
+pub choice_at_most : (tree : TreeFacts) → IsWellFormed tree → (i : ℕ) (f : SymbolFacts) (c : ℕ) → slice_get tree.symbols i ≡ Some f → f.choice ≡ Some c → c < length tree.choices
+choice_at_most tree formed i f c e h = let listed = formed.members_listed i f e c h in slice_get_within tree.choices c listed.0 listed.1
+
+pub choice_below : (tree : TreeFacts) → IsWellFormed tree → (i n : ℕ) (f : SymbolFacts) (choice : Option ChoiceId) → slice_get tree.symbols i ≡ Some f → f.choice ≡ mode_view choice →
+    n ≡ length tree.choices → IfSome choice (λ k. k.0 < n)
+choice_below tree formed i n f None e h count = tt
+choice_below tree formed i n f (Some k) e h count = subst (λ m. k.0 < m) (sym count) (choice_at_most tree formed i f k.0 e h)

@@ -93,3 +93,7 @@ pub record IsFilledTo (tree : TreeFacts) (layout : Layout) (given : List (Option
   pub contexts_among : (i : ℕ) (x : Tri) → slice_index_or contexts i None ≡ Some x → Contains (take k nodes) (context_number layout i)
   pub choices_among : (c : ℕ) (x : Option SymId) → slice_index_or selections c None ≡ Some x → Contains (take k nodes) (choice_number layout c)
   pub selected_are : (c : ℕ) → IsSelection tree values selections c (slice_index_or chosen c None)
+
+abbrev pub IsFilledTable : TreeFacts → List (Option UserValue) → List (Option SymId) → List ℕ → ℕ → Table → Type 0
+IsFilledTable tree given chosen nodes k t =
+    (t.tree.now ≡ tree) × IsFilledTo tree t.layout.now given chosen nodes k t.values.items t.contexts.items t.selections.items

@@ -1,2 +1,2 @@
-mod ContextLemmas
-mod TreeLemmas
+pub mod ContextLemmas
+pub mod TreeLemmas
