@@ -163,3 +163,7 @@ other_flat made.EndMenu a b c d e f g = absurd (e refl)
 other_flat made.Choice a b c d e f g = absurd (f refl)
 other_flat made.EndChoice a b c d e f g = absurd (g refl)
 other_flat _ a b c d e f g = record { flat = refl; no_choice = λ n. refl; none = nothing_more }
+
+pub no_definition : (s : Statement) → ((x : SymId) → s ≡ made.Config x → ⊥) → symbol_of (Some (statement_view s)) ≡ None
+no_definition (made.Config x) h = absurd (h x refl)
+no_definition _ h = refl
