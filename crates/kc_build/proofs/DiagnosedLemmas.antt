@@ -40,6 +40,7 @@ use Rattle.kc_build.proofs.KnownLemmas.{choices_known, kinds_known}
 use Rattle.kc_build.proofs.MemberLemmas.{below_or_past, member_is}
 use Rattle.kc_build.proofs.MenuEntryLemmas.{asks, entry_goes_on, entry_here, prompt_begins, prompt_goes_on}
 use Rattle.kc_build.proofs.PlaceLemmas.{filter-next, flat_map-next}
+use Rattle.kc_build.proofs.SaidLemmas.{statements-are}
 
 -- The places below one, of those that are kept among all.
 below_it : (n i : ℕ) → n < i → nat_lt n i ≡ true
@@ -331,10 +332,6 @@ module _ (names : List (List ℕ)) (ls : List (Placed Numbered)) (symbols : List
       diagnosed names ls (i + 1 + length own) new fits (rw looked (entry_next i head own (drop k (drop (i + 1) ls)) (diagnosis_view old) at tail are_own begins is (found names ls i old (omega arith) old_is)))
 
 -- The same of lines as the code has them.
-pub statements-is : (lines : List Line) → numbered_statements (map line_view lines) ≡ said_by lines
-statements-is [] = refl
-statements-is (x ∷ lines) = ap (λ (l : List Numbered). statement_view x.statement ∷ l) (statements-is lines)
-
 line_read : (lines : List Line) (i : ℕ) (x : Line) → i < length lines → x ≡ get_or lines i x → slice_get (map line_view lines) i ≡ Some (line_view x)
 line_read lines i x h e = slice_get-map line_view lines i ∙ ap (option_map line_view) (slice_get-get_or lines i x h ∙ ap Some (sym e))
 
@@ -342,9 +339,9 @@ line_read lines i x h e = slice_get-map line_view lines i ∙ ap (option_map lin
 pub entry_of_lines : (names : List (List ℕ)) (lines : List Line) (symbols : List Symbol) (place : EntryPlace) (i k : ℕ) (head : Line) (own : List Line) (old new : Diagnostics) → AreBelow (length symbols) (said_by lines) → AreSymbols (said_by lines) symbols → i < length lines → head ≡ get_or lines i head → own ≡ take k (drop (i + 1) lines) → attributes (said_by lines) i ≡ said_by own → ((is_attribute (statement_view head.statement) ≡ false) ⊎ (i ≡ 0)) → IsPlace (said_by lines) i place → IsDiagnosed names (map line_view lines) i old → AreLookedAt names symbols place (line_view head) (map line_view own) old new → IsDiagnosed names (map line_view lines) (i + 1 + length (said_by own)) new
 entry_of_lines names lines symbols place i k head own old new below are h at from are_own begins is old_is looked =
     let ls = map line_view lines in
-    let same : said_by lines ≡ numbered_statements ls = sym (statements-is lines) in
+    let same : said_by lines ≡ numbered_statements ls = sym (statements-are lines) in
     let taken : map line_view own ≡ take k (drop (i + 1) ls) = ap (map line_view) from ∙ sym (take-map line_view k (drop (i + 1) lines)) ∙ ap (take k) (sym (drop-map line_view (i + 1) lines)) in
-    let attributes_are : attributes (numbered_statements ls) i ≡ numbered_statements (map line_view own) = ap (λ (ss : List Numbered). attributes ss i) (sym same) ∙ are_own ∙ sym (statements-is own) in
+    let attributes_are : attributes (numbered_statements ls) i ≡ numbered_statements (map line_view own) = ap (λ (ss : List Numbered). attributes ss i) (sym same) ∙ are_own ∙ sym (statements-are own) in
     let passed = entry_diagnosed names ls symbols (rw same at below) (rw same at are) place i k (line_view head) (map line_view own) old new (line_read lines i head h at) taken attributes_are begins (rw same at is) old_is looked in
     let count : length (map line_view own) ≡ length (said_by own) = length-map own line_view ∙ sym (length-map own (λ (l : Line). statement_view l.statement)) in
     rw count at passed

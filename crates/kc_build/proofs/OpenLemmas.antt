@@ -12,7 +12,7 @@ use Rattle.kc_read.specs.Blocks.{Bracket, Opens, Closes, NoBracket, bracket, enc
 use Rattle.kc_tree.specs.TreeFacts.{Condition}
 use Rattle.kc_build.specs.Facts.{block_parts, choice_number, entry_number, of_block, opener_of, own_visible}
 use Rattle.kc_build.specs.Rounds.{block_visible}
-use Rattle.kc_build.specs.Stacks.{AreOpen, Asked, IsClosed, asked_at, block_view}
+use Rattle.kc_build.specs.Stacks.{AreOpen, Asked, IsClosed, asked_at, block_view, open_blocks}
 use Rattle.kc_build.specs.declared.blocks.Block.{Block}
 use Rattle.kc_build.specs.declared.blocks.Blocks.{Blocks}
 use Rattle.kc_build.proofs.BlockLemmas.{front, enclosing-opens, enclosing-closes, enclosing-no, enclosing-last}
@@ -111,17 +111,21 @@ module _ (ss : List Numbered) where
         after : enclosing ss (suc i) ≡ front (enclosing ss i)
         after = enclosing-closes ss i s at o
 
-        none_open : (ks : List ℕ) → enclosing ss i ≡ ks → [] ≡ map (asked_at ss) ks → new ≡ old → AreOpen ss (suc i) conditions new
+        none_open : (ks : List ℕ) → enclosing ss i ≡ ks → [] ≡ map (asked_at ss) ks → open_blocks new ≡ open_blocks old → AreOpen ss (suc i) conditions new
         none_open [] e q same =
             let shorter : enclosing ss (suc i) ≡ enclosing ss i = after ∙ ap front e ∙ sym e in
-            rw same (record { innermost = h.innermost ∙ ap asked_in (sym shorter); outside = h.outside ∙ ap (map (asked_at ss)) (sym shorter) })
+            let inner : new.innermost ≡ old.innermost = cc in
+            let outer : new.outside.items ≡ old.outside.items = cc in
+            record {
+              innermost = ap (block_view conditions) inner ∙ h.innermost ∙ ap asked_in (sym shorter);
+              outside = ap (map (block_view conditions)) outer ∙ h.outside ∙ ap (map (asked_at ss)) (sym shorter);
+            }
         none_open (k ∷ ks) e q same = absurd cc
 
         by_end : (old.outside.items ≡ []) ⊎ ((ys : List Block) × (y : Block) × (old.outside.items ≡ ys ++ y ∷ [])) → AreOpen ss (suc i) conditions new
         by_end (inl e) =
             none_open (enclosing ss i) refl (sym (ap (map (block_view conditions)) e) ∙ h.outside) (c.1 e)
         by_end (inr e) =
-            let out = e.0 in
             let left = (c.0 e.0 e.1 e.2).1 in
             let inner = (c.0 e.0 e.1 e.2).0 in
             let split = split_last (enclosing ss i) (asked_at ss) (map (block_view conditions) e.0) (block_view conditions e.1) (sym (ap (map (block_view conditions)) e.2 ∙ map_push (block_view conditions) e.0 e.1) ∙ h.outside) in

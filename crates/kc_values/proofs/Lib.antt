@@ -17,8 +17,11 @@ pub mod Joined
 pub mod TriLemmas
 pub mod ConditionLemmas
 pub mod Laid
+pub mod ChainLemmas
+pub mod DefinitionLemmas
+pub mod OpenLemmas
 pub mod SmallNumbers
-pub mod SettledWrites
-pub mod NameRows
-pub mod RowMarks
 pub mod RowSteps
+pub mod RowsMade
+pub mod ChainSteps
+pub mod ReverseRows

@@ -94,3 +94,7 @@ greatest-reverse f (x ∷ xs) =
     ∙ ap (λ t. greater t (greater (f x) N)) (greatest-reverse f xs)
     ∙ ap (greater (greatest (map f xs))) (greater_n (f x))
     ∙ greater_comm (greatest (map f xs)) (f x)
+
+-- one step of what is taken the greatest of
+pub greater-step : (g h a b r : Tri) → b ≡ greater h a → greater g b ≡ r → greater (greater g h) a ≡ r
+greater-step g h a b r e whole = greater_assoc g h a ∙ ap (greater g) (sym e) ∙ whole

@@ -1,7 +1,6 @@
-use Rattle.std.proofs.Common.{◌≡◌, ◌∙◌, ◌||◌, ◌+◌, ◌<◌, ℕ, Bool, true, false, List, ◌∷◌, length, drop, map, get_or, Option, Some, None, refl, ap, sym, arith}
+use Rattle.std.proofs.Common.{◌≡◌, ◌∙◌, ◌||◌, ◌+◌, ◌<◌, ℕ, Bool, true, false, List, length, drop, map, get_or, Option, Some, None, ap, sym}
 use Rattle.std.specs.Option.{option_map, is_some}
 use Rattle.kc_read.specs.Reads.{line_view}
-use Rattle.kc_read.specs.Statements.{Numbered, Placed}
 use Rattle.kc_read.specs.declared.line.Line.{Line}
 use Rattle.kc_tree.specs.declared.parts.Symbol.{Symbol}
 use Rattle.kc_build.specs.declared.diagnostics.EntryPlace.{EntryPlace}
