@@ -9,6 +9,7 @@ mod CollectLemmas
 mod ConditionLemmas
 mod CopyLemmas
 mod DefineLemmas
+mod DefineWalkLemmas
 mod DefinedLemmas
 mod DiagnosedLemmas
 mod ElementLemmas
@@ -18,6 +19,7 @@ mod EntrySoundLemmas
 mod EntryWalkLemmas
 mod ExpansionLemmas
 mod FirstLemmas
+mod FirstNumberLemmas
 mod FormedLemmas
 mod GrownLemmas
 mod HeldLemmas
@@ -31,12 +33,12 @@ mod MembersLemmas
 mod MenuEndLemmas
 mod MenuEntryLemmas
 mod NameLemmas
+mod NamedLemmas
 mod NestLemmas
 mod NumberingLemmas
 mod OpenLemmas
 mod OpenerLemmas
 mod PlaceLemmas
-mod RaiseLemmas
 mod ReadTextLemmas
 mod RenamedLemmas
 mod RenamingLemmas
