@@ -86,7 +86,8 @@ by_tables conditions defaults ranges d = record {
   ranges = map (range_view conditions (condition_in conditions d.within.0)) (part_of ranges d.ranges);
 }
 
-same_definitions : (t u : Tables) → u.contexts ≡ t.contexts → u.definitions ≡ t.definitions → u.defaults ≡ t.defaults → u.ranges ≡ t.ranges → map (definition_facts u) u.definitions.items ≡ map (definition_facts t) t.definitions.items
+same_definitions : (t u : Tables) → u.contexts ≡ t.contexts → u.definitions ≡ t.definitions → u.defaults ≡ t.defaults → u.ranges ≡ t.ranges →
+    map (definition_facts u) u.definitions.items ≡ map (definition_facts t) t.definitions.items
 same_definitions t u c d e f = λ i. map (by_tables (c i) ((e i).items) ((f i).items)) ((d i).items)
 
 -- Choices say the same by the contexts.
@@ -191,7 +192,11 @@ module _ (ss : List Numbered) (symbols : List Symbol) (i : ℕ) (s : SymId) (own
       ap (λ l. map named (filter_map line l)) (sym h.attributes_are) ∙ sym (naming_is ss line i s symbol_here)
 
   -- what names a symbol, by the lines of a kind
-  names_now : (k : ℕ) (line : Numbered → Option (Option Form)) (old_rows new_rows more : List (ℕ × Option Form)) → new_rows ≡ old_rows ++ more → All (λ (x : ℕ × Option Form). x.0 < length before) old_rows → filter_map (named_in before) old_rows ≡ (if facts.can_be_target ss (symbol k) then flat_map (naming_at ss line) (numbers i) else []) → filter_map (named_in (before ++ here ∷ [])) more ≡ (if facts.can_be_target ss (symbol k) then map named (filter_map line own) else []) → filter_map (named_in (before ++ here ∷ [])) new_rows ≡ (if facts.can_be_target ss (symbol k) then flat_map (naming_at ss line) (numbers after) else [])
+  names_now : (k : ℕ) (line : Numbered → Option (Option Form)) (old_rows new_rows more : List (ℕ × Option Form)) → new_rows ≡ old_rows ++ more →
+      All (λ (x : ℕ × Option Form). x.0 < length before) old_rows →
+      filter_map (named_in before) old_rows ≡ (if facts.can_be_target ss (symbol k) then flat_map (naming_at ss line) (numbers i) else []) →
+      filter_map (named_in (before ++ here ∷ [])) more ≡ (if facts.can_be_target ss (symbol k) then map named (filter_map line own) else []) →
+      filter_map (named_in (before ++ here ∷ [])) new_rows ≡ (if facts.can_be_target ss (symbol k) then flat_map (naming_at ss line) (numbers after) else [])
   names_now k line old_rows new_rows more e low was adds =
       let test = facts.can_be_target ss (symbol k) in
       ap (filter_map (named_in (before ++ here ∷ []))) e

@@ -115,7 +115,8 @@ module _ (ss : List Numbered) where
     begins_first = by_front (passing defines i) refl ∙ sym (first-is ss i s (omega arith))
 
 -- By the rows of the symbols.
-first_id : (n : ℕ) (first : Option DefinitionId) (more : List DefinitionId) → list_any (λ (d : DefinitionId). d.0 == n) (listed first) ≡ begins n (map (λ (d : DefinitionId). d.0) (listed first ++ more_of first more))
+first_id : (n : ℕ) (first : Option DefinitionId) (more : List DefinitionId) →
+    list_any (λ (d : DefinitionId). d.0 == n) (listed first) ≡ begins n (map (λ (d : DefinitionId). d.0) (listed first ++ more_of first more))
 first_id n None more = refl
 first_id n (Some d) more = or_false (d.0 == n)
   where
@@ -131,7 +132,8 @@ seen_first : (n : ℕ) (o : Option Symbol) → list_any (λ (d : DefinitionId). 
 seen_first n None = refl
 seen_first n (Some f) = first_id n f.first f.more.items
 
-pub first_by_number : (ss : List Numbered) (symbols : List Symbol) (s : SymId) (i : ℕ) → AreSymbols ss symbols → s.0 < length symbols → symbol_at ss i ≡ Some s → i < length ss → first_by symbols s (definition_number ss i) ≡ is_first_definition ss i s
+pub first_by_number : (ss : List Numbered) (symbols : List Symbol) (s : SymId) (i : ℕ) → AreSymbols ss symbols → s.0 < length symbols → symbol_at ss i ≡ Some s → i < length ss →
+    first_by symbols s (definition_number ss i) ≡ is_first_definition ss i s
 first_by_number ss symbols s i are l here within =
     let n = definition_number ss i in
     seen_first n (slice_get symbols s.0)
