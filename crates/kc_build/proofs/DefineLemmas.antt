@@ -184,7 +184,8 @@ module _ (symbol : SymId) (own : List Numbered) (old new : Walk) (d : Definition
       ∙ by_asked new.tables.contexts dep old.blocks.innermost.visible.0 (last_of (filter_map asked_of own))
       ∙ ap (λ (c : Condition). option_map (λ (p : Asked Form). with_when (with_parts dep c.parts) p.when) (last_of (filter_map asked_of own))) visible_is
 
-  defaults_are : map (default_view new.tables.contexts (condition_in new.tables.contexts d.within.0)) (part_of new.tables.defaults.items d.defaults) ≡ map (default_under dep) (filter_map default_line own)
+  defaults_are : map (default_view new.tables.contexts (condition_in new.tables.contexts d.within.0)) (part_of new.tables.defaults.items d.defaults) ≡ map
+      (default_under dep) (filter_map default_line own)
   defaults_are =
       ap (λ (c : Condition). map (default_view new.tables.contexts c) (part_of new.tables.defaults.items d.defaults)) dep_is
       ∙ defaults_by_row new.tables.contexts dep (part_of new.tables.defaults.items d.defaults)
@@ -210,7 +211,8 @@ module _ (symbol : SymId) (own : List Numbered) (old new : Walk) (d : Definition
   all_facts rows =
       ap (map (definition_facts new.tables)) m.pushed_is
       ∙ map_push (definition_facts new.tables) old.tables.definitions.items d
-      ∙ ap (λ l. l ++ definition_facts new.tables d ∷ []) (map_alike (definition_facts new.tables) (definition_facts old.tables) old.tables.definitions.items (definition_carries old.tables new.tables carried (filter_map default_line own) (filter_map range_line own) rows m.defaults m.ranges))
+      ∙ ap (λ l. l ++ definition_facts new.tables d ∷ [])
+      (map_alike (definition_facts new.tables) (definition_facts old.tables) old.tables.definitions.items (definition_carries old.tables new.tables carried (filter_map default_line own) (filter_map range_line own) rows m.defaults m.ranges))
       ∙ ap (λ x. map (definition_facts old.tables) old.tables.definitions.items ++ x ∷ []) facts_are
 
   more_defaults : length new.tables.defaults.items ≡ length old.tables.defaults.items + length (filter_map default_line own)
@@ -225,7 +227,8 @@ module _ (symbol : SymId) (own : List Numbered) (old new : Walk) (d : Definition
       let h = rows.defaults i x at in
       record { goes_up = h.goes_up; within = (let w = h.within in let n = more_defaults in omega arith) }
   defaults_below x i rows (inr at) =
-      subst (λ (y : Definition). IsSpanBelow (length new.tables.defaults.items) y.defaults) at.1 (record { goes_up = (let a = m.defaults_start in let b = m.defaults_end in let n = more_defaults in omega arith); within = (let b = m.defaults_end in omega arith) })
+      subst (λ (y : Definition). IsSpanBelow (length new.tables.defaults.items) y.defaults) at.1
+      (record { goes_up = (let a = m.defaults_start in let b = m.defaults_end in let n = more_defaults in omega arith); within = (let b = m.defaults_end in omega arith) })
 
   ranges_below : (x : Definition) (i : ℕ) → AreRowsThere old.tables → (slice_get old.tables.definitions.items i ≡ Some x) ⊎ ((i ≡ length old.tables.definitions.items) × (d ≡ x)) →
       IsSpanBelow (length new.tables.ranges.items) x.ranges
@@ -233,7 +236,8 @@ module _ (symbol : SymId) (own : List Numbered) (old new : Walk) (d : Definition
       let h = rows.ranges i x at in
       record { goes_up = h.goes_up; within = (let w = h.within in let n = more_ranges in omega arith) }
   ranges_below x i rows (inr at) =
-      subst (λ (y : Definition). IsSpanBelow (length new.tables.ranges.items) y.ranges) at.1 (record { goes_up = (let a = m.ranges_start in let b = m.ranges_end in let n = more_ranges in omega arith); within = (let b = m.ranges_end in omega arith) })
+      subst (λ (y : Definition). IsSpanBelow (length new.tables.ranges.items) y.ranges) at.1
+      (record { goes_up = (let a = m.ranges_start in let b = m.ranges_end in let n = more_ranges in omega arith); within = (let b = m.ranges_end in omega arith) })
 
   definition_in : (i : ℕ) (x : Definition) → slice_get new.tables.definitions.items i ≡ Some x →
       (slice_get old.tables.definitions.items i ≡ Some x) ⊎ ((i ≡ length old.tables.definitions.items) × (d ≡ x))
@@ -243,7 +247,8 @@ module _ (symbol : SymId) (own : List Numbered) (old new : Walk) (d : Definition
   sources_stay : AreRowsThere old.tables → HaveSources (length new.tables.definitions.items) new.tables.reverses.lines.items
   sources_stay rows =
       let n : length new.tables.definitions.items ≡ length old.tables.definitions.items + 1 = ap length m.pushed_is ∙ length_push old.tables.definitions.items d in
-      let more = All-weaker (λ (r : Reverse). r.source.0 < length old.tables.definitions.items) (λ (r : Reverse). r.source.0 < length new.tables.definitions.items) (λ r h. omega arith) old.tables.reverses.lines.items rows.sources in
+      let more = All-weaker (λ (r : Reverse). r.source.0 < length old.tables.definitions.items) (λ (r : Reverse). r.source.0 < length new.tables.definitions.items)
+      (λ r h. omega arith) old.tables.reverses.lines.items rows.sources in
       subst (λ (r : Reverses). HaveSources (length new.tables.definitions.items) r.lines.items) (sym m.reverses) more
 
   rows_there : AreRowsThere old.tables → AreRowsThere new.tables
@@ -251,8 +256,10 @@ module _ (symbol : SymId) (own : List Numbered) (old new : Walk) (d : Definition
     defaults = λ i x at. defaults_below x i rows (definition_in i x at);
     ranges = λ i x at. ranges_below x i rows (definition_in i x at);
     sources = sources_stay rows;
-    titles = subst (λ (ts : Vec Title). All (IsTitleThere new.tables.contexts) ts.items) (sym m.titles) (titles_stay old.tables.contexts new.tables.contexts old.tables.titles.items carried.longer rows.titles);
-    entries = subst (λ (ts : Vec Title). All (IsEntryThere (length ts.items) (length new.tables.entries.items)) new.tables.entries.items) (sym m.titles) (subst (λ (es : Vec Entry). All (IsEntryThere (length old.tables.titles.items) (length es.items)) es.items) (sym m.entries) rows.entries);
+    titles = subst (λ (ts : Vec Title). All (IsTitleThere new.tables.contexts) ts.items) (sym m.titles)
+        (titles_stay old.tables.contexts new.tables.contexts old.tables.titles.items carried.longer rows.titles);
+    entries = subst (λ (ts : Vec Title). All (IsEntryThere (length ts.items) (length new.tables.entries.items)) new.tables.entries.items) (sym m.titles)
+        (subst (λ (es : Vec Entry). All (IsEntryThere (length old.tables.titles.items) (length es.items)) es.items) (sym m.entries) rows.entries);
   }
 
   pub adds_definition : AddsDefinition symbol own old new

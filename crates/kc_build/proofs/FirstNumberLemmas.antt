@@ -103,7 +103,8 @@ module _ (ss : List Numbered) where
     by_front : (ds : List ℕ) → passing defines i ≡ ds → begins (definition_number ss i) (map (definition_number ss) (definitions_of ss s)) ≡ not (some_places ds)
     by_front [] e =
         let r = behind in
-        ap (λ l. begins (definition_number ss i) (map (definition_number ss) l)) (r.1 ∙ ap (λ l. l ++ r.0) (up_to ∙ ap (λ l. l ++ i ∷ []) e)) ∙ eq-eqb (definition_number ss i) (definition_number ss i) refl
+        ap (λ l. begins (definition_number ss i) (map (definition_number ss) l)) (r.1 ∙ ap (λ l. l ++ r.0) (up_to ∙ ap (λ l. l ++ i ∷ []) e))
+        ∙ eq-eqb (definition_number ss i) (definition_number ss i) refl
     by_front (d ∷ ds) e =
         let r = behind in
         let h = head_is defines i d ds e in

@@ -109,7 +109,8 @@ pub named_more : (ds : List DefinitionFacts) (d : DefinitionFacts) (rows : List 
     filter_map (named_in (ds ++ d ∷ [])) rows ≡ filter_map (named_in ds) rows
 named_more ds d [] h = refl
 named_more ds d (x ∷ rows) h =
-    let same : named_in (ds ++ d ∷ []) x ≡ named_in ds x = ap (option_map (λ (d : DefinitionFacts). record { what = d.symbol; when = with_when d.dep x.1 })) (get_front ds (d ∷ []) x.0 (All-head (λ (y : ℕ × Option Form). y.0 < length ds) x rows h)) in
+    let same : named_in (ds ++ d ∷ []) x ≡ named_in ds x = ap (option_map (λ (d : DefinitionFacts). record { what = d.symbol; when = with_when d.dep x.1 }))
+    (get_front ds (d ∷ []) x.0 (All-head (λ (y : ℕ × Option Form). y.0 < length ds) x rows h)) in
     let rest = named_more ds d rows (All-tail (λ (y : ℕ × Option Form). y.0 < length ds) x rows h) in
     rw (same, rest) refl
 

@@ -179,7 +179,8 @@ module _ (symbols : List Symbol) (source : DefinitionId) where
     pub pushed-heads : s.0 < length heads → AreHeads old heads → AreHeads new after
     pushed-heads l h =
         let q = heads-push old p.row heads s.0 (record { 0 = length old }) l refl h in
-        subst (λ (hs : List (Option ReverseId)). AreHeads new hs) (sym p.heads_are) (subst (λ (xs : List Reverse). AreHeads xs (slice_set heads s.0 (Some (record { 0 = length old })))) (sym p.lines_are) q)
+        subst (λ (hs : List (Option ReverseId)). AreHeads new hs) (sym p.heads_are)
+        (subst (λ (xs : List Reverse). AreHeads xs (slice_set heads s.0 (Some (record { 0 = length old })))) (sym p.lines_are) q)
 
     pub pushed-stay : (others : List (Option ReverseId)) → AreHeads old others → AreHeads new others
     pushed-stay others h = subst (λ (xs : List Reverse). AreHeads xs others) (sym p.lines_are) (heads-stay old p.row others h)
@@ -189,7 +190,9 @@ module _ (symbols : List Symbol) (source : DefinitionId) where
       IsAdded symbols source old (reverse_kind.Select, s, when) new
   select_added old new s when t l p q = record {
     selects = λ k. pushed-rows _ _ s when _ _ p l old.selects_there k ∙ ap (λ x. selects_of old k ++ x) (sym (and_true (s.0 == k) (can_be_target symbols s) (source.0, when) (sym t)));
-    implies = λ k. ap (λ (hs : List (Option ReverseId)). rows_to new.lines.items (get_or hs k None)) q ∙ pushed-others _ _ s when _ _ p old.implies.items old.implies_there k ∙ sym (append-nil (implies_of old k));
+    implies = λ k. ap (λ (hs : List (Option ReverseId)). rows_to new.lines.items (get_or hs k None)) q
+        ∙ pushed-others _ _ s when _ _ p old.implies.items old.implies_there k
+        ∙ sym (append-nil (implies_of old k));
     few = pushed-few _ _ s when _ _ p;
     count = pushed-count _ _ s when _ _ p;
     same = ap length q;
@@ -199,7 +202,9 @@ module _ (symbols : List Symbol) (source : DefinitionId) where
       IsPushed old.lines.items old.implies.items s when new.lines.items new.implies.items → new.selects.items ≡ old.selects.items →
       IsAdded symbols source old (reverse_kind.Imply, s, when) new
   imply_added old new s when t l p q = record {
-    selects = λ k. ap (λ (hs : List (Option ReverseId)). rows_to new.lines.items (get_or hs k None)) q ∙ pushed-others _ _ s when _ _ p old.selects.items old.selects_there k ∙ sym (append-nil (selects_of old k));
+    selects = λ k. ap (λ (hs : List (Option ReverseId)). rows_to new.lines.items (get_or hs k None)) q
+        ∙ pushed-others _ _ s when _ _ p old.selects.items old.selects_there k
+        ∙ sym (append-nil (selects_of old k));
     implies = λ k. pushed-rows _ _ s when _ _ p l old.implies_there k ∙ ap (λ x. implies_of old k ++ x) (sym (and_true (s.0 == k) (can_be_target symbols s) (source.0, when) (sym t)));
     few = pushed-few _ _ s when _ _ p;
     count = ap length q;
