@@ -2,6 +2,7 @@
 use Rattle.std.proofs.Common.{◌≡◌, ℕ, zero, suc, ◌+◌, ◌<◌, ◌≤◌, List, [], ◌∷◌, ◌++◌, length, Option, Some, None, Ok, Err, refl, ap, sym, ◌∙◌, subst, arith, inl, inr}
 use Rattle.std.specs.Prelude.{◌⊎◌}
 use Rattle.std.specs.List.{slice_get}
+use Rattle.std.specs.Option.{is_some}
 use Rattle.std.proofs.lemmas.Option.{slice_get_within}
 use Rattle.std.specs.Result.{OnOk, OnErr}
 use Rattle.std.specs.Prelude.{Result}
@@ -9,10 +10,12 @@ use Rattle.kc_expr.specs.Form.{Form}
 use Rattle.kc_tree.specs.declared.parts.Title.{Title}
 use Rattle.kc_tree.specs.Contexts.{IsPlain, and_also, condition_in}
 use Rattle.kc_tree.specs.TreeFacts.{Condition}
+use Rattle.kc_build.specs.Growth.{IsGrown, Stands, and_all}
 use Rattle.kc_build.specs.Stacks.{IsClosed, open_blocks}
 use Rattle.kc_build.specs.declared.blocks.Block.{Block}
 use Rattle.kc_build.specs.declared.blocks.Blocks.{Blocks}
-use Rattle.kc_build.proofs.GrownLemmas.{AreHeld, Carries, carries_push, carries_same, get_front, get_last, get_pushed}
+use Rattle.kc_build.specs.declared.entries.Walk.{Walk}
+use Rattle.kc_build.proofs.GrownLemmas.{AreHeld, Carries, Holding, Keeping, carries_grown, carries_push, carries_same, further, get_front, get_last, get_pushed, held_by, held_carries, holding, keeping_carries, plain_carries}
 use Rattle.kc_build.proofs.OpenLemmas.{ends}
 
 -- a context inside another one, where there was memory for it
@@ -39,6 +42,7 @@ module _ (P : Block → Type 0) (old new : Blocks) (h : OfEach P old) where
       outside : (j : ℕ) (b : Block) → (slice_get old.outside.items j ≡ Some b) ⊎ ((j ≡ length old.outside.items) × (old.innermost ≡ b)) → P b
       outside j b (inl e) = h (suc j) b e
       outside j b (inr e) = h 0 b (ap Some e.1)
+
       at : (j : ℕ) (b : Block) → slice_get (open_blocks new) j ≡ Some b → P b
       at zero b e = let same : block ≡ b = cc in subst P same p
       at (suc j) b e = outside j b (get_pushed old.outside.items old.innermost j b (sym (ap (λ (l : List Block). slice_get l j) outer) ∙ e))
@@ -58,6 +62,7 @@ module _ (P : Block → Type 0) (old new : Blocks) (h : OfEach P old) where
           let found : slice_get ys j ≡ Some b = sym (ap (λ (l : List Block). slice_get l j) outer) ∙ at in
           let within = slice_get_within ys j b found in
           h (suc j) b (ap (λ (l : List Block). slice_get l j) e ∙ get_front ys (y ∷ []) j within ∙ found)
+
       by_end : (old.outside.items ≡ []) ⊎ ((ys : List Block) × (y : Block) × (old.outside.items ≡ ys ++ y ∷ [])) → OfEach P new
       by_end (inl e) = each_same (c.1 e)
       by_end (inr e) = left e.0 e.1 e.2 (c.0 e.0 e.1 e.2).0 (c.0 e.0 e.1 e.2).1
@@ -82,3 +87,28 @@ module _ (conditions : List Condition) (old new : Blocks) (ts : List Title) (h :
     plain = each_closes (λ (b : Block). IsPlain conditions b.visible.0) old new h.plain c;
     titles = h.titles;
   }
+
+-- The contexts of an entry in the innermost block; those of what is visible in it.
+pub carries_entry : (w : Walk) (b : Block) (new : List Condition) (n : ℕ) → b ≡ w.blocks.innermost → IsGrown w.tables.contexts new (condition_in w.tables.contexts b.within.0).mode n → Carries w.tables.contexts new
+carries_entry w b new n e g =
+    let there : b.within.0 < length w.tables.contexts = rw e (w.within 0 w.blocks.innermost refl) in
+    carries_grown w.tables.contexts new (condition_in w.tables.contexts b.within.0).mode n b.within.0 there refl g
+
+pub carries_visible : (w : Walk) (b : Block) (middle new : List Condition) (n : ℕ) → b ≡ w.blocks.innermost → Carries w.tables.contexts middle → IsGrown middle new (condition_in middle b.visible.0).mode n → Carries middle new
+carries_visible w b middle new n e f g =
+    let there : b.visible.0 < length middle = rw e (further w.tables.contexts middle f w.blocks.innermost.visible.0 (w.visible 0 w.blocks.innermost refl)) in
+    carries_grown middle new (condition_in middle b.visible.0).mode n b.visible.0 there refl g
+
+-- What is asked of what is visible in an entry stays plain.
+pub plain_visible : (w : Walk) (b : Block) (middle new : List Condition) (id n : ℕ) (fs : List Form) → b ≡ w.blocks.innermost → Carries w.tables.contexts middle → Stands new id (and_all (condition_in middle b.visible.0) fs) → IsPlain new id
+plain_visible w b middle new id n fs e f s =
+    ap (λ (c : Condition). is_some c.mode) s.is
+    ∙ ap (λ (x : Block). is_some (condition_in middle x.visible.0).mode) e
+    ∙ plain_carries w.tables.contexts middle f w.blocks.innermost.visible.0 (w.visible 0 w.blocks.innermost refl) (w.plain 0 w.blocks.innermost refl)
+
+-- A walk with more contexts.
+pub held_walk : (w : Walk) (new : List Condition) → Carries w.tables.contexts new → AreHeld new w.blocks w.tables.titles.items
+held_walk w new g = held_carries w.tables.contexts new w.blocks w.tables.titles.items g (held_by w)
+
+pub keeping_both : (w : Walk) (new : List Condition) → Carries w.tables.contexts new → Keeping new w.tables.definitions.items w.tables.choices.items w.tables.titles.items × Holding new w.tables.titles.items w.blocks
+keeping_both w new g = (keeping_carries w new g, holding new w.tables.titles.items w.blocks (held_walk w new g))

@@ -4,6 +4,7 @@ mod BlockLemmas
 mod BuildLemmas
 mod ChainLemmas
 mod ChoiceLemmas
+mod CloserLemmas
 mod CollectLemmas
 mod ConditionLemmas
 mod CopyLemmas
@@ -50,6 +51,8 @@ mod ShapeLemmas
 mod ShownLemmas
 mod SoundLemmas
 mod StackLemmas
+mod SurroundingLemmas
+mod SymbolRowLemmas
 mod TableLemmas
 mod TitleLemmas
 mod TreeTextLemmas

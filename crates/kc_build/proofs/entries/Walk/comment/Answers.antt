@@ -9,7 +9,7 @@ use Rattle.kc_build.specs.Facts.{depends_form}
 use Rattle.kc_build.specs.Growth.{IsGrown, Stands, and_all}
 use Rattle.kc_build.specs.Passes.{said_by}
 use Rattle.kc_build.specs.declared.blocks.Block.{Block}
-use Rattle.kc_build.proofs.GrownLemmas.{carries_grown, held_by, held_carries, holding, keeping_carries}
+use Rattle.kc_build.proofs.HeldLemmas.{carries_entry, keeping_both}
 use Rattle.kc_build.proofs.TitleLemmas.{comment_enters}
 use Rattle.kc_build.proofs.entries.Walk.comment.Goals as goal
 
@@ -20,10 +20,7 @@ entry_context-requires-clause-there c =
 pub invariant_of-self : goal.invariant_of-self
 invariant_of-self c =
     let old = c.args.self.now in
-    let n : length (said_by c.args.own.now) ≡ length c.args.own.now = length-map c.args.own.now (λ l. statement_view l.statement) in
-    let at : (condition_in old.tables.contexts old.blocks.innermost.within.0).mode ≡ (condition_in old.tables.contexts c.innermost-round.result.within.0).mode = ap (λ (b : Block). (condition_in old.tables.contexts b.within.0).mode) (sym c.innermost-round.ensures) in
-    let g = carries_grown old.tables.contexts c.entry_context.new.contexts (condition_in old.tables.contexts c.innermost-round.result.within.0).mode (length c.args.own.now) old.blocks.innermost.within.0 (old.within 0 old.blocks.innermost refl) at c.entry_context.ensures.kept in
-    (keeping_carries old c.entry_context.new.contexts g, holding c.entry_context.new.contexts old.tables.titles.items old.blocks (held_carries old.tables.contexts c.entry_context.new.contexts old.blocks old.tables.titles.items g (held_by old)))
+    keeping_both old c.entry_context.new.contexts (carries_entry old c.innermost-round.result c.entry_context.new.contexts (length c.args.own.now) c.innermost-round.ensures c.entry_context.ensures.kept)
 
 pub returns : goal.returns
 returns c =
