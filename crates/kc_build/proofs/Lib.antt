@@ -9,6 +9,7 @@ mod CollectLemmas
 mod ConditionLemmas
 mod CopyLemmas
 mod DefineLemmas
+mod DefineWalkLemmas
 mod DefinedLemmas
 mod DiagnosedLemmas
 mod ElementLemmas
