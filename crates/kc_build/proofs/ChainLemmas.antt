@@ -1,7 +1,6 @@
 -- Chains of the lines that select and imply: what a chain says of the lines, and one line more.
 use Rattle.std.proofs.Common.{◌≡◌, ℕ, zero, suc, ◌+◌, ◌<◌, List, [], ◌∷◌, ◌++◌, length, reverse, Option, Some, None, refl, ap, sym, ◌∙◌, arith, get_or, length-append, subst}
-use Rattle.std.specs.List.{slice_get, filter_map, All, cons_option}
-use Rattle.std.specs.Option.{option_map}
+use Rattle.std.specs.List.{slice_get, filter_map, All}
 use Rattle.std.proofs.Math.Seq.{get_or-append_seam}
 use Rattle.std.proofs.lemmas.List.{get_or_append_left, reverse-append}
 use Rattle.std.proofs.lemmas.List.Elements.{All-nil, All-cons, All-head, All-tail, All-push, All-weaker}

@@ -1,5 +1,5 @@
 -- One definition more: what it says, what the other rows say with it, and what the tables keep.
-use Rattle.std.proofs.Common.{◌≡◌, subst, ◌&&◌, if◌then◌else◌, ℕ, zero, suc, get_or, slice_set, ◌+◌, ◌-◌, ◌<◌, ◌≤◌, Bool, true, false, List, [], ◌∷◌, ◌++◌, length, take, drop, map, Option, Some, None, refl, ap, sym, ◌∙◌, arith, inl, inr, length-append}
+use Rattle.std.proofs.Common.{◌≡◌, subst, ◌&&◌, if◌then◌else◌, ℕ, zero, suc, get_or, slice_set, ◌+◌, ◌-◌, ◌<◌, ◌≤◌, Bool, true, List, [], ◌∷◌, ◌++◌, length, take, drop, map, Option, Some, None, refl, ap, sym, ◌∙◌, arith, inl, inr, length-append}
 use Rattle.std.specs.Prelude.{◌⊎◌, nat_le}
 use Rattle.std.specs.Global.{Vec}
 use Rattle.std.specs.List.{All, slice_get, filter_map, cons_option}
@@ -10,7 +10,7 @@ use Rattle.std.proofs.lemmas.List.{length-map, map_push, take-map, drop-map, len
 use Rattle.std.proofs.lemmas.List.Elements.{All-weaker}
 use Rattle.std.proofs.lemmas.Option.{slice_get_read}
 use Rattle.kc_expr.specs.declared.expression.SymId.{SymId}
-use Rattle.kc_expr.specs.Form.{Form, Leaf}
+use Rattle.kc_expr.specs.Form.{Form}
 use Rattle.kc_read.specs.Blocks.{last_of}
 use Rattle.kc_read.specs.Statements.{Asked, Numbered}
 use Rattle.kc_tree.specs.declared.parts.Choice.{Choice}
@@ -23,9 +23,9 @@ use Rattle.kc_tree.specs.declared.parts.Span.{Span}
 use Rattle.kc_tree.specs.declared.parts.Title.{Title}
 use Rattle.kc_tree.specs.declared.reverses.Reverses.{Reverses}
 use Rattle.kc_tree.specs.Contexts.{IsPlain, condition_in}
-use Rattle.kc_tree.specs.Layouts.{DefinitionFacts, definition_facts, prompt_view, default_view, range_view, with_parts, with_when}
+use Rattle.kc_tree.specs.Layouts.{definition_facts, prompt_view, default_view, range_view, with_parts, with_when}
 use Rattle.kc_tree.specs.Parts.{part_of}
-use Rattle.kc_tree.specs.TreeFacts.{Bounds, Condition, Guarded}
+use Rattle.kc_tree.specs.TreeFacts.{Condition}
 use Rattle.kc_build.specs.declared.blocks.Block.{Block}
 use Rattle.kc_build.specs.declared.entries.Walk.{Walk}
 use Rattle.kc_build.specs.EntryLines.{default_line, default_row, prompt_line, range_line, range_row}

@@ -1,15 +1,14 @@
 -- The walk behind an entry that defines a symbol.
-use Rattle.std.proofs.Common.{◌≡◌, subst, ℕ, zero, suc, ◌+◌, ◌*◌, ◌<◌, ◌≤◌, Bool, true, false, if◌then◌else◌, List, [], ◌∷◌, ◌++◌, length, map, Option, Some, None, refl, ap, sym, ◌∙◌, arith, length-append}
-use Rattle.std.specs.Global.{Vec}
+use Rattle.std.proofs.Common.{◌≡◌, subst, ℕ, zero, suc, ◌+◌, ◌<◌, ◌≤◌, Bool, true, false, if◌then◌else◌, List, [], ◌∷◌, ◌++◌, length, map, Option, Some, None, refl, ap, sym, ◌∙◌, arith, length-append}
 use Rattle.std.specs.List.{All, cons_option, filter_map, flat_map, slice_get}
 use Rattle.std.specs.Option.{option_map}
 use Rattle.std.proofs.lemmas.List.{append-nil, length-map, map-append}
 use Rattle.std.proofs.lemmas.List.Elements.{All-append, All-cons, All-nil, All-weaker, filter_map-append}
 use Rattle.std.proofs.lemmas.Option.{slice_get_within}
 use Rattle.kc_expr.specs.declared.expression.SymId.{SymId}
-use Rattle.kc_expr.specs.Form.{Form, Leaf}
+use Rattle.kc_expr.specs.Form.{Form}
 use Rattle.kc_expr.specs.Names.{symbol}
-use Rattle.kc_read.specs.Blocks.{NoBracket, attributes, numbers}
+use Rattle.kc_read.specs.Blocks.{attributes, numbers}
 use Rattle.kc_read.specs.Statements.{ConfigLine, Numbered, RangeLine}
 use Rattle.kc_read.proofs.ListLemmas.{map-filter_map}
 use Rattle.kc_tree.specs.declared.layout.Tables.{Tables}
@@ -22,14 +21,13 @@ use Rattle.kc_tree.specs.declared.parts.Reverse.{Reverse}
 use Rattle.kc_tree.specs.declared.parts.Symbol.{Symbol}
 use Rattle.kc_tree.specs.declared.parts.SymbolDefault.{SymbolDefault}
 use Rattle.kc_tree.specs.declared.parts.SymbolRange.{SymbolRange}
-use Rattle.kc_tree.specs.declared.parts.Title.{Title}
 use Rattle.kc_tree.specs.Contexts.{condition_in}
 use Rattle.kc_tree.specs.Layouts.{DefinitionFacts, choice_default_view, choice_facts as choice_in, default_view, definition_facts, impliers_at, prompt_view, range_view, selectors_at, shown_of, with_when}
 use Rattle.kc_tree.specs.Parts.{part_of}
 use Rattle.kc_tree.specs.TreeFacts.{ChoiceFacts, Condition, Guarded, SymbolShown}
 use Rattle.kc_build.specs.declared.entries.Walk.{Walk}
 use Rattle.kc_build.specs.declared.lines.ReverseKind.TheVariants as reverse_kind
-use Rattle.kc_build.specs.Before.{choices_before, definition_at, definition_line, definitions_before, entries_before, impliers_before, selectors_before}
+use Rattle.kc_build.specs.Before.{choices_before, definition_at, definitions_before, entries_before, impliers_before, selectors_before}
 use Rattle.kc_build.specs.EntryLines.{default_line, range_line}
 use Rattle.kc_build.specs.Facts as facts
 use Rattle.kc_build.specs.Facts.{Given, choice_round, defaults_at, dep, entry_at, given_of, imply_of, is_first_definition, named_under, naming_at, range_under, select_of, symbol_at, symbol_of, under}
@@ -48,7 +46,7 @@ use Rattle.kc_build.proofs.GrownLemmas.{Carries, choice_carries, default_under, 
 use Rattle.kc_build.proofs.LayoutLemmas.{length-given}
 use Rattle.kc_build.proofs.MembersLemmas.{members_added}
 use Rattle.kc_build.proofs.NamedLemmas.{added_named, impliers_by_rows, named_in, named_more, naming_is, rows_low, selectors_by_rows, target_known}
-use Rattle.kc_build.proofs.OpenLemmas.{asked_same, open_moves}
+use Rattle.kc_build.proofs.OpenLemmas.{open_moves}
 use Rattle.kc_build.proofs.WalkLemmas.{all_at, main_menu_stays}
 
 -- What the entry at a place says as a definition.
@@ -337,6 +335,7 @@ module _ (ss : List Numbered) (symbols : List Symbol) (i : ℕ) (s : SymId) (own
       change_length g k [] = refl
       change_length g zero (x ∷ xs) = refl
       change_length g (suc k) (x ∷ xs) = ap suc (change_length g k xs)
+
       with_member_length : (o : Option ℕ) (cs : List ChoiceFacts) → length (with_member o s cs) ≡ length cs
       with_member_length None cs = refl
       with_member_length (Some k) cs = change_length (one_more s) k cs

@@ -1,5 +1,5 @@
 -- A definition is the first of its symbol where the number of the symbol's first one is its own.
-use Rattle.std.proofs.Common.{◌≡◌, ℕ, zero, suc, ◌+◌, ◌-◌, ◌<◌, ◌≤◌, Bool, true, false, not, ◌||◌, ◌==◌, if◌then◌else◌, List, [], ◌∷◌, ◌++◌, length, filter, map, Option, Some, None, refl, ap, sym, ◌∙◌, arith, add-one, append_assoc, length-append}
+use Rattle.std.proofs.Common.{◌≡◌, ℕ, zero, suc, ◌+◌, ◌-◌, ◌<◌, ◌≤◌, Bool, true, false, not, ◌||◌, ◌==◌, if◌then◌else◌, List, [], ◌∷◌, ◌++◌, length, filter, map, Option, Some, None, refl, ap, sym, ◌∙◌, arith, append_assoc, length-append}
 use Rattle.std.specs.List.{cons_option, filter_map, list_any, slice_get}
 use Rattle.std.specs.Option.{option_and_then, option_map}
 use Rattle.std.proofs.lemmas.Bool.{eq-eqb, ne_eqb}
@@ -7,16 +7,15 @@ use Rattle.std.proofs.lemmas.List.{append-nil}
 use Rattle.std.proofs.lemmas.List.Elements.{filter-append, filter_map-append}
 use Rattle.std.proofs.lemmas.Option.{slice_get-map}
 use Rattle.kc_expr.specs.declared.expression.SymId.{SymId}
-use Rattle.kc_expr.specs.Names.{symbol}
 use Rattle.kc_read.specs.Blocks.{numbers}
 use Rattle.kc_read.specs.Statements.{Numbered}
 use Rattle.kc_tree.specs.declared.parts.DefinitionId.{DefinitionId}
 use Rattle.kc_tree.specs.declared.parts.Symbol.{Symbol}
-use Rattle.kc_tree.specs.Parts.{definition_ids, more_of}
+use Rattle.kc_tree.specs.Parts.{more_of}
 use Rattle.kc_tree.specs.Words.{is_symbol_of, listed}
 use Rattle.kc_build.specs.Facts.{definitions_of, is_first_definition, symbol_at}
 use Rattle.kc_build.specs.Known.{AreSymbols, Row, definition_number, first_by, row_of, row_view}
-use Rattle.kc_build.proofs.FirstLemmas.{defined_before, first-is, some_places}
+use Rattle.kc_build.proofs.FirstLemmas.{first-is, some_places}
 use Rattle.kc_build.proofs.PlaceLemmas.{get-map_numbers}
 
 -- a list begins with a number

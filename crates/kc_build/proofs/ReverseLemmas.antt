@@ -1,7 +1,7 @@
 -- The lines of a definition that select and imply, as they are added.
 use Rattle.std.proofs.Common.{◌≡◌, ◌≢◌, ℕ, ◌+◌, ◌<◌, ◌≤◌, Bool, true, false, ◌&&◌, ◌==◌, if◌then◌else◌, List, [], ◌∷◌, ◌++◌, length, drop, Option, Some, None, refl, ap, sym, ◌∙◌, arith, get_or, slice_set, append_assoc, length-append, subst, inl, inr, nat_lt}
 use Rattle.std.specs.Prelude.{◌⊎◌, OnOk, OnErr, Result, Ok, Err}
-use Rattle.std.specs.List.{slice_get, flat_map, All}
+use Rattle.std.specs.List.{slice_get, flat_map}
 use Rattle.std.specs.Global.{Vec}
 use Rattle.std.specs.Vec.{with_items}
 use Rattle.std.specs.Option.{option_map}
@@ -18,7 +18,6 @@ use Rattle.kc_expr.specs.Form.{Form}
 use Rattle.kc_expr.specs.When.{when_view}
 use Rattle.kc_read.specs.declared.line.Line.{Line}
 use Rattle.kc_read.specs.Reads.{statement_view}
-use Rattle.kc_read.specs.Statements.{Numbered}
 use Rattle.kc_tree.specs.declared.parts.DefinitionId.{DefinitionId}
 use Rattle.kc_tree.specs.declared.parts.Reverse.{Reverse}
 use Rattle.kc_tree.specs.declared.parts.ReverseId.{ReverseId}

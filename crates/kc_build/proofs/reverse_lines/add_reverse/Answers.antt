@@ -1,6 +1,4 @@
-use Rattle.std.proofs.Common.{◌≡◌, ◌<◌, refl, sym, ◌∙◌, arith, length, Bool, true, false}
-use Rattle.std.specs.Vec.{with_items}
-use Rattle.kc_build.specs.Known.{can_be_target}
+use Rattle.std.proofs.Common.{◌<◌, refl, sym, ◌∙◌, arith, length}
 use Rattle.kc_build.proofs.ReverseLemmas.{target-there, pushes_in, chained_by, heads_by, others_by, sources_by, select_by, imply_by}
 use Rattle.kc_build.proofs.reverse_lines.add_reverse.Goals as goal
 
