@@ -24,5 +24,7 @@ pub mod SmallNumbers
 pub mod SettledWrites
 pub mod RowSteps
 pub mod RowsMade
-pub mod ChainSteps
 pub mod ReverseRows
+pub mod AnyLemmas
+pub mod RowNeeds
+pub mod NodesBelow
