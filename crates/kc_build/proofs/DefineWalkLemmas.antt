@@ -1,15 +1,14 @@
 -- The walk behind an entry that defines a symbol.
-use Rattle.std.proofs.Common.{◌≡◌, subst, ℕ, zero, suc, ◌+◌, ◌*◌, ◌<◌, ◌≤◌, Bool, true, false, if◌then◌else◌, List, [], ◌∷◌, ◌++◌, length, map, Option, Some, None, refl, ap, sym, ◌∙◌, arith, length-append}
-use Rattle.std.specs.Global.{Vec}
+use Rattle.std.proofs.Common.{◌≡◌, subst, ℕ, zero, suc, ◌+◌, ◌<◌, ◌≤◌, Bool, true, false, if◌then◌else◌, List, [], ◌∷◌, ◌++◌, length, map, Option, Some, None, refl, ap, sym, ◌∙◌, arith, length-append}
 use Rattle.std.specs.List.{All, cons_option, filter_map, flat_map, slice_get}
 use Rattle.std.specs.Option.{option_map}
 use Rattle.std.proofs.lemmas.List.{append-nil, length-map, map-append}
 use Rattle.std.proofs.lemmas.List.Elements.{All-append, All-cons, All-nil, All-weaker, filter_map-append}
 use Rattle.std.proofs.lemmas.Option.{slice_get_within}
 use Rattle.kc_expr.specs.declared.expression.SymId.{SymId}
-use Rattle.kc_expr.specs.Form.{Form, Leaf}
+use Rattle.kc_expr.specs.Form.{Form}
 use Rattle.kc_expr.specs.Names.{symbol}
-use Rattle.kc_read.specs.Blocks.{NoBracket, attributes, numbers}
+use Rattle.kc_read.specs.Blocks.{attributes, numbers}
 use Rattle.kc_read.specs.Statements.{ConfigLine, Numbered, RangeLine}
 use Rattle.kc_read.proofs.ListLemmas.{map-filter_map}
 use Rattle.kc_tree.specs.declared.layout.Tables.{Tables}
@@ -22,14 +21,13 @@ use Rattle.kc_tree.specs.declared.parts.Reverse.{Reverse}
 use Rattle.kc_tree.specs.declared.parts.Symbol.{Symbol}
 use Rattle.kc_tree.specs.declared.parts.SymbolDefault.{SymbolDefault}
 use Rattle.kc_tree.specs.declared.parts.SymbolRange.{SymbolRange}
-use Rattle.kc_tree.specs.declared.parts.Title.{Title}
 use Rattle.kc_tree.specs.Contexts.{condition_in}
 use Rattle.kc_tree.specs.Layouts.{DefinitionFacts, choice_default_view, choice_facts as choice_in, default_view, definition_facts, impliers_at, prompt_view, range_view, selectors_at, shown_of, with_when}
 use Rattle.kc_tree.specs.Parts.{part_of}
 use Rattle.kc_tree.specs.TreeFacts.{ChoiceFacts, Condition, Guarded, SymbolShown}
 use Rattle.kc_build.specs.declared.entries.Walk.{Walk}
 use Rattle.kc_build.specs.declared.lines.ReverseKind.TheVariants as reverse_kind
-use Rattle.kc_build.specs.Before.{choices_before, definition_at, definition_line, definitions_before, entries_before, impliers_before, selectors_before}
+use Rattle.kc_build.specs.Before.{choices_before, definition_at, definitions_before, entries_before, impliers_before, selectors_before}
 use Rattle.kc_build.specs.EntryLines.{default_line, range_line}
 use Rattle.kc_build.specs.Facts as facts
 use Rattle.kc_build.specs.Facts.{Given, choice_round, defaults_at, dep, entry_at, given_of, imply_of, is_first_definition, named_under, naming_at, range_under, select_of, symbol_at, symbol_of, under}
@@ -48,7 +46,7 @@ use Rattle.kc_build.proofs.GrownLemmas.{Carries, choice_carries, default_under, 
 use Rattle.kc_build.proofs.LayoutLemmas.{length-given}
 use Rattle.kc_build.proofs.MembersLemmas.{members_added}
 use Rattle.kc_build.proofs.NamedLemmas.{added_named, impliers_by_rows, named_in, named_more, naming_is, rows_low, selectors_by_rows, target_known}
-use Rattle.kc_build.proofs.OpenLemmas.{asked_same, open_moves}
+use Rattle.kc_build.proofs.OpenLemmas.{open_moves}
 use Rattle.kc_build.proofs.WalkLemmas.{all_at, main_menu_stays}
 
 -- What the entry at a place says as a definition.
@@ -88,7 +86,8 @@ by_tables conditions defaults ranges d = record {
   ranges = map (range_view conditions (condition_in conditions d.within.0)) (part_of ranges d.ranges);
 }
 
-same_definitions : (t u : Tables) → u.contexts ≡ t.contexts → u.definitions ≡ t.definitions → u.defaults ≡ t.defaults → u.ranges ≡ t.ranges → map (definition_facts u) u.definitions.items ≡ map (definition_facts t) t.definitions.items
+same_definitions : (t u : Tables) → u.contexts ≡ t.contexts → u.definitions ≡ t.definitions → u.defaults ≡ t.defaults → u.ranges ≡ t.ranges →
+    map (definition_facts u) u.definitions.items ≡ map (definition_facts t) t.definitions.items
 same_definitions t u c d e f = λ i. map (by_tables (c i) ((e i).items) ((f i).items)) ((d i).items)
 
 -- Choices say the same by the contexts.
@@ -193,7 +192,11 @@ module _ (ss : List Numbered) (symbols : List Symbol) (i : ℕ) (s : SymId) (own
       ap (λ l. map named (filter_map line l)) (sym h.attributes_are) ∙ sym (naming_is ss line i s symbol_here)
 
   -- what names a symbol, by the lines of a kind
-  names_now : (k : ℕ) (line : Numbered → Option (Option Form)) (old_rows new_rows more : List (ℕ × Option Form)) → new_rows ≡ old_rows ++ more → All (λ (x : ℕ × Option Form). x.0 < length before) old_rows → filter_map (named_in before) old_rows ≡ (if facts.can_be_target ss (symbol k) then flat_map (naming_at ss line) (numbers i) else []) → filter_map (named_in (before ++ here ∷ [])) more ≡ (if facts.can_be_target ss (symbol k) then map named (filter_map line own) else []) → filter_map (named_in (before ++ here ∷ [])) new_rows ≡ (if facts.can_be_target ss (symbol k) then flat_map (naming_at ss line) (numbers after) else [])
+  names_now : (k : ℕ) (line : Numbered → Option (Option Form)) (old_rows new_rows more : List (ℕ × Option Form)) → new_rows ≡ old_rows ++ more →
+      All (λ (x : ℕ × Option Form). x.0 < length before) old_rows →
+      filter_map (named_in before) old_rows ≡ (if facts.can_be_target ss (symbol k) then flat_map (naming_at ss line) (numbers i) else []) →
+      filter_map (named_in (before ++ here ∷ [])) more ≡ (if facts.can_be_target ss (symbol k) then map named (filter_map line own) else []) →
+      filter_map (named_in (before ++ here ∷ [])) new_rows ≡ (if facts.can_be_target ss (symbol k) then flat_map (naming_at ss line) (numbers after) else [])
   names_now k line old_rows new_rows more e low was adds =
       let test = facts.can_be_target ss (symbol k) in
       ap (filter_map (named_in (before ++ here ∷ []))) e
@@ -248,7 +251,8 @@ module _ (ss : List Numbered) (symbols : List Symbol) (i : ℕ) (s : SymId) (own
   choices_last =
       same_choices made.tables last.tables m.contexts m.choices
       ∙ ap (λ v. map (choice_in made.tables) v.items) m.added.choices
-      ∙ map_alike (choice_in made.tables) (choice_in old.tables) old.tables.choices.items (choice_carries old.tables made.tables (entry_carries old made.tables.contexts (length own) m.added.contexts))
+      ∙ map_alike (choice_in made.tables) (choice_in old.tables) old.tables.choices.items
+      (choice_carries old.tables made.tables (entry_carries old made.tables.contexts (length own) m.added.contexts))
       ∙ w.choices
 
   choices_now : map (choice_in new.tables) new.tables.choices.items ≡ choices_before ss symbols after
@@ -285,7 +289,8 @@ module _ (ss : List Numbered) (symbols : List Symbol) (i : ℕ) (s : SymId) (own
   entries_now =
       ap (map (shown_of new.tables)) entries_made
       ∙ map-append (shown_of new.tables) old.tables.entries.items more_entries
-      ∙ ap (λ l. l ++ map (shown_of new.tables) more_entries) (map_alike (shown_of new.tables) (shown_of old.tables) old.tables.entries.items (λ k e at. shown_carries old.tables new.tables carried [] (length old.tables.entries.items) e w.rows titles_same (all_at (IsEntryThere (length old.tables.titles.items) (length old.tables.entries.items)) old.tables.entries.items k e w.rows.entries at)) ∙ w.entries)
+      ∙ ap (λ l. l ++ map (shown_of new.tables) more_entries)
+      (map_alike (shown_of new.tables) (shown_of old.tables) old.tables.entries.items (λ k e at. shown_carries old.tables new.tables carried [] (length old.tables.entries.items) e w.rows titles_same (all_at (IsEntryThere (length old.tables.titles.items) (length old.tables.entries.items)) old.tables.entries.items k e w.rows.entries at)) ∙ w.entries)
       ∙ ap (λ l. entries_before ss i ++ l) (shown_more (is_first_definition ss i s))
       ∙ sym (entries_passed ss i (ConfigLine s) own h)
 
@@ -314,7 +319,8 @@ module _ (ss : List Numbered) (symbols : List Symbol) (i : ℕ) (s : SymId) (own
   sources_now =
       let n = length new.tables.definitions.items in
       let l : source.0 < n = (let a = m.number in let b = more_definitions in omega arith) in
-      let more : HaveSources n old.tables.reverses.lines.items = All-weaker (λ (r : Reverse). r.source.0 < length old.tables.definitions.items) (λ (r : Reverse). r.source.0 < n) (λ r k. (let b = more_definitions in omega arith)) old.tables.reverses.lines.items w.rows.sources in
+      let more : HaveSources n old.tables.reverses.lines.items = All-weaker (λ (r : Reverse). r.source.0 < length old.tables.definitions.items)
+      (λ (r : Reverse). r.source.0 < n) (λ r k. (let b = more_definitions in omega arith)) old.tables.reverses.lines.items w.rows.sources in
       subst (λ r. HaveSources n r.lines.items) (sym lines_made) (m.sources n l (subst (λ r. HaveSources n r.lines.items) (sym m.added.reverses) more))
 
   rows_now : AreRowsThere new.tables
@@ -322,8 +328,10 @@ module _ (ss : List Numbered) (symbols : List Symbol) (i : ℕ) (s : SymId) (own
     defaults = λ k d e. subst (λ v. IsSpanBelow (length v.items) d.defaults) (sym (m.others.defaults ∙ m.defaults)) (made_rows.defaults k d (in_made k d e));
     ranges = λ k d e. subst (λ v. IsSpanBelow (length v.items) d.ranges) (sym (m.others.ranges ∙ m.ranges)) (made_rows.ranges k d (in_made k d e));
     sources = sources_now;
-    titles = subst (All (IsTitleThere new.tables.contexts)) (sym (titles_same ∙ append-nil old.tables.titles.items)) (titles_stay old.tables.contexts new.tables.contexts old.tables.titles.items carried.longer w.rows.titles);
-    entries = subst (All (IsEntryThere (length new.tables.titles.items) (length new.tables.entries.items))) (sym entries_made) (All-append (IsEntryThere (length new.tables.titles.items) (length new.tables.entries.items)) old.tables.entries.items more_entries (entries_stay (length old.tables.titles.items) (length old.tables.entries.items) (length new.tables.titles.items) (length new.tables.entries.items) old.tables.entries.items (let e = ap length (titles_same ∙ append-nil old.tables.titles.items) in omega arith) (let a = more_by in omega arith) w.rows.entries) (entries_there (is_first_definition ss i s) (length new.tables.titles.items) (length new.tables.entries.items)));
+    titles = subst (All (IsTitleThere new.tables.contexts)) (sym (titles_same ∙ append-nil old.tables.titles.items))
+        (titles_stay old.tables.contexts new.tables.contexts old.tables.titles.items carried.longer w.rows.titles);
+    entries = subst (All (IsEntryThere (length new.tables.titles.items) (length new.tables.entries.items))) (sym entries_made)
+        (All-append (IsEntryThere (length new.tables.titles.items) (length new.tables.entries.items)) old.tables.entries.items more_entries (entries_stay (length old.tables.titles.items) (length old.tables.entries.items) (length new.tables.titles.items) (length new.tables.entries.items) old.tables.entries.items (let e = ap length (titles_same ∙ append-nil old.tables.titles.items) in omega arith) (let a = more_by in omega arith) w.rows.entries) (entries_there (is_first_definition ss i s) (length new.tables.titles.items) (length new.tables.entries.items)));
   }
 
   choices_many : length new.tables.choices.items ≡ length old.tables.choices.items
@@ -337,6 +345,7 @@ module _ (ss : List Numbered) (symbols : List Symbol) (i : ℕ) (s : SymId) (own
       change_length g k [] = refl
       change_length g zero (x ∷ xs) = refl
       change_length g (suc k) (x ∷ xs) = ap suc (change_length g k xs)
+
       with_member_length : (o : Option ℕ) (cs : List ChoiceFacts) → length (with_member o s cs) ≡ length cs
       with_member_length None cs = refl
       with_member_length (Some k) cs = change_length (one_more s) k cs
@@ -364,7 +373,8 @@ module _ (ss : List Numbered) (symbols : List Symbol) (i : ℕ) (s : SymId) (own
 
   blocks_now : AreOpen ss after new.tables.contexts new.blocks
   blocks_now =
-      open_moves ss i after new.tables.contexts new.blocks (enclosing_passed ss i (ConfigLine s) own h ∙ enclosing-no ss i (ConfigLine s) h.at refl) (subst (AreOpen ss i new.tables.contexts) (sym blocks_same) (open_carries ss i old.tables.contexts new.tables.contexts old.blocks carried old.within old.visible w.blocks))
+      open_moves ss i after new.tables.contexts new.blocks (enclosing_passed ss i (ConfigLine s) own h ∙ enclosing-no ss i (ConfigLine s) h.at refl)
+      (subst (AreOpen ss i new.tables.contexts) (sym blocks_same) (open_carries ss i old.tables.contexts new.tables.contexts old.blocks carried old.within old.visible w.blocks))
 
   pub walk_defines : IsWalk ss symbols (place_after i own) new
   walk_defines = record {

@@ -18,6 +18,7 @@ mod EntryLemmas
 mod EntrySoundLemmas
 mod EntryWalkLemmas
 mod ExpansionLemmas
+mod FewLemmas
 mod FirstLemmas
 mod FirstNumberLemmas
 mod FormedLemmas
