@@ -4,6 +4,7 @@ mod BlockLemmas
 mod BuildLemmas
 mod ChainLemmas
 mod ChoiceLemmas
+mod ChoiceOpenLemmas
 mod CloserLemmas
 mod CollectLemmas
 mod ConditionLemmas
