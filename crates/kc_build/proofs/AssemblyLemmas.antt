@@ -1,8 +1,8 @@
 -- What lines say, all of it.
-use Rattle.std.proofs.Common.{◌≡◌, ℕ, ◌==◌, Bool, List, [], filter, length, map, Some, None, Ok, codes, if◌then◌else◌, refl, ap, sym, ◌∙◌, subst}
+use Rattle.std.proofs.Common.{◌≡◌, ℕ, ◌==◌, Bool, List, [], filter, length, map, Some, None, Ok, Err, codes, if◌then◌else◌, refl, ap, sym, ◌∙◌, subst}
 use Rattle.std.specs.Prelude.{nat_lt}
 use Rattle.std.specs.List.{filter_map, list_any}
-use Rattle.std.specs.Option.{option_and_then, unwrap_or}
+use Rattle.std.specs.Option.{option_and_then, option_or, unwrap_or}
 use Rattle.std.proofs.lemmas.List.{length-map}
 use Rattle.std.proofs.Math.Seq.{take-length}
 use Rattle.kc_expr.specs.declared.expression.SymId.{SymId}
@@ -12,6 +12,8 @@ use Rattle.kc_read.specs.declared.statement.Block.TheVariants as block
 use Rattle.kc_read.specs.Blocks.{attributes, last_of, numbers}
 use Rattle.kc_read.specs.Expansion.{Refused}
 use Rattle.kc_read.specs.Reads.{line_view}
+use Rattle.kc_read.specs.Steps.{refusal_view}
+use Rattle.kc_read.specs.declared.refusal.Refusal.{Refusal}
 use Rattle.kc_read.specs.Statements.{Numbered}
 use Rattle.kc_tree.specs.declared.layout.TreeParts.{TreeParts}
 use Rattle.kc_tree.specs.declared.parts.Symbol.{Symbol}
@@ -61,8 +63,8 @@ module _ (names : List (List ℕ)) (count : ℕ) (modules : SymId) (lines : List
   all_diagnosed = subst (λ n. IsDiagnosed names (map line_view lines) n d) (sym (length-map lines line_view)) is
 
   -- the first refusal
-  pub refused-is : (r : _) → _
-  refused-is r = refused_tree names (map line_view lines) d all_diagnosed r (facts_with names count modules (map line_view lines))
+  pub refused-is : (r : Refusal) → option_or d.bad_member d.bad_default ≡ Some r → Err (refusal_view r) ≡ tree_with names count modules (map line_view lines)
+  refused-is r e = sym (refused_tree names (map line_view lines) d all_diagnosed r (facts_with names count modules (map line_view lines)) e)
 
   -- no refusal, and all that is said
   pub whole : (p : TreeParts) → AreBelow count (said_by lines) → length p.layout.symbols.items ≡ count → AreSymbols (said_by lines) p.layout.symbols.items → AreSaid (said_by lines) p.layout.symbols.items p.layout.tables p.main_menu.items →
@@ -71,11 +73,11 @@ module _ (names : List (List ℕ)) (count : ℕ) (modules : SymId) (lines : List
       let ss = said_by lines in
       let a = accepted names (map line_view lines) d all_diagnosed no_member no_default in
       let same = sym (statements-are lines) in
-      let none : bad_members ss ≡ [] = ap bad_members (sym same) ∙ none_bad names (map line_view lines) a.refusals in
+      let none : bad_members ss ≡ [] = ap bad_members same ∙ none_bad names (map line_view lines) a.refusals in
       let below_symbols : AreBelow (length p.layout.symbols.items) ss = subst (λ (k : ℕ). AreBelow k ss) (sym n) below in
       let s = symbols-are ss p.layout are said.definitions said.selectors said.impliers
-              ∙ ap (λ (k : ℕ). map (λ i. symbol_facts ss (symbol i)) (numbers k)) n
-              ∙ ap (λ (l : List Numbered). map (λ i. symbol_facts l (symbol i)) (numbers count)) same in
+      ∙ ap (λ (k : ℕ). map (λ i. symbol_facts ss (symbol i)) (numbers k)) n
+      ∙ ap (λ (l : List Numbered). map (λ i. symbol_facts l (symbol i)) (numbers count)) same in
       let c = said.choices ∙ choices-are ss p.layout.symbols.items below_symbols are none ∙ ap choices same in
       let e = said.entries ∙ ap entries same in
       let w = ap (map (λ w. w.items)) warnings_are ∙ a.warnings_are in

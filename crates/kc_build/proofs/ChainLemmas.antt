@@ -7,17 +7,9 @@ use Rattle.std.proofs.lemmas.List.Elements.{All-nil, All-cons, All-head, All-tai
 use Rattle.kc_tree.specs.declared.parts.Reverse.{Reverse}
 use Rattle.kc_tree.specs.declared.parts.ReverseId.{ReverseId}
 use Rattle.kc_tree.specs.Chains.{chain_of, chains_from, chains_of}
+use Rattle.kc_build.proofs.GrownLemmas.{get_front, get_last}
 
--- one element more at the end of a list
-pub get_left : {A : Type 0} (xs : List A) (y : A) (i : ℕ) → i < length xs → slice_get (xs ++ y ∷ []) i ≡ slice_get xs i
-get_left [] y i h = absurd (omega arith)
-get_left (x ∷ xs) y zero h = refl
-get_left (x ∷ xs) y (suc i) h = get_left xs y i (omega arith)
-
-pub get_last : {A : Type 0} (xs : List A) (y : A) → slice_get (xs ++ y ∷ []) (length xs) ≡ Some y
-get_last [] y = refl
-get_last (x ∷ xs) y = get_last xs y
-
+-- behind the last element of a list with one more there is none
 pub get_past : {A : Type 0} (xs : List A) (y : A) (i : ℕ) → length xs < i → slice_get (xs ++ y ∷ []) i ≡ None
 get_past [] y zero h = absurd (omega arith)
 get_past [] y (suc i) h = refl
@@ -104,7 +96,7 @@ module _ {A : Type 0} (read : Option Reverse → Option A) where
   pub read-keeps : (lines : List Reverse) (r : Reverse) (chain : List ℕ) → AllBelow (length lines) chain → read_chain (lines ++ r ∷ []) chain ≡ read_chain lines chain
   read-keeps lines r [] h = refl
   read-keeps lines r (i ∷ chain) h =
-      let first = get_left lines r i (All-head (λ (j : ℕ). j < length lines) i chain h) in
+      let first = get_front lines (r ∷ []) i (All-head (λ (j : ℕ). j < length lines) i chain h) in
       let rest = read-keeps lines r chain (All-tail (λ (j : ℕ). j < length lines) i chain h) in
       rw (first, rest) refl
 

@@ -86,7 +86,8 @@ by_tables conditions defaults ranges d = record {
   ranges = map (range_view conditions (condition_in conditions d.within.0)) (part_of ranges d.ranges);
 }
 
-same_definitions : (t u : Tables) → u.contexts ≡ t.contexts → u.definitions ≡ t.definitions → u.defaults ≡ t.defaults → u.ranges ≡ t.ranges → map (definition_facts u) u.definitions.items ≡ map (definition_facts t) t.definitions.items
+same_definitions : (t u : Tables) → u.contexts ≡ t.contexts → u.definitions ≡ t.definitions → u.defaults ≡ t.defaults → u.ranges ≡ t.ranges →
+    map (definition_facts u) u.definitions.items ≡ map (definition_facts t) t.definitions.items
 same_definitions t u c d e f = λ i. map (by_tables (c i) ((e i).items) ((f i).items)) ((d i).items)
 
 -- Choices say the same by the contexts.
@@ -191,7 +192,11 @@ module _ (ss : List Numbered) (symbols : List Symbol) (i : ℕ) (s : SymId) (own
       ap (λ l. map named (filter_map line l)) (sym h.attributes_are) ∙ sym (naming_is ss line i s symbol_here)
 
   -- what names a symbol, by the lines of a kind
-  names_now : (k : ℕ) (line : Numbered → Option (Option Form)) (old_rows new_rows more : List (ℕ × Option Form)) → new_rows ≡ old_rows ++ more → All (λ (x : ℕ × Option Form). x.0 < length before) old_rows → filter_map (named_in before) old_rows ≡ (if facts.can_be_target ss (symbol k) then flat_map (naming_at ss line) (numbers i) else []) → filter_map (named_in (before ++ here ∷ [])) more ≡ (if facts.can_be_target ss (symbol k) then map named (filter_map line own) else []) → filter_map (named_in (before ++ here ∷ [])) new_rows ≡ (if facts.can_be_target ss (symbol k) then flat_map (naming_at ss line) (numbers after) else [])
+  names_now : (k : ℕ) (line : Numbered → Option (Option Form)) (old_rows new_rows more : List (ℕ × Option Form)) → new_rows ≡ old_rows ++ more →
+      All (λ (x : ℕ × Option Form). x.0 < length before) old_rows →
+      filter_map (named_in before) old_rows ≡ (if facts.can_be_target ss (symbol k) then flat_map (naming_at ss line) (numbers i) else []) →
+      filter_map (named_in (before ++ here ∷ [])) more ≡ (if facts.can_be_target ss (symbol k) then map named (filter_map line own) else []) →
+      filter_map (named_in (before ++ here ∷ [])) new_rows ≡ (if facts.can_be_target ss (symbol k) then flat_map (naming_at ss line) (numbers after) else [])
   names_now k line old_rows new_rows more e low was adds =
       let test = facts.can_be_target ss (symbol k) in
       ap (filter_map (named_in (before ++ here ∷ []))) e
@@ -246,7 +251,8 @@ module _ (ss : List Numbered) (symbols : List Symbol) (i : ℕ) (s : SymId) (own
   choices_last =
       same_choices made.tables last.tables m.contexts m.choices
       ∙ ap (λ v. map (choice_in made.tables) v.items) m.added.choices
-      ∙ map_alike (choice_in made.tables) (choice_in old.tables) old.tables.choices.items (choice_carries old.tables made.tables (entry_carries old made.tables.contexts (length own) m.added.contexts))
+      ∙ map_alike (choice_in made.tables) (choice_in old.tables) old.tables.choices.items
+      (choice_carries old.tables made.tables (entry_carries old made.tables.contexts (length own) m.added.contexts))
       ∙ w.choices
 
   choices_now : map (choice_in new.tables) new.tables.choices.items ≡ choices_before ss symbols after
@@ -283,7 +289,8 @@ module _ (ss : List Numbered) (symbols : List Symbol) (i : ℕ) (s : SymId) (own
   entries_now =
       ap (map (shown_of new.tables)) entries_made
       ∙ map-append (shown_of new.tables) old.tables.entries.items more_entries
-      ∙ ap (λ l. l ++ map (shown_of new.tables) more_entries) (map_alike (shown_of new.tables) (shown_of old.tables) old.tables.entries.items (λ k e at. shown_carries old.tables new.tables carried [] (length old.tables.entries.items) e w.rows titles_same (all_at (IsEntryThere (length old.tables.titles.items) (length old.tables.entries.items)) old.tables.entries.items k e w.rows.entries at)) ∙ w.entries)
+      ∙ ap (λ l. l ++ map (shown_of new.tables) more_entries)
+      (map_alike (shown_of new.tables) (shown_of old.tables) old.tables.entries.items (λ k e at. shown_carries old.tables new.tables carried [] (length old.tables.entries.items) e w.rows titles_same (all_at (IsEntryThere (length old.tables.titles.items) (length old.tables.entries.items)) old.tables.entries.items k e w.rows.entries at)) ∙ w.entries)
       ∙ ap (λ l. entries_before ss i ++ l) (shown_more (is_first_definition ss i s))
       ∙ sym (entries_passed ss i (ConfigLine s) own h)
 
@@ -312,7 +319,8 @@ module _ (ss : List Numbered) (symbols : List Symbol) (i : ℕ) (s : SymId) (own
   sources_now =
       let n = length new.tables.definitions.items in
       let l : source.0 < n = (let a = m.number in let b = more_definitions in omega arith) in
-      let more : HaveSources n old.tables.reverses.lines.items = All-weaker (λ (r : Reverse). r.source.0 < length old.tables.definitions.items) (λ (r : Reverse). r.source.0 < n) (λ r k. (let b = more_definitions in omega arith)) old.tables.reverses.lines.items w.rows.sources in
+      let more : HaveSources n old.tables.reverses.lines.items = All-weaker (λ (r : Reverse). r.source.0 < length old.tables.definitions.items)
+      (λ (r : Reverse). r.source.0 < n) (λ r k. (let b = more_definitions in omega arith)) old.tables.reverses.lines.items w.rows.sources in
       subst (λ r. HaveSources n r.lines.items) (sym lines_made) (m.sources n l (subst (λ r. HaveSources n r.lines.items) (sym m.added.reverses) more))
 
   rows_now : AreRowsThere new.tables
@@ -320,8 +328,10 @@ module _ (ss : List Numbered) (symbols : List Symbol) (i : ℕ) (s : SymId) (own
     defaults = λ k d e. subst (λ v. IsSpanBelow (length v.items) d.defaults) (sym (m.others.defaults ∙ m.defaults)) (made_rows.defaults k d (in_made k d e));
     ranges = λ k d e. subst (λ v. IsSpanBelow (length v.items) d.ranges) (sym (m.others.ranges ∙ m.ranges)) (made_rows.ranges k d (in_made k d e));
     sources = sources_now;
-    titles = subst (All (IsTitleThere new.tables.contexts)) (sym (titles_same ∙ append-nil old.tables.titles.items)) (titles_stay old.tables.contexts new.tables.contexts old.tables.titles.items carried.longer w.rows.titles);
-    entries = subst (All (IsEntryThere (length new.tables.titles.items) (length new.tables.entries.items))) (sym entries_made) (All-append (IsEntryThere (length new.tables.titles.items) (length new.tables.entries.items)) old.tables.entries.items more_entries (entries_stay (length old.tables.titles.items) (length old.tables.entries.items) (length new.tables.titles.items) (length new.tables.entries.items) old.tables.entries.items (let e = ap length (titles_same ∙ append-nil old.tables.titles.items) in omega arith) (let a = more_by in omega arith) w.rows.entries) (entries_there (is_first_definition ss i s) (length new.tables.titles.items) (length new.tables.entries.items)));
+    titles = subst (All (IsTitleThere new.tables.contexts)) (sym (titles_same ∙ append-nil old.tables.titles.items))
+        (titles_stay old.tables.contexts new.tables.contexts old.tables.titles.items carried.longer w.rows.titles);
+    entries = subst (All (IsEntryThere (length new.tables.titles.items) (length new.tables.entries.items))) (sym entries_made)
+        (All-append (IsEntryThere (length new.tables.titles.items) (length new.tables.entries.items)) old.tables.entries.items more_entries (entries_stay (length old.tables.titles.items) (length old.tables.entries.items) (length new.tables.titles.items) (length new.tables.entries.items) old.tables.entries.items (let e = ap length (titles_same ∙ append-nil old.tables.titles.items) in omega arith) (let a = more_by in omega arith) w.rows.entries) (entries_there (is_first_definition ss i s) (length new.tables.titles.items) (length new.tables.entries.items)));
   }
 
   choices_many : length new.tables.choices.items ≡ length old.tables.choices.items
@@ -363,7 +373,8 @@ module _ (ss : List Numbered) (symbols : List Symbol) (i : ℕ) (s : SymId) (own
 
   blocks_now : AreOpen ss after new.tables.contexts new.blocks
   blocks_now =
-      open_moves ss i after new.tables.contexts new.blocks (enclosing_passed ss i (ConfigLine s) own h ∙ enclosing-no ss i (ConfigLine s) h.at refl) (subst (AreOpen ss i new.tables.contexts) (sym blocks_same) (open_carries ss i old.tables.contexts new.tables.contexts old.blocks carried old.within old.visible w.blocks))
+      open_moves ss i after new.tables.contexts new.blocks (enclosing_passed ss i (ConfigLine s) own h ∙ enclosing-no ss i (ConfigLine s) h.at refl)
+      (subst (AreOpen ss i new.tables.contexts) (sym blocks_same) (open_carries ss i old.tables.contexts new.tables.contexts old.blocks carried old.within old.visible w.blocks))
 
   pub walk_defines : IsWalk ss symbols (place_after i own) new
   walk_defines = record {

@@ -103,7 +103,8 @@ module _ (ss : List Numbered) where
     by_front : (ds : List ℕ) → passing defines i ≡ ds → begins (definition_number ss i) (map (definition_number ss) (definitions_of ss s)) ≡ not (some_places ds)
     by_front [] e =
         let r = behind in
-        ap (λ l. begins (definition_number ss i) (map (definition_number ss) l)) (r.1 ∙ ap (λ l. l ++ r.0) (up_to ∙ ap (λ l. l ++ i ∷ []) e)) ∙ eq-eqb (definition_number ss i) (definition_number ss i) refl
+        ap (λ l. begins (definition_number ss i) (map (definition_number ss) l)) (r.1 ∙ ap (λ l. l ++ r.0) (up_to ∙ ap (λ l. l ++ i ∷ []) e))
+        ∙ eq-eqb (definition_number ss i) (definition_number ss i) refl
     by_front (d ∷ ds) e =
         let r = behind in
         let h = head_is defines i d ds e in
@@ -115,7 +116,8 @@ module _ (ss : List Numbered) where
     begins_first = by_front (passing defines i) refl ∙ sym (first-is ss i s (omega arith))
 
 -- By the rows of the symbols.
-first_id : (n : ℕ) (first : Option DefinitionId) (more : List DefinitionId) → list_any (λ (d : DefinitionId). d.0 == n) (listed first) ≡ begins n (map (λ (d : DefinitionId). d.0) (listed first ++ more_of first more))
+first_id : (n : ℕ) (first : Option DefinitionId) (more : List DefinitionId) →
+    list_any (λ (d : DefinitionId). d.0 == n) (listed first) ≡ begins n (map (λ (d : DefinitionId). d.0) (listed first ++ more_of first more))
 first_id n None more = refl
 first_id n (Some d) more = or_false (d.0 == n)
   where
@@ -131,7 +133,8 @@ seen_first : (n : ℕ) (o : Option Symbol) → list_any (λ (d : DefinitionId). 
 seen_first n None = refl
 seen_first n (Some f) = first_id n f.first f.more.items
 
-pub first_by_number : (ss : List Numbered) (symbols : List Symbol) (s : SymId) (i : ℕ) → AreSymbols ss symbols → s.0 < length symbols → symbol_at ss i ≡ Some s → i < length ss → first_by symbols s (definition_number ss i) ≡ is_first_definition ss i s
+pub first_by_number : (ss : List Numbered) (symbols : List Symbol) (s : SymId) (i : ℕ) → AreSymbols ss symbols → s.0 < length symbols → symbol_at ss i ≡ Some s → i < length ss →
+    first_by symbols s (definition_number ss i) ≡ is_first_definition ss i s
 first_by_number ss symbols s i are l here within =
     let n = definition_number ss i in
     seen_first n (slice_get symbols s.0)

@@ -465,26 +465,29 @@ get_pushed_if {X} false xs new y i x e h = inl (sym (ap (λ (l : List X). slice_
 pub keeping_title : (w : Walk) (b : Bool) (t : Title) (new : List Title) → new ≡ pushed b w.tables.titles.items t → t.visible.0 < length w.tables.contexts → IsPlain w.tables.contexts t.visible.0 → Keeping w.tables.contexts w.tables.definitions.items w.tables.choices.items new × Holding w.tables.contexts new w.blocks
 keeping_title w b t new e v p =
     let k = kept_by w.tables in
-    let h = held_by w in
-    (keeping w.tables.contexts w.tables.definitions.items w.tables.choices.items new
-    (record {
-      within = k.within;
-      prompts_within = k.prompts_within;
-      prompts_plain = k.prompts_plain;
-      choices_within = k.choices_within;
-      choices_plain = k.choices_plain;
-      choice_prompts_within = k.choice_prompts_within;
-      choice_prompts_plain = k.choice_prompts_plain;
-      titles_plain = λ i x at. plain_by i x (get_pushed_if b w.tables.titles.items new t i x e at);
-      modes_below = k.modes_below;
-      modes_behind = k.modes_behind;
-      mode_prompts_behind = k.mode_prompts_behind;
-    }), holding w.tables.contexts new w.blocks
-    (record { asks_nothing = h.asks_nothing; top_plain = h.top_plain; within = h.within; visible = h.visible; plain = h.plain; titles = λ i x at. within_by i x (get_pushed_if b w.tables.titles.items new t i x e at) }))
+    let h = held_by w in (
+      keeping w.tables.contexts w.tables.definitions.items w.tables.choices.items new
+          (record {
+            within = k.within;
+            prompts_within = k.prompts_within;
+            prompts_plain = k.prompts_plain;
+            choices_within = k.choices_within;
+            choices_plain = k.choices_plain;
+            choice_prompts_within = k.choice_prompts_within;
+            choice_prompts_plain = k.choice_prompts_plain;
+            titles_plain = λ i x at. plain_by i x (get_pushed_if b w.tables.titles.items new t i x e at);
+            modes_below = k.modes_below;
+            modes_behind = k.modes_behind;
+            mode_prompts_behind = k.mode_prompts_behind;
+          }),
+      holding w.tables.contexts new w.blocks
+          (record { asks_nothing = h.asks_nothing; top_plain = h.top_plain; within = h.within; visible = h.visible; plain = h.plain; titles = λ i x at. within_by i x (get_pushed_if b w.tables.titles.items new t i x e at) }),
+    )
   where
     plain_by : (i : ℕ) (x : Title) → (slice_get w.tables.titles.items i ≡ Some x) ⊎ (t ≡ x) → IsPlain w.tables.contexts x.visible.0
     plain_by i x (inl a) = w.tables.titles_plain i x a
     plain_by i x (inr a) = subst (λ (y : Title). IsPlain w.tables.contexts y.visible.0) a p
+
     within_by : (i : ℕ) (x : Title) → (slice_get w.tables.titles.items i ≡ Some x) ⊎ (t ≡ x) → x.visible.0 < length w.tables.contexts
     within_by i x (inl a) = w.titles i x a
     within_by i x (inr a) = subst (λ (y : Title). y.visible.0 < length w.tables.contexts) a v

@@ -52,6 +52,8 @@ mod ShapeLemmas
 mod ShownLemmas
 mod SoundLemmas
 mod StackLemmas
+mod SurroundingLemmas
+mod SymbolRowLemmas
 mod TableLemmas
 mod TitleLemmas
 mod TreeTextLemmas

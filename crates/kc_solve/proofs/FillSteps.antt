@@ -1,5 +1,5 @@
 -- One more node of the table filled, along an order of the nodes of a tree.
-use Rattle.std.proofs.Common.{◌≡◌, ◌≢◌, ◌⊎◌, ℕ, ◌<◌, ◌≤◌, ◌+◌, List, [], ◌∷◌, ◌++◌, length, Option, Some, None, sym, ◌∙◌, ap, inl, inr, refl, subst, arith, get_or, take, eqb}
+use Rattle.std.proofs.Common.{◌≡◌, ◌≢◌, ◌⊎◌, ℕ, ◌<◌, ◌≤◌, ◌+◌, List, [], ◌∷◌, ◌++◌, length, Option, Some, None, sym, ◌∙◌, ap, inl, inr, refl, subst, arith, get_or, take, eqb, flat_map}
 use Rattle.std.specs.Prelude.{slice_index_or, replicate}
 use Rattle.std.specs.List.{AllByRecursion, Contains}
 use Rattle.std.proofs.lemmas.Bool.{cases_eq, cases_lt, eqb-false}
@@ -21,6 +21,7 @@ use Rattle.kc_tree.specs.Layouts.{IsLayoutOf, choice_facts}
 use Rattle.kc_tree.specs.TreeFacts.{TreeFacts}
 use Rattle.kc_tree.specs.declared.layout.Layout.{Layout}
 use Rattle.kc_tree.proofs.TreeLemmas.{symbols-length}
+use Rattle.kc_user.specs.Given.{Given, Slot}
 use Rattle.kc_user.specs.Places.{member_place}
 use Rattle.kc_user.specs.declared.value.UserValue.{UserValue}
 use Rattle.kc_values.specs.Lookups.{choice_at}
@@ -59,14 +60,14 @@ front_cases xs k t l c = Contains-push_cases (take k xs) (get_or xs k 0) t (subs
 
 -- what is known stays but for one symbol
 known_but : (k m : SymId → Known) (id : SymId) → ((s : SymId) → (s.0 ≡ id.0 → ⊥) → m s ≡ k s) → (names : List SymId) → (Contains names id → ⊥) → AllByRecursion (λ s. k s ≡ m s) names
-known_but k m id others [] no = tt
-known_but k m id others (s ∷ names) no =
+known_but k m id others [] without = tt
+known_but k m id others (s ∷ names) without =
     let numbered : ℕ → SymId = λ n. record { 0 = n } in
     let here : k s ≡ m s =
     elim (cases_eq s.0 id.0) [
-      | inl same ↦ absurd (no (0, omega arith, ap numbered same))
+      | inl same ↦ absurd (without (0, omega arith, ap numbered same))
       | inr other ↦ sym (others s other)
-    ] in (here, known_but k m id others names (λ c. no (Contains-append_right (s ∷ []) names id c)))
+    ] in (here, known_but k m id others names (λ c. without (Contains-append_right (s ∷ []) names id c)))
 
 -- a place that is filled is there
 there : {A : Type 0} (xs : List (Option A)) (i : ℕ) (x : A) → slice_index_or xs i None ≡ Some x → i < length xs
@@ -117,7 +118,8 @@ module _ (tree : TreeFacts) (l : Layout) (nodes : List ℕ) (order : IsNodeOrder
 
 module _ (tree : TreeFacts) (l : Layout) (given : List (Option UserValue)) (chosen : List (Option SymId)) (nodes : List ℕ) (k : ℕ) (values : List (Option Value)) (contexts : List (Option Tri))
     (selections : List (Option (Option SymId))) (now : IsFilledTo tree l given chosen nodes k values contexts selections) (b : k < length nodes) where
-  abbrev P = places given chosen
+  abbrev P : Slot → Option Given
+  P = places given chosen
 
   longer : (t : ℕ) → Contains (take k nodes) t → Contains (take (k + 1) nodes) t
   longer t c = front_longer nodes k (k + 1) t (omega arith) (omega arith) c

@@ -4,4 +4,6 @@ pub mod GroupNames
 pub mod UserSteps
 pub mod WarningSteps
 pub mod FlagSteps
+pub mod OrderSteps
 pub mod SolvedSteps
+pub mod ShownSteps

@@ -2,14 +2,14 @@
 use Rattle.std.proofs.Common.{◌≡◌, ℕ, ◌<◌, ◌≤◌, List, [], ◌∷◌, length, Option, Some, None, cond, sym, ◌∙◌, ap, inl, inr, refl, subst, arith, get_or, get_or-set_same, get_or-set_other}
 use Rattle.std.proofs.Math.Logic.{∥∥₁_elim}
 use Rattle.std.proofs.Math.Nat.{ℕ_set}
-use Rattle.std.specs.Prelude.{slice_index_or, slice_set, slice_get}
+use Rattle.std.specs.Prelude.{slice_index_or, slice_set, slice_get, IfSome}
 use Rattle.std.specs.Coded.{coded_option}
 use Rattle.std.specs.Borrow.{Bor}
 use Rattle.std.specs.Option.{option_copied, option_map}
 use Rattle.std.specs.List.{AllByRecursion}
 use Rattle.std.proofs.lemmas.Bool.{cases_Bool, ltb-false}
 use Rattle.std.proofs.lemmas.List.{get_or_default, get_or_past, length-set}
-use Rattle.std.proofs.lemmas.Option.{slice_get_past}
+use Rattle.std.proofs.lemmas.Option.{slice_get_past, slice_get_within}
 use base.Stored.{Coded-set}
 use Rattle.kc_expr.specs.Names.{symbol}
 use Rattle.kc_expr.specs.Value.{Known, Truth, Written, known_of}
@@ -23,7 +23,7 @@ use Rattle.kc_order.specs.Solution.{IsUpdate}
 use Rattle.kc_tree.specs.Contexts.{mode_view}
 use Rattle.kc_tree.specs.Layouts.{IsLayoutOf, facts_of, choices_in, choice_facts}
 use Rattle.kc_tree.specs.TreeCode.{symbol_code}
-use Rattle.kc_tree.specs.TreeFacts.{SymbolFacts, TreeFacts}
+use Rattle.kc_tree.specs.TreeFacts.{IsWellFormed, SymbolFacts, TreeFacts}
 use Rattle.kc_tree.specs.declared.layout.Layout.{Layout}
 use Rattle.kc_tree.specs.declared.parts.ChoiceId.{ChoiceId}
 use Rattle.kc_tree.specs.declared.parts.Symbol.{Symbol}
@@ -53,6 +53,11 @@ each P h (x ∷ xs) = (h x, each P h xs)
 -- the facts of a symbol, by its row
 pub row_facts : (t : Table) (id : SymId) (s : Symbol) → IsRowOf t id s → facts t.tree.now id ≡ Some (facts_of t.layout.now id.0 s)
 row_facts t id s e =
+    ∥∥₁_elim t.laid (Coded-set (coded_option symbol_code) _ _) (λ laid.
+    ap (λ xs. slice_get xs id.0) laid.symbols ∙ symbols-at t.layout.now id.0 ∙ ap (option_map (facts_of t.layout.now id.0)) e)
+
+pub row_none : (t : Table) (id : SymId) → slice_get t.layout.now.symbols.items id.0 ≡ None → facts t.tree.now id ≡ None
+row_none t id e =
     ∥∥₁_elim t.laid (Coded-set (coded_option symbol_code) _ _) (λ laid.
     ap (λ xs. slice_get xs id.0) laid.symbols ∙ symbols-at t.layout.now id.0 ∙ ap (option_map (facts_of t.layout.now id.0)) e)
 
@@ -162,3 +167,12 @@ filled_value t id s given chosen x row count below e =
       others = λ n ne. u.others n.0 ne;
       count = length-set values id.0 (Some x);
     }
+
+-- the choice of a symbol is one of the tree's
+pub choice_at_most : (tree : TreeFacts) → IsWellFormed tree → (i : ℕ) (f : SymbolFacts) (c : ℕ) → slice_get tree.symbols i ≡ Some f → f.choice ≡ Some c → c < length tree.choices
+choice_at_most tree formed i f c e h = let listed = formed.members_listed i f e c h in slice_get_within tree.choices c listed.0 listed.1
+
+pub choice_below : (tree : TreeFacts) → IsWellFormed tree → (i n : ℕ) (f : SymbolFacts) (choice : Option ChoiceId) → slice_get tree.symbols i ≡ Some f → f.choice ≡ mode_view choice →
+    n ≡ length tree.choices → IfSome choice (λ k. k.0 < n)
+choice_below tree formed i n f None e h count = tt
+choice_below tree formed i n f (Some k) e h count = subst (λ m. k.0 < m) (sym count) (choice_at_most tree formed i f k.0 e h)

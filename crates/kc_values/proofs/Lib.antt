@@ -21,7 +21,7 @@ pub mod ChainLemmas
 pub mod DefinitionLemmas
 pub mod OpenLemmas
 pub mod SmallNumbers
-pub mod SettledWrites
-pub mod NameRows
-pub mod RowMarks
 pub mod RowSteps
+pub mod RowsMade
+pub mod ChainSteps
+pub mod ReverseRows

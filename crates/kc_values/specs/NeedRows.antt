@@ -1,5 +1,5 @@
 -- For proofs: The rows of the graph of needs as they are made: for each node the contexts and choices that it needs, and the names.
-use Rattle.std.specs.Prelude.{◌≡◌, ℕ, ◌<◌, ◌==◌, ◌&&◌, ◌||◌, if◌then◌else◌, Bool, true, false, List, [], ◌∷◌, ◌++◌, filter, map, length, nat_lt, is_some, Option, Some, None, slice_get, slice_index_or}
+use Rattle.std.specs.Prelude.{◌≡◌, ℕ, ◌<◌, ◌+◌, ◌==◌, ◌&&◌, ◌||◌, if◌then◌else◌, Bool, true, false, List, [], ◌∷◌, ◌++◌, filter, map, length, nat_lt, is_some, Option, Some, None, slice_get, slice_index_or}
 use Rattle.std.specs.Option.{option_and_then}
 use Rattle.std.specs.List.{filter_map, flat_map, range_with_len}
 use Rattle.kc_expr.specs.Form.{Form, form_of, leaf_of, leaf_symbols, symbols}
@@ -22,7 +22,7 @@ use Rattle.kc_tree.specs.declared.parts.Symbol.{Symbol}
 use Rattle.kc_tree.specs.declared.parts.SymbolDefault.{SymbolDefault}
 use Rattle.kc_tree.specs.declared.parts.SymbolRange.{SymbolRange}
 use Rattle.kc_tree.specs.Chains.{chain_of, chains_of}
-use Rattle.kc_tree.specs.Contexts.{IsStep}
+use Rattle.kc_tree.specs.Contexts.{IsStep, condition_in, top}
 use Rattle.kc_tree.specs.Parts.{definition_ids, part_of}
 use Rattle.kc_tree.specs.TreeFacts.{TreeFacts}
 use Rattle.kc_values.specs.declared.needs.Row.{Row}
@@ -55,7 +55,7 @@ abbrev pub default_names : SymbolDefault → List SymId
 default_names d = symbols (form_of d.value.value) ++ when_names (when_view d.when)
 
 abbrev pub range_names : SymbolRange → List SymId
-range_names r = leaf_symbols (leaf_of r.bounds.low) ++ leaf_symbols (leaf_of r.bounds.high) ++ when_names (when_view r.when)
+range_names r = leaf_symbols (leaf_of r.low) ++ leaf_symbols (leaf_of r.high) ++ when_names (when_view r.when)
 
 abbrev pub choice_default_names : ChoiceDefault → List SymId
 choice_default_names d = when_names (when_view d.when)
@@ -75,6 +75,11 @@ is_truth Tristate = true
 is_truth Str = false
 is_truth Int = false
 is_truth Hex = false
+
+-- how many lines there are at most from one on
+abbrev pub lines_left : Option ReverseId → ℕ
+lines_left None = 0
+lines_left (Some id) = id.0 + 1
 
 -- something, where a list has an element
 abbrev pub where_some : {X : Type 0} → List X → List ℕ → List ℕ
@@ -124,8 +129,8 @@ module _ (l : Layout) where
   abbrev pub definition_row : Symbol → ℕ → Option Definition
   definition_row s i = option_and_then definition_at (slice_get (definition_ids s) i)
 
-  abbrev pub definitions_of : Symbol → List Definition
-  definitions_of s = filter_map definition_at (definition_ids s)
+  abbrev pub definitions_of : List DefinitionId → List Definition
+  definitions_of ids = filter_map definition_at ids
 
   abbrev pub defaults_of : Definition → List SymbolDefault
   defaults_of d = part_of l.tables.defaults.items d.defaults
@@ -134,11 +139,23 @@ module _ (l : Layout) where
   ranges_of d = part_of l.tables.ranges.items d.ranges
 
   -- of their prompts alone
+  abbrev pub entry_nodes : Definition → List ℕ
+  entry_nodes d = (if is_some d.prompt then context_nodes d.within.0 else []) ++ prompt_nodes d.prompt
+
+  abbrev pub entry_names : Definition → List SymId
+  entry_names d = prompt_names d.prompt
+
+  abbrev pub prompts_nodes_of : List DefinitionId → List ℕ
+  prompts_nodes_of ids = flat_map entry_nodes (definitions_of ids)
+
+  abbrev pub prompts_names_of : List DefinitionId → List SymId
+  prompts_names_of ids = flat_map entry_names (definitions_of ids)
+
   abbrev pub prompts_nodes : Symbol → List ℕ
-  prompts_nodes s = flat_map (λ d. (if is_some d.prompt then context_nodes d.within.0 else []) ++ prompt_nodes d.prompt) (definitions_of s)
+  prompts_nodes s = prompts_nodes_of (definition_ids s)
 
   abbrev pub prompts_names : Symbol → List SymId
-  prompts_names s = flat_map (λ d. prompt_names d.prompt) (definitions_of s)
+  prompts_names s = prompts_names_of (definition_ids s)
 
   -- the equation of a symbol of this type reads what a definition of it depends on
   abbrev pub is_read : Kind → Definition → Bool
@@ -151,11 +168,17 @@ module _ (l : Layout) where
   definition_names kind d =
       prompt_names d.prompt ++ flat_map default_names (defaults_of d) ++ (if is_number kind then flat_map range_names (ranges_of d) else [])
 
+  abbrev pub definitions_nodes_of : Kind → List DefinitionId → List ℕ
+  definitions_nodes_of kind ids = flat_map (definition_nodes kind) (definitions_of ids)
+
+  abbrev pub definitions_names_of : Kind → List DefinitionId → List SymId
+  definitions_names_of kind ids = flat_map (definition_names kind) (definitions_of ids)
+
   abbrev pub definitions_nodes : Symbol → List ℕ
-  definitions_nodes s = flat_map (definition_nodes s.kind) (definitions_of s)
+  definitions_nodes s = definitions_nodes_of s.kind (definition_ids s)
 
   abbrev pub definitions_names : Symbol → List SymId
-  definitions_names s = flat_map (definition_names s.kind) (definitions_of s)
+  definitions_names s = definitions_names_of s.kind (definition_ids s)
 
   -- lines that select or imply, from one on
   abbrev pub reverse_row : ℕ → Option Reverse
@@ -209,18 +232,27 @@ module _ (l : Layout) where
   abbrev pub member_row : SymId → Option Symbol
   member_row s = slice_get l.symbols.items s.0
 
+  abbrev pub members_nodes : List SymId → List ℕ
+  members_nodes ms = flat_map prompts_nodes (filter_map member_row ms)
+
+  abbrev pub members_names : List SymId → List SymId
+  members_names ms = flat_map prompts_names (filter_map member_row ms)
+
   abbrev pub choice_nodes : Choice → List ℕ
-  choice_nodes c = flat_map prompts_nodes (filter_map member_row c.members.items) ++ choice_prompt_nodes c ++ choice_defaults_nodes c
+  choice_nodes c = members_nodes c.members.items ++ choice_prompt_nodes c ++ choice_defaults_nodes c
 
   abbrev pub choice_names : Choice → List SymId
-  choice_names c = flat_map prompts_names (filter_map member_row c.members.items) ++ prompt_names c.prompt ++ flat_map choice_default_names c.defaults.items
+  choice_names c = members_names c.members.items ++ prompt_names c.prompt ++ flat_map choice_default_names c.defaults.items
 
   -- the rows of contexts and choices
   abbrev pub defined : List SymId → List ℕ
   defined names = map (λ (s : SymId). s.0) (filter (λ (s : SymId). nat_lt s.0 (length l.symbols.items)) names)
 
+  abbrev pub choice_row_of : Choice → List ℕ
+  choice_row_of c = choice_nodes c ++ defined (choice_names c)
+
   abbrev pub choice_rows : List (List ℕ)
-  choice_rows = map (λ (c : Choice). choice_nodes c ++ defined (choice_names c)) l.tables.choices.items
+  choice_rows = map choice_row_of l.tables.choices.items
 
 module _ (tree : TreeFacts) (l : Layout) where
   abbrev pub truth_names : ℕ → Symbol → List SymId
@@ -244,10 +276,14 @@ module _ (tree : TreeFacts) (l : Layout) where
   abbrev pub symbol_rows : List (List ℕ)
   symbol_rows = map (λ i. symbol_row i (slice_get l.symbols.items i)) (range_with_len 0 (length l.symbols.items))
 
--- a row of a context: of the top none; else there is a context of that number that asks for what the row has
-abbrev pub IsContextRow : Layout → ℕ → List ℕ → Type 0
-IsContextRow l i row =
-    (i ≡ 0 → row ≡ []) × (0 < i → (c : Context) × IsStep l.tables.contexts i c × (row ≡ asked_nodes l c ++ defined l (asked_names l c)))
+-- the choices of members are there
+abbrev pub AreChoicesThere : Layout → Type 0
+AreChoicesThere l = (i : ℕ) (s : Symbol) (k : ChoiceId) → slice_get l.symbols.items i ≡ Some s → s.choice ≡ Some k → k.0 < length l.tables.choices.items
+
+-- a row of a context: of one that asks for nothing, as the top, none; else there is a context of that number that asks for what the row has
+pub data IsContextRow (l : Layout) (i : ℕ) (row : List ℕ) : Type 0 where
+  asks_nothing : condition_in l.tables.contexts i ≡ top → row ≡ [] → IsContextRow l i row
+  asks_this : (c : Context) → IsStep l.tables.contexts i c → row ≡ asked_nodes l c ++ defined l (asked_names l c) → IsContextRow l i row
 
 -- the rows of the contexts: of each what a context of that number asks for
 abbrev pub AreContextRows : Layout → List (List ℕ) → Type 0

@@ -6,8 +6,8 @@ ghost use Rattle.kc_expr.specs.Form.{leaf_of, leaf_symbols};
 ghost use Rattle.kc_order.specs.Graph.{IsGraph, needs_of};
 ghost use Rattle.kc_order.specs.Needs.{AreAlike};
 ghost use Rattle.kc_expr.specs.When.{when_view};
-ghost use Rattle.kc_tree.specs.declared.layout.Layout.{Layout};
 ghost use Rattle.kc_tree.specs.Layouts.{IsLayoutOf};
+ghost use Rattle.kc_tree.specs.TreeFacts.{IsWellFormed};
 ghost use Rattle.kc_tree.specs.Soundness.{IsChoiceThere, IsDefinitionThere, IsPromptThere};
 ghost use Rattle.kc_values.specs.Needs as spec;
 ghost use Rattle.kc_values.specs.NeedRows as rows;
@@ -16,7 +16,7 @@ ghost use Rattle.kc_values.specs.NeedRows.{Adds, IsRow};
 use crate::nodes::{choice_number, context_number, node_count};
 use kc_expr::expression::{Expr, Kind, Operand, SymId};
 use kc_expr::values::names_into;
-use kc_order::Graph;
+use kc_order::{Graph, groups_stand_for_symbols};
 use kc_tree::layout::Layout;
 use kc_tree::parts::{
     Choice, ChoiceId, Context, ContextId, Definition, Prompt, ReverseId, Symbol, SymbolDefault,
@@ -330,6 +330,7 @@ fn choice_into(layout: &Layout, choice: &Choice, out: &mut Row) -> Result<(), Al
 
 // Adds the row as it stands to the graph, and makes it empty: the nodes, and of the names the symbols that are defined.
 fn close_row(defined: usize, row: &mut Row, graph: &mut Graph) -> Result<(), AllocError>
+    requires few { defined < 2 ^ 32 }
     ensures graph { OnOk result (graph.new ≡ record graph.old { rows = graph.old.rows ++ rows.row_of defined row.old ∷ [] }) }
     ensures empty { OnOk result (IsRow [] [] row.new) }
 {
@@ -351,6 +352,7 @@ fn add_symbols(
     row: &mut Row,
     graph: &mut Graph,
 ) -> Result<(), AllocError>
+    requires choices { rows.AreChoicesThere layout.now }
     requires row { IsRow [] [] row.old }
     ensures graph { OnOk result (graph.new ≡ record graph.old { rows = graph.old.rows ++ rows.symbol_rows tree.now layout.now }) }
     ensures row { OnOk result (IsRow [] [] row.new) }
@@ -395,15 +397,17 @@ fn add_choices(layout: &Layout, row: &mut Row, graph: &mut Graph) -> Result<(), 
 
 /// What each symbol of a tree needs: the defined symbols that its equation names (the kernel's kconfig-language document
 /// forbids recursive dependencies and does not say which count). What contexts and choices name stands once, in their own nodes,
-/// so that nothing grows with the square of the symbols in a block or of a choice's members (our own). Fails only when it is out
-/// of memory.
-pub fn tree_needs(alloc: Global, tree: &Tree) -> Result<Graph, AllocError>
+/// so that nothing grows with the square of the symbols in a block or of a choice's members (our own). The caller owes the layout
+/// of that tree. Fails only when it is out of memory.
+pub fn tree_needs(alloc: Global, tree: &Tree, layout: &Layout) -> Result<Graph, AllocError>
+    requires laid { IsLayoutOf tree.now layout.now }
+    requires formed { IsWellFormed tree.now }
     ensures graph { IfOk result IsGraph }
     ensures few { IfOk result (λ g. length g.rows < 2 ^ 32) }
     ensures alike { IfOk result (λ g. AreAlike (needs_of g) (spec.needs tree.now)) }
-    ensures nodes { IfOk result (λ g. (layout : Layout) → IsLayoutOf tree.now layout → rows.AreNodeRows tree.now layout g) }
+    ensures nodes { IfOk result (rows.AreNodeRows tree.now layout.now) }
 {
-    let layout = tree.layout();
+    groups_stand_for_symbols();
     let mut graph = Graph::with_room(alloc, layout.symbols().len(), node_count(layout))?;
     let mut row = Row {
         nodes: Vec::new(alloc),
