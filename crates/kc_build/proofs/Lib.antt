@@ -19,6 +19,7 @@ mod EntryLemmas
 mod EntrySoundLemmas
 mod EntryWalkLemmas
 mod ExpansionLemmas
+mod FewLemmas
 mod FirstLemmas
 mod FirstNumberLemmas
 mod FormedLemmas
