@@ -16,6 +16,7 @@ mod DiagnosedLemmas
 mod ElementLemmas
 mod EnterLemmas
 mod EntryLemmas
+mod EntryPlaceLemmas
 mod EntrySoundLemmas
 mod EntryWalkLemmas
 mod ExpansionLemmas
