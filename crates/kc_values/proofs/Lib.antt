@@ -21,8 +21,9 @@ pub mod ChainLemmas
 pub mod DefinitionLemmas
 pub mod OpenLemmas
 pub mod SmallNumbers
-pub mod SettledWrites
 pub mod RowSteps
 pub mod RowsMade
-pub mod ChainSteps
 pub mod ReverseRows
+pub mod AnyLemmas
+pub mod RowNeeds
+pub mod NodesBelow

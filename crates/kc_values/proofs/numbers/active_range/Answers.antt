@@ -22,7 +22,7 @@ returns-in-Some-first_open-clause-range c =
     c.bounds_of.ensures.range
     ∙ range-bounds t s.kind here c.in-Some-first_open.range cs (condition_in cs 0) c.in-Some-first_open.ensures
     ∙ ap (interval k s.kind)
-      (range-some t here rest c.in-Some-first_open.range c.in-Some-first_open.ensures ∙ sym (open-some t.tree.now k t.layout.now s lines i d c.in-Some.ensures) ∙ c.loop-i.invariant)
+    (range-some t here rest c.in-Some-first_open.range c.in-Some-first_open.ensures ∙ sym (open-some t.tree.now k t.layout.now s lines i d c.in-Some.ensures) ∙ c.loop-i.invariant)
 
 pub loop-i-preserved : goal.loop-i-preserved
 loop-i-preserved c =
