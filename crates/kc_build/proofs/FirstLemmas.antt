@@ -1,5 +1,5 @@
 -- Where a definition is the first of its symbol.
-use Rattle.std.proofs.Common.{◌≡◌, ℕ, zero, suc, ◌+◌, ◌≤◌, Bool, true, false, not, cond, ◌||◌, if◌then◌else◌, List, [], ◌∷◌, ◌++◌, length, filter, take, Option, Some, None, refl, ap, sym, ◌∙◌, arith, add-one, nat_lt}
+use Rattle.std.proofs.Common.{◌≡◌, ℕ, zero, suc, ◌+◌, ◌≤◌, Bool, true, false, not, cond, ◌||◌, if◌then◌else◌, List, [], ◌∷◌, ◌++◌, length, filter, take, Some, None, refl, ap, sym, ◌∙◌, arith, add-one, nat_lt}
 use Rattle.std.specs.List.{list_any, position, position_or_len, cons_option}
 use Rattle.std.specs.Option.{is_none}
 use Rattle.std.proofs.lemmas.Bool.Decides.{nat_tests}

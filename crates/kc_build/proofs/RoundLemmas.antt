@@ -1,10 +1,8 @@
 -- What surrounds a place.
-use Rattle.std.proofs.Common.{◌≡◌, ℕ, ◌+◌, ◌<◌, ◌≤◌, Bool, true, false, cond, if◌then◌else◌, List, [], ◌∷◌, ◌++◌, length, filter, map, Some, refl, ap, sym, ◌∙◌, arith, get_or}
+use Rattle.std.proofs.Common.{◌≡◌, ℕ, ◌+◌, ◌<◌, ◌≤◌, Bool, true, false, cond, if◌then◌else◌, List, [], ◌∷◌, ◌++◌, length, filter, Some, refl, ap, sym, ◌∙◌, arith, get_or}
 use Rattle.std.specs.List.{slice_get, flat_map, count_by, fold}
 use Rattle.std.specs.Option.{option_map}
-use Rattle.std.specs.declared.alloc.Global.{Global}
-use Rattle.std.specs.declared.rc.Rc.{Rc}
-use Rattle.std.proofs.lemmas.List.{append-nil, length-map}
+use Rattle.std.proofs.lemmas.List.{append-nil}
 use Rattle.std.proofs.lemmas.List.Elements.{filter-append}
 use Rattle.std.proofs.lemmas.Grind.{flat_map-append}
 use Rattle.kc_expr.specs.Form.{Form}
@@ -15,11 +13,9 @@ use Rattle.kc_read.specs.Statements.{Numbered, ChoiceLine}
 use Rattle.kc_read.specs.Blocks.{numbers, last_of, bracket, opened}
 use Rattle.kc_build.specs.Facts.{of_block, block_parts, own_visible, choice_number, is_block}
 use Rattle.kc_build.specs.Passes.{said_by}
-use Rattle.kc_build.specs.Rounds.{Surroundings, next_count, block_visible, inside_from, round}
-use Rattle.kc_tree.specs.ScopeViews.{shared_view, AreScopes}
-use Rattle.kc_tree.specs.declared.scope.Scope.{Scope}
+use Rattle.kc_build.specs.Rounds.{Surroundings, next_count, block_visible, inside_from}
 use Rattle.kc_build.proofs.BlockLemmas.{last-snoc}
-use Rattle.kc_build.proofs.PlaceLemmas.{get-map_numbers, numbers-next, length-map_numbers, statement_at, length-said_by}
+use Rattle.kc_build.proofs.PlaceLemmas.{numbers-next, statement_at}
 
 module _ (ss : List Numbered) where
   abbrev pub round_at : List ℕ → Surroundings
@@ -73,14 +69,3 @@ module _ (ls : List Line) where
 
   pub few-is : (i count next : ℕ) (s : Numbered) → count ≤ i → next ≡ next_count s count → next ≤ i + 1
   few-is i count next s h e = rw e (few_next s count i h)
-
-  -- each line has its scope
-  pub scopes_reach : (i : ℕ) (scopes : List (Rc Scope Global)) → i < length ls → AreScopes (said_by ls) scopes → i < length scopes
-  scopes_reach i scopes h a =
-      let n : length scopes ≡ length (said_by ls) = sym (length-map scopes shared_view) ∙ ap length a ∙ length-map_numbers (round (said_by ls)) (length (said_by ls)) in
-      omega (arith, n, length-said_by ls)
-
-  pub scope-is : (i : ℕ) (scopes : List (Rc Scope Global)) (r : Surroundings) → i < length ls → AreScopes (said_by ls) scopes → slice_get (map shared_view scopes) i ≡ Some r → r ≡ round (said_by ls) i
-  scope-is i scopes r h a e =
-      let there : Some r ≡ Some (round (said_by ls) i) = sym e ∙ ap (λ l. slice_get l i) a ∙ get-map_numbers (round (said_by ls)) (length (said_by ls)) i (omega (arith, length-said_by ls)) in
-      cc

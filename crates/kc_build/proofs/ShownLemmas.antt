@@ -19,10 +19,9 @@ use Rattle.kc_tree.specs.Words.{is_symbol_of}
 use Rattle.kc_build.specs.Facts.{entries, entry_at, is_first_definition, places, symbol_at, symbol_facts, symbol_of}
 use Rattle.kc_build.specs.Trees.{facts_with}
 use Rattle.kc_build.proofs.ElementLemmas.{kept_at, same_is}
-use Rattle.kc_build.proofs.FirstLemmas.{first-is, some_places}
+use Rattle.kc_build.proofs.FirstLemmas.{defined_before, first-is, some_places}
 use Rattle.kc_build.proofs.NumberingLemmas.{names_extend, numbered_at}
 use Rattle.kc_build.proofs.PlaceLemmas.{filter-next, get-map_numbers, length-map_numbers}
-use Rattle.kc_build.proofs.TableLemmas.{defined_before}
 
 -- what is given for one element is among what is given for all
 module _ {X Y : Type 0} (f : X → Option Y) where

@@ -43,4 +43,4 @@ module _ (names : List (List ℕ)) (symbols : List Symbol) (place : EntryPlace) 
   IsLookedAt prompted l old new = diagnosis_view new ≡ looked_at prompted l (diagnosis_view old)
 
   abbrev pub AreLookedAt : Placed Numbered → List (Placed Numbered) → Diagnostics → Diagnostics → Type 0
-  AreLookedAt head own old new = diagnosis_view new ≡ all_looked_at false own (looked_at false head (diagnosis_view old))
+  AreLookedAt head own old new = diagnosis_view new ≡ all_looked_at false (head ∷ own) (diagnosis_view old)

@@ -14,7 +14,7 @@ use Rattle.kc_tree.specs.declared.parts.DefinitionId.{DefinitionId}
 use Rattle.kc_tree.specs.declared.parts.Symbol.{Symbol}
 use Rattle.kc_build.specs.declared.warning.Warning.{Warning}
 use Rattle.kc_tree.specs.Words.{listed}
-use Rattle.kc_build.specs.Facts.{kind_of, choice_of, choice_round, definitions_of, given_of, opener_of, single_symbol, symbol_at, takes_kind}
+use Rattle.kc_build.specs.Facts.{kind_of, choice_of, choice_round, definitions_of, given_of, opener_of, single_symbol, symbol_at, takes_kind, type_of}
 use Rattle.kc_build.specs.Firsts.{is_first_at}
 use Rattle.kc_tree.specs.Parts.{definition_ids}
 use Rattle.kc_build.specs.Warnings.{menu_entry_at, said_with}
@@ -22,6 +22,10 @@ use Rattle.kc_build.specs.Warnings.{menu_entry_at, said_with}
 -- each defined symbol has a number below this one
 abbrev pub AreBelow : ℕ → List Numbered → Type 0
 AreBelow count ss = (i : ℕ) (s : SymId) → symbol_at ss i ≡ Some s → s.0 < count
+
+-- no line gives the type that stands for none
+abbrev pub AreTyped : List Numbered → Type 0
+AreTyped ss = (i : ℕ) (s : Numbered) → slice_get ss i ≡ Some s → type_of s ≡ Some kind.Undefined → ⊥
 
 -- no choice stands in another one
 abbrev pub AreChoicesApart : List Numbered → Type 0

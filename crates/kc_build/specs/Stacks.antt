@@ -41,15 +41,15 @@ pub record AreOpen (ss : List Numbered) (i : ℕ) (conditions : List Condition) 
   pub innermost : block_view conditions blocks.innermost ≡ asked_at ss i
   pub outside : map (block_view conditions) blocks.outside.items ≡ map (asked_at ss) (enclosing ss i)
 
+-- the open blocks, the innermost first
+abbrev pub open_blocks : Blocks → List Block
+open_blocks blocks = blocks.innermost ∷ blocks.outside.items
+
 -- the innermost block is closed, where one is open
 abbrev pub IsClosed : Blocks → Blocks → Type 0
 IsClosed old new =
     ((outside : List Block) (b : Block) → old.outside.items ≡ outside ++ b ∷ [] → (new.innermost ≡ b) × (new.outside.items ≡ outside))
-    × (old.outside.items ≡ [] → new ≡ old)
-
--- the open blocks, the innermost first
-abbrev pub open_blocks : Blocks → List Block
-open_blocks blocks = blocks.innermost ∷ blocks.outside.items
+    × (old.outside.items ≡ [] → open_blocks new ≡ open_blocks old)
 
 -- they lead to contexts that are there, and no mode counts in what is asked of what is visible in them
 abbrev pub AreBlocksWithin : List Condition → Blocks → Type 0

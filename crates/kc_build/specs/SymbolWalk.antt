@@ -1,18 +1,24 @@
 -- For proofs: The first walk, entry by entry.
-use Rattle.std.specs.Prelude.{◌≡◌, ℕ, ◌+◌, List, [], ◌∷◌, ◌++◌, map, length, filter, nat_lt, if◌then◌else◌, is_some, Option, Some, None, unwrap_or, option_map}
-use Rattle.std.specs.List.{filter_map}
+use Rattle.std.specs.Prelude.{◌≡◌, ℕ, ◌+◌, List, [], ◌∷◌, ◌++◌, All, map, if◌then◌else◌, is_some, Option, Some, None, slice_get, unwrap_or, option_map}
 use Rattle.std.specs.Option.{option_or}
 use Rattle.kc_expr.specs.declared.expression.Kind.{Kind}
 use Rattle.kc_expr.specs.declared.expression.Kind.TheVariants as kind
 use Rattle.kc_expr.specs.declared.expression.SymId.{SymId}
-use Rattle.kc_expr.specs.Names.{symbol}
-use Rattle.kc_read.specs.Blocks.{enclosing, attributes}
+use Rattle.kc_read.specs.Blocks.{enclosing}
 use Rattle.kc_read.specs.Statements.{Numbered}
 use Rattle.kc_tree.specs.declared.parts.ChoiceId.{ChoiceId}
+use Rattle.kc_tree.specs.declared.parts.Symbol.{Symbol}
 use Rattle.kc_build.specs.declared.symbols.Surroundings.{Surroundings}
-use Rattle.kc_build.specs.Facts.{choice_number, choice_round, definitions_of, first_of, type_of}
+use Rattle.kc_build.specs.Facts.{choice_number, choice_round}
 use Rattle.kc_build.specs.Known.{Row, definition_number}
 use Rattle.kc_build.specs.Passes.{changed}
+
+-- a symbol without a first definition has no more
+abbrev pub HasFirst : Symbol → Type 0
+HasFirst s = s.first ≡ None → s.more.items ≡ []
+
+abbrev pub HaveFirsts : List Symbol → Type 0
+HaveFirsts = All HasFirst
 
 -- a symbol of which nothing is known
 abbrev pub unknown : Row
@@ -51,18 +57,6 @@ pub record IsRound (ss : List Numbered) (i : ℕ) (r : Surroundings) : Type 0 wh
   pub choices : r.choices ≡ choice_number ss i
   pub definitions : r.definitions ≡ definition_number ss i
 
--- and of the one after it
+-- and behind a line of each list in which that line stands there
 abbrev pub IsPassed : Surroundings → Numbered → Surroundings → Type 0
-IsPassed old s new = (ss : List Numbered) (i : ℕ) → IsRound (ss ++ s ∷ []) (length ss) old → IsRound (ss ++ s ∷ []) (length ss + 1) new
-
--- the places of a symbol's definitions before a place
-abbrev pub definitions_before : List Numbered → ℕ → ℕ → List ℕ
-definitions_before ss i s = filter (λ j. nat_lt j i) (definitions_of ss (symbol s))
-
--- the row of a symbol by its definitions that begin before a place
-abbrev pub row_before : List Numbered → ℕ → ℕ → Row
-row_before ss i s = record {
-  kind = unwrap_or (first_of (filter_map (λ j. first_of (filter_map type_of (attributes ss j))) (definitions_before ss i s))) kind.Undefined;
-  choice = first_of (filter_map (choice_round ss) (definitions_before ss i s));
-  definitions = map (definition_number ss) (definitions_before ss i s);
-}
+IsPassed old s new = (ss : List Numbered) (i : ℕ) → slice_get ss i ≡ Some s → IsRound ss i old → IsRound ss (i + 1) new

@@ -8,13 +8,15 @@ use Rattle.kc_read.specs.Blocks.{last_of}
 use Rattle.kc_read.specs.Statements.{Asked, Numbered}
 use Rattle.kc_build.specs.declared.entries.Walk.{Walk}
 use Rattle.kc_tree.specs.declared.parts.ContextId.{ContextId}
+use Rattle.kc_tree.specs.declared.parts.Entry.{Entry}
+use Rattle.kc_tree.specs.declared.parts.Entry.TheVariants as entry
 use Rattle.kc_tree.specs.declared.parts.Title.{Title}
 use Rattle.kc_tree.specs.Contexts.{condition_in}
 use Rattle.kc_tree.specs.Layouts.{DefinitionFacts, definition_facts, with_parts, with_when}
 use Rattle.kc_tree.specs.TreeFacts.{ChoiceFacts, Condition}
 use Rattle.kc_build.specs.EntryLines.{default_line, range_line}
 use Rattle.kc_build.specs.Facts.{asked_of, depends_form}
-use Rattle.kc_build.specs.Growth.{IsGrown, and_all}
+use Rattle.kc_build.specs.Growth.{IsGrown}
 use Rattle.kc_build.specs.Passes.{change}
 use Rattle.kc_build.specs.Said.{AreRowsThere}
 use Rattle.kc_build.specs.Stacks as stacks
@@ -85,5 +87,23 @@ pub record AddsTitle (text : List ℕ) (within visible : ContextId) (old new : W
   pub reverses : new.tables.reverses ≡ old.tables.reverses
   pub choices : new.tables.choices ≡ old.tables.choices
   pub entries : new.tables.entries ≡ old.tables.entries
+  pub blocks : new.blocks ≡ old.blocks
+  pub main_menu : new.main_menu ≡ old.main_menu
+
+-- the end of an entry with a place, among the entries
+abbrev pub ends_of : Option ℕ → List Entry
+ends_of None = []
+ends_of (Some menu) = entry.End menu ∷ []
+
+-- the end of what opened the innermost block, where one is open, and nothing else
+pub record AddsEnd (old new : Walk) : Type 0 where
+  pub added : new.tables.entries.items ≡ old.tables.entries.items ++ ends_of old.blocks.innermost.entry
+  pub contexts : new.tables.contexts ≡ old.tables.contexts
+  pub definitions : new.tables.definitions ≡ old.tables.definitions
+  pub defaults : new.tables.defaults ≡ old.tables.defaults
+  pub ranges : new.tables.ranges ≡ old.tables.ranges
+  pub reverses : new.tables.reverses ≡ old.tables.reverses
+  pub choices : new.tables.choices ≡ old.tables.choices
+  pub titles : new.tables.titles ≡ old.tables.titles
   pub blocks : new.blocks ≡ old.blocks
   pub main_menu : new.main_menu ≡ old.main_menu

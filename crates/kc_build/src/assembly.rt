@@ -4,7 +4,7 @@ ghost use Rattle.std.specs.Prelude.{◌≡◌, ◌<◌, ◌≤◌, ◌+◌, ◌*
 ghost use Rattle.kc_expr.specs.Limits.{most_symbols};
 ghost use Rattle.kc_read.specs.Reads.{line_view};
 ghost use Rattle.kc_build.specs.Assemblies.{assembled_view};
-ghost use Rattle.kc_build.specs.Known.{AreBelow, AreChoicesApart, AreMenusOpened};
+ghost use Rattle.kc_build.specs.Known.{AreBelow, AreChoicesApart, AreMenusOpened, AreTyped};
 ghost use Rattle.kc_build.specs.Passes.{said_by};
 ghost use Rattle.kc_build.specs.Trees.{tree_with};
 
@@ -35,6 +35,7 @@ pub fn assemble(
     modules: SymId,
 ) -> Result<Result<TreeParts, Refusal>, AllocError>
     requires below { AreBelow count (said_by lines.now) }
+    requires typed { AreTyped (said_by lines.now) }
     requires apart { AreChoicesApart (said_by lines.now) }
     requires ends { AreMenusOpened (said_by lines.now) }
     requires defined { count ≤ most_symbols }

@@ -378,7 +378,7 @@ impl Diagnostics {
         ensures { OnOk result (AreLookedAt names.now symbols.now place (line_view head.now) (map line_view attributes.now) self.old self.new) }
     {
         self.look_at(alloc, names, symbols, place, false, head)?;
-        let mut prompted = false;
+        let mut prompted = asked_of(&head.statement).is_some();
         for line in attributes {
             self.look_at(alloc, names, symbols, place, prompted, line)?;
             prompted = prompted || asked_of(&line.statement).is_some();

@@ -46,7 +46,7 @@ struct Walk {
 
 impl Walk {
     ghost use Rattle.kc_build.specs.Walks.{Enters, IsHead, IsWalk};
-    ghost use Rattle.kc_build.specs.WalkSteps.{AddsDefinition, AddsTitle, KeepsAllButChoices, with_member};
+    ghost use Rattle.kc_build.specs.WalkSteps.{AddsDefinition, AddsEnd, AddsTitle, KeepsAllButChoices, with_member};
 
     // The number of the next definition.
     fn next_definition(&self) -> DefinitionId
@@ -218,13 +218,24 @@ impl Walk {
         self.blocks.open(block)
     }
 
+    // The end of what opened the innermost block, among the entries.
+    fn add_end(&mut self) -> Result<(), AllocError>
+        ensures { OnOk result (AddsEnd self.old self.new) }
+    {
+        match self.blocks.innermost().entry {
+            Some(menu) => {
+                self.tables.entries.push(Entry::End(menu))?;
+                Ok(())
+            }
+            None => Ok(()),
+        }
+    }
+
     // The end of a menu.
     fn close_menu(&mut self) -> Result<(), AllocError>
         ensures { OnOk result ((symbols : List Symbol) (own : List Numbered) → Enters symbols EndMenuLine own self.old self.new) }
     {
-        if let Some(menu) = self.blocks.innermost().entry {
-            self.tables.entries.push(Entry::End(menu))?;
-        }
+        self.add_end()?;
         self.blocks.close();
         Ok(())
     }

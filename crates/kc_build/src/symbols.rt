@@ -7,9 +7,9 @@ ghost use Rattle.kc_read.specs.Reads.{statement_view};
 ghost use Rattle.kc_build.specs.Facts as facts;
 ghost use Rattle.kc_build.specs.Facts.{first_of};
 ghost use Rattle.kc_build.specs.Known as known;
-ghost use Rattle.kc_build.specs.Known.{row_view, AreSymbols};
+ghost use Rattle.kc_build.specs.Known.{row_view, AreSymbols, AreTyped};
 ghost use Rattle.kc_build.specs.Passes.{said_by};
-ghost use Rattle.kc_build.specs.SymbolWalk.{unknown, first_kind, with_definition, noted, IsPassed, AreSettled};
+ghost use Rattle.kc_build.specs.SymbolWalk.{unknown, first_kind, with_definition, noted, HasFirst, HaveFirsts, IsPassed, AreSettled};
 
 use crate::attributes::{entry_end, first_type};
 use kc_expr::expression::{Kind, SymId};
@@ -30,7 +30,8 @@ struct Surroundings {
 
 // Symbols of which nothing is known yet.
 fn unknown_symbols(alloc: Global, count: usize) -> Result<Vec<Symbol>, AllocError>
-    ensures { IfOk result (λ v. map row_view v.items ≡ map (λ _. unknown) (numbers count)) }
+    ensures rows { IfOk result (λ v. map row_view v.items ≡ map (λ _. unknown) (numbers count)) }
+    ensures firsts { IfOk result (λ v. HaveFirsts v.items) }
 {
     let mut symbols = Vec::with_capacity(alloc, count)?;
     for _ in 0..count {
@@ -61,7 +62,9 @@ fn add_definition(
     kind: Option<Kind>,
     choice: Option<ChoiceId>,
 ) -> Result<(), AllocError>
-    ensures { OnOk result (row_view symbol.new ≡ with_definition id.0 kind (option_map (λ k. k.0) choice) (row_view symbol.old)) }
+    requires { HasFirst symbol.old }
+    ensures row { OnOk result (row_view symbol.new ≡ with_definition id.0 kind (option_map (λ k. k.0) choice) (row_view symbol.old)) }
+    ensures first { OnOk result (HasFirst symbol.new) }
 {
     symbol.kind = first_kind(symbol.kind, kind);
     symbol.choice = symbol.choice.or(choice);
@@ -79,7 +82,9 @@ fn note_definition(
     symbol: SymId,
     own: &[Line],
 ) -> Result<(), AllocError>
-    ensures { OnOk result (map row_view symbols.new.items ≡ noted round.now.definitions (first_of (filter_map facts.type_of (said_by own.now))) (option_map (λ k. k.0) round.now.choice) symbol (map row_view symbols.old.items)) }
+    requires { HaveFirsts symbols.old.items }
+    ensures rows { OnOk result (map row_view symbols.new.items ≡ noted round.now.definitions (first_of (filter_map facts.type_of (said_by own.now))) (option_map (λ k. k.0) round.now.choice) symbol (map row_view symbols.old.items)) }
+    ensures firsts { OnOk result (HaveFirsts symbols.new.items) }
 {
     if symbol.0 < symbols.len() {
         let id = DefinitionId(round.definitions);
@@ -117,8 +122,8 @@ fn settle_kinds(symbols: &mut Vec<Symbol>)
     ensures { AreSettled (map row_view symbols.old.items) (map row_view symbols.new.items) }
 {
     for i in 0..symbols.len() {
-        if symbols[i].kind == Kind::Undefined && symbols[i].choice.is_some() {
-            symbols[i].kind = Kind::Bool;
+        if symbols[i].choice.is_some() {
+            symbols[i].kind = first_kind(symbols[i].kind, Some(Kind::Bool));
         }
     }
 }
@@ -126,6 +131,7 @@ fn settle_kinds(symbols: &mut Vec<Symbol>)
 /// What the lines say of the first `count` symbols: their types, their choices and their definitions.
 pub fn symbols(alloc: Global, lines: &[Line], count: usize) -> Result<Vec<Symbol>, AllocError>
     requires few { length lines.now < 2 ^ 32 }
+    requires typed { AreTyped (said_by lines.now) }
     ensures count { IfOk result (λ v. length v.items ≡ count) }
     ensures rows { IfOk result (λ v. AreSymbols (said_by lines.now) v.items) }
 {

@@ -22,7 +22,8 @@ use Rattle.kc_values.specs.Values.{selected, equation, by_choice, by_kind, is_n,
 use Rattle.kc_values.specs.Written.{written}
 use Rattle.kc_values.specs.declared.table.Value.{Value}
 use Rattle.kc_solve.specs.Flags.{differs_by, is_written, IsSolvedOwn}
-use Rattle.kc_solve.specs.Places.{known_in, valuation}
+use Rattle.kc_solve.specs.Places.{valuation}
+use Rattle.kc_values.specs.Table.{known_in}
 use Rattle.kc_solve.proofs.WarningSteps.{tables_seen}
 
 one_more : {X : Type 0} (f : ℕ → X) (i : ℕ) (x : X) (old new : List X) → old ≡ map f (range_with_len 0 i) → new ≡ old ++ x ∷ [] → x ≡ f i → new ≡ map f (range_with_len 0 (i + 1))

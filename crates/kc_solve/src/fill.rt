@@ -4,7 +4,6 @@ ghost use Rattle.std.specs.Prelude.{◌≡◌, ◌<◌, length, slice_get, Some,
 ghost use Rattle.kc_order.specs.Solution.{Solves};
 ghost use Rattle.kc_solve.specs.Filling.{IsFilledSymbol, IsNodeOrder, IsSettledContext, IsSettledChoice, IsUnread};
 ghost use Rattle.kc_solve.specs.Places.{places, valuation};
-ghost use Rattle.kc_tree.specs.declared.layout.Layout.{Layout};
 ghost use Rattle.kc_tree.specs.Layouts.{IsLayoutOf};
 ghost use Rattle.kc_values.specs.Known.{AreSelected};
 ghost use Rattle.kc_values.specs.Solution.{symbol_count, equations};
@@ -42,6 +41,7 @@ fn fill_symbol(
 ) -> Result<(), AllocError>
     requires defined { id.0 < length table.old.values.items }
     requires given { length given.now ≡ length table.old.values.items }
+    requires full { length table.old.values.items ≡ symbol_count table.old.tree.now }
     requires selected { AreSelected table.old chosen.now }
     requires unread { IsUnread table.old id.0 }
     ensures { OnOk result (IsFilledSymbol given.now chosen.now id table.old table.new) }
@@ -77,18 +77,20 @@ fn settle_choice(table: &mut Table<'_>, id: ChoiceId, chosen: &[Option<SymId>])
 pub fn fill<'t>(
     alloc: Global,
     tree: &'t Tree,
+    layout: &'t Layout,
     nodes: &[u32],
     given: &[Option<UserValue>],
     chosen: &[Option<SymId>],
 ) -> Result<Table<'t>, AllocError>
-    requires order { (layout : Layout) → IsLayoutOf tree.now layout → IsNodeOrder tree.now layout nodes.now }
+    requires laid { IsLayoutOf tree.now layout.now }
+    requires order { IsNodeOrder tree.now layout.now nodes.now }
     requires given { length given.now ≡ symbol_count tree.now }
     requires chosen { length chosen.now ≡ length tree.now.choices }
     ensures tree { IfOk result (λ t. t.tree.now ≡ tree.now) }
     ensures count { IfOk result (λ t. length t.values.items ≡ symbol_count tree.now) }
     ensures solves { IfOk result (λ t. Solves (symbol_count tree.now) (equations tree.now (places given.now chosen.now)) (valuation tree.now t.values.items)) }
 {
-    let mut table = Table::empty(alloc, tree)?;
+    let mut table = Table::empty(alloc, tree, layout)?;
     for node in nodes {
         match node_of(table.layout, *node) {
             Node::Symbol(id) => fill_symbol(alloc, &mut table, id, given, chosen)?,

@@ -9,12 +9,14 @@ ghost use Rattle.kc_solve.specs.LoopText.{arrows, loop_text};
 ghost use Rattle.kc_solve.specs.Graphs.{IsGraphOf};
 ghost use Rattle.kc_solve.specs.Refused as refused;
 ghost use Rattle.kc_solve.specs.Refused.{IsNamed, NamesLoop};
+ghost use Rattle.kc_tree.specs.Layouts.{IsLayoutOf};
 ghost use Rattle.kc_values.specs.Laws.{IsAccepted};
 ghost use Rattle.kc_values.specs.Needs.{needs};
 
 use kc_expr::expression::SymId;
 use kc_order::{NoOrder, alike_needs, order_of};
 use kc_read::refusal::{Code, Refusal};
+use kc_tree::layout::Layout;
 use kc_tree::tree::Tree;
 use kc_values::laws::needs_are_defined;
 use kc_values::lookups::name;
@@ -38,7 +40,7 @@ impl Model for Order {
 }
 
 impl Order {
-    /// An order of the tree's symbols.
+    /// An order of the tree's symbols. The caller owes the layout of that tree.
     ///
     /// # Errors
     ///
@@ -46,14 +48,15 @@ impl Order {
     /// detail is the loop that is named: the names of its symbols and its first again, joined by ` -> `, where the walk
     /// goes from the first stuck symbol always on to the first stuck symbol that is needed (our own rule). `Memory`
     /// where no memory was to be had.
-    pub fn of(alloc: Global, tree: &Tree) -> Result<Order, Refusal>
-        ensures same { IfOk result (IsGraphOf tree.now) }
+    pub fn of(alloc: Global, tree: &Tree, layout: &Layout) -> Result<Order, Refusal>
+        requires { IsLayoutOf tree.now layout.now }
+        ensures same { IfOk result (IsGraphOf tree.now layout.now) }
         ensures accepted { OnOk result (IsAccepted tree.now) }
         ensures stuck { IfErr result (λ r. r.code ≢ Memory → SomeStuck (length (needs tree.now)) (needs_in (needs tree.now))) }
         ensures refused { IfErr result (NamesLoop tree.now) }
         ensures memory { IfErr result IsMemory }
     {
-        match tree_order(alloc, tree) {
+        match tree_order(alloc, tree, layout) {
             Ok(inner) => Ok(Order { inner }),
             Err(LoopFault::Loop(text)) => Err(loop_refusal(text)),
             Err(LoopFault::Memory) => Err(memory(alloc)),
@@ -137,15 +140,16 @@ fn loop_text(alloc: Global, tree: &Tree, symbols: &[u32]) -> Result<Vec<u8>, All
 
 // An order of the symbols of a tree in which what each needs stands before it. Fails where some symbol is stuck, with
 // the text of the loop that is named, and for being out of memory.
-fn tree_order(alloc: Global, tree: &Tree) -> Result<kc_order::Order, LoopFault>
-    ensures same { IfOk result (IsGraphOf tree.now) }
+fn tree_order(alloc: Global, tree: &Tree, layout: &Layout) -> Result<kc_order::Order, LoopFault>
+    requires { IsLayoutOf tree.now layout.now }
+    ensures same { IfOk result (IsGraphOf tree.now layout.now) }
     ensures accepted { OnOk result (IsAccepted tree.now) }
     ensures refused { IfErr result (IsNamed tree.now) }
 {
     needs_are_defined();
     alike_needs();
     let _count = tree.symbol_count();
-    let all = tree_needs(alloc, tree)?;
+    let all = tree_needs(alloc, tree, layout)?;
     match order_of(alloc, all) {
         Ok(order) => Ok(order),
         Err(NoOrder::Loop(symbols)) => {

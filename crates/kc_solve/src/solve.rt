@@ -5,6 +5,7 @@ ghost use Rattle.kc_order.specs.Solution.{Solves, IsOnlySolution};
 ghost use Rattle.kc_solve.specs.Graphs.{IsGraphOf};
 ghost use Rattle.kc_solve.specs.Places.{valuation};
 ghost use Rattle.kc_solve.specs.Solved.{IsMinimal, SettledWhere, value_of};
+ghost use Rattle.kc_tree.specs.Layouts.{IsLayoutOf};
 ghost use Rattle.kc_user.specs.Places.{IsUserOf, place_at};
 ghost use Rattle.kc_values.specs.Laws.{IsAccepted};
 ghost use Rattle.kc_values.specs.Solution.{symbol_count, equations};
@@ -14,6 +15,7 @@ use crate::flags::{Flags, default_selections, flags_of, selections};
 use crate::order::Order;
 use crate::solved::Solved;
 use kc_order::{alike_needs, groups_stand_for_symbols, ordered_are_accepted};
+use kc_tree::layout::Layout;
 use kc_tree::tree::Tree;
 use kc_user::user::User;
 use kc_values::laws::accepted_have_one_solution;
@@ -24,10 +26,12 @@ use std::alloc::{AllocError, Global};
 fn full_table<'t>(
     alloc: Global,
     tree: &'t Tree,
+    layout: &'t Layout,
     order: &Order,
     user: &User,
 ) -> Result<Table<'t>, AllocError>
-    requires order { IsGraphOf tree.now order.now }
+    requires laid { IsLayoutOf tree.now layout.now }
+    requires order { IsGraphOf tree.now layout.now order.now }
     requires user { IsUserOf tree.now user.now }
     ensures tree { IfOk result (λ t. t.tree.now ≡ tree.now) }
     ensures accepted { OnOk result (IsAccepted tree.now) }
@@ -41,20 +45,22 @@ fn full_table<'t>(
     groups_stand_for_symbols();
     let given = user.symbols();
     let chosen = user.choices();
-    let table = fill(alloc, tree, order.nodes(), given, chosen)?;
+    let table = fill(alloc, tree, layout, order.nodes(), given, chosen)?;
     Ok(table)
 }
 
 /// Solves a tree under a user's places: the one solution of the equations of its symbols, one for each (the kernel's
 /// kconfig-language document; where that is vague, kconfiglib's documented rules). Each value is computed once, along
-/// the order. The caller owes the order and the places of that tree. Fails only when it is out of memory.
+/// the order. The caller owes the layout of that tree, an order that was made for it, and places of that tree. Fails only when it is out of memory.
 pub fn solve<'a>(
     alloc: Global,
     tree: &'a Tree,
+    layout: &'a Layout,
     order: &Order,
     user: &'a User,
 ) -> Result<Solved<'a>, AllocError>
-    requires order { IsGraphOf tree.now order.now }
+    requires laid { IsLayoutOf tree.now layout.now }
+    requires order { IsGraphOf tree.now layout.now order.now }
     requires user { IsUserOf tree.now user.now }
     ensures tree { IfOk result (λ s. s.tree ≡ tree.now) }
     ensures places { IfOk result (λ s. s.places ≡ user.now) }
@@ -63,7 +69,7 @@ pub fn solve<'a>(
     ensures minimal { IfOk result IsMinimal }
     ensures settled { IfOk result SettledWhere }
 {
-    let table = full_table(alloc, tree, order, user)?;
+    let table = full_table(alloc, tree, layout, order, user)?;
     let selections = selections(alloc, &table, user)?;
     let default_selections = default_selections(alloc, &table)?;
     let Flags {

@@ -13,7 +13,7 @@ use crate::flags::{at_choice, at_symbol};
 use kc_expr::expression::{Kind, SymId, Tri};
 use kc_expr::values::{Values, tri_text};
 use kc_tree::layout::Layout;
-use kc_tree::parts::{ChoiceId, Entry, Title};
+use kc_tree::parts::{ChoiceId, ContextId, Entry, Title};
 use kc_tree::tree::Tree;
 use kc_user::user::User;
 use kc_values::conditions::title_condition;
@@ -113,7 +113,10 @@ impl<'a> Solved<'a> {
     {
         match title_at(self.table.layout, place) {
             Some(title) => title_condition(&self.table, title),
-            None => Tri::Y,
+            None => {
+                let _top = self.table.layout.context(ContextId(0));
+                Tri::Y
+            }
         }
     }
 

@@ -1,2 +1,2 @@
-mod ContextLemmas
+pub mod ContextLemmas
 pub mod TreeLemmas

@@ -21,7 +21,6 @@ pub mod ChainLemmas
 pub mod DefinitionLemmas
 pub mod OpenLemmas
 pub mod SmallNumbers
-pub mod SettledWrites
 pub mod RowSteps
 pub mod RowsMade
 pub mod ReverseRows

@@ -61,7 +61,7 @@ module _ (law : DependsOnSymbols) (tree : TreeFacts) (k l : SymId → Known) whe
   same_mode_value None h = refl
   same_mode_value (Some c) h = same_mode (choice_at tree c) h
 
-  same_condition : (c : Condition) → Sames (n.condition_names tree c) → v.condition tree k c ≡ v.condition tree l c
+  pub same_condition : (c : Condition) → Sames (n.condition_names tree c) → v.condition tree k c ≡ v.condition tree l c
   same_condition c h =
       let a = same_all_hold c.parts (front (flat_map symbols c.parts) (n.mode_names tree c.mode) h) in
       let b = same_mode_value c.mode (back (flat_map symbols c.parts) (n.mode_names tree c.mode) h) in

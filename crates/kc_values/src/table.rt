@@ -57,15 +57,17 @@ fn empty_places(alloc: Global, count: usize) -> Result<Vec<Option<Value>>, Alloc
 }
 
 impl<'t> Table<'t> {
-    /// A table of empty places, where nothing is settled. Fails only when it is out of memory.
-    pub fn empty(alloc: Global, tree: &'t Tree) -> Result<Table<'t>, AllocError>
+    /// A table of empty places, where nothing is settled. The caller owes the layout of that tree. Fails only when it is out of
+    /// memory.
+    pub fn empty(alloc: Global, tree: &'t Tree, layout: &'t Layout) -> Result<Table<'t>, AllocError>
+        requires { IsLayoutOf tree.now layout.now }
         ensures tree { IfOk result (λ t. t.tree.now ≡ tree.now) }
+        ensures layout { IfOk result (λ t. t.layout.now ≡ layout.now) }
         ensures values { IfOk result (λ t. t.values.items ≡ replicate (length tree.now.symbols) None) }
-        ensures contexts { IfOk result (λ t. t.contexts.items ≡ replicate (length t.layout.now.tables.contexts) None) }
-        ensures selections { IfOk result (λ t. t.selections.items ≡ replicate (length tree.now.choices) None) }
+        ensures contexts { IfOk result (λ t. t.contexts.items ≡ replicate (length layout.now.tables.contexts) None) }
+        ensures selections { IfOk result (λ t. t.selections.items ≡ replicate (length layout.now.tables.choices.items) None) }
     {
-        let layout = tree.layout();
-        let values = empty_places(alloc, layout.symbols().len())?;
+        let values = empty_places(alloc, tree.symbol_count())?;
         let contexts = vec![in alloc; None; layout.context_count()]?;
         let selections = vec![in alloc; None; layout.choices().len()]?;
         Ok(Table {
