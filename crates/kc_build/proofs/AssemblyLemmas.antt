@@ -76,8 +76,8 @@ module _ (names : List (List ℕ)) (count : ℕ) (modules : SymId) (lines : List
       let none : bad_members ss ≡ [] = ap bad_members same ∙ none_bad names (map line_view lines) a.refusals in
       let below_symbols : AreBelow (length p.layout.symbols.items) ss = subst (λ (k : ℕ). AreBelow k ss) (sym n) below in
       let s = symbols-are ss p.layout are said.definitions said.selectors said.impliers
-              ∙ ap (λ (k : ℕ). map (λ i. symbol_facts ss (symbol i)) (numbers k)) n
-              ∙ ap (λ (l : List Numbered). map (λ i. symbol_facts l (symbol i)) (numbers count)) same in
+      ∙ ap (λ (k : ℕ). map (λ i. symbol_facts ss (symbol i)) (numbers k)) n
+      ∙ ap (λ (l : List Numbered). map (λ i. symbol_facts l (symbol i)) (numbers count)) same in
       let c = said.choices ∙ choices-are ss p.layout.symbols.items below_symbols are none ∙ ap choices same in
       let e = said.entries ∙ ap entries same in
       let w = ap (map (λ w. w.items)) warnings_are ∙ a.warnings_are in

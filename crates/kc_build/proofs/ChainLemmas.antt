@@ -1,24 +1,15 @@
 -- Chains of the lines that select and imply: what a chain says of the lines, and one line more.
 use Rattle.std.proofs.Common.{◌≡◌, ℕ, zero, suc, ◌+◌, ◌<◌, List, [], ◌∷◌, ◌++◌, length, reverse, Option, Some, None, refl, ap, sym, ◌∙◌, arith, get_or, length-append, subst}
-use Rattle.std.specs.List.{slice_get, filter_map, All, cons_option}
-use Rattle.std.specs.Option.{option_map}
+use Rattle.std.specs.List.{slice_get, filter_map, All}
 use Rattle.std.proofs.Math.Seq.{get_or-append_seam}
 use Rattle.std.proofs.lemmas.List.{get_or_append_left, reverse-append}
 use Rattle.std.proofs.lemmas.List.Elements.{All-nil, All-cons, All-head, All-tail, All-push, All-weaker}
 use Rattle.kc_tree.specs.declared.parts.Reverse.{Reverse}
 use Rattle.kc_tree.specs.declared.parts.ReverseId.{ReverseId}
 use Rattle.kc_tree.specs.Chains.{chain_of, chains_from, chains_of}
+use Rattle.kc_build.proofs.GrownLemmas.{get_front, get_last}
 
--- one element more at the end of a list
-pub get_left : {A : Type 0} (xs : List A) (y : A) (i : ℕ) → i < length xs → slice_get (xs ++ y ∷ []) i ≡ slice_get xs i
-get_left [] y i h = absurd (omega arith)
-get_left (x ∷ xs) y zero h = refl
-get_left (x ∷ xs) y (suc i) h = get_left xs y i (omega arith)
-
-pub get_last : {A : Type 0} (xs : List A) (y : A) → slice_get (xs ++ y ∷ []) (length xs) ≡ Some y
-get_last [] y = refl
-get_last (x ∷ xs) y = get_last xs y
-
+-- behind the last element of a list with one more there is none
 pub get_past : {A : Type 0} (xs : List A) (y : A) (i : ℕ) → length xs < i → slice_get (xs ++ y ∷ []) i ≡ None
 get_past [] y zero h = absurd (omega arith)
 get_past [] y (suc i) h = refl
@@ -105,7 +96,7 @@ module _ {A : Type 0} (read : Option Reverse → Option A) where
   pub read-keeps : (lines : List Reverse) (r : Reverse) (chain : List ℕ) → AllBelow (length lines) chain → read_chain (lines ++ r ∷ []) chain ≡ read_chain lines chain
   read-keeps lines r [] h = refl
   read-keeps lines r (i ∷ chain) h =
-      let first = get_left lines r i (All-head (λ (j : ℕ). j < length lines) i chain h) in
+      let first = get_front lines (r ∷ []) i (All-head (λ (j : ℕ). j < length lines) i chain h) in
       let rest = read-keeps lines r chain (All-tail (λ (j : ℕ). j < length lines) i chain h) in
       rw (first, rest) refl
 

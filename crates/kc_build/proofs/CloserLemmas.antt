@@ -21,15 +21,15 @@ use Rattle.kc_build.specs.Walks.{Enters, IsHead, IsWalk, place_after}
 use Rattle.kc_build.specs.WalkSteps.{ends_of}
 use Rattle.kc_build.specs.declared.entries.Walk.{Walk}
 use Rattle.kc_build.proofs.BlockLemmas.{round_last}
-use Rattle.kc_build.proofs.GrownLemmas.{Carries, carries_same}
+use Rattle.kc_build.proofs.GrownLemmas.{Extends, carries_same, extends}
 use Rattle.kc_build.proofs.OpenLemmas.{open_closes}
 use Rattle.kc_build.proofs.OpenerLemmas.{AreSame, IsQuiet, quiet_passes}
 use Rattle.kc_build.proofs.TitleLemmas.{AreRest}
 use Rattle.kc_build.proofs.WalkLemmas.{choices_say_same, count_next, entry_count, main_menu_stays, no_choice_passed, walk_passes}
 
 -- the same contexts
-pub carries_equal : (old new : List Condition) → new ≡ old → Carries old new
-carries_equal old new e = subst (Carries old) (sym e) (carries_same old)
+pub extends_equal : (old new : List Condition) → new ≡ old → Extends old new
+extends_equal old new e = subst (Extends old) (sym e) (extends old old (carries_same old))
 
 -- Before a place are no fewer than before an earlier one.
 counted_more : (p : ℕ → Bool) (k n : ℕ) → count_by p (numbers k) ≤ count_by p (numbers (k + n))
@@ -50,7 +50,7 @@ pub closer_enters : (head : Numbered) (old new : Walk) → bracket head ≡ Clos
 closer_enters head old new b none untitled no_entry same contexts menu closed symbols own ss i a h w =
     quiet_passes ss symbols i head own h old new w same
     (record { symbol = none; choice = rw (h.at, b) refl; entry = no_entry ss i })
-    (carries_equal old.tables.contexts new.tables.contexts contexts)
+    (extends_equal old.tables.contexts new.tables.contexts contexts)
     (let n : length new.tables.contexts ≡ length old.tables.contexts = ap length contexts in omega arith)
     (open_closes ss i head h.at new.tables.contexts old.blocks new.blocks b (subst (λ (l : List Condition). AreOpen ss i l old.blocks) (sym contexts) w.blocks) closed)
     (ap (λ v. v.items) menu ∙ w.main_menu ∙ sym (main_menu_stays ss i head own h untitled))
@@ -77,7 +77,7 @@ end_enters old new r contexts titles entries closed symbols own ss i a h w =
     let opener : old.blocks.innermost.entry ≡ option_map (entry_number ss) (opener_of ss i) = ap (λ x. x.entry) w.blocks.innermost in
     let ends : new.tables.entries.items ≡ old.tables.entries.items ++ ends_of (option_map (entry_number ss) (opener_of ss i)) = entries ∙ ap (λ (o : Option ℕ). old.tables.entries.items ++ ends_of o) opener in
     let other : of_block ss block.Choice i ≡ false = rw (h.at) refl in
-    let g = carries_equal old.tables.contexts new.tables.contexts contexts in
+    let g = extends_equal old.tables.contexts new.tables.contexts contexts in
     let many : length new.tables.entries.items ≡ entry_number ss i + length (ends_of (option_map (entry_number ss) (opener_of ss i))) = ap length ends ∙ length-append old.tables.entries.items (ends_of (option_map (entry_number ss) (opener_of ss i))) ∙ ap (λ (n : ℕ). n + length (ends_of (option_map (entry_number ss) (opener_of ss i)))) (entry_count ss symbols i old w a.ends) in
     walk_passes ss i EndMenuLine own h symbols old new w
     (record {

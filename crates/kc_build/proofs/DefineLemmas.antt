@@ -1,5 +1,5 @@
 -- One definition more: what it says, what the other rows say with it, and what the tables keep.
-use Rattle.std.proofs.Common.{◌≡◌, subst, ◌&&◌, if◌then◌else◌, ℕ, zero, suc, get_or, slice_set, ◌+◌, ◌-◌, ◌<◌, ◌≤◌, Bool, true, false, List, [], ◌∷◌, ◌++◌, length, take, drop, map, Option, Some, None, refl, ap, sym, ◌∙◌, arith, inl, inr, length-append}
+use Rattle.std.proofs.Common.{◌≡◌, subst, ◌&&◌, if◌then◌else◌, ℕ, zero, suc, get_or, slice_set, ◌+◌, ◌-◌, ◌<◌, ◌≤◌, Bool, true, List, [], ◌∷◌, ◌++◌, length, take, drop, map, Option, Some, None, refl, ap, sym, ◌∙◌, arith, inl, inr, length-append}
 use Rattle.std.specs.Prelude.{◌⊎◌, nat_le}
 use Rattle.std.specs.Global.{Vec}
 use Rattle.std.specs.List.{All, slice_get, filter_map, cons_option}
@@ -10,7 +10,7 @@ use Rattle.std.proofs.lemmas.List.{length-map, map_push, take-map, drop-map, len
 use Rattle.std.proofs.lemmas.List.Elements.{All-weaker}
 use Rattle.std.proofs.lemmas.Option.{slice_get_read}
 use Rattle.kc_expr.specs.declared.expression.SymId.{SymId}
-use Rattle.kc_expr.specs.Form.{Form, Leaf}
+use Rattle.kc_expr.specs.Form.{Form}
 use Rattle.kc_read.specs.Blocks.{last_of}
 use Rattle.kc_read.specs.Statements.{Asked, Numbered}
 use Rattle.kc_tree.specs.declared.parts.Choice.{Choice}
@@ -23,9 +23,9 @@ use Rattle.kc_tree.specs.declared.parts.Span.{Span}
 use Rattle.kc_tree.specs.declared.parts.Title.{Title}
 use Rattle.kc_tree.specs.declared.reverses.Reverses.{Reverses}
 use Rattle.kc_tree.specs.Contexts.{IsPlain, condition_in}
-use Rattle.kc_tree.specs.Layouts.{DefinitionFacts, definition_facts, prompt_view, default_view, range_view, with_parts, with_when}
+use Rattle.kc_tree.specs.Layouts.{definition_facts, prompt_view, default_view, range_view, with_parts, with_when}
 use Rattle.kc_tree.specs.Parts.{part_of}
-use Rattle.kc_tree.specs.TreeFacts.{Bounds, Condition, Guarded}
+use Rattle.kc_tree.specs.TreeFacts.{Condition}
 use Rattle.kc_build.specs.declared.blocks.Block.{Block}
 use Rattle.kc_build.specs.declared.entries.Walk.{Walk}
 use Rattle.kc_build.specs.EntryLines.{default_line, default_row, prompt_line, range_line, range_row}
@@ -54,7 +54,8 @@ prompt_by_line : (conditions : List Condition) (dep : Condition) (o : Option Pro
 prompt_by_line conditions dep None = refl
 prompt_by_line conditions dep (Some p) = refl
 
-by_asked : (conditions : List Condition) (dep : Condition) (v : ℕ) (x : Option (Asked Form)) → option_map (prompt_under conditions dep) (option_map (λ (p : Asked Form). (v, p.when)) x) ≡ option_map (λ (p : Asked Form). with_when (with_parts dep (condition_in conditions v).parts) p.when) x
+by_asked : (conditions : List Condition) (dep : Condition) (v : ℕ) (x : Option (Asked Form)) →
+    option_map (prompt_under conditions dep) (option_map (λ (p : Asked Form). (v, p.when)) x) ≡ option_map (λ (p : Asked Form). with_when (with_parts dep (condition_in conditions v).parts) p.when) x
 by_asked conditions dep v None = refl
 by_asked conditions dep v (Some p) = refl
 
@@ -114,7 +115,8 @@ module _ (w : Walk) (new : List Condition) (g : Carries w.tables.contexts new) (
       let n : p.visible.0 ≡ w.blocks.innermost.visible.0 = q p (ap (λ (y : Definition). y.prompt) a ∙ e) in
       subst (IsPlain new) (sym n) (plain_carries w.tables.contexts new g w.blocks.innermost.visible.0 visible_there (w.plain 0 w.blocks.innermost refl))
 
-  pub keeping_definition : (b : Bool) (ds : List Definition) → ds ≡ pushed b w.tables.definitions.items d → Keeping new ds w.tables.choices.items w.tables.titles.items × Holding new w.tables.titles.items w.blocks
+  pub keeping_definition : (b : Bool) (ds : List Definition) → ds ≡ pushed b w.tables.definitions.items d →
+      Keeping new ds w.tables.choices.items w.tables.titles.items × Holding new w.tables.titles.items w.blocks
   keeping_definition b ds e = (
     keeping new ds w.tables.choices.items w.tables.titles.items
         (record {
@@ -182,7 +184,8 @@ module _ (symbol : SymId) (own : List Numbered) (old new : Walk) (d : Definition
       ∙ by_asked new.tables.contexts dep old.blocks.innermost.visible.0 (last_of (filter_map asked_of own))
       ∙ ap (λ (c : Condition). option_map (λ (p : Asked Form). with_when (with_parts dep c.parts) p.when) (last_of (filter_map asked_of own))) visible_is
 
-  defaults_are : map (default_view new.tables.contexts (condition_in new.tables.contexts d.within.0)) (part_of new.tables.defaults.items d.defaults) ≡ map (default_under dep) (filter_map default_line own)
+  defaults_are : map (default_view new.tables.contexts (condition_in new.tables.contexts d.within.0)) (part_of new.tables.defaults.items d.defaults) ≡ map
+      (default_under dep) (filter_map default_line own)
   defaults_are =
       ap (λ (c : Condition). map (default_view new.tables.contexts c) (part_of new.tables.defaults.items d.defaults)) dep_is
       ∙ defaults_by_row new.tables.contexts dep (part_of new.tables.defaults.items d.defaults)
@@ -203,11 +206,13 @@ module _ (symbol : SymId) (own : List Numbered) (old new : Walk) (d : Definition
       let f = ranges_are in
       λ i. record { symbol = a i; dep = b i; prompt = c i; defaults = e i; ranges = f i }
 
-  all_facts : AreRowsThere old.tables → map (definition_facts new.tables) new.tables.definitions.items ≡ map (definition_facts old.tables) old.tables.definitions.items ++ made_definition around symbol own ∷ []
+  all_facts : AreRowsThere old.tables →
+      map (definition_facts new.tables) new.tables.definitions.items ≡ map (definition_facts old.tables) old.tables.definitions.items ++ made_definition around symbol own ∷ []
   all_facts rows =
       ap (map (definition_facts new.tables)) m.pushed_is
       ∙ map_push (definition_facts new.tables) old.tables.definitions.items d
-      ∙ ap (λ l. l ++ definition_facts new.tables d ∷ []) (map_alike (definition_facts new.tables) (definition_facts old.tables) old.tables.definitions.items (definition_carries old.tables new.tables carried (filter_map default_line own) (filter_map range_line own) rows m.defaults m.ranges))
+      ∙ ap (λ l. l ++ definition_facts new.tables d ∷ [])
+      (map_alike (definition_facts new.tables) (definition_facts old.tables) old.tables.definitions.items (definition_carries old.tables new.tables carried (filter_map default_line own) (filter_map range_line own) rows m.defaults m.ranges))
       ∙ ap (λ x. map (definition_facts old.tables) old.tables.definitions.items ++ x ∷ []) facts_are
 
   more_defaults : length new.tables.defaults.items ≡ length old.tables.defaults.items + length (filter_map default_line own)
@@ -216,28 +221,34 @@ module _ (symbol : SymId) (own : List Numbered) (old new : Walk) (d : Definition
   more_ranges : length new.tables.ranges.items ≡ length old.tables.ranges.items + length (filter_map range_line own)
   more_ranges = longer_by range_row old.tables.ranges.items new.tables.ranges.items (filter_map range_line own) m.ranges
 
-  defaults_below : (x : Definition) (i : ℕ) → AreRowsThere old.tables → (slice_get old.tables.definitions.items i ≡ Some x) ⊎ ((i ≡ length old.tables.definitions.items) × (d ≡ x)) → IsSpanBelow (length new.tables.defaults.items) x.defaults
+  defaults_below : (x : Definition) (i : ℕ) → AreRowsThere old.tables →
+      (slice_get old.tables.definitions.items i ≡ Some x) ⊎ ((i ≡ length old.tables.definitions.items) × (d ≡ x)) → IsSpanBelow (length new.tables.defaults.items) x.defaults
   defaults_below x i rows (inl at) =
       let h = rows.defaults i x at in
       record { goes_up = h.goes_up; within = (let w = h.within in let n = more_defaults in omega arith) }
   defaults_below x i rows (inr at) =
-      subst (λ (y : Definition). IsSpanBelow (length new.tables.defaults.items) y.defaults) at.1 (record { goes_up = (let a = m.defaults_start in let b = m.defaults_end in let n = more_defaults in omega arith); within = (let b = m.defaults_end in omega arith) })
+      subst (λ (y : Definition). IsSpanBelow (length new.tables.defaults.items) y.defaults) at.1
+      (record { goes_up = (let a = m.defaults_start in let b = m.defaults_end in let n = more_defaults in omega arith); within = (let b = m.defaults_end in omega arith) })
 
-  ranges_below : (x : Definition) (i : ℕ) → AreRowsThere old.tables → (slice_get old.tables.definitions.items i ≡ Some x) ⊎ ((i ≡ length old.tables.definitions.items) × (d ≡ x)) → IsSpanBelow (length new.tables.ranges.items) x.ranges
+  ranges_below : (x : Definition) (i : ℕ) → AreRowsThere old.tables → (slice_get old.tables.definitions.items i ≡ Some x) ⊎ ((i ≡ length old.tables.definitions.items) × (d ≡ x)) →
+      IsSpanBelow (length new.tables.ranges.items) x.ranges
   ranges_below x i rows (inl at) =
       let h = rows.ranges i x at in
       record { goes_up = h.goes_up; within = (let w = h.within in let n = more_ranges in omega arith) }
   ranges_below x i rows (inr at) =
-      subst (λ (y : Definition). IsSpanBelow (length new.tables.ranges.items) y.ranges) at.1 (record { goes_up = (let a = m.ranges_start in let b = m.ranges_end in let n = more_ranges in omega arith); within = (let b = m.ranges_end in omega arith) })
+      subst (λ (y : Definition). IsSpanBelow (length new.tables.ranges.items) y.ranges) at.1
+      (record { goes_up = (let a = m.ranges_start in let b = m.ranges_end in let n = more_ranges in omega arith); within = (let b = m.ranges_end in omega arith) })
 
-  definition_in : (i : ℕ) (x : Definition) → slice_get new.tables.definitions.items i ≡ Some x → (slice_get old.tables.definitions.items i ≡ Some x) ⊎ ((i ≡ length old.tables.definitions.items) × (d ≡ x))
+  definition_in : (i : ℕ) (x : Definition) → slice_get new.tables.definitions.items i ≡ Some x →
+      (slice_get old.tables.definitions.items i ≡ Some x) ⊎ ((i ≡ length old.tables.definitions.items) × (d ≡ x))
   definition_in i x at =
       get_pushed old.tables.definitions.items d i x (sym (ap (λ (l : List Definition). slice_get l i) m.pushed_is) ∙ at)
 
   sources_stay : AreRowsThere old.tables → HaveSources (length new.tables.definitions.items) new.tables.reverses.lines.items
   sources_stay rows =
       let n : length new.tables.definitions.items ≡ length old.tables.definitions.items + 1 = ap length m.pushed_is ∙ length_push old.tables.definitions.items d in
-      let more = All-weaker (λ (r : Reverse). r.source.0 < length old.tables.definitions.items) (λ (r : Reverse). r.source.0 < length new.tables.definitions.items) (λ r h. omega arith) old.tables.reverses.lines.items rows.sources in
+      let more = All-weaker (λ (r : Reverse). r.source.0 < length old.tables.definitions.items) (λ (r : Reverse). r.source.0 < length new.tables.definitions.items)
+      (λ r h. omega arith) old.tables.reverses.lines.items rows.sources in
       subst (λ (r : Reverses). HaveSources (length new.tables.definitions.items) r.lines.items) (sym m.reverses) more
 
   rows_there : AreRowsThere old.tables → AreRowsThere new.tables
@@ -245,8 +256,10 @@ module _ (symbol : SymId) (own : List Numbered) (old new : Walk) (d : Definition
     defaults = λ i x at. defaults_below x i rows (definition_in i x at);
     ranges = λ i x at. ranges_below x i rows (definition_in i x at);
     sources = sources_stay rows;
-    titles = subst (λ (ts : Vec Title). All (IsTitleThere new.tables.contexts) ts.items) (sym m.titles) (titles_stay old.tables.contexts new.tables.contexts old.tables.titles.items carried.longer rows.titles);
-    entries = subst (λ (ts : Vec Title). All (IsEntryThere (length ts.items) (length new.tables.entries.items)) new.tables.entries.items) (sym m.titles) (subst (λ (es : Vec Entry). All (IsEntryThere (length old.tables.titles.items) (length es.items)) es.items) (sym m.entries) rows.entries);
+    titles = subst (λ (ts : Vec Title). All (IsTitleThere new.tables.contexts) ts.items) (sym m.titles)
+        (titles_stay old.tables.contexts new.tables.contexts old.tables.titles.items carried.longer rows.titles);
+    entries = subst (λ (ts : Vec Title). All (IsEntryThere (length ts.items) (length new.tables.entries.items)) new.tables.entries.items) (sym m.titles)
+        (subst (λ (es : Vec Entry). All (IsEntryThere (length old.tables.titles.items) (length es.items)) es.items) (sym m.entries) rows.entries);
   }
 
   pub adds_definition : AddsDefinition symbol own old new
@@ -265,17 +278,23 @@ module _ (symbol : SymId) (own : List Numbered) (old new : Walk) (d : Definition
   }
 
 -- by a copy of the innermost block
-pub round_grown : (w : Walk) (round : Block) (new : List Condition) (n : ℕ) → round ≡ w.blocks.innermost → IsGrown w.tables.contexts new (condition_in w.tables.contexts round.within.0).mode n → IsGrown w.tables.contexts new (condition_in w.tables.contexts w.blocks.innermost.within.0).mode n
+pub round_grown : (w : Walk) (round : Block) (new : List Condition) (n : ℕ) → round ≡ w.blocks.innermost →
+    IsGrown w.tables.contexts new (condition_in w.tables.contexts round.within.0).mode n →
+    IsGrown w.tables.contexts new (condition_in w.tables.contexts w.blocks.innermost.within.0).mode n
 round_grown w round new n e h = subst (λ (b : Block). IsGrown w.tables.contexts new (condition_in w.tables.contexts b.within.0).mode n) e h
 
-pub round_stands : (w : Walk) (round : Block) (new : List Condition) (i : ℕ) (fs : List Form) → round ≡ w.blocks.innermost → Stands new i (and_all (condition_in w.tables.contexts round.within.0) fs) → Stands new i (and_all (condition_in w.tables.contexts w.blocks.innermost.within.0) fs)
+pub round_stands : (w : Walk) (round : Block) (new : List Condition) (i : ℕ) (fs : List Form) → round ≡ w.blocks.innermost →
+    Stands new i (and_all (condition_in w.tables.contexts round.within.0) fs) → Stands new i (and_all (condition_in w.tables.contexts w.blocks.innermost.within.0) fs)
 round_stands w round new i fs e h = subst (λ (b : Block). Stands new i (and_all (condition_in w.tables.contexts b.within.0) fs)) e h
 
-pub round_prompt : (w : Walk) (round : Block) (o : Option Prompt) (x : Option (Asked Form)) → round ≡ w.blocks.innermost → option_map prompt_line o ≡ option_map (λ (p : Asked Form). (round.visible.0, p.when)) x → option_map prompt_line o ≡ option_map (λ (p : Asked Form). (w.blocks.innermost.visible.0, p.when)) x
+pub round_prompt : (w : Walk) (round : Block) (o : Option Prompt) (x : Option (Asked Form)) → round ≡ w.blocks.innermost →
+    option_map prompt_line o ≡ option_map (λ (p : Asked Form). (round.visible.0, p.when)) x →
+    option_map prompt_line o ≡ option_map (λ (p : Asked Form). (w.blocks.innermost.visible.0, p.when)) x
 round_prompt w round o x e h = subst (λ (b : Block). option_map prompt_line o ≡ option_map (λ (p : Asked Form). (b.visible.0, p.when)) x) e h
 
 -- A choice with one member more.
-set_found : {A : Type 0} (xs : List A) (k : ℕ) (x y : A) → k < length xs → slice_get xs k ≡ Some y → (j : ℕ) (z : A) → slice_get (slice_set xs k x) j ≡ Some z → (slice_get xs j ≡ Some z) ⊎ ((slice_get xs j ≡ Some y) × (x ≡ z))
+set_found : {A : Type 0} (xs : List A) (k : ℕ) (x y : A) → k < length xs → slice_get xs k ≡ Some y → (j : ℕ) (z : A) → slice_get (slice_set xs k x) j ≡ Some z →
+    (slice_get xs j ≡ Some z) ⊎ ((slice_get xs j ≡ Some y) × (x ≡ z))
 set_found [] k x y h at j z e = absurd (omega arith)
 set_found (w ∷ xs) zero x y h at zero z e = inr (at, cc)
 set_found (w ∷ xs) zero x y h at (suc j) z e = inl e
@@ -283,14 +302,16 @@ set_found (w ∷ xs) (suc k) x y h at zero z e = inl e
 set_found (w ∷ xs) (suc k) x y h at (suc j) z e = set_found xs k x y (omega arith) at j z e
 
 -- of another choice, or of this one, whose context and prompt are as they were
-same_rows : (cs : List Choice) (k : ℕ) (x y : Choice) → k < length cs → slice_get cs k ≡ Some y → x.within ≡ y.within → x.prompt ≡ y.prompt → (j : ℕ) (z : Choice) → slice_get (slice_set cs k x) j ≡ Some z → (c : Choice) × (slice_get cs j ≡ Some c) × (c.within ≡ z.within) × (c.prompt ≡ z.prompt)
+same_rows : (cs : List Choice) (k : ℕ) (x y : Choice) → k < length cs → slice_get cs k ≡ Some y → x.within ≡ y.within → x.prompt ≡ y.prompt → (j : ℕ) (z : Choice) →
+    slice_get (slice_set cs k x) j ≡ Some z → (c : Choice) × (slice_get cs j ≡ Some c) × (c.within ≡ z.within) × (c.prompt ≡ z.prompt)
 same_rows cs k x y h at v p j z e =
     elim (set_found cs k x y h at j z e) as (λ _. (c : Choice) × (slice_get cs j ≡ Some c) × (c.within ≡ z.within) × (c.prompt ≡ z.prompt)) [
       | inl same ↦ (z, same, refl, refl)
       | inr made ↦ (y, made.0, sym v ∙ ap (λ (c : Choice). c.within) made.1, sym p ∙ ap (λ (c : Choice). c.prompt) made.1)
     ]
 
-pub keeping_member : (w : Walk) (k : ℕ) (x y : Choice) → k < length w.tables.choices.items → y ≡ get_or w.tables.choices.items k y → x.within ≡ y.within → x.prompt ≡ y.prompt → Keeping w.tables.contexts w.tables.definitions.items (slice_set w.tables.choices.items k x) w.tables.titles.items × Holding w.tables.contexts w.tables.titles.items w.blocks
+pub keeping_member : (w : Walk) (k : ℕ) (x y : Choice) → k < length w.tables.choices.items → y ≡ get_or w.tables.choices.items k y → x.within ≡ y.within → x.prompt ≡ y.prompt →
+    Keeping w.tables.contexts w.tables.definitions.items (slice_set w.tables.choices.items k x) w.tables.titles.items × Holding w.tables.contexts w.tables.titles.items w.blocks
 keeping_member w k x y h is v p =
     let cs = w.tables.choices.items in
     let kept = kept_by w.tables in

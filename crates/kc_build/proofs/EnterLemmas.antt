@@ -1,5 +1,5 @@
 -- What the lines before a place say, behind one entry more.
-use Rattle.std.proofs.Common.{◌≡◌, ℕ, zero, suc, ◌+◌, ◌<◌, ◌≤◌, Bool, true, false, cond, if◌then◌else◌, List, [], ◌∷◌, ◌++◌, length, filter, take, drop, map, Option, Some, None, refl, ap, sym, ◌∙◌, arith, add-one}
+use Rattle.std.proofs.Common.{◌≡◌, ℕ, zero, suc, ◌+◌, ◌<◌, Bool, true, false, if◌then◌else◌, List, [], ◌∷◌, ◌++◌, length, filter, take, drop, Option, Some, None, refl, ap, sym, ◌∙◌, arith, add-one}
 use Rattle.std.specs.List.{slice_get, filter_map, flat_map, cons_option, prefix_len}
 use Rattle.std.proofs.lemmas.List.{append-nil}
 use Rattle.std.proofs.lemmas.List.Elements.{filter_map-append}
@@ -9,9 +9,7 @@ use Rattle.kc_expr.specs.Form.{Form}
 use Rattle.kc_read.specs.declared.statement.Block.{Block}
 use Rattle.kc_read.specs.declared.statement.Block.TheVariants as block
 use Rattle.kc_read.specs.Statements.{Numbered, ConfigLine, IfLine, EndIfLine, CommentLine, MenuLine, EndMenuLine, ChoiceLine, EndChoiceLine, MainMenuLine}
-use Rattle.kc_read.specs.Blocks.{NoBracket, attributes, bracket, enclosing, is_attribute, numbers}
-use Rattle.kc_tree.specs.TreeFacts.{Guarded, Shown}
-use Rattle.kc_tree.specs.Words.{listed}
+use Rattle.kc_read.specs.Blocks.{NoBracket, bracket, enclosing, is_attribute, numbers}
 use Rattle.kc_build.specs.Before.{definition_line, definitions_before, entries_before, members_before}
 use Rattle.kc_build.specs.Facts.{entry_at, is_member_place, naming_at, of_block, symbol_at, symbol_of, title_of}
 use Rattle.kc_build.specs.Walks.{IsHead, place_after}

@@ -1,5 +1,5 @@
 -- A definition is the first of its symbol where the number of the symbol's first one is its own.
-use Rattle.std.proofs.Common.{◌≡◌, ℕ, zero, suc, ◌+◌, ◌-◌, ◌<◌, ◌≤◌, Bool, true, false, not, ◌||◌, ◌==◌, if◌then◌else◌, List, [], ◌∷◌, ◌++◌, length, filter, map, Option, Some, None, refl, ap, sym, ◌∙◌, arith, add-one, append_assoc, length-append}
+use Rattle.std.proofs.Common.{◌≡◌, ℕ, zero, suc, ◌+◌, ◌-◌, ◌<◌, ◌≤◌, Bool, true, false, not, ◌||◌, ◌==◌, if◌then◌else◌, List, [], ◌∷◌, ◌++◌, length, filter, map, Option, Some, None, refl, ap, sym, ◌∙◌, arith, append_assoc, length-append}
 use Rattle.std.specs.List.{cons_option, filter_map, list_any, slice_get}
 use Rattle.std.specs.Option.{option_and_then, option_map}
 use Rattle.std.proofs.lemmas.Bool.{eq-eqb, ne_eqb}
@@ -7,16 +7,15 @@ use Rattle.std.proofs.lemmas.List.{append-nil}
 use Rattle.std.proofs.lemmas.List.Elements.{filter-append, filter_map-append}
 use Rattle.std.proofs.lemmas.Option.{slice_get-map}
 use Rattle.kc_expr.specs.declared.expression.SymId.{SymId}
-use Rattle.kc_expr.specs.Names.{symbol}
 use Rattle.kc_read.specs.Blocks.{numbers}
 use Rattle.kc_read.specs.Statements.{Numbered}
 use Rattle.kc_tree.specs.declared.parts.DefinitionId.{DefinitionId}
 use Rattle.kc_tree.specs.declared.parts.Symbol.{Symbol}
-use Rattle.kc_tree.specs.Parts.{definition_ids, more_of}
+use Rattle.kc_tree.specs.Parts.{more_of}
 use Rattle.kc_tree.specs.Words.{is_symbol_of, listed}
 use Rattle.kc_build.specs.Facts.{definitions_of, is_first_definition, symbol_at}
 use Rattle.kc_build.specs.Known.{AreSymbols, Row, definition_number, first_by, row_of, row_view}
-use Rattle.kc_build.proofs.FirstLemmas.{defined_before, first-is, some_places}
+use Rattle.kc_build.proofs.FirstLemmas.{first-is, some_places}
 use Rattle.kc_build.proofs.PlaceLemmas.{get-map_numbers}
 
 -- a list begins with a number
@@ -104,7 +103,8 @@ module _ (ss : List Numbered) where
     by_front : (ds : List ℕ) → passing defines i ≡ ds → begins (definition_number ss i) (map (definition_number ss) (definitions_of ss s)) ≡ not (some_places ds)
     by_front [] e =
         let r = behind in
-        ap (λ l. begins (definition_number ss i) (map (definition_number ss) l)) (r.1 ∙ ap (λ l. l ++ r.0) (up_to ∙ ap (λ l. l ++ i ∷ []) e)) ∙ eq-eqb (definition_number ss i) (definition_number ss i) refl
+        ap (λ l. begins (definition_number ss i) (map (definition_number ss) l)) (r.1 ∙ ap (λ l. l ++ r.0) (up_to ∙ ap (λ l. l ++ i ∷ []) e))
+        ∙ eq-eqb (definition_number ss i) (definition_number ss i) refl
     by_front (d ∷ ds) e =
         let r = behind in
         let h = head_is defines i d ds e in
@@ -116,7 +116,8 @@ module _ (ss : List Numbered) where
     begins_first = by_front (passing defines i) refl ∙ sym (first-is ss i s (omega arith))
 
 -- By the rows of the symbols.
-first_id : (n : ℕ) (first : Option DefinitionId) (more : List DefinitionId) → list_any (λ (d : DefinitionId). d.0 == n) (listed first) ≡ begins n (map (λ (d : DefinitionId). d.0) (listed first ++ more_of first more))
+first_id : (n : ℕ) (first : Option DefinitionId) (more : List DefinitionId) →
+    list_any (λ (d : DefinitionId). d.0 == n) (listed first) ≡ begins n (map (λ (d : DefinitionId). d.0) (listed first ++ more_of first more))
 first_id n None more = refl
 first_id n (Some d) more = or_false (d.0 == n)
   where
@@ -132,7 +133,8 @@ seen_first : (n : ℕ) (o : Option Symbol) → list_any (λ (d : DefinitionId). 
 seen_first n None = refl
 seen_first n (Some f) = first_id n f.first f.more.items
 
-pub first_by_number : (ss : List Numbered) (symbols : List Symbol) (s : SymId) (i : ℕ) → AreSymbols ss symbols → s.0 < length symbols → symbol_at ss i ≡ Some s → i < length ss → first_by symbols s (definition_number ss i) ≡ is_first_definition ss i s
+pub first_by_number : (ss : List Numbered) (symbols : List Symbol) (s : SymId) (i : ℕ) → AreSymbols ss symbols → s.0 < length symbols → symbol_at ss i ≡ Some s → i < length ss →
+    first_by symbols s (definition_number ss i) ≡ is_first_definition ss i s
 first_by_number ss symbols s i are l here within =
     let n = definition_number ss i in
     seen_first n (slice_get symbols s.0)

@@ -81,6 +81,14 @@ pub record Carries (old new : List Condition) : Type 0 where
   pub longer : length old ≤ length new
   pub modes : (i k : ℕ) → (condition_in new i).mode ≡ Some k → (j : ℕ) × (j ≤ i) × ((condition_in old j).mode ≡ Some k)
 
+-- the same, whatever counts in the new ones
+pub record Extends (old new : List Condition) : Type 0 where
+  pub keeps : (i : ℕ) → i < length old → condition_in new i ≡ condition_in old i
+  pub longer : length old ≤ length new
+
+pub extends : (old new : List Condition) → Carries old new → Extends old new
+extends old new g = record { keeps = g.keeps; longer = g.longer }
+
 pub carries_same : (cs : List Condition) → Carries cs cs
 carries_same cs = record {
   keeps = λ i h. refl;
@@ -152,15 +160,38 @@ kept_by t = record {
   mode_prompts_behind = t.mode_prompts_behind;
 }
 
+module _ (old new : List Condition) (g : Extends old new) where
+  pub plain_extends : (v : ℕ) → v < length old → IsPlain old v → IsPlain new v
+  plain_extends v h p = ap (λ (c : Condition). is_some c.mode) (g.keeps v h) ∙ p
+
+  pub further_extends : (n : ℕ) → n < length old → n < length new
+  further_extends n h = let l = g.longer in omega arith
+
+  titles_extend : (ts : List Title) → AreTitlesWithin old ts → AreTitlesWithin new ts
+  titles_extend ts h = λ i t e. further_extends t.visible.0 (h i t e)
+
+  within_extends : (blocks : Blocks) → AreBlocksWithin old blocks → AreBlocksWithin new blocks
+  within_extends blocks h = λ j b e. further_extends b.within.0 (h j b e)
+
+  visible_extends : (blocks : Blocks) → AreBlocksVisible old blocks → AreBlocksVisible new blocks
+  visible_extends blocks h = λ j b e. further_extends b.visible.0 (h j b e)
+
+  blocks_plain_extend : (blocks : Blocks) → AreBlocksVisible old blocks → AreBlocksPlain old blocks → AreBlocksPlain new blocks
+  blocks_plain_extend blocks w h = λ j b e. plain_extends b.visible.0 (w j b e) (h j b e)
+
+  -- A block says the same.
+  pub block_alike : (b : Block) → b.within.0 < length old → b.visible.0 < length old → block_view new b ≡ block_view old b
+  block_alike b w v =
+      let within = g.keeps b.within.0 w in
+      let visible = g.keeps b.visible.0 v in
+      λ i. record { parts = (within i).parts; visible = (visible i).parts; mode = (within i).mode; entry = b.entry }
+
 module _ (old new : List Condition) (g : Carries old new) where
   pub plain_carries : (v : ℕ) → v < length old → IsPlain old v → IsPlain new v
-  plain_carries v h p = ap (λ (c : Condition). is_some c.mode) (g.keeps v h) ∙ p
+  plain_carries = plain_extends old new (extends old new g)
 
   pub further : (n : ℕ) → n < length old → n < length new
-  further n h = let l = g.longer in omega arith
-
-  pub titles_carry : (ts : List Title) → AreTitlesWithin old ts → AreTitlesWithin new ts
-  titles_carry ts h = λ i t e. further t.visible.0 (h i t e)
+  further = further_extends old new (extends old new g)
 
   pub kept_carries : (ds : List Definition) (cs : List Choice) (ts : List Title) → AreTitlesWithin old ts → AreKept old ds cs ts → AreKept new ds cs ts
   kept_carries ds cs ts w k = record {
@@ -176,22 +207,6 @@ module _ (old new : List Condition) (g : Carries old new) where
     modes_behind = λ i n c e q. (let m = g.modes i n e in let l = m.1 in let b = k.modes_behind m.0 n c m.2 q in omega arith);
     mode_prompts_behind = λ i n c p e q r. (let m = g.modes i n e in let l = m.1 in let b = k.mode_prompts_behind m.0 n c p m.2 q r in omega arith);
   }
-
-  pub within_carries : (blocks : Blocks) → AreBlocksWithin old blocks → AreBlocksWithin new blocks
-  within_carries blocks h = λ j b e. further b.within.0 (h j b e)
-
-  pub visible_carries : (blocks : Blocks) → AreBlocksVisible old blocks → AreBlocksVisible new blocks
-  visible_carries blocks h = λ j b e. further b.visible.0 (h j b e)
-
-  pub blocks_plain_carry : (blocks : Blocks) → AreBlocksVisible old blocks → AreBlocksPlain old blocks → AreBlocksPlain new blocks
-  blocks_plain_carry blocks w h = λ j b e. plain_carries b.visible.0 (w j b e) (h j b e)
-
-  -- A block says the same.
-  pub block_alike : (b : Block) → b.within.0 < length old → b.visible.0 < length old → block_view new b ≡ block_view old b
-  block_alike b w v =
-      let within = g.keeps b.within.0 w in
-      let visible = g.keeps b.visible.0 v in
-      λ i. record { parts = (within i).parts; visible = (visible i).parts; mode = (within i).mode; entry = b.entry }
 
 -- One definition says the same: where the contexts that it leads to and its parts of the other tables do.
 prompt_alike : (old new : List Condition) (dep : Condition) (o : Option Prompt) → ((p : Prompt) → o ≡ Some p → condition_in new p.visible.0 ≡ condition_in old p.visible.0) → option_map (prompt_view new dep) o ≡ option_map (prompt_view old dep) o
@@ -256,38 +271,38 @@ module _ (old new : Tables) where
       λ i. record { prompt = prompt i; defaults = defaults i; members = c.members.items }
 
   -- Under more contexts, with the same defaults and ranges up to those that are new.
-  module _ (g : Carries old.contexts new.contexts) where
-    pub definition_carries : (more : List (Form × Option Form)) (bounds : List (Leaf × Leaf × Option Form)) → AreRowsThere old → map default_row new.defaults.items ≡ map default_row old.defaults.items ++ more → map range_row new.ranges.items ≡ map range_row old.ranges.items ++ bounds → (i : ℕ) (d : Definition) → slice_get old.definitions.items i ≡ Some d → definition_facts new d ≡ definition_facts old d
-    definition_carries more bounds rows e f i d at =
+  module _ (g : Extends old.contexts new.contexts) where
+    pub definition_extends : (more : List (Form × Option Form)) (bounds : List (Leaf × Leaf × Option Form)) → AreRowsThere old → map default_row new.defaults.items ≡ map default_row old.defaults.items ++ more → map range_row new.ranges.items ≡ map range_row old.ranges.items ++ bounds → (i : ℕ) (d : Definition) → slice_get old.definitions.items i ≡ Some d → definition_facts new d ≡ definition_facts old d
+    definition_extends more bounds rows e f i d at =
         definition_alike d
         (g.keeps d.within.0 (old.within i d at))
         (λ p q. g.keeps p.visible.0 (old.prompts_within i d p at q))
         (part_grown default_row old.defaults.items new.defaults.items more d.defaults (rows.defaults i d at) e)
         (part_grown range_row old.ranges.items new.ranges.items bounds d.ranges (rows.ranges i d at) f)
 
-    pub definition_carries_same : new.defaults.items ≡ old.defaults.items → new.ranges.items ≡ old.ranges.items → (i : ℕ) (d : Definition) → slice_get old.definitions.items i ≡ Some d → definition_facts new d ≡ definition_facts old d
-    definition_carries_same e f i d at =
+    pub definition_extends_same : new.defaults.items ≡ old.defaults.items → new.ranges.items ≡ old.ranges.items → (i : ℕ) (d : Definition) → slice_get old.definitions.items i ≡ Some d → definition_facts new d ≡ definition_facts old d
+    definition_extends_same e f i d at =
         definition_alike d
         (g.keeps d.within.0 (old.within i d at))
         (λ p q. g.keeps p.visible.0 (old.prompts_within i d p at q))
         (ap (λ (l : List SymbolDefault). map default_row (part_of l d.defaults)) e)
         (ap (λ (l : List SymbolRange). map range_row (part_of l d.ranges)) f)
 
-    pub choice_carries : (k : ℕ) (c : Choice) → slice_get old.choices.items k ≡ Some c → choice_facts new c ≡ choice_facts old c
-    choice_carries k c at =
+    pub choice_extends : (k : ℕ) (c : Choice) → slice_get old.choices.items k ≡ Some c → choice_facts new c ≡ choice_facts old c
+    choice_extends k c at =
         choice_alike c
         (g.keeps c.within.0 (old.choices_within k c at))
         (λ p q. g.keeps p.visible.0 (old.choice_prompts_within k c p at q))
 
-    pub title_carries : (t : Title) → IsTitleThere old.contexts t → title_condition new t ≡ title_condition old t
-    title_carries t h =
+    pub title_extends : (t : Title) → IsTitleThere old.contexts t → title_condition new t ≡ title_condition old t
+    title_extends t h =
         let within = g.keeps t.within.0 h.within in
         let visible = g.keeps t.visible.0 h.visible in
         rw (within, visible) refl
 
     by_title : (o : Option Title) → ((t : Title) → o ≡ Some t → IsTitleThere old.contexts t) → (t : Title) → o ≡ Some t → shown_when new o ≡ shown_when old o
     by_title None h t e = absurd cc
-    by_title (Some s) h t e = title_carries s (h s refl)
+    by_title (Some s) h t e = title_extends s (h s refl)
 
     pub title_there : (i : ℕ) (t : Title) → AreRowsThere old → slice_get old.titles.items i ≡ Some t → IsTitleThere old.contexts t
     title_there i t rows e =
@@ -304,15 +319,25 @@ module _ (old new : Tables) where
         let t = there_is old.titles.items i h in
         (ap (title_text old) o, ap (shown_when new) o ∙ by_title (slice_get old.titles.items i) (λ s q. title_there i s rows q) t.0 t.1)
 
-    pub shown_carries : (rest : List Title) (m : ℕ) (e : Entry) → AreRowsThere old → new.titles.items ≡ old.titles.items ++ rest → IsEntryThere (length old.titles.items) m e → shown_of new e ≡ shown_of old e
-    shown_carries rest m (entry.Symbol s) rows e h = refl
-    shown_carries rest m (entry.Menu id) rows e h =
+    pub shown_extends : (rest : List Title) (m : ℕ) (e : Entry) → AreRowsThere old → new.titles.items ≡ old.titles.items ++ rest → IsEntryThere (length old.titles.items) m e → shown_of new e ≡ shown_of old e
+    shown_extends rest m (entry.Symbol s) rows e h = refl
+    shown_extends rest m (entry.Menu id) rows e h =
         let s = title_says rest rows e id.0 h in
         λ i. MenuShown (s.0 i) (s.1 i)
-    shown_carries rest m (entry.End menu) rows e h = refl
-    shown_carries rest m (entry.Comment id) rows e h =
+    shown_extends rest m (entry.End menu) rows e h = refl
+    shown_extends rest m (entry.Comment id) rows e h =
         let s = title_says rest rows e id.0 h in
         λ i. CommentShown (s.0 i) (s.1 i)
+
+  module _ (g : Carries old.contexts new.contexts) where
+    pub definition_carries : (more : List (Form × Option Form)) (bounds : List (Leaf × Leaf × Option Form)) → AreRowsThere old → map default_row new.defaults.items ≡ map default_row old.defaults.items ++ more → map range_row new.ranges.items ≡ map range_row old.ranges.items ++ bounds → (i : ℕ) (d : Definition) → slice_get old.definitions.items i ≡ Some d → definition_facts new d ≡ definition_facts old d
+    definition_carries = definition_extends (extends old.contexts new.contexts g)
+
+    pub choice_carries : (k : ℕ) (c : Choice) → slice_get old.choices.items k ≡ Some c → choice_facts new c ≡ choice_facts old c
+    choice_carries = choice_extends (extends old.contexts new.contexts g)
+
+    pub shown_carries : (rest : List Title) (m : ℕ) (e : Entry) → AreRowsThere old → new.titles.items ≡ old.titles.items ++ rest → IsEntryThere (length old.titles.items) m e → shown_of new e ≡ shown_of old e
+    shown_carries = shown_extends (extends old.contexts new.contexts g)
 
   -- What selects and implies a symbol: where the lines are the same, and the definitions that they stand in say the same.
   at_source : ((id : DefinitionId) → definition_at new id ≡ definition_at old id) → (o : Option Reverse) → option_and_then (reverse_facts new) o ≡ option_and_then (reverse_facts old) o
@@ -362,11 +387,14 @@ pub entries_stay : (m n k l : ℕ) (es : List Entry) → m ≤ k → n ≤ l →
 entries_stay m n k l es a b = All-weaker (IsEntryThere m n) (IsEntryThere k l) (entry_stays m n k l a b) es
 
 -- The open blocks say the same under more contexts.
-pub open_carries : (ss : List Numbered) (i : ℕ) (old new : List Condition) (blocks : Blocks) → Carries old new → AreBlocksWithin old blocks → AreBlocksVisible old blocks → AreOpen ss i old blocks → AreOpen ss i new blocks
-open_carries ss i old new blocks g w v h = record {
+pub open_extends : (ss : List Numbered) (i : ℕ) (old new : List Condition) (blocks : Blocks) → Extends old new → AreBlocksWithin old blocks → AreBlocksVisible old blocks → AreOpen ss i old blocks → AreOpen ss i new blocks
+open_extends ss i old new blocks g w v h = record {
   innermost = block_alike old new g blocks.innermost (w 0 blocks.innermost refl) (v 0 blocks.innermost refl) ∙ h.innermost;
   outside = map_alike (block_view new) (block_view old) blocks.outside.items (λ j b e. block_alike old new g b (w (suc j) b e) (v (suc j) b e)) ∙ h.outside;
 }
+
+pub open_carries : (ss : List Numbered) (i : ℕ) (old new : List Condition) (blocks : Blocks) → Carries old new → AreBlocksWithin old blocks → AreBlocksVisible old blocks → AreOpen ss i old blocks → AreOpen ss i new blocks
+open_carries ss i old new blocks g = open_extends ss i old new blocks (extends old new g)
 
 -- What a walk keeps of its contexts, blocks and titles.
 pub record AreHeld (conditions : List Condition) (blocks : Blocks) (ts : List Title) : Type 0 where
@@ -380,17 +408,20 @@ pub record AreHeld (conditions : List Condition) (blocks : Blocks) (ts : List Ti
 pub held_by : (w : Walk) → AreHeld w.tables.contexts w.blocks w.tables.titles.items
 held_by w = record { asks_nothing = w.asks_nothing; top_plain = w.top_plain; within = w.within; visible = w.visible; plain = w.plain; titles = w.titles }
 
-pub held_carries : (old new : List Condition) (blocks : Blocks) (ts : List Title) → Carries old new → AreHeld old blocks ts → AreHeld new blocks ts
-held_carries old new blocks ts g h =
+pub held_extends : (old new : List Condition) (blocks : Blocks) (ts : List Title) → Extends old new → AreHeld old blocks ts → AreHeld new blocks ts
+held_extends old new blocks ts g h =
     let some : 0 < length old = (let w = h.within 0 blocks.innermost refl in omega arith) in
     record {
       asks_nothing = ap (λ (c : Condition). length c.parts) (g.keeps 0 some) ∙ h.asks_nothing;
-      top_plain = plain_carries old new g 0 some h.top_plain;
-      within = within_carries old new g blocks h.within;
-      visible = visible_carries old new g blocks h.visible;
-      plain = blocks_plain_carry old new g blocks h.visible h.plain;
-      titles = titles_carry old new g ts h.titles;
+      top_plain = plain_extends old new g 0 some h.top_plain;
+      within = within_extends old new g blocks h.within;
+      visible = visible_extends old new g blocks h.visible;
+      plain = blocks_plain_extend old new g blocks h.visible h.plain;
+      titles = titles_extend old new g ts h.titles;
     }
+
+pub held_carries : (old new : List Condition) (blocks : Blocks) (ts : List Title) → Carries old new → AreHeld old blocks ts → AreHeld new blocks ts
+held_carries old new blocks ts g = held_extends old new blocks ts (extends old new g)
 
 -- All of it as the ghost fields of the tables and of a walk ask for it.
 abbrev pub Keeping : List Condition → List Definition → List Choice → List Title → Type 0
@@ -431,26 +462,29 @@ get_pushed_if {X} false xs new y i x e h = inl (sym (ap (λ (l : List X). slice_
 pub keeping_title : (w : Walk) (b : Bool) (t : Title) (new : List Title) → new ≡ pushed b w.tables.titles.items t → t.visible.0 < length w.tables.contexts → IsPlain w.tables.contexts t.visible.0 → Keeping w.tables.contexts w.tables.definitions.items w.tables.choices.items new × Holding w.tables.contexts new w.blocks
 keeping_title w b t new e v p =
     let k = kept_by w.tables in
-    let h = held_by w in
-    (keeping w.tables.contexts w.tables.definitions.items w.tables.choices.items new
-    (record {
-      within = k.within;
-      prompts_within = k.prompts_within;
-      prompts_plain = k.prompts_plain;
-      choices_within = k.choices_within;
-      choices_plain = k.choices_plain;
-      choice_prompts_within = k.choice_prompts_within;
-      choice_prompts_plain = k.choice_prompts_plain;
-      titles_plain = λ i x at. plain_by i x (get_pushed_if b w.tables.titles.items new t i x e at);
-      modes_below = k.modes_below;
-      modes_behind = k.modes_behind;
-      mode_prompts_behind = k.mode_prompts_behind;
-    }), holding w.tables.contexts new w.blocks
-    (record { asks_nothing = h.asks_nothing; top_plain = h.top_plain; within = h.within; visible = h.visible; plain = h.plain; titles = λ i x at. within_by i x (get_pushed_if b w.tables.titles.items new t i x e at) }))
+    let h = held_by w in (
+      keeping w.tables.contexts w.tables.definitions.items w.tables.choices.items new
+          (record {
+            within = k.within;
+            prompts_within = k.prompts_within;
+            prompts_plain = k.prompts_plain;
+            choices_within = k.choices_within;
+            choices_plain = k.choices_plain;
+            choice_prompts_within = k.choice_prompts_within;
+            choice_prompts_plain = k.choice_prompts_plain;
+            titles_plain = λ i x at. plain_by i x (get_pushed_if b w.tables.titles.items new t i x e at);
+            modes_below = k.modes_below;
+            modes_behind = k.modes_behind;
+            mode_prompts_behind = k.mode_prompts_behind;
+          }),
+      holding w.tables.contexts new w.blocks
+          (record { asks_nothing = h.asks_nothing; top_plain = h.top_plain; within = h.within; visible = h.visible; plain = h.plain; titles = λ i x at. within_by i x (get_pushed_if b w.tables.titles.items new t i x e at) }),
+    )
   where
     plain_by : (i : ℕ) (x : Title) → (slice_get w.tables.titles.items i ≡ Some x) ⊎ (t ≡ x) → IsPlain w.tables.contexts x.visible.0
     plain_by i x (inl a) = w.tables.titles_plain i x a
     plain_by i x (inr a) = subst (λ (y : Title). IsPlain w.tables.contexts y.visible.0) a p
+
     within_by : (i : ℕ) (x : Title) → (slice_get w.tables.titles.items i ≡ Some x) ⊎ (t ≡ x) → x.visible.0 < length w.tables.contexts
     within_by i x (inl a) = w.titles i x a
     within_by i x (inr a) = subst (λ (y : Title). y.visible.0 < length w.tables.contexts) a v

@@ -42,6 +42,7 @@ module _ (P : Block → Type 0) (old new : Blocks) (h : OfEach P old) where
       outside : (j : ℕ) (b : Block) → (slice_get old.outside.items j ≡ Some b) ⊎ ((j ≡ length old.outside.items) × (old.innermost ≡ b)) → P b
       outside j b (inl e) = h (suc j) b e
       outside j b (inr e) = h 0 b (ap Some e.1)
+
       at : (j : ℕ) (b : Block) → slice_get (open_blocks new) j ≡ Some b → P b
       at zero b e = let same : block ≡ b = cc in subst P same p
       at (suc j) b e = outside j b (get_pushed old.outside.items old.innermost j b (sym (ap (λ (l : List Block). slice_get l j) outer) ∙ e))
@@ -61,6 +62,7 @@ module _ (P : Block → Type 0) (old new : Blocks) (h : OfEach P old) where
           let found : slice_get ys j ≡ Some b = sym (ap (λ (l : List Block). slice_get l j) outer) ∙ at in
           let within = slice_get_within ys j b found in
           h (suc j) b (ap (λ (l : List Block). slice_get l j) e ∙ get_front ys (y ∷ []) j within ∙ found)
+
       by_end : (old.outside.items ≡ []) ⊎ ((ys : List Block) × (y : Block) × (old.outside.items ≡ ys ++ y ∷ [])) → OfEach P new
       by_end (inl e) = each_same (c.1 e)
       by_end (inr e) = left e.0 e.1 e.2 (c.0 e.0 e.1 e.2).0 (c.0 e.0 e.1 e.2).1

@@ -9,6 +9,7 @@ mod CollectLemmas
 mod ConditionLemmas
 mod CopyLemmas
 mod DefineLemmas
+mod DefineWalkLemmas
 mod DefinedLemmas
 mod DiagnosedLemmas
 mod ElementLemmas
@@ -17,6 +18,7 @@ mod EntryLemmas
 mod EntrySoundLemmas
 mod EntryWalkLemmas
 mod ExpansionLemmas
+mod FewLemmas
 mod FirstLemmas
 mod FirstNumberLemmas
 mod FormedLemmas

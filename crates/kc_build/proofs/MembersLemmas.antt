@@ -101,7 +101,8 @@ module _ (ss : List Numbered) (symbols : List Symbol) (i : ℕ) (s : SymId) (own
   same_choice j e =
       ap (with_members j) (members_are (choice_number ss j) [] (no_member (choice_number ss j) e) ∙ append-nil (members_before ss i (choice_number ss j)))
 
-  one_by : (c j : ℕ) (b : Bool) → choice_round ss i ≡ Some c → (c == choice_number ss j) ≡ b → (if b then one_more s (choice_before ss symbols i j) else choice_before ss symbols i j) ≡ choice_before ss symbols after j
+  one_by : (c j : ℕ) (b : Bool) → choice_round ss i ≡ Some c → (c == choice_number ss j) ≡ b →
+      (if b then one_more s (choice_before ss symbols i j) else choice_before ss symbols i j) ≡ choice_before ss symbols after j
   one_by c j true e t =
       sym (ap (with_members j) (members_are (choice_number ss j) (s ∷ []) (a_member (choice_number ss j) c e ∙ ap (λ (b : Bool). if b then s ∷ [] else []) t)))
   one_by c j false e t =
@@ -111,7 +112,8 @@ module _ (ss : List Numbered) (symbols : List Symbol) (i : ℕ) (s : SymId) (own
   turned a b true e = eq-eqb b a (sym (eqb-true a b e))
   turned a b false e = ne_eqb b a (λ q. false≢true (sym e ∙ eq-eqb a b (sym q)))
 
-  one_more_by : (c j : ℕ) (b : Bool) → choice_round ss i ≡ Some c → (length (filter opens (numbers j)) == c) ≡ b → (if b then one_more s (choice_before ss symbols i j) else choice_before ss symbols i j) ≡ choice_before ss symbols after j
+  one_more_by : (c j : ℕ) (b : Bool) → choice_round ss i ≡ Some c → (length (filter opens (numbers j)) == c) ≡ b →
+      (if b then one_more s (choice_before ss symbols i j) else choice_before ss symbols i j) ≡ choice_before ss symbols after j
   one_more_by c j b e t =
       one_by c j b e (turned (choice_number ss j) c b (sym (ap (λ k. k == c) (length-filter opens (numbers j))) ∙ t))
 

@@ -1,9 +1,9 @@
 -- What selects and implies a symbol, by what the definitions say and by the rows of the lines, with one definition more.
-use Rattle.std.proofs.Common.{◌≡◌, ℕ, ◌<◌, Bool, true, false, if◌then◌else◌, ◌&&◌, ◌==◌, List, [], ◌∷◌, ◌++◌, length, map, reverse, Option, Some, None, refl, ap, sym, ◌∙◌, arith, get_or, subst}
+use Rattle.std.proofs.Common.{◌≡◌, ℕ, ◌<◌, Bool, true, false, if◌then◌else◌, ◌&&◌, ◌==◌, List, [], ◌∷◌, ◌++◌, length, map, reverse, Option, Some, None, refl, ap, sym, ◌∙◌, get_or, subst}
 use Rattle.std.specs.List.{All, cons_option, filter_map, flat_map, slice_get}
 use Rattle.std.specs.Option.{is_none, option_and_then, option_map}
 use Rattle.std.proofs.lemmas.Bool.{eqb-true, lt-ltb}
-use Rattle.std.proofs.lemmas.List.{append-nil, map-append, reverse-append}
+use Rattle.std.proofs.lemmas.List.{append-nil, reverse-append}
 use Rattle.std.proofs.lemmas.List.Elements.{All-cons, All-head, All-nil, All-push, All-tail, filter_map-append}
 use Rattle.std.proofs.lemmas.Option.{slice_get-map}
 use Rattle.kc_expr.specs.declared.expression.Kind.{Kind}
@@ -29,8 +29,7 @@ use Rattle.kc_build.specs.Facts.{imply_of, named_under, naming_at, select_of, sy
 use Rattle.kc_build.specs.Known.{AreSymbols, AreBelow, can_be_target, choice_by, kind_by}
 use Rattle.kc_build.specs.ReverseRows.{HaveSources, added_line, added_lines, implies_of, reverse_row, rows_to, selects_of}
 use Rattle.kc_build.specs.Targets.{target_of}
-use Rattle.kc_build.proofs.ChainLemmas.{get_last, get_left}
-use Rattle.kc_build.proofs.GrownLemmas.{filter_map_alike}
+use Rattle.kc_build.proofs.GrownLemmas.{filter_map_alike, get_front, get_last}
 use Rattle.kc_build.proofs.KnownLemmas.{choices_known, kinds_known}
 use Rattle.kc_build.proofs.WalkLemmas.{all_at}
 
@@ -39,7 +38,8 @@ and_then-filter : {A B C : Type 0} (f : A → Option B) (g : B → Option C) (xs
 and_then-filter f g [] = refl
 and_then-filter {A} {B} {C} f g (x ∷ xs) = by (f x) (and_then-filter f g xs)
   where
-    by : (o : Option B) → filter_map (λ y. option_and_then g (f y)) xs ≡ filter_map g (filter_map f xs) → cons_option (option_and_then g o) (filter_map (λ y. option_and_then g (f y)) xs) ≡ filter_map g (cons_option o (filter_map f xs))
+    by : (o : Option B) → filter_map (λ y. option_and_then g (f y)) xs ≡ filter_map g (filter_map f xs) →
+        cons_option (option_and_then g o) (filter_map (λ y. option_and_then g (f y)) xs) ≡ filter_map g (cons_option o (filter_map f xs))
     by None h = h
     by (Some b) h = ap (cons_option (g b)) h
 
@@ -95,7 +95,8 @@ chain_low : (n : ℕ) (lines : List Reverse) → HaveSources n lines → (chain 
 chain_low n lines h [] = All-nil (λ (x : ℕ × Option Form). x.0 < n)
 chain_low n lines h (i ∷ chain) = by (slice_get lines i) refl (chain_low n lines h chain)
   where
-    by : (o : Option Reverse) → slice_get lines i ≡ o → AreLow n (filter_map (λ j. option_map reverse_row (slice_get lines j)) chain) → AreLow n (cons_option (option_map reverse_row o) (filter_map (λ j. option_map reverse_row (slice_get lines j)) chain))
+    by : (o : Option Reverse) → slice_get lines i ≡ o → AreLow n (filter_map (λ j. option_map reverse_row (slice_get lines j)) chain) →
+        AreLow n (cons_option (option_map reverse_row o) (filter_map (λ j. option_map reverse_row (slice_get lines j)) chain))
     by None e rest = rest
     by (Some r) e rest = All-cons (λ (x : ℕ × Option Form). x.0 < n) (reverse_row r) _ (all_at (λ (q : Reverse). q.source.0 < n) lines i r h e) rest
 
@@ -104,10 +105,12 @@ rows_low n lines last h =
     all-reverse (λ (x : ℕ × Option Form). x.0 < n) _ (chain_low n lines h (chain_of (chains_of lines) last))
 
 -- they say the same with one definition more
-pub named_more : (ds : List DefinitionFacts) (d : DefinitionFacts) (rows : List (ℕ × Option Form)) → AreLow (length ds) rows → filter_map (named_in (ds ++ d ∷ [])) rows ≡ filter_map (named_in ds) rows
+pub named_more : (ds : List DefinitionFacts) (d : DefinitionFacts) (rows : List (ℕ × Option Form)) → AreLow (length ds) rows →
+    filter_map (named_in (ds ++ d ∷ [])) rows ≡ filter_map (named_in ds) rows
 named_more ds d [] h = refl
 named_more ds d (x ∷ rows) h =
-    let same : named_in (ds ++ d ∷ []) x ≡ named_in ds x = ap (option_map (λ (d : DefinitionFacts). record { what = d.symbol; when = with_when d.dep x.1 })) (get_left ds d x.0 (All-head (λ (y : ℕ × Option Form). y.0 < length ds) x rows h)) in
+    let same : named_in (ds ++ d ∷ []) x ≡ named_in ds x = ap (option_map (λ (d : DefinitionFacts). record { what = d.symbol; when = with_when d.dep x.1 }))
+    (get_front ds (d ∷ []) x.0 (All-head (λ (y : ℕ × Option Form). y.0 < length ds) x rows h)) in
     let rest = named_more ds d rows (All-tail (λ (y : ℕ × Option Form). y.0 < length ds) x rows h) in
     rw (same, rest) refl
 
@@ -132,7 +135,8 @@ module _ (symbols : List Symbol) (source : DefinitionId) (ds : List DefinitionFa
   one o = if can then map named (cons_option o []) else []
 
   -- a line that names a symbol, or another one
-  by_name : (t : SymId) (w : Option Form) (b : Bool) → (t.0 == s) ≡ b → filter_map (named_in (ds ++ d ∷ [])) ((if b && can_be_target symbols t then (source.0, w) ∷ [] else []) ++ []) ≡ one (if b then Some w else None)
+  by_name : (t : SymId) (w : Option Form) (b : Bool) → (t.0 == s) ≡ b →
+      filter_map (named_in (ds ++ d ∷ [])) ((if b && can_be_target symbols t then (source.0, w) ∷ [] else []) ++ []) ≡ one (if b then Some w else None)
   by_name t w true e =
       let same : t ≡ symbol s = (let k = eqb-true t.0 s e in λ i. record { 0 = k i }) in
       ap (λ (c : Bool). filter_map (named_in (ds ++ d ∷ [])) ((if c then (source.0, w) ∷ [] else []) ++ [])) (ap (can_be_target symbols) same ∙ is) ∙ by_can can
@@ -169,11 +173,13 @@ module _ (symbols : List Symbol) (source : DefinitionId) (ds : List DefinitionFa
       ∙ one_more (given_of kind s x) (filter_map (given_of kind s) own)
 
 -- the lines of a definition that name a symbol, as the list has them
-pub naming_is : (ss : List Numbered) (line : Numbered → Option (Option Form)) (i : ℕ) (t : SymId) → symbol_at ss i ≡ Some t → naming_at ss line i ≡ map (named_under ss i t) (filter_map line (attributes ss i))
+pub naming_is : (ss : List Numbered) (line : Numbered → Option (Option Form)) (i : ℕ) (t : SymId) → symbol_at ss i ≡ Some t →
+    naming_at ss line i ≡ map (named_under ss i t) (filter_map line (attributes ss i))
 naming_is ss line i t e = rw e (append-nil _)
 
 -- a symbol can be a target by the rows as it can by the list
-pub target_known : (ss : List Numbered) (symbols : List Symbol) (s : SymId) → AreBelow (length symbols) ss → AreSymbols ss symbols → s.0 < length symbols → can_be_target symbols s ≡ facts.can_be_target ss s
+pub target_known : (ss : List Numbered) (symbols : List Symbol) (s : SymId) → AreBelow (length symbols) ss → AreSymbols ss symbols → s.0 < length symbols →
+    can_be_target symbols s ≡ facts.can_be_target ss s
 target_known ss symbols s below are l =
     let there = lt-ltb s.0 (length symbols) l in
     let kinds = kinds_known ss symbols below are in

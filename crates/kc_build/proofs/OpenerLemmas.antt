@@ -18,7 +18,7 @@ use Rattle.kc_build.specs.Stacks.{AreOpen, asked_at, block_view}
 use Rattle.kc_build.specs.Walks.{Enters, IsHead, IsWalk, place_after}
 use Rattle.kc_build.specs.declared.blocks.Block.{Block}
 use Rattle.kc_build.specs.declared.entries.Walk.{Walk}
-use Rattle.kc_build.proofs.GrownLemmas.{Carries, carries_push, open_carries}
+use Rattle.kc_build.proofs.GrownLemmas.{Extends, carries_push, extends, open_carries}
 use Rattle.kc_build.proofs.OpenLemmas.{asked_inside, open_opens}
 use Rattle.kc_build.proofs.WalkLemmas.{choices_say_same, entry_count, main_menu_stays, no_choice_passed, walk_passes}
 
@@ -39,7 +39,7 @@ pub record IsQuiet (ss : List Numbered) (i : ℕ) (head : Numbered) : Type 0 whe
   pub entry : entry_at ss i (Some head) ≡ None
 
 module _ (ss : List Numbered) (symbols : List Symbol) (i : ℕ) (head : Numbered) (own : List Numbered) (h : IsHead ss i head own) (old new : Walk) (w : IsWalk ss symbols i old) where
-  pub quiet_passes : AreSame old new → IsQuiet ss i head → Carries old.tables.contexts new.tables.contexts → length new.tables.contexts ≤ length old.tables.contexts + 2 * length own + 2 → AreOpen ss (suc i) new.tables.contexts new.blocks → new.main_menu.items ≡ main_menu_before ss (place_after i own) → IsWalk ss symbols (place_after i own) new
+  pub quiet_passes : AreSame old new → IsQuiet ss i head → Extends old.tables.contexts new.tables.contexts → length new.tables.contexts ≤ length old.tables.contexts + 2 * length own + 2 → AreOpen ss (suc i) new.tables.contexts new.blocks → new.main_menu.items ≡ main_menu_before ss (place_after i own) → IsWalk ss symbols (place_after i own) new
   quiet_passes s q g few blocks menu =
       walk_passes ss i head own h symbols old new w
       (record {
@@ -95,7 +95,7 @@ module _ (e : Form) (entry : ℕ) (b : Block) (old new : Walk) (same : AreSame o
       let inside = ap (block_view new.tables.contexts) inner ∙ block_inside ss i new.tables.contexts b parts seen mode named in
       quiet_passes ss symbols i (IfLine e) own h old new w same
       (record { symbol = refl; choice = other; entry = refl })
-      g
+      (extends conditions new.tables.contexts g)
       (let n : length new.tables.contexts ≡ length conditions + 1 = ap length added ∙ length_push conditions (and_also outer e) in omega arith)
       (open_opens ss i (IfLine e) h.at block.If new.tables.contexts old.blocks new.blocks refl (open_carries ss i conditions new.tables.contexts old.blocks g old.within old.visible w.blocks) inside outside)
       (ap (λ v. v.items) menu ∙ w.main_menu ∙ sym (main_menu_stays ss i (IfLine e) own h refl))

@@ -1,7 +1,7 @@
 -- The lines of a definition that select and imply, as they are added.
 use Rattle.std.proofs.Common.{◌≡◌, ◌≢◌, ℕ, ◌+◌, ◌<◌, ◌≤◌, Bool, true, false, ◌&&◌, ◌==◌, if◌then◌else◌, List, [], ◌∷◌, ◌++◌, length, drop, Option, Some, None, refl, ap, sym, ◌∙◌, arith, get_or, slice_set, append_assoc, length-append, subst, inl, inr, nat_lt}
 use Rattle.std.specs.Prelude.{◌⊎◌, OnOk, OnErr, Result, Ok, Err}
-use Rattle.std.specs.List.{slice_get, flat_map, All}
+use Rattle.std.specs.List.{slice_get, flat_map}
 use Rattle.std.specs.Global.{Vec}
 use Rattle.std.specs.Vec.{with_items}
 use Rattle.std.specs.Option.{option_map}
@@ -18,7 +18,6 @@ use Rattle.kc_expr.specs.Form.{Form}
 use Rattle.kc_expr.specs.When.{when_view}
 use Rattle.kc_read.specs.declared.line.Line.{Line}
 use Rattle.kc_read.specs.Reads.{statement_view}
-use Rattle.kc_read.specs.Statements.{Numbered}
 use Rattle.kc_tree.specs.declared.parts.DefinitionId.{DefinitionId}
 use Rattle.kc_tree.specs.declared.parts.Reverse.{Reverse}
 use Rattle.kc_tree.specs.declared.parts.ReverseId.{ReverseId}
@@ -32,13 +31,15 @@ use Rattle.kc_build.specs.Known.{can_be_target}
 use Rattle.kc_build.specs.Passes.{said_by}
 use Rattle.kc_build.specs.Targets.{target_of}
 use Rattle.kc_build.specs.ReverseRows.{reverse_row, rows_to, selects_of, implies_of, same_reverse, added_line, added_lines, HaveSources, KeepSources, IsAdded, AreAdded}
-use Rattle.kc_build.proofs.ChainLemmas.{to-keeps, to-new, get_left, get_last, get_past}
+use Rattle.kc_build.proofs.ChainLemmas.{to-keeps, to-new, get_past}
+use Rattle.kc_build.proofs.GrownLemmas.{get_front, get_last}
 use Rattle.kc_build.proofs.PlaceLemmas.{length-said_by}
 use Rattle.kc_build.proofs.ScanLemmas.{said_from, said_end}
 
 -- a line more, which leads on to the last one of its symbol
-chained-at : (lines : List Reverse) (row : Reverse) → AreChained lines → ((next : ReverseId) → row.next ≡ Some next → next.0 < length lines) → (i : ℕ) (r : Reverse) (next : ReverseId) → ((i < length lines) ⊎ (length lines ≤ i)) → slice_get (lines ++ row ∷ []) i ≡ Some r → r.next ≡ Some next → next.0 < i
-chained-at lines row h there i r next (inl l) e n = h i r next (sym (get_left lines row i l) ∙ e) n
+chained-at : (lines : List Reverse) (row : Reverse) → AreChained lines → ((next : ReverseId) → row.next ≡ Some next → next.0 < length lines) →
+    (i : ℕ) (r : Reverse) (next : ReverseId) → ((i < length lines) ⊎ (length lines ≤ i)) → slice_get (lines ++ row ∷ []) i ≡ Some r → r.next ≡ Some next → next.0 < i
+chained-at lines row h there i r next (inl l) e n = h i r next (sym (get_front lines (row ∷ []) i l) ∙ e) n
 chained-at lines row h there i r next (inr g) e n = at (cases_lt (length lines) i)
   where
     at : ((length lines < i) ⊎ (i ≤ length lines)) → next.0 < i
@@ -67,7 +68,8 @@ set-cases xs i j y d z false l t e =
     true_not_false : (i j : ℕ) → j ≡ i → (i == j) ≡ false → ⊥
     true_not_false i j q t = absurd (false≢true (sym t ∙ eq-eqb i j (sym q)))
 
-pub heads-push : (lines : List Reverse) (row : Reverse) (heads : List (Option ReverseId)) (s : ℕ) (id : ReverseId) → s < length heads → id.0 ≡ length lines → AreHeads lines heads → AreHeads (lines ++ row ∷ []) (slice_set heads s (Some id))
+pub heads-push : (lines : List Reverse) (row : Reverse) (heads : List (Option ReverseId)) (s : ℕ) (id : ReverseId) → s < length heads → id.0 ≡ length lines →
+    AreHeads lines heads → AreHeads (lines ++ row ∷ []) (slice_set heads s (Some id))
 heads-push lines row heads s id l n h t other e =
     let more = length-append lines (row ∷ []) in
     elim (set-cases heads s t (Some id) None (Some other) (s == t) l refl e) as (λ _. other.0 < length (lines ++ row ∷ [])) [
@@ -83,7 +85,8 @@ module _ (lines : List Reverse) (row : Reverse) where
   pub rows-stay : (heads : List (Option ReverseId)) (s : ℕ) → AreHeads lines heads → rows_to (lines ++ row ∷ []) (get_or heads s None) ≡ rows_to lines (get_or heads s None)
   rows-stay heads s h = to-keeps (option_map reverse_row) lines row (get_or heads s None) (λ id e. h s id e)
 
-  rows-by : (heads : List (Option ReverseId)) (t s : ℕ) (id : ReverseId) (b : Bool) → (t == s) ≡ b → t < length heads → id.0 ≡ length lines → row.next ≡ get_or heads t None → AreHeads lines heads → rows_to (lines ++ row ∷ []) (get_or (slice_set heads t (Some id)) s None) ≡ rows_to lines (get_or heads s None) ++ one_if b (reverse_row row)
+  rows-by : (heads : List (Option ReverseId)) (t s : ℕ) (id : ReverseId) (b : Bool) → (t == s) ≡ b → t < length heads → id.0 ≡ length lines → row.next ≡ get_or heads t None →
+      AreHeads lines heads → rows_to (lines ++ row ∷ []) (get_or (slice_set heads t (Some id)) s None) ≡ rows_to lines (get_or heads s None) ++ one_if b (reverse_row row)
   rows-by heads t s id true e l n next h =
       let same : t ≡ s = eqb-true t s e in
       ap (λ k. rows_to (lines ++ row ∷ []) (get_or (slice_set heads t (Some id)) k None)) (sym same)
@@ -94,7 +97,8 @@ module _ (lines : List Reverse) (row : Reverse) where
       let other : s ≢ t = (λ q. false≢true (sym e ∙ eq-eqb t s (sym q))) in
       ap (rows_to (lines ++ row ∷ [])) (get_or-set_other heads t s (Some id) None other) ∙ rows-stay heads s h ∙ sym (append-nil (rows_to lines (get_or heads s None)))
 
-  pub rows-push : (heads : List (Option ReverseId)) (t s : ℕ) (id : ReverseId) → t < length heads → id.0 ≡ length lines → row.next ≡ get_or heads t None → AreHeads lines heads → rows_to (lines ++ row ∷ []) (get_or (slice_set heads t (Some id)) s None) ≡ rows_to lines (get_or heads s None) ++ one_if (t == s) (reverse_row row)
+  pub rows-push : (heads : List (Option ReverseId)) (t s : ℕ) (id : ReverseId) → t < length heads → id.0 ≡ length lines → row.next ≡ get_or heads t None → AreHeads lines heads →
+      rows_to (lines ++ row ∷ []) (get_or (slice_set heads t (Some id)) s None) ≡ rows_to lines (get_or heads s None) ++ one_if (t == s) (reverse_row row)
   rows-push heads t s id l n next h = rows-by heads t s id (t == s) refl l n next h
 
 -- Lines that stand in definitions below a number.
@@ -175,23 +179,32 @@ module _ (symbols : List Symbol) (source : DefinitionId) where
     pub pushed-heads : s.0 < length heads → AreHeads old heads → AreHeads new after
     pushed-heads l h =
         let q = heads-push old p.row heads s.0 (record { 0 = length old }) l refl h in
-        subst (λ (hs : List (Option ReverseId)). AreHeads new hs) (sym p.heads_are) (subst (λ (xs : List Reverse). AreHeads xs (slice_set heads s.0 (Some (record { 0 = length old })))) (sym p.lines_are) q)
+        subst (λ (hs : List (Option ReverseId)). AreHeads new hs) (sym p.heads_are)
+        (subst (λ (xs : List Reverse). AreHeads xs (slice_set heads s.0 (Some (record { 0 = length old })))) (sym p.lines_are) q)
 
     pub pushed-stay : (others : List (Option ReverseId)) → AreHeads old others → AreHeads new others
     pushed-stay others h = subst (λ (xs : List Reverse). AreHeads xs others) (sym p.lines_are) (heads-stay old p.row others h)
 
-  pub select_added : (old new : Reverses) (s : SymId) (when : Option Form) → true ≡ can_be_target symbols s → s.0 < length old.selects.items → IsPushed old.lines.items old.selects.items s when new.lines.items new.selects.items → new.implies.items ≡ old.implies.items → IsAdded symbols source old (reverse_kind.Select, s, when) new
+  pub select_added : (old new : Reverses) (s : SymId) (when : Option Form) → true ≡ can_be_target symbols s → s.0 < length old.selects.items →
+      IsPushed old.lines.items old.selects.items s when new.lines.items new.selects.items → new.implies.items ≡ old.implies.items →
+      IsAdded symbols source old (reverse_kind.Select, s, when) new
   select_added old new s when t l p q = record {
     selects = λ k. pushed-rows _ _ s when _ _ p l old.selects_there k ∙ ap (λ x. selects_of old k ++ x) (sym (and_true (s.0 == k) (can_be_target symbols s) (source.0, when) (sym t)));
-    implies = λ k. ap (λ (hs : List (Option ReverseId)). rows_to new.lines.items (get_or hs k None)) q ∙ pushed-others _ _ s when _ _ p old.implies.items old.implies_there k ∙ sym (append-nil (implies_of old k));
+    implies = λ k. ap (λ (hs : List (Option ReverseId)). rows_to new.lines.items (get_or hs k None)) q
+        ∙ pushed-others _ _ s when _ _ p old.implies.items old.implies_there k
+        ∙ sym (append-nil (implies_of old k));
     few = pushed-few _ _ s when _ _ p;
     count = pushed-count _ _ s when _ _ p;
     same = ap length q;
   }
 
-  pub imply_added : (old new : Reverses) (s : SymId) (when : Option Form) → true ≡ can_be_target symbols s → s.0 < length old.implies.items → IsPushed old.lines.items old.implies.items s when new.lines.items new.implies.items → new.selects.items ≡ old.selects.items → IsAdded symbols source old (reverse_kind.Imply, s, when) new
+  pub imply_added : (old new : Reverses) (s : SymId) (when : Option Form) → true ≡ can_be_target symbols s → s.0 < length old.implies.items →
+      IsPushed old.lines.items old.implies.items s when new.lines.items new.implies.items → new.selects.items ≡ old.selects.items →
+      IsAdded symbols source old (reverse_kind.Imply, s, when) new
   imply_added old new s when t l p q = record {
-    selects = λ k. ap (λ (hs : List (Option ReverseId)). rows_to new.lines.items (get_or hs k None)) q ∙ pushed-others _ _ s when _ _ p old.selects.items old.selects_there k ∙ sym (append-nil (selects_of old k));
+    selects = λ k. ap (λ (hs : List (Option ReverseId)). rows_to new.lines.items (get_or hs k None)) q
+        ∙ pushed-others _ _ s when _ _ p old.selects.items old.selects_there k
+        ∙ sym (append-nil (selects_of old k));
     implies = λ k. pushed-rows _ _ s when _ _ p l old.implies_there k ∙ ap (λ x. implies_of old k ++ x) (sym (and_true (s.0 == k) (can_be_target symbols s) (source.0, when) (sym t)));
     few = pushed-few _ _ s when _ _ p;
     count = ap length q;
@@ -203,7 +216,9 @@ module _ (symbols : List Symbol) (source : DefinitionId) where
   Pushes old heads s when new after (Ok u) = IsPushed old heads s when new after
   Pushes old heads s when new after (Err e) = (new ≡ old) × (after ≡ heads)
 
-  pub pushes : (r : Result (Unit {0}) AllocError) (old new : List Reverse) (heads now raw after : List (Option ReverseId)) (s : SymId) (w : Option (Rc Expr Global)) (when : Option Form) → when_view w ≡ when → now ≡ heads → after ≡ raw → OnOk r (new ≡ old ++ record { source = source; when = w; next = get_or now s.0 None } ∷ []) → OnOk r (raw ≡ slice_set now s.0 (Some (record { 0 = length old }))) → OnErr r (new ≡ old) → OnErr r (raw ≡ now) → Pushes old heads s when new after r
+  pub pushes : (r : Result (Unit {0}) AllocError) (old new : List Reverse) (heads now raw after : List (Option ReverseId)) (s : SymId) (w : Option (Rc Expr Global)) (when : Option Form) →
+      when_view w ≡ when → now ≡ heads → after ≡ raw → OnOk r (new ≡ old ++ record { source = source; when = w; next = get_or now s.0 None } ∷ []) →
+      OnOk r (raw ≡ slice_set now s.0 (Some (record { 0 = length old }))) → OnErr r (new ≡ old) → OnErr r (raw ≡ now) → Pushes old heads s when new after r
   pushes (Ok u) old new heads now raw after s w when v e a line head stay same = record {
     row = record { source = source; when = w; next = get_or heads s.0 None };
     source_is = refl;
@@ -215,7 +230,10 @@ module _ (symbols : List Symbol) (source : DefinitionId) where
   pushes (Err x) old new heads now raw after s w when v e a line head stay same = (stay, a ∙ same ∙ e)
 
   -- the same where the heads are those of a vector that was lent as a slice
-  pub pushes_in : (r : Result (Unit {0}) AllocError) (old new : List Reverse) (v : Vec (Option ReverseId)) (now ws : List (Option ReverseId)) (s : SymId) (w : Option (Rc Expr Global)) (when : Option Form) → when_view w ≡ when → now ≡ v.items → length ws ≡ length now → length now ≡ v.len → OnOk r (new ≡ old ++ record { source = source; when = w; next = get_or now s.0 None } ∷ []) → OnOk r (ws ≡ slice_set now s.0 (Some (record { 0 = length old }))) → OnErr r (new ≡ old) → OnErr r (ws ≡ now) → Pushes old v.items s when new (with_items v ws).items r
+  pub pushes_in : (r : Result (Unit {0}) AllocError) (old new : List Reverse) (v : Vec (Option ReverseId)) (now ws : List (Option ReverseId)) (s : SymId) (w : Option (Rc Expr Global)) (when : Option Form) →
+      when_view w ≡ when → now ≡ v.items → length ws ≡ length now → length now ≡ v.len →
+      OnOk r (new ≡ old ++ record { source = source; when = w; next = get_or now s.0 None } ∷ []) → OnOk r (ws ≡ slice_set now s.0 (Some (record { 0 = length old }))) →
+      OnErr r (new ≡ old) → OnErr r (ws ≡ now) → Pushes old v.items s when new (with_items v ws).items r
   pushes_in r old new v now ws s w when a e m n line head stay same =
       pushes r old new v.items now ws (with_items v ws).items s w when a e (with_items_is v ws (m ∙ n)) line head stay same
 
@@ -236,20 +254,26 @@ module _ (symbols : List Symbol) (source : DefinitionId) where
     sources_by (Ok u) p = pushed-sources old heads s when new after p
     sources_by (Err e) p = sources-same source.0 old new p.0
 
-  pub select_by : (r : Result (Unit {0}) AllocError) (old new : Reverses) (s : SymId) (when : Option Form) (kind : ReverseKind) → kind ≡ reverse_kind.Select → true ≡ can_be_target symbols s → s.0 < length old.selects.items → Pushes old.lines.items old.selects.items s when new.lines.items new.selects.items r → new.implies.items ≡ old.implies.items → OnOk r (IsAdded symbols source old (kind, s, when) new)
+  pub select_by : (r : Result (Unit {0}) AllocError) (old new : Reverses) (s : SymId) (when : Option Form) (kind : ReverseKind) → kind ≡ reverse_kind.Select →
+      true ≡ can_be_target symbols s → s.0 < length old.selects.items → Pushes old.lines.items old.selects.items s when new.lines.items new.selects.items r →
+      new.implies.items ≡ old.implies.items → OnOk r (IsAdded symbols source old (kind, s, when) new)
   select_by (Ok u) old new s when kind k t l p q =
       subst (λ (x : ReverseKind). IsAdded symbols source old (x, s, when) new) (sym k) (select_added old new s when t l p q)
   select_by (Err e) old new s when kind k t l p q = tt
 
-  pub imply_by : (r : Result (Unit {0}) AllocError) (old new : Reverses) (s : SymId) (when : Option Form) (kind : ReverseKind) → kind ≡ reverse_kind.Imply → true ≡ can_be_target symbols s → s.0 < length old.implies.items → Pushes old.lines.items old.implies.items s when new.lines.items new.implies.items r → new.selects.items ≡ old.selects.items → OnOk r (IsAdded symbols source old (kind, s, when) new)
+  pub imply_by : (r : Result (Unit {0}) AllocError) (old new : Reverses) (s : SymId) (when : Option Form) (kind : ReverseKind) → kind ≡ reverse_kind.Imply →
+      true ≡ can_be_target symbols s → s.0 < length old.implies.items → Pushes old.lines.items old.implies.items s when new.lines.items new.implies.items r →
+      new.selects.items ≡ old.selects.items → OnOk r (IsAdded symbols source old (kind, s, when) new)
   imply_by (Ok u) old new s when kind k t l p q =
       subst (λ (x : ReverseKind). IsAdded symbols source old (x, s, when) new) (sym k) (imply_added old new s when t l p q)
   imply_by (Err e) old new s when kind k t l p q = tt
 
   -- Along the lines of a definition.
   pub record IsAdding (own : List Line) (old : Reverses) (i : ℕ) (new : Reverses) : Type 0 where
-    pub selects : (s : ℕ) → selects_of new s ++ added_lines symbols source reverse_kind.Select s (drop i (said_by own)) ≡ selects_of old s ++ added_lines symbols source reverse_kind.Select s (said_by own)
-    pub implies : (s : ℕ) → implies_of new s ++ added_lines symbols source reverse_kind.Imply s (drop i (said_by own)) ≡ implies_of old s ++ added_lines symbols source reverse_kind.Imply s (said_by own)
+    pub selects : (s : ℕ) →
+        selects_of new s ++ added_lines symbols source reverse_kind.Select s (drop i (said_by own)) ≡ selects_of old s ++ added_lines symbols source reverse_kind.Select s (said_by own)
+    pub implies : (s : ℕ) →
+        implies_of new s ++ added_lines symbols source reverse_kind.Imply s (drop i (said_by own)) ≡ implies_of old s ++ added_lines symbols source reverse_kind.Imply s (said_by own)
     pub few : length new.lines.items ≤ length old.lines.items + i
     pub count : length new.selects.items ≡ length old.selects.items
     pub same : length new.implies.items ≡ length old.implies.items
@@ -268,19 +292,24 @@ module _ (symbols : List Symbol) (source : DefinitionId) where
   abbrev given : ReverseKind → ℕ → Option (ReverseKind × SymId × Option Form) → List (ℕ × Option Form)
   given kind s o = flat_map (added_line symbols source kind s) (listed o)
 
-  next_lines : (kind : ReverseKind) (s : ℕ) (own : List Line) (i : ℕ) (x : Line) (t : ReverseKind × SymId × Option Form) (now next base : List (ℕ × Option Form)) → i < length own → x ≡ get_or own i x → Some t ≡ target_of (statement_view x.statement) → now ++ added_lines symbols source kind s (drop i (said_by own)) ≡ base → next ≡ now ++ added_line symbols source kind s t → next ++ added_lines symbols source kind s (drop (i + 1) (said_by own)) ≡ base
+  next_lines : (kind : ReverseKind) (s : ℕ) (own : List Line) (i : ℕ) (x : Line) (t : ReverseKind × SymId × Option Form) (now next base : List (ℕ × Option Form)) →
+      i < length own → x ≡ get_or own i x → Some t ≡ target_of (statement_view x.statement) → now ++ added_lines symbols source kind s (drop i (said_by own)) ≡ base →
+      next ≡ now ++ added_line symbols source kind s t → next ++ added_lines symbols source kind s (drop (i + 1) (said_by own)) ≡ base
   next_lines kind s own i x t now next base l at e h n =
       let rest = added_lines symbols source kind s (drop (i + 1) (said_by own)) in
       let line = added_line symbols source kind s t in
       let all : added_lines symbols source kind s (drop i (said_by own)) ≡ line ++ rest = rw (said_from own i x l at, ← e) (ap (λ k. k ++ rest) (append-nil line)) in
       ap (λ k. k ++ rest) n ∙ append_assoc now line rest ∙ ap (λ k. now ++ k) (sym all) ∙ h
 
-  same_lines : (kind : ReverseKind) (s : ℕ) (own : List Line) (i : ℕ) (x : Line) (now base : List (ℕ × Option Form)) → i < length own → x ≡ get_or own i x → None ≡ target_of (statement_view x.statement) → now ++ added_lines symbols source kind s (drop i (said_by own)) ≡ base → now ++ added_lines symbols source kind s (drop (i + 1) (said_by own)) ≡ base
+  same_lines : (kind : ReverseKind) (s : ℕ) (own : List Line) (i : ℕ) (x : Line) (now base : List (ℕ × Option Form)) → i < length own → x ≡ get_or own i x →
+      None ≡ target_of (statement_view x.statement) → now ++ added_lines symbols source kind s (drop i (said_by own)) ≡ base →
+      now ++ added_lines symbols source kind s (drop (i + 1) (said_by own)) ≡ base
   same_lines kind s own i x now base l at e h =
       let all : added_lines symbols source kind s (drop i (said_by own)) ≡ added_lines symbols source kind s (drop (i + 1) (said_by own)) = rw (said_from own i x l at, ← e) refl in
       ap (λ k. now ++ k) (sym all) ∙ h
 
-  pub adding_none : (own : List Line) (old now : Reverses) (i : ℕ) (x : Line) → IsAdding own old i now → i < length own → x ≡ get_or own i x → None ≡ target_of (statement_view x.statement) → IsAdding own old (i + 1) now
+  pub adding_none : (own : List Line) (old now : Reverses) (i : ℕ) (x : Line) → IsAdding own old i now → i < length own → x ≡ get_or own i x →
+      None ≡ target_of (statement_view x.statement) → IsAdding own old (i + 1) now
   adding_none own old now i x h l at e = record {
     selects = λ s. same_lines reverse_kind.Select s own i x _ _ l at e (h.selects s);
     implies = λ s. same_lines reverse_kind.Imply s own i x _ _ l at e (h.implies s);
@@ -290,7 +319,9 @@ module _ (symbols : List Symbol) (source : DefinitionId) where
     sources = h.sources;
   }
 
-  pub adding_one : (own : List Line) (old now new : Reverses) (i : ℕ) (x : Line) (t : ReverseKind × SymId × Option Form) → IsAdding own old i now → i < length own → x ≡ get_or own i x → Some t ≡ target_of (statement_view x.statement) → IsAdded symbols source now t new → KeepSources source.0 now.lines.items new.lines.items → IsAdding own old (i + 1) new
+  pub adding_one : (own : List Line) (old now new : Reverses) (i : ℕ) (x : Line) (t : ReverseKind × SymId × Option Form) → IsAdding own old i now → i < length own →
+      x ≡ get_or own i x → Some t ≡ target_of (statement_view x.statement) → IsAdded symbols source now t new → KeepSources source.0 now.lines.items new.lines.items →
+      IsAdding own old (i + 1) new
   adding_one own old now new i x t h l at e a k = record {
     selects = λ s. next_lines reverse_kind.Select s own i x t _ _ _ l at e (h.selects s) (a.selects s);
     implies = λ s. next_lines reverse_kind.Imply s own i x t _ _ _ l at e (h.implies s) (a.implies s);

@@ -1,8 +1,8 @@
 -- What surrounds a place.
-use Rattle.std.proofs.Common.{◌≡◌, ℕ, ◌+◌, ◌<◌, ◌≤◌, Bool, true, false, cond, if◌then◌else◌, List, [], ◌∷◌, ◌++◌, length, filter, map, Some, refl, ap, sym, ◌∙◌, arith, get_or}
+use Rattle.std.proofs.Common.{◌≡◌, ℕ, ◌+◌, ◌<◌, ◌≤◌, Bool, true, false, cond, if◌then◌else◌, List, [], ◌∷◌, ◌++◌, length, filter, Some, refl, ap, sym, ◌∙◌, arith, get_or}
 use Rattle.std.specs.List.{slice_get, flat_map, count_by, fold}
 use Rattle.std.specs.Option.{option_map}
-use Rattle.std.proofs.lemmas.List.{append-nil, length-map}
+use Rattle.std.proofs.lemmas.List.{append-nil}
 use Rattle.std.proofs.lemmas.List.Elements.{filter-append}
 use Rattle.std.proofs.lemmas.Grind.{flat_map-append}
 use Rattle.kc_expr.specs.Form.{Form}
@@ -13,9 +13,9 @@ use Rattle.kc_read.specs.Statements.{Numbered, ChoiceLine}
 use Rattle.kc_read.specs.Blocks.{numbers, last_of, bracket, opened}
 use Rattle.kc_build.specs.Facts.{of_block, block_parts, own_visible, choice_number, is_block}
 use Rattle.kc_build.specs.Passes.{said_by}
-use Rattle.kc_build.specs.Rounds.{Surroundings, next_count, block_visible, inside_from, round}
+use Rattle.kc_build.specs.Rounds.{Surroundings, next_count, block_visible, inside_from}
 use Rattle.kc_build.proofs.BlockLemmas.{last-snoc}
-use Rattle.kc_build.proofs.PlaceLemmas.{get-map_numbers, numbers-next, length-map_numbers, statement_at, length-said_by}
+use Rattle.kc_build.proofs.PlaceLemmas.{numbers-next, statement_at}
 
 module _ (ss : List Numbered) where
   abbrev pub round_at : List ℕ → Surroundings

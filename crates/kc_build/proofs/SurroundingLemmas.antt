@@ -1,5 +1,5 @@
 -- What surrounds the lines, as the first walk keeps it: from one line to the next, and behind an entry.
-use Rattle.std.proofs.Common.{◌≡◌, ℕ, zero, suc, ◌+◌, ◌<◌, ◌≤◌, Bool, true, false, if◌then◌else◌, List, [], ◌∷◌, ◌++◌, length, map, filter, Option, Some, None, refl, ap, sym, ◌∙◌, arith, add-one, inl, inr}
+use Rattle.std.proofs.Common.{◌≡◌, ℕ, zero, suc, ◌+◌, ◌≤◌, true, if◌then◌else◌, List, [], ◌∷◌, ◌++◌, length, map, filter, Option, Some, None, refl, ap, sym, ◌∙◌, arith, add-one, inl, inr}
 use Rattle.std.specs.Prelude.{◌⊎◌}
 use Rattle.std.specs.List.{slice_get, filter_map, cons_option}
 use Rattle.std.specs.Option.{option_map}
@@ -17,7 +17,7 @@ use Rattle.kc_read.specs.declared.statement.Statement.{Statement}
 use Rattle.kc_read.specs.declared.statement.Statement.TheVariants as made
 use Rattle.kc_read.specs.Reads.{statement_view}
 use Rattle.kc_read.specs.Statements.{Numbered, ChoiceLine}
-use Rattle.kc_read.specs.Blocks.{Bracket, Opens, Closes, NoBracket, bracket, bracket_of, enclosing, is_attribute, last_of, numbers, opened}
+use Rattle.kc_read.specs.Blocks.{Opens, Closes, NoBracket, bracket, bracket_of, enclosing, is_attribute, last_of, numbers, opened}
 use Rattle.kc_tree.specs.declared.parts.ChoiceId.{ChoiceId}
 use Rattle.kc_build.specs.declared.symbols.Surroundings.{Surroundings}
 use Rattle.kc_build.specs.Facts.{choice_number, choice_round, is_block, of_block, symbol_at, symbol_of}

@@ -1,8 +1,8 @@
 -- What is found of each symbol: by its definitions before a place, one definition more, and when all lines were walked over.
-use Rattle.std.proofs.Common.{◌≡◌, ℕ, zero, suc, ◌+◌, ◌<◌, ◌≤◌, Bool, true, false, if◌then◌else◌, List, [], ◌∷◌, ◌++◌, length, map, filter, take, drop, Option, Some, None, refl, ap, sym, ◌∙◌, arith, get_or}
+use Rattle.std.proofs.Common.{◌≡◌, ℕ, zero, suc, ◌+◌, ◌<◌, ◌≤◌, Bool, true, false, if◌then◌else◌, List, [], ◌∷◌, ◌++◌, length, map, take, drop, Option, Some, None, refl, ap, sym, ◌∙◌, arith, get_or}
 use Rattle.std.specs.List.{slice_get, filter_map, flat_map, cons_option, prefix_len, take_while}
 use Rattle.std.specs.Option.{is_some, option_or, unwrap_or}
-use Rattle.std.proofs.lemmas.List.{append-nil, length-map, map-append}
+use Rattle.std.proofs.lemmas.List.{length-map, map-append}
 use Rattle.std.proofs.lemmas.List.Elements.{filter_map-append}
 use Rattle.kc_expr.specs.declared.expression.Kind.{Kind}
 use Rattle.kc_expr.specs.declared.expression.Kind.TheVariants as kind
@@ -13,13 +13,13 @@ use Rattle.kc_read.specs.Statements.{Numbered}
 use Rattle.kc_tree.specs.declared.parts.ChoiceId.{ChoiceId}
 use Rattle.kc_tree.specs.declared.parts.Symbol.{Symbol}
 use Rattle.kc_tree.specs.Words.{is_symbol_of}
-use Rattle.kc_build.specs.Facts.{choice_of, choice_round, definitions_of, first_of, kind_of, symbol_at, symbol_of, type_of}
+use Rattle.kc_build.specs.Facts.{choice_of, choice_round, definitions_of, first_of, symbol_at, symbol_of, type_of}
 use Rattle.kc_build.specs.Known.{AreSymbols, AreTyped, Row, definition_number, row_of, row_view}
 use Rattle.kc_build.specs.Passes.{change, changed}
 use Rattle.kc_build.specs.SymbolWalk.{choice_view, first_kind, settled, unknown, with_definition}
 use Rattle.kc_build.proofs.EnterLemmas.{attribute_symbol, get_behind, over}
 use Rattle.kc_build.proofs.PlaceLemmas.{length-map_numbers}
-use Rattle.kc_build.proofs.TableLemmas.{defined_before, defined_next, not_defined, same_numbers, set_changed}
+use Rattle.kc_build.proofs.TableLemmas.{defined_before, defined_next, not_defined, same_numbers}
 use Rattle.kc_build.specs.Walks.{IsHead, place_after}
 
 -- The first of what two lists give, of what a list of lists gives.
@@ -125,6 +125,7 @@ module _ (ss : List Numbered) where
         single : {A : Type 0} (o : Option A) → o ≡ first_of (cons_option o [])
         single None = refl
         single (Some x) = refl
+
         first_more : {A : Type 0} (f : ℕ → Option A) → option_or (first_of (filter_map f ds)) (f i) ≡ first_of (filter_map f (ds ++ i ∷ []))
         first_more f =
             ap (option_or (first_of (filter_map f ds))) (single (f i)) ∙ sym (first_or (filter_map f ds) (cons_option (f i) [])) ∙ ap first_of (sym (filter_map-append f ds (i ∷ [])))

@@ -25,7 +25,7 @@ use Rattle.kc_build.specs.Stacks.{AreOpen, asked_at, block_view}
 use Rattle.kc_build.specs.Walks.{Enters, IsHead, IsWalk, place_after}
 use Rattle.kc_build.specs.declared.blocks.Block.{Block}
 use Rattle.kc_build.specs.declared.entries.Walk.{Walk}
-use Rattle.kc_build.proofs.GrownLemmas.{Carries, carries_both, carries_grown, get_last, open_carries}
+use Rattle.kc_build.proofs.GrownLemmas.{Extends, carries_both, carries_grown, extends, get_last, open_carries}
 use Rattle.kc_build.proofs.OpenLemmas.{open_opens, open_passes}
 use Rattle.kc_build.proofs.OpenerLemmas.{block_inside}
 use Rattle.kc_build.proofs.WalkLemmas.{choices_say_same, entry_count, main_menu_stays, no_choice_passed, walk_passes}
@@ -74,7 +74,7 @@ pub record IsTitled (ss : List Numbered) (i : ℕ) (head : Numbered) : Type 0 wh
 
 -- One title and one entry more.
 module _ (ss : List Numbered) (symbols : List Symbol) (i : ℕ) (head : Numbered) (own : List Numbered) (h : IsHead ss i head own) (old new : Walk) (w : IsWalk ss symbols i old) where
-  pub titled_passes : (t : Title) (e : Entry) (s : Shown) → AreRest old new → IsTitled ss i head → Carries old.tables.contexts new.tables.contexts → length new.tables.contexts ≤ length old.tables.contexts + 2 * length own + 2 → AreOpen ss (suc i) new.tables.contexts new.blocks → new.tables.titles.items ≡ old.tables.titles.items ++ t ∷ [] → IsTitleThere new.tables.contexts t → new.tables.entries.items ≡ old.tables.entries.items ++ e ∷ [] → IsEntryThere (length new.tables.titles.items) (length new.tables.entries.items) e → shown_of new.tables e ≡ s → entry_at ss i (Some head) ≡ Some s → IsWalk ss symbols (place_after i own) new
+  pub titled_passes : (t : Title) (e : Entry) (s : Shown) → AreRest old new → IsTitled ss i head → Extends old.tables.contexts new.tables.contexts → length new.tables.contexts ≤ length old.tables.contexts + 2 * length own + 2 → AreOpen ss (suc i) new.tables.contexts new.blocks → new.tables.titles.items ≡ old.tables.titles.items ++ t ∷ [] → IsTitleThere new.tables.contexts t → new.tables.entries.items ≡ old.tables.entries.items ++ e ∷ [] → IsEntryThere (length new.tables.titles.items) (length new.tables.entries.items) e → shown_of new.tables e ≡ s → entry_at ss i (Some head) ≡ Some s → IsWalk ss symbols (place_after i own) new
   titled_passes t e s r q g few blocks titles title entries there shown says =
       walk_passes ss i head own h symbols old new w
       (record {
@@ -113,7 +113,7 @@ module _ (text : List ℕ) (own : List Numbered) (old new : Walk) (rest : AreRes
       let condition : title_condition new.tables t ≡ dep ss i = (λ j. record { parts = (depends j).parts ++ nothing j; mode = (depends j).mode }) ∙ (λ j. record { parts = append-nil (dep ss i).parts j; mode = (dep ss i).mode }) in
       titled_passes ss symbols i (CommentLine text) own h old new w t (entry.Comment id) (CommentShown text (dep ss i)) rest
       (record { symbol = refl; choice = rw (h.at) refl; title = refl })
-      g
+      (extends old.tables.contexts new.tables.contexts g)
       (let l = grown.few in omega arith)
       (subst (AreOpen ss (suc i) new.tables.contexts) (sym blocks) (open_passes ss i (CommentLine text) h.at new.tables.contexts old.blocks refl (open_carries ss i old.tables.contexts new.tables.contexts old.blocks g old.within old.visible w.blocks)))
       titles
@@ -151,7 +151,7 @@ module _ (text : List ℕ) (own : List Numbered) (old new : Walk) (rest : AreRes
       let inside = ap (block_view new.tables.contexts) (inner ∙ block_is) ∙ block_inside ss i new.tables.contexts (record { within = within; visible = visible; entry = Some number }) parts visible_parts mode named in
       titled_passes ss symbols i (MenuLine text) own h old new w t (entry.Menu id) (MenuShown text (shown_when ss i)) rest
       (record { symbol = refl; choice = other; title = refl })
-      g
+      (extends old.tables.contexts new.tables.contexts g)
       (let l = grown.few in let m = further.few in omega arith)
       (open_opens ss i (MenuLine text) h.at block.Menu new.tables.contexts old.blocks new.blocks refl (open_carries ss i old.tables.contexts new.tables.contexts old.blocks g old.within old.visible w.blocks) inside outside)
       titles

@@ -31,7 +31,7 @@ use Rattle.kc_build.specs.Stacks.{AreOpen}
 use Rattle.kc_build.specs.Walks.{IsHead, IsWalk, place_after}
 use Rattle.kc_build.specs.declared.entries.Walk.{Walk}
 use Rattle.kc_build.proofs.EnterLemmas.{blocks_passed, definitions_passed, enclosing_passed, entries_passed, member_line, members_passed, names_passed, titles_passed}
-use Rattle.kc_build.proofs.GrownLemmas.{Carries, choice_carries, definition_carries_same, entries_stay, impliers_same, map_alike, selectors_same, shown_carries, titles_stay}
+use Rattle.kc_build.proofs.GrownLemmas.{Extends, choice_extends, definition_extends_same, entries_stay, impliers_same, map_alike, selectors_same, shown_extends, titles_stay}
 use Rattle.kc_build.proofs.OpenLemmas.{open_moves}
 use Rattle.kc_build.proofs.PlaceLemmas.{filter_map-next, numbers-next}
 
@@ -144,7 +144,7 @@ module _ (ss : List Numbered) (i : ℕ) (head : Numbered) (own : List Numbered) 
   -- What such an entry does to the walk.
   module _ (symbols : List Symbol) (old new : Walk) where
     pub record Passes : Type 0 where
-      pub contexts : Carries old.tables.contexts new.tables.contexts
+      pub contexts : Extends old.tables.contexts new.tables.contexts
       pub few_contexts : length new.tables.contexts ≤ length old.tables.contexts + 2 * length own + 2
       pub definitions : new.tables.definitions ≡ old.tables.definitions
       pub defaults : new.tables.defaults ≡ old.tables.defaults
@@ -166,7 +166,7 @@ module _ (ss : List Numbered) (i : ℕ) (head : Numbered) (own : List Numbered) 
 
     module _ (w : IsWalk ss symbols i old) (p : Passes) (none : symbol_of (Some head) ≡ None) where
       say_same : (k : ℕ) (d : Definition) → slice_get old.tables.definitions.items k ≡ Some d → definition_facts new.tables d ≡ definition_facts old.tables d
-      say_same = definition_carries_same old.tables new.tables p.contexts (ap (λ v. v.items) p.defaults) (ap (λ v. v.items) p.ranges)
+      say_same = definition_extends_same old.tables new.tables p.contexts (ap (λ v. v.items) p.defaults) (ap (λ v. v.items) p.ranges)
 
       same_definitions : new.tables.definitions.items ≡ old.tables.definitions.items
       same_definitions = ap (λ v. v.items) p.definitions
@@ -181,7 +181,7 @@ module _ (ss : List Numbered) (i : ℕ) (head : Numbered) (own : List Numbered) 
       entries_now =
           ap (map (shown_of new.tables)) p.entries
           ∙ map-append (shown_of new.tables) old.tables.entries.items p.entries_more
-          ∙ ap (λ (l : List Shown). l ++ map (shown_of new.tables) p.entries_more) (map_alike (shown_of new.tables) (shown_of old.tables) old.tables.entries.items (λ k e at. shown_carries old.tables new.tables p.contexts p.titles_more (length old.tables.entries.items) e w.rows p.titles (all_at (IsEntryThere (length old.tables.titles.items) (length old.tables.entries.items)) old.tables.entries.items k e w.rows.entries at)) ∙ w.entries)
+          ∙ ap (λ (l : List Shown). l ++ map (shown_of new.tables) p.entries_more) (map_alike (shown_of new.tables) (shown_of old.tables) old.tables.entries.items (λ k e at. shown_extends old.tables new.tables p.contexts p.titles_more (length old.tables.entries.items) e w.rows p.titles (all_at (IsEntryThere (length old.tables.titles.items) (length old.tables.entries.items)) old.tables.entries.items k e w.rows.entries at)) ∙ w.entries)
           ∙ ap (λ (l : List Shown). entries_before ss i ++ l) p.shown
           ∙ sym (entries_passed ss i head own h)
 
@@ -227,7 +227,7 @@ module _ (ss : List Numbered) (i : ℕ) (head : Numbered) (own : List Numbered) 
       }
 
     -- where no choice begins, the choices say the same
-    pub choices_say_same : Carries old.tables.contexts new.tables.contexts → new.tables.choices ≡ old.tables.choices → map (choice_in new.tables) new.tables.choices.items ≡ map (choice_in old.tables) old.tables.choices.items
+    pub choices_say_same : Extends old.tables.contexts new.tables.contexts → new.tables.choices ≡ old.tables.choices → map (choice_in new.tables) new.tables.choices.items ≡ map (choice_in old.tables) old.tables.choices.items
     choices_say_same g e =
         ap (λ v. map (choice_in new.tables) v.items) e
-        ∙ map_alike (choice_in new.tables) (choice_in old.tables) old.tables.choices.items (choice_carries old.tables new.tables g)
+        ∙ map_alike (choice_in new.tables) (choice_in old.tables) old.tables.choices.items (choice_extends old.tables new.tables g)

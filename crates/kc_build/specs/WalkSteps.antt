@@ -16,7 +16,7 @@ use Rattle.kc_tree.specs.Layouts.{DefinitionFacts, definition_facts, with_parts,
 use Rattle.kc_tree.specs.TreeFacts.{ChoiceFacts, Condition}
 use Rattle.kc_build.specs.EntryLines.{default_line, range_line}
 use Rattle.kc_build.specs.Facts.{asked_of, depends_form}
-use Rattle.kc_build.specs.Growth.{IsGrown, and_all}
+use Rattle.kc_build.specs.Growth.{IsGrown}
 use Rattle.kc_build.specs.Passes.{change}
 use Rattle.kc_build.specs.Said.{AreRowsThere}
 use Rattle.kc_build.specs.Stacks as stacks

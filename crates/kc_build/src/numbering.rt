@@ -81,8 +81,7 @@ fn number_lines(
 ) -> Result<Listing, AllocError>
     requires unknown { unknown.0 ≡ usize.MAX }
     requires expanded { (log : Log) × IsExpansion [] (Some unknown) mentioned log expansion }
-    ensures listed { IfOk result (λ l. (log : Log) → IsExpansion [] (Some unknown) mentioned log expansion → IsListing log l) }
-    ensures few { IfOk result (λ l. length l.lines.items ≡ length expansion.lines.items) }
+    ensures { IfOk result (λ l. (log : Log) → IsExpansion [] (Some unknown) mentioned log expansion → IsListing log l) }
 {
     let mut names = mentioned;
     let mut order = expansion.defined;

@@ -146,7 +146,7 @@ fn is_order(nodes: &[u32]) -> bool {
 /// `Order::of`, of the tree of the calls.
 pub(crate) fn call_order_of(alloc: Global) -> Result<End, AllocError> {
     let tree = tree_of(alloc)?;
-    match Order::of(alloc, &tree) {
+    match Order::of(alloc, &tree, tree.layout()) {
         Ok(order) => Ok(done(is_order(order.nodes()))),
         Err(refusal) => Ok(refused(is_memory(&refusal))),
     }
@@ -155,7 +155,7 @@ pub(crate) fn call_order_of(alloc: Global) -> Result<End, AllocError> {
 /// `Order::of`, of a tree whose loop is named.
 pub(crate) fn call_order_of_loop(alloc: Global) -> Result<End, AllocError> {
     let tree = tree_with(alloc, LOOP)?;
-    match Order::of(alloc, &tree) {
+    match Order::of(alloc, &tree, tree.layout()) {
         Ok(_) => Ok(End::Wrong),
         Err(refusal) => {
             if refusal.code == Code::Memory {

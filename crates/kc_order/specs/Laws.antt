@@ -1,5 +1,5 @@
 -- Trusted: What follows of needs, and of equations over them, whatever a value is.
-use Rattle.std.specs.Prelude.{All, ◌≡◌, ◌⊎◌, ℕ, ◌<◌, ◌+◌, ◌-◌, ◌++◌, ◌≤◌, take, List, length, slice_index, Option, Bool}
+use Rattle.std.specs.Prelude.{All, ◌≡◌, ◌⊎◌, ℕ, ◌<◌, ◌+◌, ◌-◌, ◌++◌, take, List, length, slice_index, Option, Bool}
 use Rattle.std.specs.List.{Contains, flat_map}
 use Rattle.kc_order.specs.Graph.{Nodes, IsGraph, groups_of, needs_of, stands_for}
 use Rattle.kc_order.specs.Needs.{needs_in, AreAlike, AreWithin, IsAccepted, SomeStuck}
@@ -62,16 +62,6 @@ abbrev pub SymbolsStandFirst : Type 0
 SymbolsStandFirst =
     (g : Nodes) (nodes : List ℕ) → IsGraph g → Orders g.rows nodes →
     (k v : ℕ) → k < length nodes → Contains (flat_map (stands_for g.symbols (groups_of g)) (needs_in g.rows (slice_index nodes k))) v → Contains (take k nodes) v
-
--- a group stands for what the nodes of its row stand for, and a symbol needs what those of its row do
-abbrev pub GroupsStandForRows : Type 0
-GroupsStandForRows =
-    (g : Nodes) (t : ℕ) → IsGraph g → g.symbols ≤ t → t < length g.rows →
-    stands_for g.symbols (groups_of g) t ≡ flat_map (stands_for g.symbols (groups_of g)) (needs_in g.rows t)
-
-abbrev pub SymbolsNeedRows : Type 0
-SymbolsNeedRows =
-    (g : Nodes) (s : ℕ) → IsGraph g → s < g.symbols → needs_in (needs_of g) s ≡ flat_map (stands_for g.symbols (groups_of g)) (needs_in g.rows s)
 
 -- equations that read only what is needed have one solution, where no symbol is stuck
 abbrev pub AcceptedHaveOneSolution : Type 0 → Type 0

@@ -1,6 +1,6 @@
 //! What follows of needs, and of equations over them, whatever a value is.
 
-ghost use Rattle.kc_order.specs.Laws.{AlikeAreAccepted, AlikeHaveTheLoop, GraphNeedsAreWithin, SymbolsStandFirst, GroupsStandForRows, SymbolsNeedRows, OrderedAreAccepted, AWayRoundIsStuck, NamedLoopGoesRound, NamedLoopIsWithin, OneNamedLoop, StuckHaveALoop, AcceptedOrStuck, AcceptedHaveOneSolution, SolutionsAgree, FillingSolves, RoundsSolve, MinimalRestores, MinimalHasNothingToSpare};
+ghost use Rattle.kc_order.specs.Laws.{AlikeAreAccepted, AlikeHaveTheLoop, GraphNeedsAreWithin, SymbolsStandFirst, OrderedAreAccepted, AWayRoundIsStuck, NamedLoopGoesRound, NamedLoopIsWithin, OneNamedLoop, StuckHaveALoop, AcceptedOrStuck, AcceptedHaveOneSolution, SolutionsAgree, FillingSolves, RoundsSolve, MinimalRestores, MinimalHasNothingToSpare};
 
 /// Needs that have an order are accepted.
 pub fn ordered_are_accepted()
@@ -40,13 +40,10 @@ pub fn alike_needs()
     ensures named { AlikeHaveTheLoop }
 {}
 
-/// What a graph's symbols need are symbols, and in an order of its nodes each stands before what needs it, be it through groups. A
-/// group stands for what its row does.
+/// What a graph's symbols need are symbols, and in an order of its nodes each stands before what needs it, be it through groups.
 pub fn groups_stand_for_symbols()
     ensures within { GraphNeedsAreWithin }
     ensures first { SymbolsStandFirst }
-    ensures groups { GroupsStandForRows }
-    ensures needs { SymbolsNeedRows }
 {}
 
 /// Equations that read only what is needed have one solution where no symbol is stuck.

@@ -103,7 +103,7 @@ fn what_is_inside_counts(rt: HostRuntime) {
 
 // The mode of the first choice of a tree where its first symbol is worth this, and what the context of its first prompt is.
 fn mode_where(alloc: Global, tree: &Tree, value: Tri) -> Result<(Tri, Tri), AllocError> {
-    let mut table = Table::empty(alloc, tree)?;
+    let mut table = Table::empty(alloc, tree, tree.layout())?;
     table.values[0] = Some(Value::Truth(value));
     let choice = &tree.choices()[0];
     Ok((mode_of(&table, ChoiceId(0)), context(&table, choice.within)))
@@ -122,7 +122,7 @@ fn a_prompt_that_is_m_gives_the_mode_y(rt: HostRuntime) -> Result<(), Fail> {
 
 // What the contexts of a tree are worth where its first symbol is y: the first, and then the second, which is inside it.
 fn contexts_of(alloc: Global, tree: &Tree) -> Result<(Tri, Tri), AllocError> {
-    let mut table = Table::empty(alloc, tree)?;
+    let mut table = Table::empty(alloc, tree, tree.layout())?;
     table.values[0] = Some(Value::Truth(Tri::Y));
     Ok((context(&table, ContextId(1)), context(&table, ContextId(2))))
 }

@@ -105,15 +105,17 @@ fn value_anew(
 
 /// The values that [`kc_solve::solve::solve`] finds, by the plainest way there is. In a table of n and empty texts
 /// every equation is computed anew, one symbol after another in the order of their first definitions, in as many rounds
-/// as there are symbols; the order is only asked that there is one (our own). The caller owes the order and the places
-/// of that tree. Fails only when it is out of memory.
+/// as there are symbols; the order is only asked that there is one (our own). The caller owes the layout, the order and the
+/// places of that tree. Fails only when it is out of memory.
 pub fn slow_table<'t>(
     alloc: Global,
     tree: &'t Tree,
+    layout: &'t Layout,
     order: &Order,
     user: &User,
 ) -> Result<Table<'t>, AllocError>
-    requires order { IsGraphOf tree.now order.now }
+    requires laid { IsLayoutOf tree.now layout.now }
+    requires order { IsGraphOf tree.now layout.now order.now }
     requires user { IsUserOf tree.now user.now }
     ensures tree { IfOk result (λ t. t.tree.now ≡ tree.now) }
     ensures accepted { OnOk result (IsAccepted tree.now) }
@@ -129,7 +131,7 @@ pub fn slow_table<'t>(
     let count = tree.symbol_count();
     let given = user.symbols();
     let chosen = user.choices();
-    let mut table = Table::empty(alloc, tree)?;
+    let mut table = Table::empty(alloc, tree, layout)?;
     table.values = first_values(alloc, tree)?;
     for _round in 0..count {
         for i in 0..count {

@@ -23,5 +23,7 @@ pub mod OpenLemmas
 pub mod SmallNumbers
 pub mod RowSteps
 pub mod RowsMade
-pub mod ChainSteps
 pub mod ReverseRows
+pub mod AnyLemmas
+pub mod RowNeeds
+pub mod NodesBelow

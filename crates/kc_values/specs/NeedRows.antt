@@ -1,5 +1,5 @@
 -- For proofs: The rows of the graph of needs as they are made: for each node the contexts and choices that it needs, and the names.
-use Rattle.std.specs.Prelude.{◌≡◌, ℕ, ◌<◌, ◌+◌, ◌==◌, ◌&&◌, ◌||◌, if◌then◌else◌, Bool, true, false, List, [], ◌∷◌, ◌++◌, filter, map, length, nat_lt, is_some, Option, Some, None, slice_get, slice_index_or}
+use Rattle.std.specs.Prelude.{◌≡◌, ℕ, ◌<◌, ◌==◌, ◌&&◌, ◌||◌, if◌then◌else◌, Bool, true, false, List, [], ◌∷◌, ◌++◌, filter, map, length, nat_lt, is_some, Option, Some, None, slice_get, slice_index_or}
 use Rattle.std.specs.Option.{option_and_then}
 use Rattle.std.specs.List.{filter_map, flat_map, range_with_len}
 use Rattle.kc_expr.specs.Form.{Form, form_of, leaf_of, leaf_symbols, symbols}
@@ -75,11 +75,6 @@ is_truth Tristate = true
 is_truth Str = false
 is_truth Int = false
 is_truth Hex = false
-
--- how many lines there are at most from one on
-abbrev pub lines_left : Option ReverseId → ℕ
-lines_left None = 0
-lines_left (Some id) = id.0 + 1
 
 -- something, where a list has an element
 abbrev pub where_some : {X : Type 0} → List X → List ℕ → List ℕ

@@ -16,7 +16,7 @@ ghost use Rattle.kc_values.specs.NeedRows.{Adds, IsRow};
 use crate::nodes::{choice_number, context_number, node_count};
 use kc_expr::expression::{Expr, Kind, Operand, SymId};
 use kc_expr::values::names_into;
-use kc_order::{Graph, groups_stand_for_symbols};
+use kc_order::Graph;
 use kc_tree::layout::Layout;
 use kc_tree::parts::{
     Choice, ChoiceId, Context, ContextId, Definition, Prompt, ReverseId, Symbol, SymbolDefault,
@@ -407,7 +407,6 @@ pub fn tree_needs(alloc: Global, tree: &Tree, layout: &Layout) -> Result<Graph, 
     ensures alike { IfOk result (λ g. AreAlike (needs_of g) (spec.needs tree.now)) }
     ensures nodes { IfOk result (rows.AreNodeRows tree.now layout.now) }
 {
-    groups_stand_for_symbols();
     let mut graph = Graph::with_room(alloc, layout.symbols().len(), node_count(layout))?;
     let mut row = Row {
         nodes: Vec::new(alloc),

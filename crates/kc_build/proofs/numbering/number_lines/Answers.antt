@@ -1,11 +1,8 @@
-use Rattle.std.proofs.Common.{◌≤◌, ◌∙◌, ap, length, map, subst, sym, arith}
-use Rattle.std.proofs.lemmas.List.{length-map}
+use Rattle.std.proofs.Common.{◌≤◌, ◌∙◌, length, subst, sym, arith}
 use Rattle.kc_read.specs.Blocks.{modules_of}
 use Rattle.kc_read.specs.Expanded.{AreNumbers}
 use Rattle.kc_read.specs.Expansion.{statements}
 use Rattle.kc_read.specs.Numbering.{names_of}
-use Rattle.kc_read.specs.Reads.{line_view}
-use Rattle.kc_build.specs.Renamings.{final, line_renamed}
 use Rattle.kc_build.proofs.NumberingLemmas.{listing-is, renumbered}
 use Rattle.kc_build.proofs.numbering.number_lines.Goals as goal
 
@@ -20,8 +17,8 @@ renumber-requires c =
           (λ placed h. c.in_ok-numbers.ensures.places placed (subst (λ l. AreNumbers c.modules_symbol.new.names l placed) (sym c.in_ok-modules.ensures.order) h)),
     )
 
-pub returns-clause-listed : goal.returns-clause-listed
-returns-clause-listed c = λ log x.
+pub returns : goal.returns
+returns c = λ log x.
     let named = modules_of (statements log.lines) in
     let few : length c.modules_symbol.new.names ≤ c.args.unknown.0 = omega (arith, c.in_ok-numbers.ensures.few, c.requires.unknown) in
     listing-is log c.args.expansion c.args.mentioned c.args.unknown x c.modules_symbol.new.names c.in_ok-symbol.symbol c.in_ok-modules.modules c.deref.result.now
@@ -32,11 +29,3 @@ returns-clause-listed c = λ log x.
     (c.in_ok-symbol.ensures.names named x.modules_is) (c.in_ok-symbol.ensures.number named x.modules_is) c.in_ok-modules.ensures.place
     (λ placed h. c.in_ok-numbers.ensures.places placed (subst (λ l. AreNumbers c.modules_symbol.new.names l placed) (sym c.in_ok-modules.ensures.order) h))))
     c.count-count.ensures few c.in_ok-rename_lines.ensures
-
-pub returns-clause-few : goal.returns-clause-few
-returns-clause-few c =
-    let old = c.args.expansion.lines.items in
-    sym (length-map c.rename_lines.new.lines.items line_view)
-    ∙ ap length c.in_ok-rename_lines.ensures
-    ∙ length-map (map line_view old) (line_renamed (final c.deref.result.now c.in_ok-modules.modules))
-    ∙ length-map old line_view

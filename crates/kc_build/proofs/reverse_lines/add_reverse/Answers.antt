@@ -1,6 +1,4 @@
-use Rattle.std.proofs.Common.{◌≡◌, ◌<◌, refl, sym, ◌∙◌, arith, length, Bool, true, false}
-use Rattle.std.specs.Vec.{with_items}
-use Rattle.kc_build.specs.Known.{can_be_target}
+use Rattle.std.proofs.Common.{◌<◌, refl, sym, ◌∙◌, arith, length}
 use Rattle.kc_build.proofs.ReverseLemmas.{target-there, pushes_in, chained_by, heads_by, others_by, sources_by, select_by, imply_by}
 use Rattle.kc_build.proofs.reverse_lines.add_reverse.Goals as goal
 
@@ -11,7 +9,9 @@ invariant_of-reverses c =
     let s = c.args.target.symbol in
     let l = target-there ss s (sym c.if-not-is_target.false ∙ c.is_target.ensures) in
     let there : s.0 < length old.selects.items = (let n = c.requires.count in omega arith) in
-    let p = pushes_in ss c.args.source c.add_line.result old.lines.items c.add_line.new.lines.items old.selects c.deref_mut.result.now c.add_line.new.heads s c.in_ok-when.when _ c.in_ok-when.ensures c.deref_mut.ensures.value c.add_line.auto.heads c.deref_mut.ensures.len c.add_line.ensures.line c.add_line.ensures.head c.add_line.ensures.lines_stay c.add_line.ensures.heads_stay in
+    let p = pushes_in ss c.args.source c.add_line.result old.lines.items c.add_line.new.lines.items old.selects c.deref_mut.result.now c.add_line.new.heads s
+    c.in_ok-when.when _ c.in_ok-when.ensures c.deref_mut.ensures.value c.add_line.auto.heads c.deref_mut.ensures.len c.add_line.ensures.line c.add_line.ensures.head
+    c.add_line.ensures.lines_stay c.add_line.ensures.heads_stay in
     record {
       chained = chained_by ss c.args.source _ _ s _ _ _ there old.selects_there c.add_line.result p old.chained;
       selects_there = heads_by ss c.args.source _ _ s _ _ _ there old.selects_there c.add_line.result p;
@@ -25,7 +25,10 @@ invariant_of-reverses-in-Imply c =
     let s = c.args.target.symbol in
     let l = target-there ss s (sym c.if-not-is_target.false ∙ c.is_target.ensures) in
     let there : s.0 < length old.implies.items = (let n = c.requires.same in omega arith) in
-    let p = pushes_in ss c.args.source c.add_line-in-Imply.result old.lines.items c.add_line-in-Imply.new.lines.items old.implies c.deref_mut-in-Imply.result.now c.add_line-in-Imply.new.heads s c.in_ok-when.when _ c.in_ok-when.ensures c.deref_mut-in-Imply.ensures.value c.add_line-in-Imply.auto.heads c.deref_mut-in-Imply.ensures.len c.add_line-in-Imply.ensures.line c.add_line-in-Imply.ensures.head c.add_line-in-Imply.ensures.lines_stay c.add_line-in-Imply.ensures.heads_stay in
+    let p = pushes_in ss c.args.source c.add_line-in-Imply.result old.lines.items c.add_line-in-Imply.new.lines.items old.implies c.deref_mut-in-Imply.result.now
+    c.add_line-in-Imply.new.heads s c.in_ok-when.when _ c.in_ok-when.ensures c.deref_mut-in-Imply.ensures.value c.add_line-in-Imply.auto.heads
+    c.deref_mut-in-Imply.ensures.len c.add_line-in-Imply.ensures.line c.add_line-in-Imply.ensures.head c.add_line-in-Imply.ensures.lines_stay
+    c.add_line-in-Imply.ensures.heads_stay in
     record {
       chained = chained_by ss c.args.source _ _ s _ _ _ there old.implies_there c.add_line-in-Imply.result p old.chained;
       selects_there = others_by ss c.args.source _ _ s _ _ _ there old.implies_there c.add_line-in-Imply.result old.selects.items p old.selects_there;
@@ -40,7 +43,9 @@ returns-in-Select-clause-added c =
     let is = sym c.if-not-is_target.false ∙ c.is_target.ensures in
     let l = target-there ss s is in
     let there : s.0 < length old.selects.items = (let n = c.requires.count in omega arith) in
-    let p = pushes_in ss c.args.source c.add_line.result old.lines.items c.add_line.new.lines.items old.selects c.deref_mut.result.now c.add_line.new.heads s c.in_ok-when.when _ c.in_ok-when.ensures c.deref_mut.ensures.value c.add_line.auto.heads c.deref_mut.ensures.len c.add_line.ensures.line c.add_line.ensures.head c.add_line.ensures.lines_stay c.add_line.ensures.heads_stay in
+    let p = pushes_in ss c.args.source c.add_line.result old.lines.items c.add_line.new.lines.items old.selects c.deref_mut.result.now c.add_line.new.heads s
+    c.in_ok-when.when _ c.in_ok-when.ensures c.deref_mut.ensures.value c.add_line.auto.heads c.deref_mut.ensures.len c.add_line.ensures.line c.add_line.ensures.head
+    c.add_line.ensures.lines_stay c.add_line.ensures.heads_stay in
     select_by ss c.args.source c.add_line.result old _ s _ c.args.target.kind c.in-Select.is is there p refl
 
 pub returns-in-Select-clause-sources : goal.returns-in-Select-clause-sources
@@ -50,7 +55,9 @@ returns-in-Select-clause-sources c =
     let s = c.args.target.symbol in
     let l = target-there ss s (sym c.if-not-is_target.false ∙ c.is_target.ensures) in
     let there : s.0 < length old.selects.items = (let n = c.requires.count in omega arith) in
-    let p = pushes_in ss c.args.source c.add_line.result old.lines.items c.add_line.new.lines.items old.selects c.deref_mut.result.now c.add_line.new.heads s c.in_ok-when.when _ c.in_ok-when.ensures c.deref_mut.ensures.value c.add_line.auto.heads c.deref_mut.ensures.len c.add_line.ensures.line c.add_line.ensures.head c.add_line.ensures.lines_stay c.add_line.ensures.heads_stay in
+    let p = pushes_in ss c.args.source c.add_line.result old.lines.items c.add_line.new.lines.items old.selects c.deref_mut.result.now c.add_line.new.heads s
+    c.in_ok-when.when _ c.in_ok-when.ensures c.deref_mut.ensures.value c.add_line.auto.heads c.deref_mut.ensures.len c.add_line.ensures.line c.add_line.ensures.head
+    c.add_line.ensures.lines_stay c.add_line.ensures.heads_stay in
     sources_by ss c.args.source _ _ s _ _ _ there old.selects_there c.add_line.result p
 
 pub returns-in-Imply-clause-added : goal.returns-in-Imply-clause-added
@@ -61,7 +68,10 @@ returns-in-Imply-clause-added c =
     let is = sym c.if-not-is_target.false ∙ c.is_target.ensures in
     let l = target-there ss s is in
     let there : s.0 < length old.implies.items = (let n = c.requires.same in omega arith) in
-    let p = pushes_in ss c.args.source c.add_line-in-Imply.result old.lines.items c.add_line-in-Imply.new.lines.items old.implies c.deref_mut-in-Imply.result.now c.add_line-in-Imply.new.heads s c.in_ok-when.when _ c.in_ok-when.ensures c.deref_mut-in-Imply.ensures.value c.add_line-in-Imply.auto.heads c.deref_mut-in-Imply.ensures.len c.add_line-in-Imply.ensures.line c.add_line-in-Imply.ensures.head c.add_line-in-Imply.ensures.lines_stay c.add_line-in-Imply.ensures.heads_stay in
+    let p = pushes_in ss c.args.source c.add_line-in-Imply.result old.lines.items c.add_line-in-Imply.new.lines.items old.implies c.deref_mut-in-Imply.result.now
+    c.add_line-in-Imply.new.heads s c.in_ok-when.when _ c.in_ok-when.ensures c.deref_mut-in-Imply.ensures.value c.add_line-in-Imply.auto.heads
+    c.deref_mut-in-Imply.ensures.len c.add_line-in-Imply.ensures.line c.add_line-in-Imply.ensures.head c.add_line-in-Imply.ensures.lines_stay
+    c.add_line-in-Imply.ensures.heads_stay in
     imply_by ss c.args.source c.add_line-in-Imply.result old _ s _ c.args.target.kind c.in-Imply.is is there p refl
 
 pub returns-in-Imply-clause-sources : goal.returns-in-Imply-clause-sources
@@ -71,5 +81,8 @@ returns-in-Imply-clause-sources c =
     let s = c.args.target.symbol in
     let l = target-there ss s (sym c.if-not-is_target.false ∙ c.is_target.ensures) in
     let there : s.0 < length old.implies.items = (let n = c.requires.same in omega arith) in
-    let p = pushes_in ss c.args.source c.add_line-in-Imply.result old.lines.items c.add_line-in-Imply.new.lines.items old.implies c.deref_mut-in-Imply.result.now c.add_line-in-Imply.new.heads s c.in_ok-when.when _ c.in_ok-when.ensures c.deref_mut-in-Imply.ensures.value c.add_line-in-Imply.auto.heads c.deref_mut-in-Imply.ensures.len c.add_line-in-Imply.ensures.line c.add_line-in-Imply.ensures.head c.add_line-in-Imply.ensures.lines_stay c.add_line-in-Imply.ensures.heads_stay in
+    let p = pushes_in ss c.args.source c.add_line-in-Imply.result old.lines.items c.add_line-in-Imply.new.lines.items old.implies c.deref_mut-in-Imply.result.now
+    c.add_line-in-Imply.new.heads s c.in_ok-when.when _ c.in_ok-when.ensures c.deref_mut-in-Imply.ensures.value c.add_line-in-Imply.auto.heads
+    c.deref_mut-in-Imply.ensures.len c.add_line-in-Imply.ensures.line c.add_line-in-Imply.ensures.head c.add_line-in-Imply.ensures.lines_stay
+    c.add_line-in-Imply.ensures.heads_stay in
     sources_by ss c.args.source _ _ s _ _ _ there old.implies_there c.add_line-in-Imply.result p

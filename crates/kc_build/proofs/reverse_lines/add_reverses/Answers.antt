@@ -1,4 +1,3 @@
-use Rattle.std.proofs.Common.{refl, sym}
 use Rattle.kc_build.specs.Passes.{target_view}
 use Rattle.kc_build.proofs.ReverseLemmas.{adding_one, adding_none, sources-both}
 use Rattle.kc_build.proofs.reverse_lines.add_reverses.Goals as goal

@@ -1,4 +1,4 @@
-use Rattle.std.proofs.Common.{◌≡◌, ◌<◌, arith, length, ap, ◌∙◌, Option}
+use Rattle.std.proofs.Common.{arith, ap, ◌∙◌, Option}
 use Rattle.std.specs.List.{filter_map}
 use Rattle.std.specs.Option.{option_map}
 use Rattle.kc_expr.specs.declared.expression.Kind.{Kind}

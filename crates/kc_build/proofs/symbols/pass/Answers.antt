@@ -1,7 +1,5 @@
-use Rattle.std.proofs.Common.{◌≡◌, ℕ, ◌+◌, List, [], ◌∷◌, ◌++◌, refl, ap, sym, ◌∙◌, arith, inl, inr, append-nil, length}
+use Rattle.std.proofs.Common.{◌≡◌, refl, sym, ◌∙◌, arith, inl, inr, append-nil, length}
 use Rattle.kc_read.specs.declared.statement.Block.TheVariants as block
-use Rattle.kc_read.specs.declared.statement.Statement.{Statement}
-use Rattle.kc_read.specs.Blocks.{bracket}
 use Rattle.kc_read.specs.Reads.{statement_view}
 use Rattle.kc_build.proofs.SurroundingLemmas.{closer_is, other_flat, round_flat, round_opens, round_closes, round_closes_none}
 use Rattle.kc_build.proofs.StackLemmas.{no_length}

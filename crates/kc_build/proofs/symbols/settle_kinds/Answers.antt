@@ -1,4 +1,4 @@
-use Rattle.std.proofs.Common.{◌≡◌, ◌<◌, ◌≤◌, map, refl, ap, sym, ◌∙◌, arith, length, Some}
+use Rattle.std.proofs.Common.{◌≡◌, ◌<◌, map, refl, ap, sym, ◌∙◌, arith, length, Some}
 use Rattle.std.specs.Option.{is_some}
 use Rattle.std.specs.declared.alloc.Global.{Global}
 use Rattle.std.specs.declared.vec.Vec.{Vec}

@@ -1,8 +1,7 @@
-use Rattle.std.proofs.Common.{◌≡◌, ℕ, ◌+◌, ◌<◌, ◌≤◌, map, length, refl, ap, sym, ◌∙◌, arith, get_or, Some, None, Option, List}
+use Rattle.std.proofs.Common.{◌≡◌, map, length, refl, ap, ◌∙◌, arith, get_or, Some, None, Option, List}
 use Rattle.std.specs.List.{filter_map}
 use Rattle.std.specs.declared.alloc.Global.{Global}
 use Rattle.std.specs.declared.vec.Vec.{Vec}
-use Rattle.kc_expr.specs.declared.expression.Kind.{Kind}
 use Rattle.kc_expr.specs.declared.expression.SymId.{SymId}
 use Rattle.kc_read.specs.declared.line.Line.{Line}
 use Rattle.kc_read.specs.declared.statement.Statement.{Statement}
@@ -11,7 +10,7 @@ use Rattle.kc_read.specs.Reads.{statement_view}
 use Rattle.kc_read.specs.Statements.{Numbered}
 use Rattle.kc_tree.specs.declared.parts.Symbol.{Symbol}
 use Rattle.kc_build.specs.Facts.{choice_round, first_of, symbol_at, symbol_of, type_of}
-use Rattle.kc_build.specs.Known.{Row, definition_number, row_of, row_view}
+use Rattle.kc_build.specs.Known.{definition_number, row_of, row_view}
 use Rattle.kc_build.specs.Passes.{changed, said_by}
 use Rattle.kc_build.specs.SymbolWalk.{HaveFirsts, with_definition, choice_view}
 use Rattle.kc_build.proofs.EntryWalkLemmas.{end_is, first_begins, head_is, next_begins, own_is, own_said}
@@ -65,13 +64,13 @@ entries-preserved c =
     let now = map row_view old in
     let found : Option SymId → Vec Symbol Global → Type 0 = λ o v. (map row_view v.items ≡ changed (with_definition (definition_number ss i) (entry_type ss i) (choice_round ss i)) o now) × HaveFirsts v.items in
     let made : (o : Option SymId) × (symbol_at ss i ≡ o) × found o c.match-statement.symbols = elim c.match-statement.branch [
-        | in-Config+in_ok-note_definition w ↦
-            let t = w.in-Config.symbol in
-            let named : symbol_at ss i ≡ Some t = ap symbol_of head.at ∙ ap (λ (y : Statement). symbol_of (Some (statement_view y))) w.in-Config.is in
-            let by = w.in_ok-note_definition.ensures.rows ∙ ap (λ n. changed (with_definition n (first_of (filter_map type_of own)) (choice_view c.entries.round.choice)) (Some t) now) c.entries.invariant.round.definitions ∙ ap (λ (l : List Numbered). changed (with_definition (definition_number ss i) (first_of (filter_map type_of l)) (choice_view c.entries.round.choice)) (Some t) now) (own_is ls i end counted) ∙ ap (λ k. changed (with_definition (definition_number ss i) (entry_type ss i) k) (Some t) now) c.entries.invariant.round.choice in
-            (Some t, named, rw w.symbols-is (by, w.in_ok-note_definition.ensures.firsts))
-        | in_default w ↦ (None, ap symbol_of head.at ∙ no_definition x.statement w.in_default.not-Config, rw w.symbols-is (refl, c.entries.invariant.firsts))
-      ] in
+      | in-Config+in_ok-note_definition w ↦
+          let t = w.in-Config.symbol in
+          let named : symbol_at ss i ≡ Some t = ap symbol_of head.at ∙ ap (λ (y : Statement). symbol_of (Some (statement_view y))) w.in-Config.is in
+          let by = w.in_ok-note_definition.ensures.rows ∙ ap (λ n. changed (with_definition n (first_of (filter_map type_of own)) (choice_view c.entries.round.choice)) (Some t) now) c.entries.invariant.round.definitions ∙ ap (λ (l : List Numbered). changed (with_definition (definition_number ss i) (first_of (filter_map type_of l)) (choice_view c.entries.round.choice)) (Some t) now) (own_is ls i end counted) ∙ ap (λ k. changed (with_definition (definition_number ss i) (entry_type ss i) k) (Some t) now) c.entries.invariant.round.choice in
+          (Some t, named, rw w.symbols-is (by, w.in_ok-note_definition.ensures.firsts))
+      | in_default w ↦ (None, ap symbol_of head.at ∙ no_definition x.statement w.in_default.not-Config, rw w.symbols-is (refl, c.entries.invariant.firsts))
+    ] in
     record {
       rows = rw behind (rows_next ss c.requires.typed i c.args.count now (map row_view c.match-statement.symbols.items) made.0 c.entries.invariant.rows made.1 made.2.0 ∙ rows_behind ss i s own c.args.count head);
       firsts = made.2.1;

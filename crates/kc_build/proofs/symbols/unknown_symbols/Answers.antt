@@ -1,10 +1,8 @@
-use Rattle.std.proofs.Common.{◌≡◌, ℕ, map, refl, ap, sym, ◌∙◌, arith, subst, List}
+use Rattle.std.proofs.Common.{◌≡◌, ℕ, map, refl, ap, ◌∙◌, arith}
 use Rattle.std.proofs.lemmas.List.Elements.{All-nil, All-push}
-use Rattle.kc_expr.specs.declared.expression.Kind.TheVariants as kind
 use Rattle.kc_read.specs.Blocks.{numbers}
-use Rattle.kc_tree.specs.declared.parts.Symbol.{Symbol}
-use Rattle.kc_build.specs.Known.{Row, row_view}
-use Rattle.kc_build.specs.SymbolWalk.{HasFirst, HaveFirsts, unknown}
+use Rattle.kc_build.specs.Known.{row_view}
+use Rattle.kc_build.specs.SymbolWalk.{HasFirst, unknown}
 use Rattle.kc_build.proofs.PlaceLemmas.{view_next}
 use Rattle.kc_build.proofs.symbols.unknown_symbols.Goals as goal
 

@@ -1,5 +1,6 @@
 use Rattle.std.proofs.Common.{◌≡◌, ◌++◌}
-use Rattle.kc_values.specs.NeedRows.{reverses_nodes, reverses_names, lines_left}
+use Rattle.kc_values.specs.NeedRows.{reverses_nodes, reverses_names}
+use Rattle.kc_values.proofs.ChainLemmas.{steps_left}
 use Rattle.kc_values.proofs.needs.reverses_into.Given as goal
 
 abbrev pub invariant-lines : goal.invariant-lines
@@ -8,4 +9,4 @@ invariant-lines l =
     (l.out.names.items ++ reverses_names l.layout l.at ≡ l.initial.out.names.items ++ reverses_names l.layout l.initial.at)
 
 abbrev pub decreases-lines : goal.decreases-lines
-decreases-lines l = lines_left l.at
+decreases-lines l = steps_left l.at

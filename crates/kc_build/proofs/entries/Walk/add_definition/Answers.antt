@@ -1,10 +1,8 @@
-use Rattle.std.proofs.Common.{◌≡◌, ◌<◌, ℕ, length, refl, sym, ap, subst, ◌∙◌, is_ok}
+use Rattle.std.proofs.Common.{◌≡◌, ◌<◌, length, refl, sym, ap, subst, ◌∙◌, is_ok}
 use Rattle.kc_tree.specs.Contexts.{condition_in}
 use Rattle.kc_build.specs.Passes.{said_by}
-use Rattle.kc_build.specs.Growth.{IsGrown, Stands, and_all}
-use Rattle.kc_build.specs.Facts.{depends_form}
+use Rattle.kc_build.specs.Growth.{IsGrown}
 use Rattle.kc_build.specs.declared.blocks.Block.{Block}
-use Rattle.std.specs.List.{filter_map}
 use Rattle.kc_build.proofs.GrownLemmas.{held_by, held_carries, keeping_carries}
 use Rattle.kc_build.proofs.DefineLemmas.{adds_definition, entry_carries, keeping_definition, prompt_visible, round_grown, round_prompt, round_stands}
 use Rattle.kc_build.proofs.PlaceLemmas.{length-said_by}

@@ -1,4 +1,4 @@
-use Rattle.std.proofs.Common.{◌≡◌, ◌<◌, ◌∙◌, Some, ap, refl, sym, arith, length, map, subst, Option, ℕ}
+use Rattle.std.proofs.Common.{◌≡◌, ◌<◌, ◌∙◌, Some, ap, refl, arith, length, map, Option, ℕ}
 use Rattle.kc_tree.specs.Contexts.{condition_in}
 use Rattle.kc_tree.specs.Layouts.{choice_facts as choice_in}
 use Rattle.kc_build.specs.declared.blocks.Block.{Block}
@@ -17,7 +17,9 @@ pub returns-in_ok-push-clause-choices : goal.returns-in_ok-push-clause-choices
 returns-in_ok-push-clause-choices c =
     let w = c.args.self.now in
     let l : c.in-Some.choice.0 < length w.tables.choices.items = (let a = c.if-choice-len.true in let b = c.len.ensures in omega (arith, w.tables.choices.ok.0)) in
-    let mode : Some c.in-Some.choice.0 ≡ (condition_in w.tables.contexts w.blocks.innermost.within.0).mode = c.in-Some.ensures ∙ ap (λ (b : Block). (condition_in w.tables.contexts b.within.0).mode) c.innermost-round.ensures in
+    let mode : Some c.in-Some.choice.0 ≡ (condition_in w.tables.contexts w.blocks.innermost.within.0).mode = c.in-Some.ensures
+    ∙ ap (λ (b : Block). (condition_in w.tables.contexts b.within.0).mode) c.innermost-round.ensures in
     let e = c.in_ok-push.ensures.items in
-    set_changed (choice_in w.tables) (one_more c.args.symbol) w.tables.choices.items c.in-Some.choice.0 c.index_mut.result.now _ l c.index_mut.ensures.value (λ i. record (choice_in w.tables c.index_mut.result.now) { members = e i })
+    set_changed (choice_in w.tables) (one_more c.args.symbol) w.tables.choices.items c.in-Some.choice.0 c.index_mut.result.now _ l c.index_mut.ensures.value
+    (λ i. record (choice_in w.tables c.index_mut.result.now) { members = e i })
     ∙ ap (λ (o : Option ℕ). with_member o c.args.symbol (map (choice_in w.tables) w.tables.choices.items)) mode

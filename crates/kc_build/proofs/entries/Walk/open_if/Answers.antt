@@ -30,11 +30,11 @@ invariant_of-self-3 c =
     let longer : length c.if_block.new.contexts ≡ length old.tables.contexts + 1 = ap length added ∙ length_push old.tables.contexts (and_also (condition_in old.tables.contexts old.blocks.innermost.within.0) (form_of c.in_ok-clone.field-0.value)) in
     let within = c.in_ok-block.ensures.within in
     let h = held_opens c.if_block.new.contexts old.blocks c.open.new.self old.tables.titles.items
-        (held_carries old.tables.contexts c.if_block.new.contexts old.blocks old.tables.titles.items g (held_by old))
-        c.open.result c.in_ok-block.block c.open.ensures.innermost c.open.ensures.outside c.open.ensures.unchanged
-        (omega arith)
-        (rw visible (let l = g.longer in omega arith))
-        (rw visible (plain_carries old.tables.contexts c.if_block.new.contexts g old.blocks.innermost.visible.0 seen plain)) in
+    (held_carries old.tables.contexts c.if_block.new.contexts old.blocks old.tables.titles.items g (held_by old))
+    c.open.result c.in_ok-block.block c.open.ensures.innermost c.open.ensures.outside c.open.ensures.unchanged
+    (omega arith)
+    (rw visible (let l = g.longer in omega arith))
+    (rw visible (plain_carries old.tables.contexts c.if_block.new.contexts g old.blocks.innermost.visible.0 seen plain)) in
     record { asks_nothing = h.asks_nothing; top_plain = h.top_plain; within = h.within; visible = h.visible; plain = h.plain; titles = h.titles }
 
 pub returns : goal.returns
@@ -45,5 +45,5 @@ returns c =
     let visible : c.in_ok-block.block.visible ≡ old.blocks.innermost.visible = c.in_ok-block.ensures.visible ∙ ap (λ b. b.visible) c.innermost-outer.ensures in
     on_ok_both c.open.result _ _ _ c.open.ensures.innermost c.open.ensures.outside
     (λ inner outside. if_enters (form_of c.args.condition.now.value) c.next_entry-entry.result c.in_ok-block.block old _
-        (record { definitions = refl; defaults = refl; ranges = refl; reverses = refl; choices = refl; titles = refl; entries = refl })
-        refl c.next_entry-entry.ensures added c.in_ok-block.ensures.within visible c.in_ok-block.ensures.entry inner outside)
+    (record { definitions = refl; defaults = refl; ranges = refl; reverses = refl; choices = refl; titles = refl; entries = refl })
+    refl c.next_entry-entry.ensures added c.in_ok-block.ensures.within visible c.in_ok-block.ensures.entry inner outside)
