@@ -15,6 +15,7 @@ mod DefinedLemmas
 mod DiagnosedLemmas
 mod ElementLemmas
 mod EnterLemmas
+mod EnteredLemmas
 mod EntryLemmas
 mod EntryPlaceLemmas
 mod EntrySoundLemmas
