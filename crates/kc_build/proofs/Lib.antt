@@ -6,8 +6,6 @@ mod ChainLemmas
 mod ChoiceLemmas
 mod ChoiceOpenLemmas
 mod CloserLemmas
-mod CollectLemmas
-mod ConditionLemmas
 mod CopyLemmas
 mod DefineLemmas
 mod DefineWalkLemmas
@@ -16,7 +14,6 @@ mod DiagnosedLemmas
 mod ElementLemmas
 mod EnterLemmas
 mod EnteredLemmas
-mod EntryLemmas
 mod EntryPlaceLemmas
 mod EntrySoundLemmas
 mod EntryWalkLemmas
