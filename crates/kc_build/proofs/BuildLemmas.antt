@@ -1,11 +1,11 @@
 -- A tree is what the numbered lines of a root file give.
-use Rattle.std.proofs.Common.{◌≡◌, ◌≢◌, ◌≤◌, ℕ, List, [], ◌∷◌, length, map, Result, Ok, Err, refl, ap, sym, ◌∙◌, subst, arith}
+use Rattle.std.proofs.Common.{◌≡◌, ◌≢◌, ◌≤◌, ℕ, List, [], ◌∷◌, length, map, Some, Result, Ok, Err, refl, ap, sym, ◌∙◌, subst, arith}
 use Rattle.std.specs.Prelude.{All}
 use Rattle.std.specs.List.{slice_get, flat_map}
 use Rattle.std.specs.Option.{is_some}
 use Rattle.std.proofs.lemmas.List.Elements.{All-append, All-head}
 use Rattle.kc_expr.specs.declared.expression.SymId.{SymId}
-use Rattle.kc_expr.specs.Names.{AreDistinct}
+use Rattle.kc_expr.specs.Names.{AreDistinct, number_of}
 use Rattle.kc_read.specs.declared.line.Line.{Line}
 use Rattle.kc_read.specs.declared.refusal.Code.{Code}
 use Rattle.kc_read.specs.declared.refusal.Code.TheVariants as code
@@ -19,7 +19,7 @@ use Rattle.kc_read.specs.Steps.{IsMemory, refusal_view}
 use Rattle.kc_build.specs.declared.numbering.Listing.{Listing}
 use Rattle.kc_build.specs.Assemblies.{assembled_view}
 use Rattle.kc_tree.specs.Words.{listed}
-use Rattle.kc_build.specs.Known.{AreBelow, AreChoicesApart, AreMenusOpened}
+use Rattle.kc_build.specs.Known.{AreBelow, AreChoicesApart, AreMenusOpened, AreTyped}
 use Rattle.kc_build.specs.Numberings.{IsListing}
 use Rattle.kc_build.specs.Passes.{said_by}
 use Rattle.kc_tree.specs.TreeFacts.{TreeFacts, IsWellFormed}
@@ -27,7 +27,7 @@ use Rattle.kc_tree.specs.declared.layout.TreeParts.{TreeParts}
 use Rattle.kc_expr.specs.Limits.{most_symbols}
 use Rattle.kc_build.specs.Trees.{OneTree, facts_with, tree_of_lines, tree_of_log, tree_with, unless_refused}
 use Rattle.kc_build.specs.Warnings.{bad_defaults, bad_members, entry_name, late_refusals, menu_entry_at, entry_symbol, refused_at}
-use Rattle.kc_build.proofs.DefinedLemmas.{AreNames, expanded_known}
+use Rattle.kc_build.proofs.DefinedLemmas.{AreNames, expanded_allowed, expanded_known, numbered_typed}
 use Rattle.kc_build.proofs.ElementLemmas.{All-flat_map, All-map_each}
 use Rattle.kc_build.proofs.NestLemmas.{choice_alone, menu_closed}
 use Rattle.kc_build.proofs.NumberingLemmas.{numbered_below}
@@ -82,6 +82,10 @@ module _ (log : Log) (l : Listing) (h : IsListing log l) where
   pub lines-apart : (files : Files) (root : List ℕ) → Expands files root (Ok log) → (ls : List Line) → ls ≡ l.lines.items → AreChoicesApart (said_by ls)
   lines-apart files root x ls same =
       subst AreChoicesApart (said-are ls same) (choice_alone given (nested files root log x))
+
+  pub lines-typed : (files : Files) (root : List ℕ) → Expands files root (Ok log) → (ls : List Line) → ls ≡ l.lines.items → AreTyped (said_by ls)
+  lines-typed files root x ls same =
+      subst AreTyped (said-are ls same) (numbered_typed (Some (modules_id (statements log.lines))) (number_of (names_of (statements log.lines))) log.lines (expanded_allowed files root log x))
 
   pub lines-opened : (files : Files) (root : List ℕ) → Expands files root (Ok log) → (ls : List Line) → ls ≡ l.lines.items → AreMenusOpened (said_by ls)
   lines-opened files root x ls same =

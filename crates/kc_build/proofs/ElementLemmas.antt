@@ -64,7 +64,7 @@ module _ {X Y : Type 0} (f : X → Option Y) (y : Y) where
   filter_map-from (x ∷ xs) k s = from_first (f x) x (filter_map f xs) k refl (filter_map-from xs) s
 
 -- the last of a longer list, or one before
-get_snoc : {X : Type 0} (xs : List X) (x y : X) (k : ℕ) → slice_get (xs ++ x ∷ []) k ≡ Some y → (slice_get xs k ≡ Some y) ⊎ ((k ≡ length xs) × (x ≡ y))
+pub get_snoc : {X : Type 0} (xs : List X) (x y : X) (k : ℕ) → slice_get (xs ++ x ∷ []) k ≡ Some y → (slice_get xs k ≡ Some y) ⊎ ((k ≡ length xs) × (x ≡ y))
 get_snoc [] x y zero h = inr (refl, (let e : x ≡ y = cc in e))
 get_snoc [] x y (suc k) h = absurd cc
 get_snoc (z ∷ xs) x y zero h = inl h
