@@ -42,14 +42,17 @@ module _ (ss : List Numbered) where
   choices_with members =
       map (λ j. record {
         prompt = prompt_at ss j;
-        defaults = filter_map (λ (g : Given). option_and_then (λ s. if members (choice_number ss j) s then Some (named_under ss j s g.when) else None) (single_symbol g.value)) (filter_map given_of (attributes ss j));
+        defaults = filter_map
+            (λ (g : Given). option_and_then (λ s. if members (choice_number ss j) s then Some (named_under ss j s g.when) else None) (single_symbol g.value))
+            (filter_map given_of (attributes ss j));
         members = members_of ss (choice_number ss j);
       }) (choice_places ss)
 
   module _ (symbols : List Symbol) (below : AreBelow (length symbols) ss) (are : AreSymbols ss symbols) (none : bad_members ss ≡ []) where
     members-known : member_by symbols ≡ is_member ss
     members-known =
-        let at : (k : ℕ) (s : SymId) → member_by symbols k s ≡ is_member ss k s = λ k s. ap (λ f. list_any (λ d. d == k) (listed (f s))) (choices_known ss symbols below are) ∙ sym (member_is ss s none k) in
+        let at : (k : ℕ) (s : SymId) → member_by symbols k s ≡ is_member ss k s =
+        λ k s. ap (λ f. list_any (λ d. d == k) (listed (f s))) (choices_known ss symbols below are) ∙ sym (member_is ss s none k) in
         λ i k s. at k s i
 
     pub choices-are : choices_before ss symbols (length ss) ≡ choices ss
@@ -67,8 +70,10 @@ module _ (names : List (List ℕ)) (count : ℕ) (modules : SymId) (lines : List
   refused-is r e = sym (refused_tree names (map line_view lines) d all_diagnosed r (facts_with names count modules (map line_view lines)) e)
 
   -- no refusal, and all that is said
-  pub whole : (p : TreeParts) → AreBelow count (said_by lines) → length p.layout.symbols.items ≡ count → AreSymbols (said_by lines) p.layout.symbols.items → AreSaid (said_by lines) p.layout.symbols.items p.layout.tables p.main_menu.items →
-      d.bad_member ≡ None → d.bad_default ≡ None → p.warnings.items ≡ d.warnings.items → p.modules ≡ (if nat_lt modules.0 count then Some modules else None) → Ok (tree_of names p) ≡ tree_with names count modules (map line_view lines)
+  pub whole : (p : TreeParts) → AreBelow count (said_by lines) → length p.layout.symbols.items ≡ count → AreSymbols (said_by lines) p.layout.symbols.items →
+      AreSaid (said_by lines) p.layout.symbols.items p.layout.tables p.main_menu.items →
+      d.bad_member ≡ None → d.bad_default ≡ None → p.warnings.items ≡ d.warnings.items → p.modules ≡ (if nat_lt modules.0 count then Some modules else None) →
+      Ok (tree_of names p) ≡ tree_with names count modules (map line_view lines)
   whole p below n are said no_member no_default warnings_are modules_is =
       let ss = said_by lines in
       let a = accepted names (map line_view lines) d all_diagnosed no_member no_default in
@@ -82,5 +87,6 @@ module _ (names : List (List ℕ)) (count : ℕ) (modules : SymId) (lines : List
       let e = said.entries ∙ ap entries same in
       let w = ap (map (λ w. w.items)) warnings_are ∙ a.warnings_are in
       let m = said.main_menu_is ∙ main_menu-is ss ∙ ap (λ (l : List Numbered). unwrap_or (last_of (filter_map title_of l)) (codes "Main menu")) same in
-      let facts : tree_of names p ≡ facts_with names count modules (map line_view lines) = λ i. record { names = names; symbols = s i; choices = c i; entries = e i; warnings = w i; main_menu = m i; modules = modules_is i } in
+      let facts : tree_of names p ≡ facts_with names count modules (map line_view lines) =
+      λ i. record { names = names; symbols = s i; choices = c i; entries = e i; warnings = w i; main_menu = m i; modules = modules_is i } in
       ap Ok facts ∙ sym (ap (λ (rs : List Refused). unless_refused rs (facts_with names count modules (map line_view lines))) a.refusals)

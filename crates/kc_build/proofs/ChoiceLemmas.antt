@@ -49,7 +49,8 @@ module _ (ss : List Numbered) where
   so_many i =
       length-map (filter (of_block ss block.Choice) (numbers i)) (choice_facts ss) ∙ length-filter (of_block ss block.Choice) (numbers i)
 
-pub opens_choice : (ls : List Line) (i : ℕ) (x : Line) (b : Bool) → i < length ls → x ≡ get_or ls i x → b ≡ is_block block.Choice (opened (bracket (statement_view x.statement))) → of_block (said_by ls) block.Choice i ≡ b
+pub opens_choice : (ls : List Line) (i : ℕ) (x : Line) (b : Bool) → i < length ls → x ≡ get_or ls i x →
+    b ≡ is_block block.Choice (opened (bracket (statement_view x.statement))) → of_block (said_by ls) block.Choice i ≡ b
 opens_choice ls i x b h at e = rw (statement_at ls i x h at) (sym e)
 
 some_is : {A B : Type 0} (v : A → B) (o : Option A) (x : A) (y : B) → o ≡ Some x → option_map v o ≡ Some y → v x ≡ y

@@ -46,7 +46,8 @@ pub filter_map-same : {A B : Type 0} (f g : A → Option B) (xs : List A) → ((
 filter_map-same f g [] h = refl
 filter_map-same f g (x ∷ xs) h = rw (h x, filter_map-same f g xs h) refl
 
-length-listed : {A B : Type 0} (o : Option A) (p : Option B) (xs : List A) (ys : List B) → length xs ≡ length ys → length (cons_option o []) ≡ length (cons_option p []) → length (cons_option o xs) ≡ length (cons_option p ys)
+length-listed : {A B : Type 0} (o : Option A) (p : Option B) (xs : List A) (ys : List B) → length xs ≡ length ys → length (cons_option o []) ≡ length (cons_option p []) →
+    length (cons_option o xs) ≡ length (cons_option p ys)
 length-listed None None xs ys h e = h
 length-listed None (Some y) xs ys h e = absurd (omega arith)
 length-listed (Some x) None xs ys h e = absurd (omega arith)
@@ -73,7 +74,8 @@ module _ {X : Type 0} (f : ℕ → Option X) where
   given_next : (n : ℕ) → filter_map f (numbers (suc n)) ≡ filter_map f (numbers n) ++ cons_option (f n) []
   given_next n = filter_map-append f (numbers n) (n ∷ [])
 
-  given_by : (n j : ℕ) (x : X) → (j < n) ⊎ (n ≤ j) → j < suc n → f j ≡ Some x → (j < n → slice_get (filter_map f (numbers n)) (length (filter_map f (numbers j))) ≡ Some x) → slice_get (filter_map f (numbers (suc n))) (length (filter_map f (numbers j))) ≡ Some x
+  given_by : (n j : ℕ) (x : X) → (j < n) ⊎ (n ≤ j) → j < suc n → f j ≡ Some x →
+      (j < n → slice_get (filter_map f (numbers n)) (length (filter_map f (numbers j))) ≡ Some x) → slice_get (filter_map f (numbers (suc n))) (length (filter_map f (numbers j))) ≡ Some x
   given_by n j x (inl below) l e before =
       ap (λ (ys : List X). slice_get ys (length (filter_map f (numbers j)))) (given_next n)
       ∙ front_get (filter_map f (numbers n)) (cons_option (f n) []) (length (filter_map f (numbers j))) x (before below)
@@ -164,7 +166,8 @@ module _ (ss : List Numbered) (t : Tables) (definitions_are : map (layouts.defin
   row_definition id =
       sym (slice_get-map (layouts.definition_facts t) t.definitions.items id.0) ∙ ap (λ (ds : List DefinitionFacts). slice_get ds id.0) definitions_are
 
-  row_definitions : (s : SymId) (ids : List DefinitionId) → map (λ (d : DefinitionId). d.0) ids ≡ map (definition_number ss) (definitions_of ss s) → filter_map (layouts.definition_at t) ids ≡ map (λ j. definition_at ss j s) (definitions_of ss s)
+  row_definitions : (s : SymId) (ids : List DefinitionId) → map (λ (d : DefinitionId). d.0) ids ≡ map (definition_number ss) (definitions_of ss s) →
+      filter_map (layouts.definition_at t) ids ≡ map (λ j. definition_at ss j s) (definitions_of ss s)
   row_definitions s ids e =
       filter_map-same (layouts.definition_at t) (λ (d : DefinitionId). slice_get (all_definitions ss) d.0) ids row_definition
       ∙ sym (filter_map-map (slice_get (all_definitions ss)) (λ (d : DefinitionId). d.0) ids)
@@ -178,7 +181,10 @@ module _ (ss : List Numbered) (t : Tables) (definitions_are : map (layouts.defin
       let k = ap (λ (r : Row). r.kind) e in
       let c = ap (λ (r : Row). r.choice) e in
       let d = row_definitions (symbol i) (definition_ids s) (ap (λ (r : Row). r.definitions) e) in
-      let said : facts_by s.kind (mode_view s.choice) (filter_map (layouts.definition_at t) (definition_ids s)) (selectors_at t i) (impliers_at t i) ≡ facts_by (kind_of ss (symbol i)) (choice_of ss (symbol i)) (map (λ j. definition_at ss j (symbol i)) (definitions_of ss (symbol i))) (selectors_of ss (symbol i)) (impliers_of ss (symbol i)) = λ j. facts_by (k j) (c j) (d j) (a j) (b j) in
+      let now = facts_by s.kind (mode_view s.choice) (filter_map (layouts.definition_at t) (definition_ids s)) (selectors_at t i) (impliers_at t i) in
+      let defined = map (λ j. definition_at ss j (symbol i)) (definitions_of ss (symbol i)) in
+      let said : now ≡ facts_by (kind_of ss (symbol i)) (choice_of ss (symbol i)) defined (selectors_of ss (symbol i)) (impliers_of ss (symbol i)) =
+      λ j. facts_by (k j) (c j) (d j) (a j) (b j) in
       said ∙ facts_are ss (symbol i)
 
 there_in : {X : Type 0} (xs : List X) (i : ℕ) → i < length xs → (x : X) × (slice_get xs i ≡ Some x)
@@ -189,16 +195,20 @@ there_in (x ∷ xs) (suc i) h = there_in xs i (omega arith)
 from_each : {B : Type 0} (f : ℕ → Option B) (g : ℕ → B) (n : ℕ) → ((i : ℕ) → i < n → f i ≡ Some (g i)) → filter_map f (numbers n) ≡ map g (numbers n)
 from_each f g zero h = refl
 from_each f g (suc n) h =
-    filter_map-append f (numbers n) (n ∷ []) ∙ ap (λ o. filter_map f (numbers n) ++ cons_option o []) (h n (omega arith)) ∙ ap (λ l. l ++ g n ∷ []) (from_each f g n (λ i l. h i (omega arith))) ∙ sym (map-append g (numbers n) (n ∷ []))
+    filter_map-append f (numbers n) (n ∷ []) ∙ ap (λ o. filter_map f (numbers n) ++ cons_option o []) (h n (omega arith))
+    ∙ ap (λ l. l ++ g n ∷ []) (from_each f g n (λ i l. h i (omega arith))) ∙ sym (map-append g (numbers n) (n ∷ []))
 
 row_at : (ss : List Numbered) (symbols : List Symbol) (i : ℕ) (s : Symbol) → AreSymbols ss symbols → i < length symbols → slice_get symbols i ≡ Some s → row_view s ≡ row_of ss i
 row_at ss symbols i s a l e =
-    let said : Some (row_view s) ≡ Some (row_of ss i) = ap (option_map row_view) (sym e) ∙ sym (slice_get-map row_view symbols i) ∙ ap (λ (rs : List Row). slice_get rs i) a ∙ get-map_numbers (row_of ss) (length symbols) i l in
+    let said : Some (row_view s) ≡ Some (row_of ss i) = ap (option_map row_view) (sym e) ∙ sym (slice_get-map row_view symbols i)
+    ∙ ap (λ (rs : List Row). slice_get rs i) a ∙ get-map_numbers (row_of ss) (length symbols) i l in
     cc
 
 -- What the rows say of the symbols is what the statements say.
-module _ (ss : List Numbered) (l : Layout) (rows : AreSymbols ss l.symbols.items) (definitions_are : map (layouts.definition_facts l.tables) l.tables.definitions.items ≡ definitions_before ss (length ss)) where
-  module _ (selectors_are : (i : ℕ) → i < length l.symbols.items → selectors_at l.tables i ≡ selectors_of ss (symbol i)) (impliers_are : (i : ℕ) → i < length l.symbols.items → impliers_at l.tables i ≡ impliers_of ss (symbol i)) where
+module _ (ss : List Numbered) (l : Layout) (rows : AreSymbols ss l.symbols.items)
+    (definitions_are : map (layouts.definition_facts l.tables) l.tables.definitions.items ≡ definitions_before ss (length ss)) where
+  module _ (selectors_are : (i : ℕ) → i < length l.symbols.items → selectors_at l.tables i ≡ selectors_of ss (symbol i))
+      (impliers_are : (i : ℕ) → i < length l.symbols.items → impliers_at l.tables i ≡ impliers_of ss (symbol i)) where
     symbol_is : (i : ℕ) → i < length l.symbols.items → facts_at l i ≡ Some (symbol_facts ss (symbol i))
     symbol_is i h =
         let s = there_in l.symbols.items i h in

@@ -33,7 +33,8 @@ of-requires c =
     let l = c.in_ok-names.field-0 in
     let parts = c.in-Ok-assembled.parts in
     let says : assembled_view l.names (Ok parts) ≡ tree_with l.names l.count l.modules (map line_view c.deref.result.now) = (rw c.in-Ok-assembled.is at c.in-Ok.ensures) in
-    lines-formed x.0 l x.2 (bytes_in c.args.map.now) c.args.root.now (tree_of l.names parts) x.1 c.are_distinct.ensures (assembled-lines x.0 l x.2 c.deref.result.now (Ok parts) c.deref.ensures.value says)
+    lines-formed x.0 l x.2 (bytes_in c.args.map.now) c.args.root.now (tree_of l.names parts) x.1 c.are_distinct.ensures
+    (assembled-lines x.0 l x.2 c.deref.result.now (Ok parts) c.deref.ensures.value says)
 
 pub returns-in-Ok-assembled-clause-built : goal.returns-in-Ok-assembled-clause-built
 returns-in-Ok-assembled-clause-built c =
