@@ -252,27 +252,27 @@ module _ (symbols : List Symbol) (own : List Numbered) (old new : Walk) (rest : 
       let depends : condition_in new.tables.contexts c.within.0 ≡ dep ss i = k.keeps c.within.0 stands.there ∙ stands.is ∙ dep_is ss i own o round_of round h.attributes_are in
       let shows : (condition_in new.tables.contexts round_of.visible.0).parts ≡ visible_round ss i = ap (λ (y : Condition). y.parts) (g.keeps round_of.visible.0 seen) ∙ ap (λ y. y.visible) round in
       let asked : option_map (prompt_view new.tables.contexts (condition_in new.tables.contexts c.within.0)) c.prompt ≡ prompt_at ss i =
-          ap (λ (y : Condition). option_map (prompt_view new.tables.contexts y) c.prompt) depends
-          ∙ prompt_by_line new.tables.contexts (dep ss i) c.prompt
-          ∙ ap (option_map (prompt_under new.tables.contexts (dep ss i))) prompt_is
-          ∙ by_asked new.tables.contexts (dep ss i) round_of.visible.0 (last_of (filter_map asked_of own))
-          ∙ ap (λ (v : List Form). option_map (λ (p : Asked Form). with_when (record { parts = (dep ss i).parts ++ v; mode = (dep ss i).mode }) p.when) (last_of (filter_map asked_of own))) shows
-          ∙ ap (λ (l : List Numbered). option_map (asked_under ss i) (last_of (filter_map asked_of l))) (sym h.attributes_are) in
+      ap (λ (y : Condition). option_map (prompt_view new.tables.contexts y) c.prompt) depends
+      ∙ prompt_by_line new.tables.contexts (dep ss i) c.prompt
+      ∙ ap (option_map (prompt_under new.tables.contexts (dep ss i))) prompt_is
+      ∙ by_asked new.tables.contexts (dep ss i) round_of.visible.0 (last_of (filter_map asked_of own))
+      ∙ ap (λ (v : List Form). option_map (λ (p : Asked Form). with_when (record { parts = (dep ss i).parts ++ v; mode = (dep ss i).mode }) p.when) (last_of (filter_map asked_of own))) shows
+      ∙ ap (λ (l : List Numbered). option_map (asked_under ss i) (last_of (filter_map asked_of l))) (sym h.attributes_are) in
       let given : map (choice_default_view new.tables.contexts (condition_in new.tables.contexts c.within.0)) c.defaults.items ≡ filter_map (default_by ss symbols i) (filter_map given_of (attributes ss i)) =
-          ap (λ (y : Condition). map (choice_default_view new.tables.contexts y) c.defaults.items) depends
-          ∙ defaults_rows symbols id (dep ss i) new.tables.contexts c.defaults.items
-          ∙ ap (map (named_of symbols id (dep ss i))) defaults_are
-          ∙ defaults_named symbols id (dep ss i) own
-          ∙ ap (λ (n : ℕ). filter_map (default_of symbols n (dep ss i)) (filter_map given_of own)) counted
-          ∙ ap (λ (l : List Numbered). filter_map (default_by ss symbols i) (filter_map given_of l)) (sym h.attributes_are) in
+      ap (λ (y : Condition). map (choice_default_view new.tables.contexts y) c.defaults.items) depends
+      ∙ defaults_rows symbols id (dep ss i) new.tables.contexts c.defaults.items
+      ∙ ap (map (named_of symbols id (dep ss i))) defaults_are
+      ∙ defaults_named symbols id (dep ss i) own
+      ∙ ap (λ (n : ℕ). filter_map (default_of symbols n (dep ss i)) (filter_map given_of own)) counted
+      ∙ ap (λ (l : List Numbered). filter_map (default_by ss symbols i) (filter_map given_of l)) (sym h.attributes_are) in
       let members : c.members.items ≡ members_before ss i (choice_number ss i) = members_are ∙ sym (no_members_yet ss i) in
       let row : choice_in new.tables c ≡ choice_before ss symbols i i = λ j. record { prompt = asked j; defaults = given j; members = members j } in
       let choices : map (choice_in new.tables) new.tables.choices.items ≡ choices_before ss symbols (place_after i own) =
-          ap (map (choice_in new.tables)) pushed_is
-          ∙ map_push (choice_in new.tables) old.tables.choices.items c
-          ∙ ap (λ (l : List ChoiceFacts). l ++ choice_in new.tables c ∷ []) (map_alike (choice_in new.tables) (choice_in old.tables) old.tables.choices.items (choice_extends old.tables new.tables g) ∙ w.choices)
-          ∙ ap (λ (y : ChoiceFacts). choices_before ss symbols i ++ y ∷ []) row
-          ∙ sym (choice_passed ss i ChoiceLine own h refl symbols opens) in
+      ap (map (choice_in new.tables)) pushed_is
+      ∙ map_push (choice_in new.tables) old.tables.choices.items c
+      ∙ ap (λ (l : List ChoiceFacts). l ++ choice_in new.tables c ∷ []) (map_alike (choice_in new.tables) (choice_in old.tables) old.tables.choices.items (choice_extends old.tables new.tables g) ∙ w.choices)
+      ∙ ap (λ (y : ChoiceFacts). choices_before ss symbols i ++ y ∷ []) row
+      ∙ sym (choice_passed ss i ChoiceLine own h refl symbols opens) in
       let made : condition_in new.tables.contexts b.within.0 ≡ in_choice x id = ap (λ (n : ℕ). condition_in new.tables.contexts n) within ∙ ap (λ (l : List Condition). condition_in l (length middle)) added ∙ get_or_push middle (in_choice x id) top (length middle) refl in
       let nothing : block_parts ss i ≡ [] = rw (h.at) refl in
       let unseen : block_visible ss i ≡ [] = rw (h.at) refl in

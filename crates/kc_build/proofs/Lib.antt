@@ -16,7 +16,6 @@ mod DiagnosedLemmas
 mod ElementLemmas
 mod EnterLemmas
 mod EnteredLemmas
-mod EntryLemmas
 mod EntryPlaceLemmas
 mod EntrySoundLemmas
 mod EntryWalkLemmas

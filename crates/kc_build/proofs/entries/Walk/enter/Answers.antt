@@ -35,8 +35,8 @@ returns-in_ok-self-in-MainMenu c =
     let text : c.in_ok-self-in-MainMenu.field-0.items ≡ c.in-MainMenu.text.items = c.in_ok-self-in-MainMenu.ensures.items ∙ c.deref-in-MainMenu.ensures.value in
     rw (c.in-MainMenu.is)
     (main_menu_enters c.in-MainMenu.text.items w _
-        (record { definitions = refl; defaults = refl; ranges = refl; reverses = refl; choices = refl; titles = refl; entries = refl })
-        refl refl text c.args.symbols.now (said_by c.args.own.now))
+    (record { definitions = refl; defaults = refl; ranges = refl; reverses = refl; choices = refl; titles = refl; entries = refl })
+    refl refl text c.args.symbols.now (said_by c.args.own.now))
 
 pub returns-in_default : goal.returns-in_default
 returns-in_default c =

@@ -66,7 +66,7 @@ invariant_of-self-3 c =
     let n : length c.push.new.self.items ≡ length w.tables.choices.items + 1 = ap length c.in_ok-push.ensures.items ∙ length_push w.tables.choices.items (record { within = c.in_ok-within.within; prompt = c.in_ok-prompt.prompt; defaults = c.in_ok-defaults.defaults; members = c.new.result }) in
     keeping c.choice_block.new.contexts w.tables.definitions.items c.push.new.self.items w.tables.titles.items
     (kept_block c.choice_block.result middle c.choice_block.new.contexts (condition_in middle c.innermost-outer.result.within.0) c.len.result w.tables.definitions.items c.push.new.self.items w.tables.titles.items c.choice_block.ensures.added c.choice_block.ensures.unchanged (titles_carry w.tables.contexts middle f w.tables.titles.items w.titles) (let e = c.len.ensures in omega arith)
-        (kept_row w c.innermost-outer.result c.entry_context.new.contexts (length c.args.own.now) (is_ok c.push.result) (record { within = c.in_ok-within.within; prompt = c.in_ok-prompt.prompt; defaults = c.in_ok-defaults.defaults; members = c.new.result }) c.push.new.self.items (filter_map depends_form (said_by c.args.own.now)) (last_of (filter_map asked_of (said_by c.args.own.now))) c.innermost-outer.ensures c.entry_context.ensures.kept c.in_ok-within.ensures.made c.requires.plain c.in_ok-prompt.ensures c.push.ensures.items))
+    (kept_row w c.innermost-outer.result c.entry_context.new.contexts (length c.args.own.now) (is_ok c.push.result) (record { within = c.in_ok-within.within; prompt = c.in_ok-prompt.prompt; defaults = c.in_ok-defaults.defaults; members = c.new.result }) c.push.new.self.items (filter_map depends_form (said_by c.args.own.now)) (last_of (filter_map asked_of (said_by c.args.own.now))) c.innermost-outer.ensures c.entry_context.ensures.kept c.in_ok-within.ensures.made c.requires.plain c.in_ok-prompt.ensures c.push.ensures.items))
 
 pub invariant_of-self-in-Break-branch-5 : goal.invariant_of-self-in-Break-branch-5
 invariant_of-self-in-Break-branch-5 c =
@@ -90,9 +90,9 @@ invariant_of-self-4 c =
     let within = c.in_ok-block.ensures.within in
     held_fields new c.open.new.self w.tables.titles.items
     (held_opens new w.blocks c.open.new.self w.tables.titles.items (held_extends middle new w.blocks w.tables.titles.items g (held_walk w middle f)) c.open.result c.in_ok-block.block c.open.ensures.innermost c.open.ensures.outside c.open.ensures.unchanged
-        (omega arith)
-        (rw visible (further_extends middle new g w.blocks.innermost.visible.0 v))
-        (rw visible (plain_extends middle new g w.blocks.innermost.visible.0 v p)))
+    (omega arith)
+    (rw visible (further_extends middle new g w.blocks.innermost.visible.0 v))
+    (rw visible (plain_extends middle new g w.blocks.innermost.visible.0 v p)))
 
 pub returns : goal.returns
 returns c =
@@ -106,6 +106,6 @@ returns c =
     let asked : option_map prompt_line c.in_ok-prompt.prompt ≡ option_map (λ (p : Asked Form). (w.blocks.innermost.visible.0, p.when)) (last_of (filter_map asked_of (said_by c.args.own.now))) = rw (← c.innermost-outer.ensures) c.in_ok-prompt.ensures in
     on_ok_both c.open.result _ _ _ c.open.ensures.innermost c.open.ensures.outside
     (λ inner outside. choice_enters c.args.symbols.now (said_by c.args.own.now) w _
-        (record { definitions = refl; defaults = refl; ranges = refl; reverses = refl; titles = refl; entries = refl; main_menu = refl })
-        middle (record { within = c.in_ok-within.within; prompt = c.in_ok-prompt.prompt; defaults = c.in_ok-defaults.defaults; members = c.new.result }) c.in_ok-block.block c.next_entry-entry.result c.len.result
-        grown stands added (let e = c.len.ensures in omega arith) c.in_ok-push.ensures.items asked c.in_ok-defaults.ensures c.new.ensures.items c.in_ok-block.ensures.within visible c.in_ok-block.ensures.entry c.next_entry-entry.ensures inner outside)
+    (record { definitions = refl; defaults = refl; ranges = refl; reverses = refl; titles = refl; entries = refl; main_menu = refl })
+    middle (record { within = c.in_ok-within.within; prompt = c.in_ok-prompt.prompt; defaults = c.in_ok-defaults.defaults; members = c.new.result }) c.in_ok-block.block c.next_entry-entry.result c.len.result
+    grown stands added (let e = c.len.ensures in omega arith) c.in_ok-push.ensures.items asked c.in_ok-defaults.ensures c.new.ensures.items c.in_ok-block.ensures.within visible c.in_ok-block.ensures.entry c.next_entry-entry.ensures inner outside)

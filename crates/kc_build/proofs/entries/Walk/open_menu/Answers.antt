@@ -75,8 +75,8 @@ returns c =
     let entries : c.push.new.self.items ≡ old.tables.entries.items ++ entry.Menu c.in_ok-title.title ∷ [] = c.in_ok-push.ensures.items ∙ ap (λ v. v.items ++ entry.Menu c.in_ok-title.title ∷ []) t.entries in
     on_ok_both c.open.result _ _ _ c.open.ensures.innermost c.open.ensures.outside
     (λ inner outside. menu_enters c.args.text.now (said_by c.args.own.now) old _
-        (record { definitions = t.definitions; defaults = t.defaults; ranges = t.ranges; reverses = t.reverses; choices = t.choices; main_menu = t.main_menu })
-        c.entry_context.new.contexts c.in_ok-within.within c.in_ok-visible.visible t.title c.in_ok-title.title c.next_entry-entry.result
-        (record { within = c.in_ok-within.within; visible = c.in_ok-visible.visible; entry = Some c.next_entry-entry.result })
-        grown stands more sees t.added t.text_is t.within_is t.visible_is c.in_ok-title.ensures.number c.next_entry-entry.ensures entries refl inner
-        (outside ∙ ap (λ (x : Blocks). x.outside.items ++ x.innermost ∷ []) t.blocks))
+    (record { definitions = t.definitions; defaults = t.defaults; ranges = t.ranges; reverses = t.reverses; choices = t.choices; main_menu = t.main_menu })
+    c.entry_context.new.contexts c.in_ok-within.within c.in_ok-visible.visible t.title c.in_ok-title.title c.next_entry-entry.result
+    (record { within = c.in_ok-within.within; visible = c.in_ok-visible.visible; entry = Some c.next_entry-entry.result })
+    grown stands more sees t.added t.text_is t.within_is t.visible_is c.in_ok-title.ensures.number c.next_entry-entry.ensures entries refl inner
+    (outside ∙ ap (λ (x : Blocks). x.outside.items ++ x.innermost ∷ []) t.blocks))
