@@ -32,12 +32,14 @@ use Rattle.kc_build.proofs.WalkLemmas.{choice_count}
 use Rattle.kc_build.proofs.LayoutLemmas.{length-given}
 
 -- A statement that begins no symbol and no choice.
-pub other_begins : (n : ℕ) (s : Statement) → ((t : SymId) → s ≡ made.Config t → ⊥) → (s ≡ made.Choice → ⊥) → (begun n (statement_view s) ≡ menu_entry.Other) × (symbol_of (Some (statement_view s)) ≡ None)
+pub other_begins : (n : ℕ) (s : Statement) → ((t : SymId) → s ≡ made.Config t → ⊥) → (s ≡ made.Choice → ⊥) →
+    (begun n (statement_view s) ≡ menu_entry.Other) × (symbol_of (Some (statement_view s)) ≡ None)
 other_begins n (made.Config t) a b = absurd (a t refl)
 other_begins n made.Choice a b = absurd (b refl)
 other_begins n _ a b = (refl, refl)
 
-module _ (ss : List Numbered) (symbols : List Symbol) (i : ℕ) (head : Numbered) (own : List Numbered) (whole : IsWhole ss symbols) (h : IsHead ss i head own) (w : Walk) (k : IsWalk ss symbols i w) where
+module _ (ss : List Numbered) (symbols : List Symbol) (i : ℕ) (head : Numbered) (own : List Numbered) (whole : IsWhole ss symbols) (h : IsHead ss i head own) (w : Walk)
+    (k : IsWalk ss symbols i w) where
   attribute_begins : (n : ℕ) (s : Numbered) → is_attribute s ≡ true → begun n s ≡ menu_entry.Other
   attribute_begins n (ConfigLine s) e = absurd cc
   attribute_begins n ChoiceLine e = absurd cc
@@ -53,7 +55,8 @@ module _ (ss : List Numbered) (symbols : List Symbol) (i : ℕ) (head : Numbered
   entry_is = by_kind (is_attribute head) refl h.begins
 
   -- the choice round the entry
-  pub round_is : (b : Block) (o : Option ChoiceId) → b ≡ w.blocks.innermost → mode_view o ≡ (condition_in w.tables.contexts b.within.0).mode → option_map (λ (c : ChoiceId). c.0) o ≡ choice_round ss i
+  pub round_is : (b : Block) (o : Option ChoiceId) → b ≡ w.blocks.innermost → mode_view o ≡ (condition_in w.tables.contexts b.within.0).mode →
+      option_map (λ (c : ChoiceId). c.0) o ≡ choice_round ss i
   round_is b o e m =
       m ∙ ap (λ (x : Block). (condition_in w.tables.contexts x.within.0).mode) e ∙ ap (λ x. x.mode) k.blocks.innermost
 

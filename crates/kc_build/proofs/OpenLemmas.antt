@@ -86,7 +86,8 @@ module _ (ss : List Numbered) where
     asked_opened b o = ap asked_in (enclosing-opens ss i s b at o) ∙ asked_snoc (enclosing ss i) i
 
     -- the blocks behind an opener
-    pub open_opens : (b : opener.Block) (conditions : List Condition) (old new : Blocks) → bracket s ≡ Opens b → AreOpen ss i conditions old → block_view conditions new.innermost ≡ asked_inside i (asked_at ss i) → new.outside.items ≡ old.outside.items ++ old.innermost ∷ [] → AreOpen ss (suc i) conditions new
+    pub open_opens : (b : opener.Block) (conditions : List Condition) (old new : Blocks) → bracket s ≡ Opens b → AreOpen ss i conditions old →
+        block_view conditions new.innermost ≡ asked_inside i (asked_at ss i) → new.outside.items ≡ old.outside.items ++ old.innermost ∷ [] → AreOpen ss (suc i) conditions new
     open_opens b conditions old new o h inside outside = record {
       innermost = inside ∙ sym (asked_opened b o);
       outside =
@@ -128,7 +129,8 @@ module _ (ss : List Numbered) where
         by_end (inr e) =
             let left = (c.0 e.0 e.1 e.2).1 in
             let inner = (c.0 e.0 e.1 e.2).0 in
-            let split = split_last (enclosing ss i) (asked_at ss) (map (block_view conditions) e.0) (block_view conditions e.1) (sym (ap (map (block_view conditions)) e.2 ∙ map_push (block_view conditions) e.0 e.1) ∙ h.outside) in
+            let split = split_last (enclosing ss i) (asked_at ss) (map (block_view conditions) e.0) (block_view conditions e.1)
+            (sym (ap (map (block_view conditions)) e.2 ∙ map_push (block_view conditions) e.0 e.1) ∙ h.outside) in
             let whole = enclosing-last ss i split.k (let w = slice_get_within ss i s at in omega arith) split.last in
             let shorter : enclosing ss (suc i) ≡ enclosing ss split.k = after ∙ ap front whole ∙ front_snoc (enclosing ss split.k) split.k in
             record {
