@@ -1,18 +1,17 @@
 -- What a choice does to the walk.
-use Rattle.std.proofs.Common.{◌≡◌, ℕ, zero, suc, ◌+◌, ◌*◌, ◌<◌, ◌≤◌, Bool, true, false, cond, if◌then◌else◌, ◌==◌, ◌&&◌, List, [], ◌∷◌, ◌++◌, length, filter, take, map, Option, Some, None, Ok, Err, refl, ap, sym, ◌∙◌, subst, arith, length-append, inl, inr}
+use Rattle.std.proofs.Common.{◌≡◌, ℕ, zero, suc, ◌+◌, ◌<◌, ◌≤◌, Bool, true, false, cond, if◌then◌else◌, ◌==◌, ◌&&◌, List, [], ◌∷◌, ◌++◌, length, filter, take, map, Option, Some, None, Ok, Err, refl, ap, sym, ◌∙◌, subst, arith, inl, inr}
 use Rattle.std.specs.Prelude.{◌⊎◌, Result}
 use Rattle.std.specs.Result.{OnErr, OnOk}
-use Rattle.std.specs.List.{All, slice_get, filter_map, cons_option, count_by, list_any}
+use Rattle.std.specs.List.{All, slice_get, filter_map, cons_option, list_any}
 use Rattle.std.specs.Option.{is_some, option_map, option_and_then}
 use Rattle.std.proofs.lemmas.Bool.{cases_lt, ne_eqb}
 use Rattle.std.proofs.lemmas.List.{append-nil, get_or_past, get_or_push, length_push, length-take, map_push}
 use Rattle.std.proofs.lemmas.List.Elements.{All-filter, All-head, All-nil, All-push, All-tail, All-weaker, filter-append, filter_passes}
 use Rattle.kc_expr.specs.declared.expression.SymId.{SymId}
 use Rattle.kc_expr.specs.Form.{Form}
-use Rattle.kc_expr.specs.When.{when_view}
 use Rattle.kc_read.specs.declared.statement.Block.TheVariants as block
 use Rattle.kc_read.specs.Statements.{Asked, Numbered, ChoiceLine}
-use Rattle.kc_read.specs.Blocks.{attributes, enclosing, is_open, last_of, numbers, open_places}
+use Rattle.kc_read.specs.Blocks.{attributes, enclosing, is_open, last_of, numbers}
 use Rattle.kc_tree.specs.declared.parts.Choice.{Choice}
 use Rattle.kc_tree.specs.declared.parts.ChoiceDefault.{ChoiceDefault}
 use Rattle.kc_tree.specs.declared.parts.ContextId.{ContextId}
@@ -26,18 +25,18 @@ use Rattle.kc_tree.specs.TreeFacts.{Condition, ChoiceFacts, Guarded}
 use Rattle.kc_tree.specs.Words.{listed}
 use Rattle.kc_build.specs.Before.{choice_before, choices_before, default_by, members_before}
 use Rattle.kc_build.specs.EntryLines.{choice_default_line, member_line, named_line, prompt_line}
-use Rattle.kc_build.specs.Facts.{Given, asked_of, asked_under, block_parts, choice_number, choice_round, dep, depends_form, entry_number, given_of, is_member_place, named_under, of_block, prompt_at, single_symbol, symbol_at, visible_round}
+use Rattle.kc_build.specs.Facts.{Given, asked_of, asked_under, block_parts, choice_number, choice_round, dep, depends_form, entry_number, given_of, is_member_place, of_block, prompt_at, single_symbol, symbol_at, visible_round}
 use Rattle.kc_build.specs.Growth.{IsGrown, Stands, and_all}
 use Rattle.kc_build.specs.Known.{member_by}
 use Rattle.kc_build.specs.Rounds.{block_visible}
 use Rattle.kc_build.specs.Said.{IsEntryThere, IsTitleThere}
-use Rattle.kc_build.specs.Stacks.{AreOpen, AreTitlesWithin, asked_at, block_view}
-use Rattle.kc_build.specs.Walks.{Enters, IsHead, IsWalk, place_after}
+use Rattle.kc_build.specs.Stacks.{AreTitlesWithin, asked_at, block_view}
+use Rattle.kc_build.specs.Walks.{Enters, place_after}
 use Rattle.kc_build.specs.declared.blocks.Block.{Block}
 use Rattle.kc_build.specs.declared.entries.Walk.{Walk}
 use Rattle.kc_build.proofs.CloserLemmas.{extends_equal, no_fewer}
 use Rattle.kc_build.proofs.DefineLemmas.{by_asked, prompt_by_line, prompt_under, prompt_visible}
-use Rattle.kc_build.proofs.GrownLemmas.{AreKept, Extends, carries_grown, choice_extends, extends, further, get_front, get_pushed_if, grown_push, kept_by, kept_carries, map_alike, open_extends, plain_carries, plain_extends, pushed}
+use Rattle.kc_build.proofs.GrownLemmas.{AreKept, Extends, carries_grown, choice_extends, further, get_front, get_pushed_if, grown_push, kept_by, kept_carries, map_alike, open_extends, plain_carries, plain_extends, pushed}
 use Rattle.kc_build.proofs.HeldLemmas.{carries_entry}
 use Rattle.kc_build.proofs.OpenLemmas.{open_opens}
 use Rattle.kc_build.proofs.OpenerLemmas.{block_inside}

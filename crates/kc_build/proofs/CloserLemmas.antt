@@ -1,6 +1,6 @@
 -- What the end of a block does to the walk.
-use Rattle.std.proofs.Common.{◌≡◌, ℕ, zero, suc, ◌+◌, ◌*◌, ◌<◌, ◌≤◌, Bool, true, false, cond, List, [], ◌∷◌, ◌++◌, length, map, Option, Some, None, refl, ap, sym, ◌∙◌, subst, arith, ◌-◌, length-append}
-use Rattle.std.specs.List.{All, slice_get, cons_option, count_by, fold}
+use Rattle.std.proofs.Common.{◌≡◌, ℕ, zero, suc, ◌+◌, ◌≤◌, Bool, false, List, [], ◌++◌, length, map, Option, Some, None, refl, ap, sym, ◌∙◌, subst, arith, ◌-◌, length-append}
+use Rattle.std.specs.List.{All, slice_get, cons_option, count_by}
 use Rattle.std.specs.Option.{option_map}
 use Rattle.std.proofs.lemmas.List.{append-nil}
 use Rattle.std.proofs.lemmas.List.Elements.{All-cons, All-nil}
@@ -8,22 +8,20 @@ use Rattle.std.proofs.lemmas.Option.{slice_get_within}
 use Rattle.kc_read.specs.declared.statement.Block.TheVariants as block
 use Rattle.kc_read.specs.Statements.{Numbered, EndMenuLine}
 use Rattle.kc_read.specs.Blocks.{Closes, bracket, numbers}
-use Rattle.kc_tree.specs.declared.parts.Entry.{Entry}
 use Rattle.kc_tree.specs.declared.parts.Entry.TheVariants as entry
 use Rattle.kc_tree.specs.declared.parts.Symbol.{Symbol}
 use Rattle.kc_tree.specs.Layouts.{shown_of}
 use Rattle.kc_tree.specs.TreeFacts.{Condition, EndShown}
 use Rattle.kc_build.specs.Facts.{entry_at, entry_number, is_entry, of_block, opener_of, symbol_of, title_of}
-use Rattle.kc_build.specs.Known.{IsWhole}
 use Rattle.kc_build.specs.Said.{IsEntryThere, IsTitleThere}
 use Rattle.kc_build.specs.Stacks.{AreOpen, IsClosed}
-use Rattle.kc_build.specs.Walks.{Enters, IsHead, IsWalk, place_after}
+use Rattle.kc_build.specs.Walks.{Enters}
 use Rattle.kc_build.specs.WalkSteps.{ends_of}
 use Rattle.kc_build.specs.declared.entries.Walk.{Walk}
 use Rattle.kc_build.proofs.BlockLemmas.{round_last}
 use Rattle.kc_build.proofs.GrownLemmas.{Extends, carries_same, extends}
 use Rattle.kc_build.proofs.OpenLemmas.{open_closes}
-use Rattle.kc_build.proofs.OpenerLemmas.{AreSame, IsQuiet, quiet_passes}
+use Rattle.kc_build.proofs.OpenerLemmas.{AreSame, quiet_passes}
 use Rattle.kc_build.proofs.TitleLemmas.{AreRest}
 use Rattle.kc_build.proofs.WalkLemmas.{choices_say_same, count_next, entry_count, main_menu_stays, no_choice_passed, walk_passes}
 

@@ -1,17 +1,15 @@
 -- What an entry does to the walk that is no symbol, block or comment: the ends of an `if` and of a choice, a main menu, another line.
-use Rattle.std.proofs.Common.{◌≡◌, ℕ, suc, ◌+◌, ◌*◌, ◌≤◌, List, [], ◌∷◌, ◌++◌, length, take, Option, Some, None, codes, unwrap_or, refl, ap, sym, ◌∙◌, arith, inl, inr}
+use Rattle.std.proofs.Common.{◌≡◌, ℕ, List, [], ◌∷◌, ◌++◌, length, take, Some, None, codes, unwrap_or, refl, ap, sym, ◌∙◌, arith, inl, inr}
 use Rattle.std.specs.Prelude.{◌⊎◌}
 use Rattle.std.specs.List.{filter_map}
-use Rattle.kc_expr.specs.declared.expression.SymId.{SymId}
 use Rattle.kc_read.specs.declared.statement.Statement.{Statement}
 use Rattle.kc_read.specs.declared.statement.Statement.TheVariants as made
 use Rattle.kc_read.specs.Reads.{statement_view}
 use Rattle.kc_read.specs.Statements.{Numbered, MainMenuLine}
 use Rattle.kc_read.specs.Blocks.{Closes, NoBracket, bracket, last_of}
 use Rattle.kc_tree.specs.declared.parts.Symbol.{Symbol}
-use Rattle.kc_build.specs.Before.{main_menu_before}
 use Rattle.kc_build.specs.Facts.{entry_at, symbol_of, title_of}
-use Rattle.kc_build.specs.Walks.{Enters, IsHead, IsWalk, place_after}
+use Rattle.kc_build.specs.Walks.{Enters}
 use Rattle.kc_build.specs.declared.entries.Walk.{Walk}
 use Rattle.kc_build.proofs.CloserLemmas.{extends_equal}
 use Rattle.kc_build.proofs.EnterLemmas.{titles_passed}

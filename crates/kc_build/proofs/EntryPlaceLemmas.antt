@@ -1,7 +1,6 @@
 -- What the walk knows of an entry before it goes into it.
-use Rattle.std.proofs.Common.{◌≡◌, ℕ, suc, ◌+◌, ◌<◌, Bool, true, false, List, [], ◌∷◌, length, map, Option, Some, None, refl, ap, sym, ◌∙◌, arith, inl, inr}
+use Rattle.std.proofs.Common.{◌≡◌, ℕ, Bool, true, false, List, length, Option, Some, None, refl, ap, sym, ◌∙◌, inl, inr}
 use Rattle.std.specs.Prelude.{◌⊎◌}
-use Rattle.std.specs.List.{slice_get, filter_map}
 use Rattle.std.specs.Option.{option_map}
 use Rattle.std.proofs.lemmas.List.{length-map}
 use Rattle.std.proofs.lemmas.Option.{slice_get_within}
@@ -17,13 +16,11 @@ use Rattle.kc_tree.specs.Contexts.{condition_in, mode_view}
 use Rattle.kc_tree.specs.Layouts.{definition_facts}
 use Rattle.kc_build.specs.Before.{definition_at}
 use Rattle.kc_build.specs.declared.blocks.Block.{Block}
-use Rattle.kc_build.specs.declared.diagnostics.EntryPlace.{EntryPlace}
-use Rattle.kc_build.specs.declared.diagnostics.MenuEntry.{MenuEntry}
 use Rattle.kc_build.specs.declared.diagnostics.MenuEntry.TheVariants as menu_entry
 use Rattle.kc_build.specs.declared.entries.Walk.{Walk}
-use Rattle.kc_build.specs.Facts.{choice_number, choice_round, is_first_definition, symbol_at, symbol_of}
+use Rattle.kc_build.specs.Facts.{choice_number, choice_round, symbol_at, symbol_of}
 use Rattle.kc_build.specs.Firsts.{first_of_symbol, is_first_at}
-use Rattle.kc_build.specs.Known.{IsPlace, IsWhole, definition_number, first_by}
+use Rattle.kc_build.specs.Known.{IsWhole, definition_number, first_by}
 use Rattle.kc_build.specs.Walks.{IsHead, IsWalk}
 use Rattle.kc_build.specs.Warnings.{begun, menu_entry_at, menu_entry_before}
 use Rattle.kc_build.proofs.FirstNumberLemmas.{first_by_number}

@@ -4,16 +4,14 @@ use Rattle.std.specs.Prelude.{◌⊎◌, nat_le, reverse}
 use Rattle.std.specs.List.{All, slice_get, filter_map}
 use Rattle.std.specs.Option.{is_some, option_map, option_and_then}
 use Rattle.std.proofs.lemmas.Bool.Decides.{nat_tests}
-use Rattle.std.proofs.lemmas.List.{length-drop, get_or_append_left, get_or_past, get_or_push, length_push, length-map, map_push, take-map, drop-map, take-append-le, drop-append-le}
-use Rattle.std.proofs.lemmas.List.Elements.{All-push, All-weaker}
-use Rattle.std.proofs.lemmas.Option.{slice_get_within, slice_get-get_or, get_or_from_slice_get}
-use Rattle.kc_expr.specs.declared.expression.SymId.{SymId}
+use Rattle.std.proofs.lemmas.List.{length-drop, get_or_append_left, get_or_past, get_or_push, length_push, length-map, take-map, drop-map, take-append-le, drop-append-le}
+use Rattle.std.proofs.lemmas.List.Elements.{All-weaker}
+use Rattle.std.proofs.lemmas.Option.{slice_get_within, get_or_from_slice_get}
 use Rattle.kc_expr.specs.Form.{Form, Leaf}
 use Rattle.kc_expr.specs.When.{when_view}
 use Rattle.kc_read.specs.Statements.{Numbered}
 use Rattle.kc_tree.specs.declared.layout.Tables.{Tables}
 use Rattle.kc_tree.specs.declared.parts.Choice.{Choice}
-use Rattle.kc_tree.specs.declared.parts.ChoiceDefault.{ChoiceDefault}
 use Rattle.kc_tree.specs.declared.parts.Definition.{Definition}
 use Rattle.kc_tree.specs.declared.parts.DefinitionId.{DefinitionId}
 use Rattle.kc_tree.specs.declared.parts.Entry.{Entry}
@@ -35,7 +33,7 @@ use Rattle.kc_tree.specs.TreeFacts.{Condition, Guarded, Bounds, MenuShown, Comme
 use Rattle.kc_build.specs.EntryLines.{default_row, range_row}
 use Rattle.kc_build.specs.Growth.{IsGrown}
 use Rattle.kc_build.specs.Said.{AreRowsThere, IsEntryThere, IsSpanBelow, IsTitleThere}
-use Rattle.kc_build.specs.Stacks.{AreBlocksPlain, AreBlocksVisible, AreBlocksWithin, AreOpen, AreTitlesWithin, AsksNothing, block_view, open_blocks}
+use Rattle.kc_build.specs.Stacks.{AreBlocksPlain, AreBlocksVisible, AreBlocksWithin, AreOpen, AreTitlesWithin, AsksNothing, block_view}
 use Rattle.kc_build.specs.declared.blocks.Block.{Block}
 use Rattle.kc_build.specs.declared.blocks.Blocks.{Blocks}
 use Rattle.kc_build.specs.declared.entries.Walk.{Walk}

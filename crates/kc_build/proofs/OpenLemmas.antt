@@ -1,5 +1,5 @@
 -- The open blocks, behind an opener, a closer and another line.
-use Rattle.std.proofs.Common.{◌≡◌, ℕ, zero, suc, ◌+◌, ◌<◌, ◌≤◌, Bool, true, false, if◌then◌else◌, List, [], ◌∷◌, ◌++◌, length, filter, map, Option, Some, None, refl, ap, sym, ◌∙◌, arith, inl, inr}
+use Rattle.std.proofs.Common.{◌≡◌, ℕ, suc, if◌then◌else◌, List, [], ◌∷◌, ◌++◌, filter, map, Some, refl, ap, sym, ◌∙◌, arith, inl, inr}
 use Rattle.std.specs.Prelude.{◌⊎◌}
 use Rattle.std.specs.List.{slice_get, flat_map}
 use Rattle.std.specs.Option.{option_map}
@@ -8,15 +8,15 @@ use Rattle.std.proofs.lemmas.Option.{slice_get_within}
 use Rattle.kc_read.specs.declared.statement.Block as opener
 use Rattle.kc_read.specs.declared.statement.Block.TheVariants as block
 use Rattle.kc_read.specs.Statements.{Numbered}
-use Rattle.kc_read.specs.Blocks.{Bracket, Opens, Closes, NoBracket, bracket, enclosing, last_of}
+use Rattle.kc_read.specs.Blocks.{Opens, Closes, NoBracket, bracket, enclosing, last_of}
 use Rattle.kc_tree.specs.TreeFacts.{Condition}
-use Rattle.kc_build.specs.Facts.{block_parts, choice_number, entry_number, of_block, opener_of, own_visible}
+use Rattle.kc_build.specs.Facts.{block_parts, choice_number, entry_number, of_block, own_visible}
 use Rattle.kc_build.specs.Rounds.{block_visible}
 use Rattle.kc_build.specs.Stacks.{AreOpen, Asked, IsClosed, asked_at, block_view, open_blocks}
 use Rattle.kc_build.specs.declared.blocks.Block.{Block}
 use Rattle.kc_build.specs.declared.blocks.Blocks.{Blocks}
 use Rattle.kc_build.proofs.BlockLemmas.{front, enclosing-opens, enclosing-closes, enclosing-no, enclosing-last}
-use Rattle.kc_build.proofs.RoundLemmas.{round_at, round_snoc}
+use Rattle.kc_build.proofs.RoundLemmas.{round_snoc}
 
 -- A list that is empty or has a last element.
 pub ends : {X : Type 0} (xs : List X) → (xs ≡ []) ⊎ ((ys : List X) × (y : X) × (xs ≡ ys ++ y ∷ []))

@@ -1,6 +1,6 @@
 -- What an entry does to the walk that opens or closes a block, or neither: an `if`, a closer, another line.
-use Rattle.std.proofs.Common.{◌≡◌, ℕ, zero, suc, ◌+◌, ◌*◌, ◌<◌, ◌≤◌, Bool, true, false, if◌then◌else◌, List, [], ◌∷◌, ◌++◌, length, map, Option, Some, None, refl, ap, sym, ◌∙◌, subst, arith}
-use Rattle.std.specs.List.{All, slice_get, cons_option}
+use Rattle.std.proofs.Common.{◌≡◌, ℕ, suc, ◌+◌, ◌*◌, ◌≤◌, Bool, false, if◌then◌else◌, List, [], ◌∷◌, ◌++◌, length, Some, None, refl, ap, sym, ◌∙◌, arith}
+use Rattle.std.specs.List.{cons_option}
 use Rattle.std.proofs.lemmas.List.{append-nil, get_or_push, length_push}
 use Rattle.std.proofs.lemmas.List.Elements.{All-nil}
 use Rattle.kc_expr.specs.Form.{Form}
@@ -10,8 +10,7 @@ use Rattle.kc_tree.specs.declared.parts.Symbol.{Symbol}
 use Rattle.kc_tree.specs.Contexts.{and_also, condition_in, top}
 use Rattle.kc_tree.specs.TreeFacts.{Condition}
 use Rattle.kc_build.specs.Before.{main_menu_before}
-use Rattle.kc_build.specs.Facts.{block_parts, choice_number, entry_at, entry_number, of_block, symbol_of, title_of}
-use Rattle.kc_build.specs.Known.{IsWhole}
+use Rattle.kc_build.specs.Facts.{block_parts, choice_number, entry_at, entry_number, of_block, symbol_of}
 use Rattle.kc_build.specs.Rounds.{block_visible}
 use Rattle.kc_build.specs.Said.{IsEntryThere, IsTitleThere}
 use Rattle.kc_build.specs.Stacks.{AreOpen, asked_at, block_view}

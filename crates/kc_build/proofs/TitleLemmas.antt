@@ -1,6 +1,6 @@
 -- What a menu and a comment do to the walk.
-use Rattle.std.proofs.Common.{◌≡◌, ℕ, zero, suc, ◌+◌, ◌*◌, ◌<◌, ◌≤◌, Bool, true, false, if◌then◌else◌, List, [], ◌∷◌, ◌++◌, length, map, Option, Some, None, refl, ap, sym, ◌∙◌, subst, arith, append_assoc}
-use Rattle.std.specs.List.{All, slice_get, filter_map, cons_option}
+use Rattle.std.proofs.Common.{◌≡◌, ℕ, suc, ◌+◌, ◌*◌, ◌<◌, ◌≤◌, Bool, false, if◌then◌else◌, List, [], ◌∷◌, ◌++◌, length, Option, Some, None, refl, ap, sym, ◌∙◌, subst, arith, append_assoc}
+use Rattle.std.specs.List.{slice_get, filter_map, cons_option}
 use Rattle.std.proofs.lemmas.List.{append-nil, length_push, nil_from_length}
 use Rattle.std.proofs.lemmas.List.Elements.{All-cons, All-nil}
 use Rattle.kc_expr.specs.Form.{Form}
@@ -16,7 +16,6 @@ use Rattle.kc_tree.specs.declared.parts.TitleId.{TitleId}
 use Rattle.kc_tree.specs.Contexts.{condition_in}
 use Rattle.kc_tree.specs.Layouts.{shown_of, shown_when as shown_in, title_condition, title_text}
 use Rattle.kc_tree.specs.TreeFacts.{Condition, CommentShown, MenuShown, Shown}
-use Rattle.kc_build.specs.Before.{main_menu_before}
 use Rattle.kc_build.specs.Facts.{block_parts, choice_number, dep, depends_form, entry_at, entry_number, of_block, own_deps, own_visible, shown_when, symbol_of, title_of, visible_form, visible_round}
 use Rattle.kc_build.specs.Growth.{IsGrown, Stands, and_all}
 use Rattle.kc_build.specs.Rounds.{block_visible}

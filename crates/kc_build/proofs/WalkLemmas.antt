@@ -1,9 +1,9 @@
 -- The walk behind an entry that defines no symbol.
-use Rattle.std.proofs.Common.{◌≡◌, ℕ, zero, suc, ◌+◌, ◌*◌, ◌<◌, ◌≤◌, Bool, true, false, cond, if◌then◌else◌, List, [], ◌∷◌, ◌++◌, length, filter, map, Option, Some, None, refl, ap, sym, ◌∙◌, subst, arith, add-one, get_or, length-append, take, codes, unwrap_or}
+use Rattle.std.proofs.Common.{◌≡◌, ℕ, zero, suc, ◌+◌, ◌*◌, ◌≤◌, Bool, true, false, cond, if◌then◌else◌, List, [], ◌∷◌, ◌++◌, length, filter, map, Option, Some, None, refl, ap, sym, ◌∙◌, subst, arith, add-one, length-append, take, codes, unwrap_or}
 use Rattle.std.specs.List.{All, slice_get, filter_map, flat_map, cons_option, count_by, fold}
 use Rattle.std.specs.Option.{is_some, option_map}
 use Rattle.std.proofs.lemmas.List.{append-nil, length-map, map-append}
-use Rattle.std.proofs.lemmas.List.Elements.{All-append, All-weaker}
+use Rattle.std.proofs.lemmas.List.Elements.{All-append}
 use Rattle.std.proofs.lemmas.List.Sums.{length-filter}
 use Rattle.std.proofs.lemmas.Option.{slice_get_within, get_or_from_slice_get}
 use Rattle.kc_expr.specs.declared.expression.SymId.{SymId}
@@ -12,28 +12,25 @@ use Rattle.kc_expr.specs.Names.{symbol}
 use Rattle.kc_read.specs.declared.statement.Block.TheVariants as block
 use Rattle.kc_read.specs.Statements.{Numbered, ConfigLine, CommentLine, MenuLine, EndMenuLine}
 use Rattle.kc_read.specs.Blocks.{last_of, numbers}
-use Rattle.kc_tree.specs.declared.layout.Tables.{Tables}
-use Rattle.kc_tree.specs.declared.parts.Choice.{Choice}
 use Rattle.kc_tree.specs.declared.parts.Definition.{Definition}
 use Rattle.kc_tree.specs.declared.parts.Entry.{Entry}
-use Rattle.kc_tree.specs.declared.parts.Reverse.{Reverse}
 use Rattle.kc_tree.specs.declared.parts.Symbol.{Symbol}
 use Rattle.kc_tree.specs.declared.parts.Title.{Title}
 use Rattle.kc_tree.specs.declared.reverses.Reverses.{Reverses}
-use Rattle.kc_tree.specs.Layouts.{choice_facts as choice_in, definition_facts, impliers_at, selectors_at, shown_of}
-use Rattle.kc_tree.specs.TreeFacts.{ChoiceFacts, Guarded, Shown, SymbolShown, EndShown}
-use Rattle.kc_build.specs.Before.{choice_before, choices_before, definition_line, definitions_before, entries_before, impliers_before, main_menu_before, members_before, selectors_before}
+use Rattle.kc_tree.specs.Layouts.{choice_facts as choice_in, definition_facts, shown_of}
+use Rattle.kc_tree.specs.TreeFacts.{Guarded, Shown, SymbolShown, EndShown}
+use Rattle.kc_build.specs.Before.{choice_before, choices_before, definitions_before, entries_before, impliers_before, main_menu_before, members_before, selectors_before}
 use Rattle.kc_build.specs.Facts.{can_be_target, choice_number, entry_at, entry_number, imply_of, is_entry, is_first_definition, naming_at, of_block, opener_of, select_of, symbol_at, symbol_of, title_of}
-use Rattle.kc_build.specs.Known.{AreMenusOpened, IsWhole}
+use Rattle.kc_build.specs.Known.{AreMenusOpened}
 use Rattle.kc_build.specs.ReverseRows.{HaveSources}
-use Rattle.kc_build.specs.Said.{AreRowsThere, HasHeads, IsEntryThere, IsSmall, IsSpanBelow, IsTitleThere}
+use Rattle.kc_build.specs.Said.{AreRowsThere, IsEntryThere, IsSmall, IsSpanBelow, IsTitleThere}
 use Rattle.kc_build.specs.Stacks.{AreOpen}
 use Rattle.kc_build.specs.Walks.{IsHead, IsWalk, place_after}
 use Rattle.kc_build.specs.declared.entries.Walk.{Walk}
 use Rattle.kc_build.proofs.EnterLemmas.{blocks_passed, definitions_passed, enclosing_passed, entries_passed, member_line, members_passed, names_passed, titles_passed}
 use Rattle.kc_build.proofs.GrownLemmas.{Extends, choice_extends, definition_extends_same, entries_stay, impliers_same, map_alike, selectors_same, shown_extends, titles_stay}
 use Rattle.kc_build.proofs.OpenLemmas.{open_moves}
-use Rattle.kc_build.proofs.PlaceLemmas.{filter_map-next, numbers-next}
+use Rattle.kc_build.proofs.PlaceLemmas.{filter_map-next}
 
 -- an element by its place
 pub all_at : {X : Type 0} (P : X → Type 0) (xs : List X) (i : ℕ) (x : X) → All P xs → slice_get xs i ≡ Some x → P x

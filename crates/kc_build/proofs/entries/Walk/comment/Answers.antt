@@ -1,5 +1,5 @@
 -- A comment: its title is shown under its own context, and under nothing of what is visible.
-use Rattle.std.proofs.Common.{refl, ap, sym, ◌∙◌, arith, ◌≡◌, ◌++◌, ◌∷◌, [], length}
+use Rattle.std.proofs.Common.{refl, ap, ◌∙◌, ◌≡◌, ◌++◌, ◌∷◌, [], length}
 use Rattle.std.specs.List.{filter_map}
 use Rattle.std.proofs.lemmas.List.{length-map}
 use Rattle.kc_read.specs.Reads.{statement_view}
@@ -8,7 +8,6 @@ use Rattle.kc_tree.specs.declared.parts.Entry.TheVariants as entry
 use Rattle.kc_build.specs.Facts.{depends_form}
 use Rattle.kc_build.specs.Growth.{IsGrown, Stands, and_all}
 use Rattle.kc_build.specs.Passes.{said_by}
-use Rattle.kc_build.specs.declared.blocks.Block.{Block}
 use Rattle.kc_build.proofs.HeldLemmas.{carries_entry, keeping_both}
 use Rattle.kc_build.proofs.TitleLemmas.{comment_enters}
 use Rattle.kc_build.proofs.entries.Walk.comment.Goals as goal

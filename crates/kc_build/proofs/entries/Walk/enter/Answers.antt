@@ -1,9 +1,8 @@
 -- The entry at the head of its attributes, by what it begins.
-use Rattle.std.proofs.Common.{◌≡◌, refl, ap, sym, ◌∙◌, subst}
+use Rattle.std.proofs.Common.{◌≡◌, refl, sym, ◌∙◌, subst}
 use Rattle.std.proofs.lemmas.Result.{on_ok_weaker}
 use Rattle.kc_read.specs.declared.statement.Statement.{Statement}
 use Rattle.kc_read.specs.Reads.{statement_view}
-use Rattle.kc_read.specs.Statements.{Numbered}
 use Rattle.kc_build.specs.Passes.{said_by}
 use Rattle.kc_build.specs.Walks.{Enters}
 use Rattle.kc_build.proofs.CloserLemmas.{closer_enters}

@@ -1,5 +1,5 @@
 -- A choice: its own context, its row, and the context of its members.
-use Rattle.std.proofs.Common.{refl, ap, sym, ◌∙◌, arith, is_ok, ◌≡◌, ◌<◌, ◌+◌, ◌++◌, ◌∷◌, [], length}
+use Rattle.std.proofs.Common.{refl, ap, ◌∙◌, arith, is_ok, ◌≡◌, ◌+◌, ◌++◌, ◌∷◌, [], length}
 use Rattle.std.specs.List.{filter_map}
 use Rattle.std.specs.Option.{option_map}
 use Rattle.std.proofs.lemmas.List.{length-map, length_push}

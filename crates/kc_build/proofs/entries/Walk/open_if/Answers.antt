@@ -1,9 +1,9 @@
 -- An `if`: a context inside that of the innermost block, and a block.
 use Rattle.std.proofs.lemmas.List.{length_push}
-use Rattle.std.proofs.Common.{◌+◌, refl, ap, sym, ◌∙◌, arith, subst, ◌<◌, ◌≡◌, ◌++◌, ◌∷◌, [], length}
+use Rattle.std.proofs.Common.{◌+◌, refl, ap, ◌∙◌, arith, ◌<◌, ◌≡◌, ◌++◌, ◌∷◌, [], length}
 use Rattle.kc_expr.specs.Form.{form_of}
-use Rattle.kc_tree.specs.Contexts.{IsPlain, and_also, condition_in}
-use Rattle.kc_build.proofs.GrownLemmas.{AreHeld, Carries, carries_push, held_by, held_carries, keeping_carries, plain_carries}
+use Rattle.kc_tree.specs.Contexts.{and_also, condition_in}
+use Rattle.kc_build.proofs.GrownLemmas.{carries_push, held_by, held_carries, keeping_carries, plain_carries}
 use Rattle.kc_build.proofs.HeldLemmas.{carries_added, held_opens, on_ok_both}
 use Rattle.kc_build.proofs.OpenerLemmas.{if_enters}
 use Rattle.kc_build.proofs.entries.Walk.open_if.Goals as goal

@@ -1,5 +1,5 @@
 -- A menu: its own context and that of what is visible in it, which its title is shown under and its block asks for.
-use Rattle.std.proofs.Common.{refl, ap, sym, ◌∙◌, arith, ◌≡◌, ◌<◌, ◌++◌, ◌∷◌, [], length, Some}
+use Rattle.std.proofs.Common.{refl, ap, ◌∙◌, ◌≡◌, ◌<◌, ◌++◌, ◌∷◌, [], length, Some}
 use Rattle.std.specs.List.{filter_map}
 use Rattle.std.proofs.lemmas.List.{length-map}
 use Rattle.kc_read.specs.Reads.{statement_view}
