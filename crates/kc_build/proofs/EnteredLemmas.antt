@@ -1,17 +1,15 @@
 -- What an entry does to the walk that is no symbol, block or comment: the ends of an `if` and of a choice, a main menu, another line.
-use Rattle.std.proofs.Common.{◌≡◌, ℕ, suc, ◌+◌, ◌*◌, ◌≤◌, List, [], ◌∷◌, ◌++◌, length, take, Option, Some, None, codes, unwrap_or, refl, ap, sym, ◌∙◌, arith, inl, inr}
+use Rattle.std.proofs.Common.{◌≡◌, ℕ, List, [], ◌∷◌, ◌++◌, length, take, Some, None, codes, unwrap_or, refl, ap, sym, ◌∙◌, arith, inl, inr}
 use Rattle.std.specs.Prelude.{◌⊎◌}
 use Rattle.std.specs.List.{filter_map}
-use Rattle.kc_expr.specs.declared.expression.SymId.{SymId}
 use Rattle.kc_read.specs.declared.statement.Statement.{Statement}
 use Rattle.kc_read.specs.declared.statement.Statement.TheVariants as made
 use Rattle.kc_read.specs.Reads.{statement_view}
 use Rattle.kc_read.specs.Statements.{Numbered, MainMenuLine}
 use Rattle.kc_read.specs.Blocks.{Closes, NoBracket, bracket, last_of}
 use Rattle.kc_tree.specs.declared.parts.Symbol.{Symbol}
-use Rattle.kc_build.specs.Before.{main_menu_before}
 use Rattle.kc_build.specs.Facts.{entry_at, symbol_of, title_of}
-use Rattle.kc_build.specs.Walks.{Enters, IsHead, IsWalk, place_after}
+use Rattle.kc_build.specs.Walks.{Enters}
 use Rattle.kc_build.specs.declared.entries.Walk.{Walk}
 use Rattle.kc_build.proofs.CloserLemmas.{extends_equal}
 use Rattle.kc_build.proofs.EnterLemmas.{titles_passed}
@@ -40,7 +38,8 @@ module _ (s : Statement) where
   abbrev Not : {X : Type 0} → (X → Statement) → Type 0
   Not {X} f = (x : X) → s ≡ f x → ⊥
 
-pub idle_is : (s : Statement) → Not s made.Config → Not s made.If → (s ≡ made.EndIf → ⊥) → Not s made.Comment → Not s made.Menu → (s ≡ made.EndMenu → ⊥) → (s ≡ made.Choice → ⊥) → (s ≡ made.EndChoice → ⊥) → Not s made.MainMenu → IsIdle (statement_view s)
+pub idle_is : (s : Statement) → Not s made.Config → Not s made.If → (s ≡ made.EndIf → ⊥) → Not s made.Comment → Not s made.Menu → (s ≡ made.EndMenu → ⊥) → (s ≡ made.Choice → ⊥) →
+    (s ≡ made.EndChoice → ⊥) → Not s made.MainMenu → IsIdle (statement_view s)
 idle_is (made.Config x) a b c d e f g h i = absurd (a x refl)
 idle_is (made.If x) a b c d e f g h i = absurd (b x refl)
 idle_is made.EndIf a b c d e f g h i = absurd (c refl)
@@ -67,11 +66,13 @@ last_snoc [] x = refl
 last_snoc (y ∷ []) x = refl
 last_snoc (y ∷ z ∷ xs) x = last_snoc (z ∷ xs) x
 
-pub main_menu_enters : (text : List ℕ) (old new : Walk) → AreSame old new → new.tables.contexts ≡ old.tables.contexts → new.blocks ≡ old.blocks → new.main_menu.items ≡ text → (symbols : List Symbol) (own : List Numbered) → Enters symbols (MainMenuLine text) own old new
+pub main_menu_enters : (text : List ℕ) (old new : Walk) → AreSame old new → new.tables.contexts ≡ old.tables.contexts → new.blocks ≡ old.blocks → new.main_menu.items ≡ text →
+    (symbols : List Symbol) (own : List Numbered) → Enters symbols (MainMenuLine text) own old new
 main_menu_enters text old new same contexts blocks says symbols own ss i a h k =
     quiet_passes ss symbols i (MainMenuLine text) own h old new k same
     (record { symbol = refl; choice = rw (h.at) refl; entry = refl })
     (extends_equal old.tables.contexts new.tables.contexts contexts)
     (let n : length new.tables.contexts ≡ length old.tables.contexts = ap length contexts in omega arith)
     (rw (contexts, blocks) (open_passes ss i (MainMenuLine text) h.at old.tables.contexts old.blocks refl k.blocks))
-    (says ∙ sym (ap (λ (l : List (List ℕ)). unwrap_or (last_of l) (codes "Main menu")) (titles_passed ss i (MainMenuLine text) own h) ∙ ap (λ o. unwrap_or o (codes "Main menu")) (last_snoc (filter_map title_of (take i ss)) text)))
+    (says ∙ sym (ap (λ (l : List (List ℕ)). unwrap_or (last_of l) (codes "Main menu")) (titles_passed ss i (MainMenuLine text) own h)
+    ∙ ap (λ o. unwrap_or o (codes "Main menu")) (last_snoc (filter_map title_of (take i ss)) text)))
