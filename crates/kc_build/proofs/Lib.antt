@@ -6,7 +6,6 @@ mod ChainLemmas
 mod ChoiceLemmas
 mod CloserLemmas
 mod CollectLemmas
-mod ConditionLemmas
 mod CopyLemmas
 mod DefineLemmas
 mod DefineWalkLemmas
