@@ -40,7 +40,7 @@ counted_more p k (suc n) =
     let before = counted_more p k n in
     rw z (omega arith)
 
-no_fewer : (p : ℕ → Bool) (k n : ℕ) → k ≤ n → count_by p (numbers k) ≤ count_by p (numbers n)
+pub no_fewer : (p : ℕ → Bool) (k n : ℕ) → k ≤ n → count_by p (numbers k) ≤ count_by p (numbers n)
 no_fewer p k n h =
     let z : k + (n - k) ≡ n = omega arith in
     subst (λ (m : ℕ). count_by p (numbers k) ≤ count_by p (numbers m)) z (counted_more p k (n - k))

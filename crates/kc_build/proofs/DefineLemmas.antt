@@ -47,14 +47,14 @@ prompt_visible (Some r) v (Some a) e p q =
     let line : prompt_line r ≡ (v, a.when) = cc in
     ap (λ (s : Prompt). s.visible.0) (sym same) ∙ ap (λ (l : ℕ × Option Form). l.0) line
 
-abbrev prompt_under : List Condition → Condition → ℕ × Option Form → Condition
+abbrev pub prompt_under : List Condition → Condition → ℕ × Option Form → Condition
 prompt_under conditions dep q = with_when (with_parts dep (condition_in conditions q.0).parts) q.1
 
-prompt_by_line : (conditions : List Condition) (dep : Condition) (o : Option Prompt) → option_map (prompt_view conditions dep) o ≡ option_map (prompt_under conditions dep) (option_map prompt_line o)
+pub prompt_by_line : (conditions : List Condition) (dep : Condition) (o : Option Prompt) → option_map (prompt_view conditions dep) o ≡ option_map (prompt_under conditions dep) (option_map prompt_line o)
 prompt_by_line conditions dep None = refl
 prompt_by_line conditions dep (Some p) = refl
 
-by_asked : (conditions : List Condition) (dep : Condition) (v : ℕ) (x : Option (Asked Form)) →
+pub by_asked : (conditions : List Condition) (dep : Condition) (v : ℕ) (x : Option (Asked Form)) →
     option_map (prompt_under conditions dep) (option_map (λ (p : Asked Form). (v, p.when)) x) ≡ option_map (λ (p : Asked Form). with_when (with_parts dep (condition_in conditions v).parts) p.when) x
 by_asked conditions dep v None = refl
 by_asked conditions dep v (Some p) = refl

@@ -193,6 +193,9 @@ module _ (old new : List Condition) (g : Carries old new) where
   pub further : (n : ℕ) → n < length old → n < length new
   further = further_extends old new (extends old new g)
 
+  pub titles_carry : (ts : List Title) → AreTitlesWithin old ts → AreTitlesWithin new ts
+  titles_carry = titles_extend old new (extends old new g)
+
   pub kept_carries : (ds : List Definition) (cs : List Choice) (ts : List Title) → AreTitlesWithin old ts → AreKept old ds cs ts → AreKept new ds cs ts
   kept_carries ds cs ts w k = record {
     within = λ i d e. further d.within.0 (k.within i d e);

@@ -11,7 +11,7 @@ use Rattle.kc_tree.specs.declared.parts.Title.{Title}
 use Rattle.kc_tree.specs.Contexts.{IsPlain, and_also, condition_in}
 use Rattle.kc_tree.specs.TreeFacts.{Condition}
 use Rattle.kc_build.specs.Growth.{IsGrown, Stands, and_all}
-use Rattle.kc_build.specs.Stacks.{IsClosed, open_blocks}
+use Rattle.kc_build.specs.Stacks.{AreBlocksPlain, AreBlocksVisible, AreBlocksWithin, AreTitlesWithin, AsksNothing, IsClosed, open_blocks}
 use Rattle.kc_build.specs.declared.blocks.Block.{Block}
 use Rattle.kc_build.specs.declared.blocks.Blocks.{Blocks}
 use Rattle.kc_build.specs.declared.entries.Walk.{Walk}
@@ -112,3 +112,8 @@ held_walk w new g = held_carries w.tables.contexts new w.blocks w.tables.titles.
 
 pub keeping_both : (w : Walk) (new : List Condition) → Carries w.tables.contexts new → Keeping new w.tables.definitions.items w.tables.choices.items w.tables.titles.items × Holding new w.tables.titles.items w.blocks
 keeping_both w new g = (keeping_carries w new g, holding new w.tables.titles.items w.blocks (held_walk w new g))
+
+-- What is held, as a goal asks for it by the names of the ghost fields.
+pub held_fields : (conditions : List Condition) (blocks : Blocks) (ts : List Title) → AreHeld conditions blocks ts → record { asks_nothing : AsksNothing conditions; top_plain : IsPlain conditions 0; within : AreBlocksWithin conditions blocks; visible : AreBlocksVisible conditions blocks; plain : AreBlocksPlain conditions blocks; titles : AreTitlesWithin conditions ts }
+held_fields conditions blocks ts h =
+    record { asks_nothing = h.asks_nothing; top_plain = h.top_plain; within = h.within; visible = h.visible; plain = h.plain; titles = h.titles }

@@ -4,6 +4,7 @@ mod BlockLemmas
 mod BuildLemmas
 mod ChainLemmas
 mod ChoiceLemmas
+mod ChoiceOpenLemmas
 mod CloserLemmas
 mod CollectLemmas
 mod CopyLemmas
@@ -14,6 +15,7 @@ mod DiagnosedLemmas
 mod ElementLemmas
 mod EnterLemmas
 mod EntryLemmas
+mod EntryPlaceLemmas
 mod EntrySoundLemmas
 mod EntryWalkLemmas
 mod ExpansionLemmas

@@ -1,15 +1,15 @@
 -- What conditions are worth that are made of others.
-use Rattle.std.proofs.Common.{◌≡◌, ℕ, List, [], ◌∷◌, ◌++◌, map, is_some, false, Option, Some, None, refl, sym, ap, ◌∙◌}
+use Rattle.std.proofs.Common.{◌≡◌, ℕ, List, ◌++◌, map, is_some, false, Option, Some, None, refl, sym, ap, ◌∙◌}
 use Rattle.std.proofs.lemmas.List.{map-append}
 use Rattle.kc_expr.specs.declared.expression.SymId.{SymId}
 use Rattle.kc_expr.specs.declared.expression.Tri.{Tri}
-use Rattle.kc_expr.specs.declared.expression.Tri.TheVariants.{N, M, Y}
+use Rattle.kc_expr.specs.declared.expression.Tri.TheVariants.{Y}
 use Rattle.kc_expr.specs.Form.{Form}
 use Rattle.kc_expr.specs.Value.{Known, value, lesser, least}
 use Rattle.kc_expr.specs.When.{when_view}
 use Rattle.kc_tree.specs.declared.parts.Context.{Context}
 use Rattle.kc_tree.specs.declared.parts.Prompt.{Prompt}
-use Rattle.kc_tree.specs.Contexts.{condition_in, condition_of, mode_view, IsPlain, IsStep, KeepsMode, BeginsMode}
+use Rattle.kc_tree.specs.Contexts.{condition_in, IsPlain, IsStep}
 use Rattle.kc_tree.specs.Layouts.{with_when, with_parts, prompt_view}
 use Rattle.kc_tree.specs.TreeFacts.{Condition, TreeFacts}
 use Rattle.kc_tree.specs.Words.{listed}

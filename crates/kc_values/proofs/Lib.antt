@@ -27,3 +27,5 @@ pub mod ReverseRows
 pub mod AnyLemmas
 pub mod RowNeeds
 pub mod NodesBelow
+pub mod GraphNeeds
+pub mod NeedsAlike

@@ -1,5 +1,5 @@
 -- The nodes of a row are there, and those of a group's row stand before it.
-use Rattle.std.proofs.Common.{◌≡◌, ◌==◌, ℕ, ◌<◌, ◌≤◌, ◌+◌, Bool, true, false, ◌||◌, ◌&&◌, cond, List, [], ◌∷◌, ◌++◌, length, Option, Some, None, map, sym, ap, ◌∙◌, refl, inl, inr, arith, nat_le, nat_lt}
+use Rattle.std.proofs.Common.{◌≡◌, ◌==◌, ℕ, ◌<◌, ◌≤◌, ◌+◌, Bool, true, false, ◌||◌, ◌&&◌, cond, List, [], ◌∷◌, ◌++◌, length, Option, Some, None, sym, ap, ◌∙◌, refl, inl, inr, arith, nat_le, nat_lt}
 use Rattle.std.specs.Prelude.{filter, is_some, slice_get}
 use Rattle.std.specs.List.{list_any, flat_map, filter_map, Contains}
 use Rattle.std.proofs.lemmas.Bool.{cases_lt, true≢false}
@@ -20,7 +20,7 @@ use Rattle.kc_tree.specs.declared.parts.ReverseId.{ReverseId}
 use Rattle.kc_tree.specs.declared.parts.Symbol.{Symbol}
 use Rattle.kc_values.specs.NeedRows as rows
 use Rattle.kc_values.specs.Nodes.{choice_number, context_number}
-use Rattle.kc_values.proofs.AnyLemmas.{any_flat, any_found, any_map, any_filter, any_none, any_same, found_same, in_stands, passes}
+use Rattle.kc_values.proofs.AnyLemmas.{any_flat, any_map, any_filter, any_none, found_same}
 
 -- no number of a list is at the bound or beyond
 abbrev pub far : ℕ → ℕ → Bool

@@ -1,5 +1,5 @@
 -- What the lines that select or imply a symbol add to its row, from one line on.
-use Rattle.std.proofs.Common.{◌≡◌, ◌<◌, ◌≤◌, ℕ, List, [], ◌∷◌, ◌++◌, length, Option, Some, None, ap, ◌∙◌, inl, inr}
+use Rattle.std.proofs.Common.{◌≡◌, ◌≤◌, ℕ, List, [], ◌∷◌, ◌++◌, length, Option, Some, None, ap, ◌∙◌, inl, inr}
 use Rattle.std.specs.List.{slice_get, filter_map, flat_map, cons_option}
 use Rattle.std.proofs.lemmas.Option.{slice_get_cases}
 use Rattle.kc_tree.specs.declared.layout.Layout.{Layout}

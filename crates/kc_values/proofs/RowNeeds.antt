@@ -1,6 +1,6 @@
 -- What the nodes and names of a row stand for: a symbol is among them where the equation of the row's symbol, or a condition, names it.
 use Rattle.std.proofs.Common.{◌≡◌, ◌==◌, ℕ, ◌<◌, Bool, true, false, ◌||◌, ◌&&◌, cond, List, [], ◌∷◌, ◌++◌, suc, length, Option, Some, None, map, reverse, refl, sym, ap, ◌∙◌, arith, nat_lt, append-nil}
-use Rattle.std.specs.Prelude.{slice_get, is_some, slice_index_or}
+use Rattle.std.specs.Prelude.{slice_get, is_some}
 use Rattle.std.specs.Option.{option_map, option_and_then}
 use Rattle.std.specs.List.{list_any, flat_map, filter_map, cons_option}
 use Rattle.std.proofs.lemmas.Bool.{lt-ltb}
@@ -15,8 +15,8 @@ use Rattle.kc_tree.specs.Chains.{chain_of, chains_of}
 use Rattle.kc_tree.specs.Contexts.{IsPlain, condition_in, mode_view}
 use Rattle.kc_tree.specs.Layouts as laid
 use Rattle.kc_tree.specs.Layouts.{DefinitionFacts, IsLayoutOf, choice_facts, definition_facts, facts_of, prompt_view, default_view, range_view, choice_default_view, with_parts, with_when, reverse_at, reverse_facts, reverses_from}
-use Rattle.kc_tree.specs.Parts.{definition_ids, part_of}
-use Rattle.kc_tree.specs.TreeFacts.{Bounds, ChoiceFacts, Condition, Guarded, SymbolFacts, TreeFacts}
+use Rattle.kc_tree.specs.Parts.{definition_ids}
+use Rattle.kc_tree.specs.TreeFacts.{Condition, Guarded, TreeFacts}
 use Rattle.kc_tree.specs.Words.{listed}
 use Rattle.kc_tree.specs.declared.layout.Layout.{Layout}
 use Rattle.kc_tree.specs.declared.parts.Choice.{Choice}
@@ -139,6 +139,7 @@ module _ (tree : TreeFacts) (l : Layout) (v : ℕ) where
     where
       turned : (x a w : Bool) → (x || (a || w)) ≡ (a || (x || w))
       turned x a w = grind arith
+
       one : (d : SymbolDefault) → (names (symbols (form_of d.value.value)) || asks (with_when c (when_view d.when))) ≡ (asks c || names (rows.default_names d))
       one d =
           ap (λ b. names (symbols (form_of d.value.value)) || b) (asks_when c (when_view d.when))
@@ -151,6 +152,7 @@ module _ (tree : TreeFacts) (l : Layout) (v : ℕ) where
     where
       turned : (x a w : Bool) → (x || (a || w)) ≡ (a || (x || w))
       turned x a w = grind arith
+
       one : (r : SymbolRange) → (names (leaf_symbols (leaf_of r.low) ++ leaf_symbols (leaf_of r.high)) || asks (with_when c (when_view r.when))) ≡ (asks c || names (rows.range_names r))
       one r =
           let bounds = leaf_symbols (leaf_of r.low) ++ leaf_symbols (leaf_of r.high) in
@@ -163,7 +165,7 @@ module _ (tree : TreeFacts) (l : Layout) (v : ℕ) where
 
 -- Under what each node stands for: of contexts below a bound what their conditions name.
 module _ (tree : TreeFacts) (l : Layout) (v : ℕ) (st : ℕ → Bool) (bound : ℕ)
-  (at : (i : ℕ) → i < bound → list_any st (rows.context_nodes l i) ≡ asks tree l v (condition_in l.tables.contexts i)) where
+    (at : (i : ℕ) → i < bound → list_any st (rows.context_nodes l i) ≡ asks tree l v (condition_in l.tables.contexts i)) where
   abbrev known : List ℕ → Bool
   known ns = list_any st ns
 
@@ -267,7 +269,7 @@ module _ (tree : TreeFacts) (l : Layout) (v : ℕ) (st : ℕ → Bool) (bound : 
 
 -- Where each context that there is stands for what its condition names.
 module _ (tree : TreeFacts) (l : Layout) (v : ℕ) (st : ℕ → Bool)
-  (at : (i : ℕ) → i < length l.tables.contexts → list_any st (rows.context_nodes l i) ≡ asks tree l v (condition_in l.tables.contexts i)) where
+    (at : (i : ℕ) → i < length l.tables.contexts → list_any st (rows.context_nodes l i) ≡ asks tree l v (condition_in l.tables.contexts i)) where
   abbrev all : ℕ
   all = length l.tables.contexts
 

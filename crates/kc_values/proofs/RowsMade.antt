@@ -4,8 +4,8 @@ use Rattle.std.specs.Prelude.{filter, slice_get}
 use Rattle.std.specs.Option.{option_and_then}
 use Rattle.std.specs.List.{range_with_len}
 use Rattle.std.proofs.lemmas.Option.{slice_get-get_or, slice_get_read}
-use Rattle.std.proofs.lemmas.List.FromFn.{map-range_with_len_more}
-use Rattle.std.proofs.lemmas.List.{get_or_append_left, get_or_push, length_push, map-append, take_more}
+use Rattle.std.proofs.lemmas.List.FromFn.{length-map-range_with_len, map-range_with_len_more}
+use Rattle.std.proofs.lemmas.List.{get_or_append_left, get_or_push, length_push, length-append, length-map, map-append, take_more}
 use Rattle.kc_expr.specs.declared.expression.SymId.{SymId}
 use Rattle.kc_order.specs.Graph.{Nodes}
 use Rattle.kc_tree.specs.declared.layout.Layout.{Layout}
@@ -14,7 +14,7 @@ use Rattle.kc_tree.specs.declared.parts.Symbol.{Symbol}
 use Rattle.kc_tree.specs.TreeFacts.{TreeFacts}
 use Rattle.kc_values.specs.declared.needs.Row.{Row}
 use Rattle.kc_values.specs.NeedRows as rows
-use Rattle.kc_values.specs.NeedRows.{IsRow, Adds, IsContextRow, row_of}
+use Rattle.kc_values.specs.NeedRows.{IsRow, Adds, AreContextRows, AreNodeRows, IsContextRow, row_of}
 
 abbrev numbers : ℕ → List SymId → List ℕ
 numbers n names = map (λ (s : SymId). s.0) (filter (λ (s : SymId). nat_lt s.0 n) names)
@@ -53,8 +53,8 @@ one_context l i old now next row made e is =
       made.0 ++ row ∷ [],
       omega (arith, len, made.1),
       below_more P i
-      (λ j b. subst (IsContextRow l j) (sym (get_or_append_left made.0 (row ∷ []) [] j (omega (arith, made.1)))) (made.2 j b))
-      (subst (IsContextRow l i) (sym (get_or_push made.0 row [] i (omega (arith, made.1)))) is),
+          (λ j b. subst (IsContextRow l j) (sym (get_or_append_left made.0 (row ∷ []) [] j (omega (arith, made.1)))) (made.2 j b))
+          (subst (IsContextRow l i) (sym (get_or_push made.0 row [] i (omega (arith, made.1)))) is),
       rows_behind old now next made.0 (row ∷ []) made.3 e,
     )
 
@@ -88,3 +88,26 @@ symbols_more tree l old now next ss i s row same b is e more r =
     rows_behind old now next (map f (range_with_len 0 i)) (row ∷ []) e more
     ∙ ap (λ x. by (map f (range_with_len 0 i) ++ x ∷ [])) at
     ∙ ap by (sym (map-range_with_len_more f 0 i i (omega arith)))
+
+-- the rows of all nodes, made one kind after another
+pub all_rows : (tree : TreeFacts) (l : Layout) (n : ℕ) (g g1 g2 g3 : Nodes) → n ≡ length l.symbols.items → g ≡ record { symbols = n; rows = [] } →
+    g1 ≡ record g { rows = g.rows ++ rows.symbol_rows tree l } → (contexts : List (List ℕ)) → AreContextRows l contexts → g2 ≡ record g1 { rows = g1.rows ++ contexts } →
+    g3 ≡ record g2 { rows = g2.rows ++ rows.choice_rows l } → AreNodeRows tree l g3
+all_rows tree l n g g1 g2 g3 same e e1 contexts are e2 e3 =
+    let two : g2 ≡ record g { rows = g.rows ++ (rows.symbol_rows tree l ++ contexts) } = rows_behind g g1 g2 (rows.symbol_rows tree l) contexts e1 e2 in
+    let three : g3 ≡ record g { rows = g.rows ++ ((rows.symbol_rows tree l ++ contexts) ++ rows.choice_rows l) } =
+    rows_behind g g2 g3 (rows.symbol_rows tree l ++ contexts) (rows.choice_rows l) two e3 in
+    let start : g3 ≡ record { symbols = n; rows = (rows.symbol_rows tree l ++ contexts) ++ rows.choice_rows l } =
+    three ∙ ap (λ (x : Nodes). record x { rows = x.rows ++ ((rows.symbol_rows tree l ++ contexts) ++ rows.choice_rows l) }) e in
+    let rows_are : g3.rows ≡ (rows.symbol_rows tree l ++ contexts) ++ rows.choice_rows l = ap (λ (x : Nodes). x.rows) start in
+    let symbols = length-map-range_with_len (λ i. rows.symbol_row tree l i (slice_get l.symbols.items i)) 0 (length l.symbols.items) in
+    let choices = length-map l.tables.choices.items (rows.choice_row_of l) in
+    let front = length-append (rows.symbol_rows tree l) contexts in
+    let all = length-append (rows.symbol_rows tree l ++ contexts) (rows.choice_rows l) in
+    record {
+      symbols_are = ap (λ (x : Nodes). x.symbols) start ∙ same;
+      count = ap length rows_are ∙ omega (arith, symbols, choices, front, all, are.0);
+      contexts = contexts;
+      contexts_are = are;
+      rows_are = rows_are;
+    }

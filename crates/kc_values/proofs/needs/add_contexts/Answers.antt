@@ -1,6 +1,5 @@
-use Rattle.std.proofs.Common.{◌≡◌, ℕ, List, [], ap, ◌∙◌, sym, subst, arith, length}
-use Rattle.kc_values.specs.NeedRows as rows
-use Rattle.kc_values.specs.NeedRows.{IsRow, IsContextRow, asks_this, asks_nothing, row_of}
+use Rattle.std.proofs.Common.{◌≡◌, ap, ◌∙◌, arith, length}
+use Rattle.kc_values.specs.NeedRows.{IsContextRow, asks_this, asks_nothing, row_of}
 use Rattle.kc_values.proofs.RowsMade.{closed, untouched, one_context}
 use Rattle.kc_values.proofs.needs.add_contexts.Goals as goal
 use Rattle.kc_values.proofs.needs.add_contexts.Goals.{in-Some+in_ok-asked_into, in_default}

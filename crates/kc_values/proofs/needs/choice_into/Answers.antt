@@ -1,4 +1,4 @@
-use Rattle.std.proofs.Common.{◌≡◌, ℕ, ◌<◌, length, [], Some, None, arith}
+use Rattle.std.proofs.Common.{[], Some, None}
 use Rattle.kc_values.specs.NeedRows as rows
 use Rattle.kc_values.proofs.RowsMade.{member_found}
 use Rattle.kc_values.proofs.RowSteps.{found_more, none_more, adds_more, adds_nothing}

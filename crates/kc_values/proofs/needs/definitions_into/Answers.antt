@@ -1,4 +1,4 @@
-use Rattle.std.proofs.Common.{◌≡◌, ℕ, ◌<◌, ◌++◌, length, [], ap, ◌∙◌, sym, refl, arith, append-nil}
+use Rattle.std.proofs.Common.{◌<◌, length, [], sym, arith}
 use Rattle.kc_tree.specs.Parts.{definition_ids}
 use Rattle.kc_values.specs.NeedRows as rows
 use Rattle.kc_values.specs.NeedRows.{Adds}

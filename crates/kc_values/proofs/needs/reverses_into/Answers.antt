@@ -1,4 +1,4 @@
-use Rattle.std.proofs.Common.{◌≡◌, ◌++◌, [], ◌∷◌, Some, ap, ◌∙◌, sym, append-nil}
+use Rattle.std.proofs.Common.{◌++◌, [], ◌∷◌, ap, ◌∙◌, sym, append-nil}
 use Rattle.kc_expr.specs.When.{when_view}
 use Rattle.kc_values.specs.NeedRows as rows
 use Rattle.kc_values.specs.NeedRows.{Adds}

@@ -1,7 +1,7 @@
 use Rattle.std.proofs.Common.{sym, ap, ◌∙◌}
 use Rattle.kc_values.specs.Known.{known_at}
 use Rattle.kc_values.specs.Values.{raised}
-use Rattle.kc_values.proofs.ChainLemmas.{pulled_from, pulled-reverse}
+use Rattle.kc_values.proofs.ChainLemmas.{pulled-reverse}
 use Rattle.kc_values.proofs.truths.reverse.Goals as goal
 
 pub returns : goal.returns

@@ -1,4 +1,4 @@
-use Rattle.std.proofs.Common.{◌≡◌, ◌++◌, None, map, OnOk, subst, refl, ap, is_some, false, ◌∙◌, sym}
+use Rattle.std.proofs.Common.{◌≡◌, ◌++◌, map, OnOk, subst, refl, ◌∙◌, sym}
 use Rattle.kc_expr.specs.declared.expression.Kind.TheVariants.{Bool as IsBool, Tristate}
 use Rattle.kc_tree.specs.Contexts.{mode_view}
 use Rattle.kc_tree.specs.Layouts.{facts_of}
