@@ -6,6 +6,7 @@ mod ChainLemmas
 mod ChoiceLemmas
 mod ChoiceOpenLemmas
 mod CloserLemmas
+mod CollectLemmas
 mod CopyLemmas
 mod DefineLemmas
 mod DefineWalkLemmas
