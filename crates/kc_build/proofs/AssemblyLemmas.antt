@@ -1,5 +1,5 @@
 -- What lines say, all of it.
-use Rattle.std.proofs.Common.{◌≡◌, ℕ, ◌==◌, Bool, List, [], filter, length, map, Some, None, Ok, Err, codes, if◌then◌else◌, refl, ap, sym, ◌∙◌, subst}
+use Rattle.std.proofs.Common.{◌≡◌, ℕ, ◌==◌, Bool, List, [], length, map, Some, None, Ok, Err, codes, if◌then◌else◌, ap, sym, ◌∙◌, subst}
 use Rattle.std.specs.Prelude.{nat_lt}
 use Rattle.std.specs.List.{filter_map, list_any}
 use Rattle.std.specs.Option.{option_and_then, option_or, unwrap_or}
@@ -8,7 +8,6 @@ use Rattle.std.proofs.Math.Seq.{take-length}
 use Rattle.kc_expr.specs.declared.expression.SymId.{SymId}
 use Rattle.kc_expr.specs.Names.{symbol}
 use Rattle.kc_read.specs.declared.line.Line.{Line}
-use Rattle.kc_read.specs.declared.statement.Block.TheVariants as block
 use Rattle.kc_read.specs.Blocks.{attributes, last_of, numbers}
 use Rattle.kc_read.specs.Expansion.{Refused}
 use Rattle.kc_read.specs.Reads.{line_view}
@@ -17,7 +16,6 @@ use Rattle.kc_read.specs.declared.refusal.Refusal.{Refusal}
 use Rattle.kc_read.specs.Statements.{Numbered}
 use Rattle.kc_tree.specs.declared.layout.TreeParts.{TreeParts}
 use Rattle.kc_tree.specs.declared.parts.Symbol.{Symbol}
-use Rattle.kc_tree.specs.Layouts.{choices_in, entries_in, symbols_in}
 use Rattle.kc_tree.specs.TreeFacts.{ChoiceFacts}
 use Rattle.kc_tree.specs.Wholes.{tree_of}
 use Rattle.kc_tree.specs.Words.{listed}
@@ -28,8 +26,8 @@ use Rattle.kc_build.specs.Known.{AreBelow, AreSymbols, member_by}
 use Rattle.kc_build.specs.Passes.{said_by}
 use Rattle.kc_build.specs.Said.{AreSaid, IsDiagnosed}
 use Rattle.kc_build.specs.Trees.{facts_with, tree_with, unless_refused}
-use Rattle.kc_build.specs.Warnings.{bad_members, late_refusals}
-use Rattle.kc_build.proofs.DiagnosedLemmas.{IsAccepted, accepted, refused_tree}
+use Rattle.kc_build.specs.Warnings.{bad_members}
+use Rattle.kc_build.proofs.DiagnosedLemmas.{accepted, refused_tree}
 use Rattle.kc_build.proofs.KnownLemmas.{choices_known}
 use Rattle.kc_build.proofs.LayoutLemmas.{symbols-are}
 use Rattle.kc_build.proofs.MemberLemmas.{member_is}

@@ -1,5 +1,5 @@
 -- An expanded list has no more lines than there may be physical lines: each statement takes one at least.
-use Rattle.std.proofs.Common.{◌≡◌, ℕ, ◌+◌, ◌<◌, ◌≤◌, nat_lt, nat_le, Bool, true, false, cond, List, [], ◌∷◌, ◌++◌, length, map, Option, Some, None, Result, Ok, Err, MatchOption, refl, ap, sym, ◌∙◌, subst, arith, length-append}
+use Rattle.std.proofs.Common.{◌≡◌, ℕ, ◌+◌, ◌<◌, ◌≤◌, nat_lt, nat_le, Bool, true, false, cond, List, [], ◌∷◌, ◌++◌, length, Option, Some, None, Result, Ok, Err, MatchOption, refl, ap, sym, ◌∙◌, arith, length-append}
 use Rattle.std.specs.List.{list_any}
 use Rattle.std.proofs.lemmas.Bool.Decides.{nat_tests}
 use Rattle.std.proofs.lemmas.List.{length-map}
@@ -10,7 +10,7 @@ use Rattle.kc_read.specs.Expansion.{Around, Expands, Log, Refused, Rest, bytes_c
 use Rattle.kc_read.specs.Files.{Files}
 use Rattle.kc_read.specs.Limits.{most_files, most_lines}
 use Rattle.kc_read.specs.Lines.{Cause, cause}
-use Rattle.kc_read.specs.Numbering.{number_line, numbered_lines}
+use Rattle.kc_read.specs.Numbering.{number_line}
 use Rattle.kc_read.specs.Reads.{line_view}
 use Rattle.kc_read.specs.Statements.{Placed, Written}
 use Rattle.kc_read.proofs.RestLemmas.{next_less}
