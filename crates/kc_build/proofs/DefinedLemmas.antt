@@ -302,6 +302,6 @@ module _ (modules : Option SymId) (number : List ℕ → ℕ) where
   untyped_not _ a e = absurd cc
 
   pub numbered_typed : (ls : List (Placed Written)) → ((i : ℕ) (l : Placed Written) → slice_get ls i ≡ Some l → IsAllowed l.statement) → AreTyped (map (λ l. l.statement) (map (place_numbered modules number) ls))
-  numbered_typed [] h = λ i s e. absurd cc
+  numbered_typed [] h i s e t = absurd cc
   numbered_typed (l ∷ ls) h zero s e t = untyped_not l.statement (h zero l refl) (ap type_of (let same : numbered modules number l.statement ≡ s = cc in same) ∙ t)
   numbered_typed (l ∷ ls) h (suc i) s e t = numbered_typed ls (λ j. h (suc j)) i s e t

@@ -7,7 +7,6 @@ mod ChoiceLemmas
 mod ChoiceOpenLemmas
 mod CloserLemmas
 mod CollectLemmas
-mod ConditionLemmas
 mod CopyLemmas
 mod DefineLemmas
 mod DefineWalkLemmas
