@@ -39,7 +39,7 @@ use Rattle.kc_values.proofs.TreeNeeds.{needs_at, needs_length}
 
 module _ (tree : TreeFacts) (l : Layout) (laid : IsLayoutOf tree l) (g : Nodes) (made : AreNodeRows tree l g) (is : IsGraph g) (v : ℕ) where
   -- a node stands for the symbol v
-  abbrev st : ℕ → Bool
+  abbrev pub st : ℕ → Bool
   st t = stands v (stands_for g.symbols (groups_of g) t)
 
   of_symbol : (t : ℕ) → t < length l.symbols.items → st t ≡ (t == v)
@@ -69,7 +69,7 @@ module _ (tree : TreeFacts) (l : Layout) (laid : IsLayoutOf tree l) (g : Nodes) 
   of_row ns ss = list_any-append st ns (rows.defined l ss) ∙ ap (λ b. list_any st ns || b) (of_names ss)
 
   -- contexts below a bound stand for what their conditions name
-  abbrev Told : ℕ → Type 0
+  abbrev pub Told : ℕ → Type 0
   Told bound = (i : ℕ) → i < bound → list_any st (rows.context_nodes l i) ≡ asks tree l v (condition_in l.tables.contexts i)
 
   -- the mode of a choice
@@ -154,11 +154,11 @@ module _ (tree : TreeFacts) (l : Layout) (laid : IsLayoutOf tree l) (g : Nodes) 
         | inr same ↦ one_context i (omega arith) (λ j d. before j (omega arith))
       ]
 
-  told : Told (length l.tables.contexts)
+  pub told : Told (length l.tables.contexts)
   told = told_to (length l.tables.contexts) (omega arith)
 
   -- the selection of a choice
-  choice_told : (k : ℕ) → k < length l.tables.choices.items → st (choice_number l k) ≡ names tree l v (spec.names_of_choice tree (choice_at tree k))
+  pub choice_told : (k : ℕ) → k < length l.tables.choices.items → st (choice_number l k) ≡ names tree l v (spec.names_of_choice tree (choice_at tree k))
   choice_told k b =
       elim (slice_get_cases l.tables.choices.items k).1 [
         | inl h ↦
