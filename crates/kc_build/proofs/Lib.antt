@@ -6,7 +6,6 @@ mod ChainLemmas
 mod ChoiceLemmas
 mod ChoiceOpenLemmas
 mod CloserLemmas
-mod CollectLemmas
 mod CopyLemmas
 mod DefineLemmas
 mod DefineWalkLemmas
