@@ -38,10 +38,11 @@ use Rattle.kc_build.proofs.CloserLemmas.{extends_equal, no_fewer}
 use Rattle.kc_build.proofs.DefineLemmas.{by_asked, prompt_by_line, prompt_under, prompt_visible}
 use Rattle.kc_build.proofs.GrownLemmas.{AreKept, Extends, carries_grown, choice_extends, further, get_front, get_pushed_if, grown_push, kept_by, kept_carries, map_alike, open_extends, plain_carries, plain_extends, pushed}
 use Rattle.kc_build.proofs.HeldLemmas.{carries_entry}
+use Rattle.kc_build.proofs.ListLemmas.{count_next}
 use Rattle.kc_build.proofs.OpenLemmas.{open_opens}
 use Rattle.kc_build.proofs.OpenerLemmas.{block_inside}
 use Rattle.kc_build.proofs.TitleLemmas.{dep_is}
-use Rattle.kc_build.proofs.WalkLemmas.{choice_count, choice_passed, count_next, entry_count, main_menu_stays, walk_passes}
+use Rattle.kc_build.proofs.WalkLemmas.{choice_count, choice_passed, entry_count, main_menu_stays, walk_passes}
 
 -- What the tables keep with one choice more.
 module _ (conditions : List Condition) (ds : List Definition) (cs new : List Choice) (ts : List Title) (b : Bool) (c : Choice) (added : new ≡ pushed b cs c)

@@ -20,10 +20,11 @@ use Rattle.kc_build.specs.WalkSteps.{ends_of}
 use Rattle.kc_build.specs.declared.entries.Walk.{Walk}
 use Rattle.kc_build.proofs.BlockLemmas.{round_last}
 use Rattle.kc_build.proofs.GrownLemmas.{Extends, carries_same, extends}
+use Rattle.kc_build.proofs.ListLemmas.{count_next}
 use Rattle.kc_build.proofs.OpenLemmas.{open_closes}
 use Rattle.kc_build.proofs.OpenerLemmas.{AreSame, quiet_passes}
 use Rattle.kc_build.proofs.TitleLemmas.{AreRest}
-use Rattle.kc_build.proofs.WalkLemmas.{choices_say_same, count_next, entry_count, main_menu_stays, no_choice_passed, walk_passes}
+use Rattle.kc_build.proofs.WalkLemmas.{choices_say_same, entry_count, main_menu_stays, no_choice_passed, walk_passes}
 
 -- the same contexts
 pub extends_equal : (old new : List Condition) → new ≡ old → Extends old new

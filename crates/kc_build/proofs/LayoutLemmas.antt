@@ -1,10 +1,11 @@
 -- The rows of symbols, with the definitions that they name, say what the statements say of the symbols.
 use Rattle.std.proofs.Common.{◌≡◌, ℕ, zero, suc, ◌<◌, ◌≤◌, Bool, true, false, if◌then◌else◌, List, [], ◌∷◌, ◌++◌, length, filter, map, Option, Some, None, refl, ap, sym, ◌∙◌, arith, add-one, inl, inr}
 use Rattle.std.specs.Prelude.{◌⊎◌}
-use Rattle.std.specs.List.{slice_get, filter_map, flat_map, cons_option, range_with_len}
+use Rattle.std.specs.List.{slice_get, filter_map, cons_option, range_with_len}
 use Rattle.std.specs.Option.{option_map}
 use Rattle.std.proofs.lemmas.List.{append-nil, map-append}
 use Rattle.std.proofs.lemmas.List.Elements.{filter-append, filter_map-append}
+use Rattle.std.proofs.lemmas.List.Folds.{flat_map-map}
 use Rattle.std.proofs.lemmas.Option.{slice_get-map}
 use Rattle.kc_expr.specs.declared.expression.SymId.{SymId}
 use Rattle.kc_expr.specs.Names.{symbol}
@@ -24,6 +25,7 @@ use Rattle.kc_build.specs.Facts.{choice_of, definitions_of, impliers_of, kind_of
 use Rattle.kc_build.specs.Known.{AreSymbols, Row, definition_number, row_of, row_view}
 use Rattle.kc_build.proofs.BlockLemmas.{numbers_from, numbers-from}
 use Rattle.kc_build.proofs.ElementLemmas.{same_is}
+use Rattle.kc_build.proofs.ListLemmas.{end_get, front_get, there_in}
 use Rattle.kc_build.proofs.MemberLemmas.{below_or_past}
 use Rattle.kc_build.proofs.PlaceLemmas.{get-map_numbers}
 
@@ -35,10 +37,6 @@ map-twice g f (x ∷ xs) = ap (λ l. g (f x) ∷ l) (map-twice g f xs)
 pub filter_map-map : {A B C : Type 0} (g : B → Option C) (f : A → B) (xs : List A) → filter_map g (map f xs) ≡ filter_map (λ x. g (f x)) xs
 filter_map-map g f [] = refl
 filter_map-map g f (x ∷ xs) = ap (cons_option (g (f x))) (filter_map-map g f xs)
-
-pub flat_map-map_by : {A B C : Type 0} (g : B → List C) (f : A → B) (xs : List A) → flat_map g (map f xs) ≡ flat_map (λ x. g (f x)) xs
-flat_map-map_by g f [] = refl
-flat_map-map_by g f (x ∷ xs) = ap (λ l. g (f x) ++ l) (flat_map-map_by g f xs)
 
 pub filter_map-same : {A B : Type 0} (f g : A → Option B) (xs : List A) → ((x : A) → f x ≡ g x) → filter_map f xs ≡ filter_map g xs
 filter_map-same f g [] h = refl
@@ -59,14 +57,6 @@ pub range-numbers : (n : ℕ) → range_with_len 0 n ≡ numbers n
 range-numbers n = range_from 0 n ∙ sym (numbers-from n)
 
 -- What a function gives of the numbers below n: that of one of them stands behind as much as is given before it.
-front_get : {X : Type 0} (xs ys : List X) (i : ℕ) (x : X) → slice_get xs i ≡ Some x → slice_get (xs ++ ys) i ≡ Some x
-front_get [] ys i x e = absurd cc
-front_get (y ∷ xs) ys zero x e = e
-front_get (y ∷ xs) ys (suc i) x e = front_get xs ys i x e
-
-end_get : {X : Type 0} (xs : List X) (x : X) → slice_get (xs ++ x ∷ []) (length xs) ≡ Some x
-end_get [] x = refl
-end_get (y ∷ xs) x = end_get xs x
 
 module _ {X : Type 0} (f : ℕ → Option X) where
   given_next : (n : ℕ) → filter_map f (numbers (suc n)) ≡ filter_map f (numbers n) ++ cons_option (f n) []
@@ -145,8 +135,8 @@ module _ (ss : List Numbered) where
       let ds = definitions_of ss s in
       let d = map-twice (λ (f : DefinitionFacts). f.dep) at ds in
       let p = filter_map-map (λ (f : DefinitionFacts). f.prompt) at ds in
-      let v = flat_map-map_by (λ (f : DefinitionFacts). f.defaults) at ds in
-      let r = flat_map-map_by (λ (f : DefinitionFacts). f.ranges) at ds in
+      let v = flat_map-map (λ (f : DefinitionFacts). f.defaults) at ds in
+      let r = flat_map-map (λ (f : DefinitionFacts). f.ranges) at ds in
       λ i. record {
         kind = kind_of ss s;
         choice = choice_of ss s;
@@ -184,11 +174,6 @@ module _ (ss : List Numbered) (t : Tables) (definitions_are : map (layouts.defin
       let said : now ≡ facts_by (kind_of ss (symbol i)) (choice_of ss (symbol i)) defined (selectors_of ss (symbol i)) (impliers_of ss (symbol i)) =
       λ j. facts_by (k j) (c j) (d j) (a j) (b j) in
       said ∙ facts_are ss (symbol i)
-
-there_in : {X : Type 0} (xs : List X) (i : ℕ) → i < length xs → (x : X) × (slice_get xs i ≡ Some x)
-there_in [] i h = absurd (omega arith)
-there_in (x ∷ xs) zero h = (x, refl)
-there_in (x ∷ xs) (suc i) h = there_in xs i (omega arith)
 
 from_each : {B : Type 0} (f : ℕ → Option B) (g : ℕ → B) (n : ℕ) → ((i : ℕ) → i < n → f i ≡ Some (g i)) → filter_map f (numbers n) ≡ map g (numbers n)
 from_each f g zero h = refl

@@ -28,6 +28,7 @@ mod KnownLemmas
 mod LayoutLemmas
 mod LineTextLemmas
 mod LineWalkLemmas
+mod ListLemmas
 mod MemberLemmas
 mod MemberSoundLemmas
 mod MembersLemmas

@@ -1,6 +1,6 @@
 -- What surrounds a place.
 use Rattle.std.proofs.Common.{◌≡◌, ℕ, ◌+◌, ◌<◌, ◌≤◌, Bool, true, false, cond, if◌then◌else◌, List, [], ◌∷◌, ◌++◌, length, filter, Some, refl, ap, sym, ◌∙◌, arith, get_or}
-use Rattle.std.specs.List.{slice_get, flat_map, count_by, fold}
+use Rattle.std.specs.List.{slice_get, flat_map, count_by}
 use Rattle.std.specs.Option.{option_map}
 use Rattle.std.proofs.lemmas.List.{append-nil}
 use Rattle.std.proofs.lemmas.List.Elements.{filter-append}
@@ -10,11 +10,12 @@ use Rattle.kc_read.specs.declared.line.Line.{Line}
 use Rattle.kc_read.specs.Reads.{statement_view}
 use Rattle.kc_read.specs.declared.statement.Block.TheVariants as block
 use Rattle.kc_read.specs.Statements.{Numbered, ChoiceLine}
-use Rattle.kc_read.specs.Blocks.{numbers, last_of, bracket, opened}
+use Rattle.kc_read.specs.Blocks.{last_of, bracket, opened}
 use Rattle.kc_build.specs.Facts.{of_block, block_parts, own_visible, choice_number, is_block}
 use Rattle.kc_build.specs.Passes.{said_by}
 use Rattle.kc_build.specs.Rounds.{Surroundings, next_count, block_visible, inside_from}
 use Rattle.kc_build.proofs.BlockLemmas.{last-snoc}
+use Rattle.kc_build.proofs.ListLemmas.{count_next}
 use Rattle.kc_build.proofs.PlaceLemmas.{numbers-next, statement_at}
 
 module _ (ss : List Numbered) where
@@ -52,15 +53,11 @@ module _ (ss : List Numbered) where
   by_line ChoiceLine n = refl
   by_line _ n = omega arith
 
-  fold_snoc : (g : ℕ → ℕ → ℕ) (a : ℕ) (xs : List ℕ) (x : ℕ) → fold g a (xs ++ x ∷ []) ≡ g (fold g a xs) x
-  fold_snoc g a [] x = refl
-  fold_snoc g a (y ∷ xs) x = fold_snoc g (g a y) xs x
-
   pub choice_number-next : (i : ℕ) (s : Numbered) → slice_get ss i ≡ Some s → next_count s (choice_number ss i) ≡ choice_number ss (i + 1)
   choice_number-next i s h =
       let test : of_block ss block.Choice i ≡ is_block block.Choice (opened (bracket s)) = rw h refl in
       by_line s (choice_number ss i) ∙ sym (ap (count_by (of_block ss block.Choice)) (numbers-next i)
-      ∙ fold_snoc (λ (a x : ℕ). a + cond (of_block ss block.Choice x) 1 0) 0 (numbers i) i ∙ ap (λ (b : Bool). choice_number ss i + cond b 1 0) test)
+      ∙ count_next (of_block ss block.Choice) i ∙ ap (λ (b : Bool). choice_number ss i + cond b 1 0) test)
 
 -- The same for a walk over lines.
 module _ (ls : List Line) where

@@ -1,6 +1,6 @@
 -- The walk behind an entry that defines no symbol.
 use Rattle.std.proofs.Common.{◌≡◌, ℕ, zero, suc, ◌+◌, ◌*◌, ◌≤◌, Bool, true, false, cond, if◌then◌else◌, List, [], ◌∷◌, ◌++◌, length, filter, map, Option, Some, None, refl, ap, sym, ◌∙◌, subst, arith, add-one, length-append, take, codes, unwrap_or}
-use Rattle.std.specs.List.{All, slice_get, filter_map, flat_map, cons_option, count_by, fold}
+use Rattle.std.specs.List.{All, slice_get, filter_map, flat_map, cons_option}
 use Rattle.std.specs.Option.{is_some, option_map}
 use Rattle.std.proofs.lemmas.List.{append-nil, length-map, map-append}
 use Rattle.std.proofs.lemmas.List.Elements.{All-append}
@@ -29,6 +29,7 @@ use Rattle.kc_build.specs.Walks.{IsHead, IsWalk, place_after}
 use Rattle.kc_build.specs.declared.entries.Walk.{Walk}
 use Rattle.kc_build.proofs.EnterLemmas.{blocks_passed, definitions_passed, enclosing_passed, entries_passed, member_line, members_passed, names_passed, titles_passed}
 use Rattle.kc_build.proofs.GrownLemmas.{Extends, choice_extends, definition_extends_same, entries_stay, impliers_same, map_alike, selectors_same, shown_extends, titles_stay}
+use Rattle.kc_build.proofs.ListLemmas.{count_next}
 use Rattle.kc_build.proofs.OpenLemmas.{open_moves}
 use Rattle.kc_build.proofs.PlaceLemmas.{filter_map-next}
 
@@ -38,12 +39,6 @@ all_at P xs i x a e =
     subst P (get_or_from_slice_get xs i x x e) (a i x (slice_get_within xs i x e))
 
 -- How many choices and entries there are.
-fold_snoc : (g : ℕ → ℕ → ℕ) (a : ℕ) (xs : List ℕ) (x : ℕ) → fold g a (xs ++ x ∷ []) ≡ g (fold g a xs) x
-fold_snoc g a [] x = refl
-fold_snoc g a (y ∷ xs) x = fold_snoc g (g a y) xs x
-
-pub count_next : (p : ℕ → Bool) (n : ℕ) → count_by p (numbers (suc n)) ≡ count_by p (numbers n) + cond (p n) 1 0
-count_next p n = fold_snoc (λ (a x : ℕ). a + cond (p x) 1 0) 0 (numbers n) n
 
 if_some : (b : Bool) (s : SymId) → b ≡ is_some (if b then Some (SymbolShown s) else None)
 if_some true s = refl
