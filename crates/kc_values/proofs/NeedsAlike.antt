@@ -100,7 +100,8 @@ module _ (tree : TreeFacts) (l : Layout) (laid : IsLayoutOf tree l) (g : Nodes) 
         ap (λ x. x || own) (list_any-append st (rows.context_nodes l outer) [] ∙ ap (λ x. x || false) (told outer b ∙ asks_parts tree l v c))
         ∙ turned (forms tree l v c.parts) (mode tree l v c.mode) own
         ∙ sym (asks_parts tree l v (record { parts = c.parts ++ listed (Some (form_of e.value)); mode = mode_view o })
-        ∙ ap (λ x. x || mode tree l v (mode_view o)) (forms_more tree l v c.parts (listed (Some (form_of e.value))) ∙ ap (λ x. forms tree l v c.parts || x) (forms_when tree l v (Some (form_of e.value))))
+        ∙ ap (λ x. x || mode tree l v (mode_view o))
+        (forms_more tree l v c.parts (listed (Some (form_of e.value))) ∙ ap (λ x. forms tree l v c.parts || x) (forms_when tree l v (Some (form_of e.value))))
         ∙ ap (λ m. (forms tree l v c.parts || own) || mode tree l v m) (keeps (form_of e.value) refl))
       where
         turned : (a m x : Bool) → (((a || m) || false) || x) ≡ ((a || x) || m)
@@ -109,7 +110,9 @@ module _ (tree : TreeFacts) (l : Layout) (laid : IsLayoutOf tree l) (g : Nodes) 
         let c = condition_in l.tables.contexts outer in
         let mn = rows.mode_nodes l o in
         let mw = names tree l v (rows.mode_names l o) in
-        ap (λ x. x || mw) (list_any-append st (rows.context_nodes l outer) mn ∙ ap (λ x. x || list_any st mn) (told outer b ∙ asks_parts tree l v c ∙ ap (λ x. forms tree l v c.parts || x) (no_mode tree l v c.mode (begins refl))))
+        let first : list_any st (rows.context_nodes l outer) ≡ (forms tree l v c.parts || false) =
+        told outer b ∙ asks_parts tree l v c ∙ ap (λ x. forms tree l v c.parts || x) (no_mode tree l v c.mode (begins refl)) in
+        ap (λ x. x || mw) (list_any-append st (rows.context_nodes l outer) mn ∙ ap (λ x. x || list_any st mn) first)
         ∙ turned (forms tree l v c.parts) (list_any st mn) mw
         ∙ ap (λ x. (forms tree l v c.parts || false) || x) (mode_needs o there)
         ∙ sym (asks_parts tree l v (record { parts = c.parts ++ []; mode = mode_view o })
