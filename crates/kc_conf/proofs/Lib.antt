@@ -11,3 +11,5 @@ pub mod RuleLemmas
 pub mod RunLemmas
 pub mod StreamLemmas
 pub mod TellingLemmas
+pub mod PromptLemmas
+pub mod StopLemmas
