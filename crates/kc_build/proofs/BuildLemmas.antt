@@ -38,13 +38,17 @@ use Rattle.kc_build.proofs.WholeLemmas.{IsShaped, shaped, well_formed}
 -- Each late refusal is of a member or of a default.
 late_codes : (names : List (List ℕ)) (ls : List (Placed Numbered)) → All (λ r. r.code ≢ code.Memory) (late_refusals names ls)
 late_codes names ls =
-    All-append (λ r. r.code ≢ code.Memory) (flat_map (refused_at names ls code.ChoiceMember) (bad_members said)) (flat_map (refused_at names ls code.BadDefault) (bad_defaults said)) (All-flat_map (λ r. r.code ≢ code.Memory) (refused_at names ls code.ChoiceMember) (one_code code.ChoiceMember (λ h. cc)) (bad_members said)) (All-flat_map (λ r. r.code ≢ code.Memory) (refused_at names ls code.BadDefault) (one_code code.BadDefault (λ h. cc)) (bad_defaults said))
+    All-append (λ r. r.code ≢ code.Memory) (flat_map (refused_at names ls code.ChoiceMember) (bad_members said))
+    (flat_map (refused_at names ls code.BadDefault) (bad_defaults said))
+    (All-flat_map (λ r. r.code ≢ code.Memory) (refused_at names ls code.ChoiceMember) (one_code code.ChoiceMember (λ h. cc)) (bad_members said))
+    (All-flat_map (λ r. r.code ≢ code.Memory) (refused_at names ls code.BadDefault) (one_code code.BadDefault (λ h. cc)) (bad_defaults said))
   where
     said : List Numbered
     said = map (λ l. l.statement) ls
 
     one_code : (c : Code) → c ≢ code.Memory → (i : ℕ) → All (λ r. r.code ≢ code.Memory) (refused_at names ls c i)
-    one_code c ne i = All-map_each (λ (r : Refused). r.code ≢ code.Memory) (λ (l : Placed Numbered). refused (record { code = c; detail = entry_name names (entry_symbol (menu_entry_at said i)) }) l.file l.line) (λ l. ne) (listed (slice_get ls i))
+    one_code c ne i = All-map_each (λ (r : Refused). r.code ≢ code.Memory)
+        (λ (l : Placed Numbered). refused (record { code = c; detail = entry_name names (entry_symbol (menu_entry_at said i)) }) l.file l.line) (λ l. ne) (listed (slice_get ls i))
 
 not_memory : (rs : List Refused) (t : TreeFacts) (v : Refused) → All (λ r. r.code ≢ code.Memory) rs → Err v ≡ unless_refused rs t → v.code ≢ code.Memory
 not_memory [] t v a h = absurd cc
@@ -58,12 +62,15 @@ whole_by (r ∷ rs) t u h = absurd cc
 
 pub late-memory : (ls : List (Placed Written)) (r : Refusal) → Err (refusal_view r) ≡ tree_of_lines ls → IsMemory r
 late-memory ls r h m =
-    absurd (not_memory (late_refusals (names_of (statements ls)) (numbered_lines ls)) (facts_with (names_of (statements ls)) (length (defined (statements ls))) (modules_id (statements ls)) (numbered_lines ls)) (refusal_view r) (late_codes (names_of (statements ls)) (numbered_lines ls)) h m)
+    absurd (not_memory (late_refusals (names_of (statements ls)) (numbered_lines ls))
+    (facts_with (names_of (statements ls)) (length (defined (statements ls))) (modules_id (statements ls)) (numbered_lines ls)) (refusal_view r)
+    (late_codes (names_of (statements ls)) (numbered_lines ls)) h m)
 
 -- the tree that lines give is well formed
 pub whole-formed : (ls : List (Placed Written)) (t : TreeFacts) → AreNames (defined (statements ls)) → AreDistinct (names_of (statements ls)) → IsShaped ls → Ok t ≡ tree_of_lines ls → IsWellFormed t
 whole-formed ls t known distinct shaped h =
-    let w = whole_by (late_refusals (names_of (statements ls)) (numbered_lines ls)) t (facts_with (names_of (statements ls)) (length (defined (statements ls))) (modules_id (statements ls)) (numbered_lines ls)) h in
+    let w = whole_by (late_refusals (names_of (statements ls)) (numbered_lines ls)) t
+    (facts_with (names_of (statements ls)) (length (defined (statements ls))) (modules_id (statements ls)) (numbered_lines ls)) h in
     subst IsWellFormed (sym w.1) (well_formed ls known distinct shaped w.0)
 
 -- what the numbered lines of an expanded list give
@@ -97,7 +104,8 @@ module _ (log : Log) (l : Listing) (h : IsListing log l) where
       let few = (expanded_known files root log x).few in
       omega arith
 
-  pub assembled-lines : (ls : List Line) (s : Result TreeParts Refusal) → ls ≡ l.lines.items → assembled_view l.names s ≡ tree_with l.names l.count l.modules (map line_view ls) → assembled_view l.names s ≡ tree_of_lines log.lines
+  pub assembled-lines : (ls : List Line) (s : Result TreeParts Refusal) → ls ≡ l.lines.items →
+      assembled_view l.names s ≡ tree_with l.names l.count l.modules (map line_view ls) → assembled_view l.names s ≡ tree_of_lines log.lines
   assembled-lines ls s same a =
       let ss = statements log.lines in
       a

@@ -1,8 +1,8 @@
 -- How many choices open before a place.
-use Rattle.std.proofs.Common.{◌≡◌, ℕ, zero, suc, ◌+◌, ◌<◌, ◌≤◌, Bool, true, cond, List, [], ◌∷◌, ◌++◌, length, filter, map, Option, Some, None, refl, ap, sym, ◌∙◌, arith, get_or}
+use Rattle.std.proofs.Common.{◌≡◌, ℕ, zero, suc, ◌+◌, ◌<◌, ◌≤◌, Bool, true, cond, List, length, filter, map, Option, Some, None, ap, sym, ◌∙◌, arith, get_or}
 use Rattle.std.specs.Prelude.{◌⊎◌}
 use Rattle.std.proofs.Common.{inl, inr}
-use Rattle.std.specs.List.{count_by, fold}
+use Rattle.std.specs.List.{count_by}
 use Rattle.std.specs.Option.{option_map}
 use Rattle.std.proofs.lemmas.List.{length-map}
 use Rattle.std.proofs.lemmas.List.Sums.{length-filter}
@@ -14,16 +14,11 @@ use Rattle.kc_read.specs.Blocks.{numbers, bracket, opened}
 use Rattle.kc_tree.specs.TreeFacts.{ChoiceFacts}
 use Rattle.kc_build.specs.Facts.{is_block, of_block, choice_number, choice_facts}
 use Rattle.kc_build.specs.Passes.{said_by}
+use Rattle.kc_build.proofs.ListLemmas.{count_next}
 use Rattle.kc_build.proofs.MemberLemmas.{below_or_past}
 use Rattle.kc_build.proofs.PlaceLemmas.{statement_at}
 
 -- so many choices before a place, and more after one that opens there
-fold_snoc : (g : ℕ → ℕ → ℕ) (a : ℕ) (xs : List ℕ) (x : ℕ) → fold g a (xs ++ x ∷ []) ≡ g (fold g a xs) x
-fold_snoc g a [] x = refl
-fold_snoc g a (y ∷ xs) x = fold_snoc g (g a y) xs x
-
-count_next : (p : ℕ → Bool) (n : ℕ) → count_by p (numbers (suc n)) ≡ count_by p (numbers n) + cond (p n) 1 0
-count_next p n = fold_snoc (λ (a x : ℕ). a + cond (p x) 1 0) 0 (numbers n) n
 
 fewer_step : (p : ℕ → Bool) (i n : ℕ) → (i < n) ⊎ (n ≤ i) → i < suc n → p i ≡ true → (i < n → count_by p (numbers i) < count_by p (numbers n)) → count_by p (numbers i) < count_by p (numbers (suc n))
 fewer_step p i n (inl below) h e before =
@@ -49,7 +44,8 @@ module _ (ss : List Numbered) where
   so_many i =
       length-map (filter (of_block ss block.Choice) (numbers i)) (choice_facts ss) ∙ length-filter (of_block ss block.Choice) (numbers i)
 
-pub opens_choice : (ls : List Line) (i : ℕ) (x : Line) (b : Bool) → i < length ls → x ≡ get_or ls i x → b ≡ is_block block.Choice (opened (bracket (statement_view x.statement))) → of_block (said_by ls) block.Choice i ≡ b
+pub opens_choice : (ls : List Line) (i : ℕ) (x : Line) (b : Bool) → i < length ls → x ≡ get_or ls i x →
+    b ≡ is_block block.Choice (opened (bracket (statement_view x.statement))) → of_block (said_by ls) block.Choice i ≡ b
 opens_choice ls i x b h at e = rw (statement_at ls i x h at) (sym e)
 
 some_is : {A B : Type 0} (v : A → B) (o : Option A) (x : A) (y : B) → o ≡ Some x → option_map v o ≡ Some y → v x ≡ y

@@ -23,7 +23,7 @@ use Rattle.kc_read.specs.Files.{Files}
 use Rattle.kc_read.specs.Lines.{Context, After, Cause, ReadsTarget, ReadsType, begins_with, cause, left_out, syntax_cause, ReadsLine, ReadsPlaced, ReadsRest, attribute_words, block_words, left_out_words, type_words, ReadsWhole, ReadsCondition, ReadsValue, ReadsAsked, choice_line, finish, good_name, in_place, is_good_name, keyword_in, keyword_of, keyword_words, known, operand_of, option_line, place_cause, plain_text, target_of, text_of, word_of, expected}
 use Rattle.kc_read.specs.Progress.{defined_after, naming_cause}
 use Rattle.kc_read.specs.Numbering.{place_numbered}
-use Rattle.kc_read.specs.Statements.{Asked, Written, Numbered, Placed, numbered, ConfigLine, IfLine, EndIfLine, CommentLine, SourceLine, MenuLine, EndMenuLine, ChoiceLine, EndChoiceLine, MainMenuLine, TypeLine, PromptLine, DefaultLine, DefLine, DependsLine, VisibleLine, SelectLine, ImplyLine, RangeLine, HelpLine, ModulesLine, IgnoredLine}
+use Rattle.kc_read.specs.Statements.{Asked, Written, Placed, numbered, ConfigLine, IfLine, EndIfLine, CommentLine, SourceLine, MenuLine, EndMenuLine, ChoiceLine, EndChoiceLine, MainMenuLine, TypeLine, PromptLine, DefaultLine, DefLine, DependsLine, VisibleLine, SelectLine, ImplyLine, RangeLine, HelpLine, ModulesLine, IgnoredLine}
 use Rattle.kc_build.specs.Facts.{type_of}
 use Rattle.kc_build.specs.Known.{AreTyped}
 use Rattle.kc_build.proofs.ElementLemmas.{get_snoc}
@@ -302,6 +302,6 @@ module _ (modules : Option SymId) (number : List ℕ → ℕ) where
   untyped_not _ a e = absurd cc
 
   pub numbered_typed : (ls : List (Placed Written)) → ((i : ℕ) (l : Placed Written) → slice_get ls i ≡ Some l → IsAllowed l.statement) → AreTyped (map (λ l. l.statement) (map (place_numbered modules number) ls))
-  numbered_typed [] h = λ i s e. absurd cc
+  numbered_typed [] h i s e t = absurd cc
   numbered_typed (l ∷ ls) h zero s e t = untyped_not l.statement (h zero l refl) (ap type_of (let same : numbered modules number l.statement ≡ s = cc in same) ∙ t)
   numbered_typed (l ∷ ls) h (suc i) s e t = numbered_typed ls (λ j. h (suc j)) i s e t

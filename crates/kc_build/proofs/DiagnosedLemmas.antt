@@ -37,6 +37,7 @@ use Rattle.kc_build.specs.Said.{IsDiagnosed}
 use Rattle.kc_build.specs.Trees.{unless_refused}
 use Rattle.kc_build.specs.Warnings.{bad_defaults, bad_members, is_bad_default, is_bad_member, late_refusals, line_of, menu_entry_at, menu_entry_before, numbered_statements, prompt_before, refused_at, said, said_with, warned_at, warnings}
 use Rattle.kc_build.proofs.KnownLemmas.{choices_known, kinds_known}
+use Rattle.kc_build.proofs.ListLemmas.{there_in}
 use Rattle.kc_build.proofs.MemberLemmas.{below_or_past, member_is}
 use Rattle.kc_build.proofs.MenuEntryLemmas.{asks, entry_goes_on, entry_here, prompt_begins, prompt_goes_on}
 use Rattle.kc_build.proofs.PlaceLemmas.{filter-next, flat_map-next}
@@ -396,11 +397,6 @@ module _ {A : Type 0} (R : ℕ → List A) (q : ℕ → Bool) where
   none_kept zero some h = refl
   none_kept (suc n) some h = none_more n (q n) refl (some n (omega arith)) h (none_kept n (λ i l. some i (omega arith)))
 
-line_there : {A : Type 0} (xs : List A) (i : ℕ) → i < length xs → (x : A) × (slice_get xs i ≡ Some x)
-line_there [] i h = absurd (omega arith)
-line_there (x ∷ xs) zero h = (x, refl)
-line_there (x ∷ xs) (suc i) h = line_there xs i (omega arith)
-
 -- no refusal, and the warnings are all there is
 pub record IsAccepted (names : List (List ℕ)) (ls : List (Placed Numbered)) (d : Diagnostics) : Type 0 where
   pub refusals : late_refusals names ls ≡ []
@@ -424,7 +420,7 @@ module _ (names : List (List ℕ)) (ls : List (Placed Numbered)) (d : Diagnostic
 
   refused_some : (c : Code) (i : ℕ) → i < length (numbered_statements ls) → refused_at names ls c i ≡ [] → ⊥
   refused_some c i h none =
-      let l = line_there ls i (omega (arith, statement_count names ls)) in
+      let l = there_in ls i (omega (arith, statement_count names ls)) in
       let some = refused_one names ls c i l.0 l.1 in
       cc
 

@@ -46,7 +46,8 @@ passing : {X : Type 0} (p : X → Bool) (xs : List X) (k : ℕ) → k < prefix_l
 passing p [] k h = absurd (omega arith)
 passing {X} p (y ∷ xs) k h = by (p y) refl (λ j. passing p xs j) k h
   where
-    by : (b : Bool) → p y ≡ b → ((j : ℕ) → j < prefix_len p xs → (x : X) × (slice_get xs j ≡ Some x) × (p x ≡ true)) → (j : ℕ) → j < (if b then 1 + prefix_len p xs else 0) → (x : X) × (slice_get (y ∷ xs) j ≡ Some x) × (p x ≡ true)
+    by : (b : Bool) → p y ≡ b → ((j : ℕ) → j < prefix_len p xs → (x : X) × (slice_get xs j ≡ Some x) × (p x ≡ true)) → (j : ℕ) → j < (if b then 1 + prefix_len p xs else 0) →
+        (x : X) × (slice_get (y ∷ xs) j ≡ Some x) × (p x ≡ true)
     by true e rest zero l = (y, refl, e)
     by true e rest (suc j) l = rest j (omega arith)
     by false e rest j l = absurd (omega arith)
@@ -79,12 +80,15 @@ module _ (ss : List Numbered) (i : ℕ) (head : Numbered) (own : List Numbered) 
   pub over : {X : Type 0} (f : ℕ → X) → ((j : ℕ) (s : Numbered) → slice_get ss j ≡ Some s → is_attribute s ≡ true → f (j + 1) ≡ f j) → f after ≡ f (i + 1)
   over f g = stay f (i + 1) (length own) (λ k l. let s = between k l in g (i + 1 + k) s.0 s.1 s.2)
 
-  filter_map_over : {X : Type 0} (f : ℕ → Option X) → ((j : ℕ) (s : Numbered) → slice_get ss j ≡ Some s → is_attribute s ≡ true → f j ≡ None) → filter_map f (numbers after) ≡ filter_map f (numbers i) ++ cons_option (f i) []
+  filter_map_over : {X : Type 0} (f : ℕ → Option X) → ((j : ℕ) (s : Numbered) → slice_get ss j ≡ Some s → is_attribute s ≡ true → f j ≡ None) →
+      filter_map f (numbers after) ≡ filter_map f (numbers i) ++ cons_option (f i) []
   filter_map_over {X} f g =
-      over (λ j. filter_map f (numbers j)) (λ j s at e. filter_map-next f j ∙ ap (λ (o : Option X). filter_map f (numbers j) ++ cons_option o []) (g j s at e) ∙ append-nil (filter_map f (numbers j)))
+      over (λ j. filter_map f (numbers j)) (λ j s at e. filter_map-next f j ∙ ap (λ (o : Option X). filter_map f (numbers j) ++ cons_option o []) (g j s at e)
+      ∙ append-nil (filter_map f (numbers j)))
       ∙ filter_map-next f i
 
-  flat_map_over : {X : Type 0} (f : ℕ → List X) → ((j : ℕ) (s : Numbered) → slice_get ss j ≡ Some s → is_attribute s ≡ true → f j ≡ []) → flat_map f (numbers after) ≡ flat_map f (numbers i) ++ f i
+  flat_map_over : {X : Type 0} (f : ℕ → List X) → ((j : ℕ) (s : Numbered) → slice_get ss j ≡ Some s → is_attribute s ≡ true → f j ≡ []) →
+      flat_map f (numbers after) ≡ flat_map f (numbers i) ++ f i
   flat_map_over {X} f g =
       over (λ j. flat_map f (numbers j)) (λ j s at e. flat_map-next f j ∙ ap (λ (l : List X). flat_map f (numbers j) ++ l) (g j s at e) ∙ append-nil (flat_map f (numbers j)))
       ∙ flat_map-next f i
@@ -124,7 +128,9 @@ module _ (ss : List Numbered) (i : ℕ) (head : Numbered) (own : List Numbered) 
 
   pub blocks_passed : (b : Block) → filter (of_block ss b) (numbers after) ≡ filter (of_block ss b) (numbers i) ++ (if of_block ss b i then i ∷ [] else [])
   blocks_passed b =
-      over (λ j. filter (of_block ss b) (numbers j)) (λ j s at e. filter-next (of_block ss b) j ∙ ap (λ (c : Bool). filter (of_block ss b) (numbers j) ++ (if c then j ∷ [] else [])) (no_block b j s at e) ∙ append-nil (filter (of_block ss b) (numbers j)))
+      over (λ j. filter (of_block ss b) (numbers j))
+      (λ j s at e. filter-next (of_block ss b) j ∙ ap (λ (c : Bool). filter (of_block ss b) (numbers j) ++ (if c then j ∷ [] else [])) (no_block b j s at e)
+      ∙ append-nil (filter (of_block ss b) (numbers j)))
       ∙ filter-next (of_block ss b) i
 
   titles_next : (j : ℕ) (s : Numbered) → slice_get ss j ≡ Some s → filter_map title_of (take (j + 1) ss) ≡ filter_map title_of (take j ss) ++ cons_option (title_of s) []
@@ -133,7 +139,9 @@ module _ (ss : List Numbered) (i : ℕ) (head : Numbered) (own : List Numbered) 
 
   pub titles_passed : filter_map title_of (take after ss) ≡ filter_map title_of (take i ss) ++ cons_option (title_of head) []
   titles_passed =
-      over (λ j. filter_map title_of (take j ss)) (λ j s at e. titles_next j s at ∙ ap (λ (o : Option (List ℕ)). filter_map title_of (take j ss) ++ cons_option o []) (attribute_title s e) ∙ append-nil (filter_map title_of (take j ss)))
+      over (λ j. filter_map title_of (take j ss))
+      (λ j s at e. titles_next j s at ∙ ap (λ (o : Option (List ℕ)). filter_map title_of (take j ss) ++ cons_option o []) (attribute_title s e)
+      ∙ append-nil (filter_map title_of (take j ss)))
       ∙ titles_next i head h.at
 
   pub enclosing_passed : enclosing ss after ≡ enclosing ss (suc i)

@@ -1,7 +1,6 @@
 -- What the walk knows of an entry before it goes into it.
-use Rattle.std.proofs.Common.{◌≡◌, ℕ, suc, ◌+◌, ◌<◌, Bool, true, false, List, [], ◌∷◌, length, map, Option, Some, None, refl, ap, sym, ◌∙◌, arith, inl, inr}
+use Rattle.std.proofs.Common.{◌≡◌, ℕ, Bool, true, false, List, length, Option, Some, None, refl, ap, sym, ◌∙◌, inl, inr}
 use Rattle.std.specs.Prelude.{◌⊎◌}
-use Rattle.std.specs.List.{slice_get, filter_map}
 use Rattle.std.specs.Option.{option_map}
 use Rattle.std.proofs.lemmas.List.{length-map}
 use Rattle.std.proofs.lemmas.Option.{slice_get_within}
@@ -17,13 +16,11 @@ use Rattle.kc_tree.specs.Contexts.{condition_in, mode_view}
 use Rattle.kc_tree.specs.Layouts.{definition_facts}
 use Rattle.kc_build.specs.Before.{definition_at}
 use Rattle.kc_build.specs.declared.blocks.Block.{Block}
-use Rattle.kc_build.specs.declared.diagnostics.EntryPlace.{EntryPlace}
-use Rattle.kc_build.specs.declared.diagnostics.MenuEntry.{MenuEntry}
 use Rattle.kc_build.specs.declared.diagnostics.MenuEntry.TheVariants as menu_entry
 use Rattle.kc_build.specs.declared.entries.Walk.{Walk}
-use Rattle.kc_build.specs.Facts.{choice_number, choice_round, is_first_definition, symbol_at, symbol_of}
+use Rattle.kc_build.specs.Facts.{choice_number, choice_round, symbol_at, symbol_of}
 use Rattle.kc_build.specs.Firsts.{first_of_symbol, is_first_at}
-use Rattle.kc_build.specs.Known.{IsPlace, IsWhole, definition_number, first_by}
+use Rattle.kc_build.specs.Known.{IsWhole, definition_number, first_by}
 use Rattle.kc_build.specs.Walks.{IsHead, IsWalk}
 use Rattle.kc_build.specs.Warnings.{begun, menu_entry_at, menu_entry_before}
 use Rattle.kc_build.proofs.FirstNumberLemmas.{first_by_number}
@@ -32,12 +29,14 @@ use Rattle.kc_build.proofs.WalkLemmas.{choice_count}
 use Rattle.kc_build.proofs.LayoutLemmas.{length-given}
 
 -- A statement that begins no symbol and no choice.
-pub other_begins : (n : ℕ) (s : Statement) → ((t : SymId) → s ≡ made.Config t → ⊥) → (s ≡ made.Choice → ⊥) → (begun n (statement_view s) ≡ menu_entry.Other) × (symbol_of (Some (statement_view s)) ≡ None)
+pub other_begins : (n : ℕ) (s : Statement) → ((t : SymId) → s ≡ made.Config t → ⊥) → (s ≡ made.Choice → ⊥) →
+    (begun n (statement_view s) ≡ menu_entry.Other) × (symbol_of (Some (statement_view s)) ≡ None)
 other_begins n (made.Config t) a b = absurd (a t refl)
 other_begins n made.Choice a b = absurd (b refl)
 other_begins n _ a b = (refl, refl)
 
-module _ (ss : List Numbered) (symbols : List Symbol) (i : ℕ) (head : Numbered) (own : List Numbered) (whole : IsWhole ss symbols) (h : IsHead ss i head own) (w : Walk) (k : IsWalk ss symbols i w) where
+module _ (ss : List Numbered) (symbols : List Symbol) (i : ℕ) (head : Numbered) (own : List Numbered) (whole : IsWhole ss symbols) (h : IsHead ss i head own) (w : Walk)
+    (k : IsWalk ss symbols i w) where
   attribute_begins : (n : ℕ) (s : Numbered) → is_attribute s ≡ true → begun n s ≡ menu_entry.Other
   attribute_begins n (ConfigLine s) e = absurd cc
   attribute_begins n ChoiceLine e = absurd cc
@@ -53,7 +52,8 @@ module _ (ss : List Numbered) (symbols : List Symbol) (i : ℕ) (head : Numbered
   entry_is = by_kind (is_attribute head) refl h.begins
 
   -- the choice round the entry
-  pub round_is : (b : Block) (o : Option ChoiceId) → b ≡ w.blocks.innermost → mode_view o ≡ (condition_in w.tables.contexts b.within.0).mode → option_map (λ (c : ChoiceId). c.0) o ≡ choice_round ss i
+  pub round_is : (b : Block) (o : Option ChoiceId) → b ≡ w.blocks.innermost → mode_view o ≡ (condition_in w.tables.contexts b.within.0).mode →
+      option_map (λ (c : ChoiceId). c.0) o ≡ choice_round ss i
   round_is b o e m =
       m ∙ ap (λ (x : Block). (condition_in w.tables.contexts x.within.0).mode) e ∙ ap (λ x. x.mode) k.blocks.innermost
 

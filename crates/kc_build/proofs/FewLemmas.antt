@@ -1,5 +1,5 @@
 -- An expanded list has no more lines than there may be physical lines: each statement takes one at least.
-use Rattle.std.proofs.Common.{◌≡◌, ℕ, ◌+◌, ◌<◌, ◌≤◌, nat_lt, nat_le, Bool, true, false, cond, List, [], ◌∷◌, ◌++◌, length, map, Option, Some, None, Result, Ok, Err, MatchOption, refl, ap, sym, ◌∙◌, subst, arith, length-append}
+use Rattle.std.proofs.Common.{◌≡◌, ℕ, ◌+◌, ◌<◌, ◌≤◌, nat_lt, nat_le, Bool, true, false, cond, List, [], ◌∷◌, ◌++◌, length, Option, Some, None, Result, Ok, Err, MatchOption, refl, ap, sym, ◌∙◌, arith, length-append}
 use Rattle.std.specs.List.{list_any}
 use Rattle.std.proofs.lemmas.Bool.Decides.{nat_tests}
 use Rattle.std.proofs.lemmas.List.{length-map}
@@ -10,7 +10,7 @@ use Rattle.kc_read.specs.Expansion.{Around, Expands, Log, Refused, Rest, bytes_c
 use Rattle.kc_read.specs.Files.{Files}
 use Rattle.kc_read.specs.Limits.{most_files, most_lines}
 use Rattle.kc_read.specs.Lines.{Cause, cause}
-use Rattle.kc_read.specs.Numbering.{number_line, numbered_lines}
+use Rattle.kc_read.specs.Numbering.{number_line}
 use Rattle.kc_read.specs.Reads.{line_view}
 use Rattle.kc_read.specs.Statements.{Placed, Written}
 use Rattle.kc_read.proofs.RestLemmas.{next_less}
@@ -28,7 +28,8 @@ few_opened name n bytes h = by (nat_lt most_lines (n + lines_of bytes)) refl h
 few_sourced : (files : Files) (names : List (List ℕ)) (n : ℕ) (name bytes : List ℕ) → sourcing_cause files names n name ≡ None → files name ≡ Some bytes → n + lines_of bytes ≤ most_lines
 few_sourced files names n name bytes h there = by (list_any (same_name name) names) (nat_le most_files (length names)) h
   where
-    by : (open_now full : Bool) → cond open_now (Some (of_file code.InclusionLoop name)) (cond full (Some (cause code.TooDeep)) (bytes_cause name n (files name))) ≡ None → n + lines_of bytes ≤ most_lines
+    by : (open_now full : Bool) →
+        cond open_now (Some (of_file code.InclusionLoop name)) (cond full (Some (cause code.TooDeep)) (bytes_cause name n (files name))) ≡ None → n + lines_of bytes ≤ most_lines
     by true full f = absurd cc
     by false true f = absurd cc
     by false false f = few_opened name n bytes (ap (bytes_cause name n) (sym there) ∙ f)
@@ -42,7 +43,8 @@ later : (m l : ℕ) (log next : Log) (r : Result Log Refused) → m < l → leng
 later m l log next (Ok more) less one same h = (omega (arith, h.0), λ few. h.1 (omega arith))
 later m l log next (Err r) less one same h = tt
 
-behind : (m l opened n : ℕ) (log more : Log) (r : Result Log Refused) → m < l → opened ≡ n → (log.counted + n ≤ most_lines) → Adds opened (record { lines = log.lines; counted = log.counted + n }) (Ok more) → Adds m more r → Adds l log r
+behind : (m l opened n : ℕ) (log more : Log) (r : Result Log Refused) → m < l → opened ≡ n → (log.counted + n ≤ most_lines) →
+    Adds opened (record { lines = log.lines; counted = log.counted + n }) (Ok more) → Adds m more r → Adds l log r
 behind m l opened n log more (Ok last) less size few h g = (omega (arith, h.0, g.0), λ _. g.1 (h.1 few))
 behind m l opened n log more (Err r) less size few h g = tt
 
@@ -57,16 +59,20 @@ rest_adds (bad_line a l m own log c n) = tt
 rest_adds (bad_effect a l m own log s c n e) = tt
 rest_adds (statement a l m own log s r n e f rest) =
     let added : Placed Written = record { file = a.file; line = l.number; statement = s } in
-    later (length m.lines) (length l.lines) log (record { lines = log.lines ++ added ∷ []; counted = log.counted }) r (next_less l m n.tokens None n.next) (omega (arith, length-append log.lines (added ∷ []))) refl (rest_adds rest)
+    later (length m.lines) (length l.lines) log (record { lines = log.lines ++ added ∷ []; counted = log.counted }) r (next_less l m n.tokens None n.next)
+    (omega (arith, length-append log.lines (added ∷ []))) refl (rest_adds rest)
 rest_adds (bad_source a l m own log name c n e) = tt
 rest_adds (refused_inside a l m own log name bytes e n f g inner) = tt
 rest_adds {files} (source a l m own log more name bytes r n e f inner rest) =
-    behind (length m.lines) (length l.lines) (lines_of bytes) (lines_of bytes) log more r (next_less l m n.tokens None n.next) refl (few_sourced files a.open_files log.counted name bytes e f) (rest_adds inner) (rest_adds rest)
+    behind (length m.lines) (length l.lines) (lines_of bytes) (lines_of bytes) log more r (next_less l m n.tokens None n.next) refl
+    (few_sourced files a.open_files log.counted name bytes e f) (rest_adds inner) (rest_adds rest)
 
 pub expansion_few : (files : Files) (root : List ℕ) (log : Log) → Expands files root (Ok log) → length log.lines ≤ most_lines
 expansion_few files root log x = by (bytes_cause root 0 (files root)) refl x
   where
-    by : (o : Option Cause) → bytes_cause root 0 (files root) ≡ o → MatchOption o ((bytes : List ℕ) × (files root ≡ Some bytes) × Rest files (root_around root) (left bytes 1) [] (opening nothing_read bytes) (Ok log)) (λ c. Ok log ≡ Err (refused c root 0)) → length log.lines ≤ most_lines
+    by : (o : Option Cause) → bytes_cause root 0 (files root) ≡ o →
+        MatchOption o ((bytes : List ℕ) × (files root ≡ Some bytes) × Rest files (root_around root) (left bytes 1) [] (opening nothing_read bytes) (Ok log))
+        (λ c. Ok log ≡ Err (refused c root 0)) → length log.lines ≤ most_lines
     by None none e =
         let few : 0 + lines_of e.0 ≤ most_lines = few_opened root 0 e.0 (ap (bytes_cause root 0) (sym e.1) ∙ none) in
         let h = rest_adds e.2 in

@@ -4,16 +4,14 @@ use Rattle.std.specs.Prelude.{◌⊎◌, nat_le, reverse}
 use Rattle.std.specs.List.{All, slice_get, filter_map}
 use Rattle.std.specs.Option.{is_some, option_map, option_and_then}
 use Rattle.std.proofs.lemmas.Bool.Decides.{nat_tests}
-use Rattle.std.proofs.lemmas.List.{length-drop, get_or_append_left, get_or_past, get_or_push, length_push, length-map, map_push, take-map, drop-map, take-append-le, drop-append-le}
-use Rattle.std.proofs.lemmas.List.Elements.{All-push, All-weaker}
-use Rattle.std.proofs.lemmas.Option.{slice_get_within, slice_get-get_or, get_or_from_slice_get}
-use Rattle.kc_expr.specs.declared.expression.SymId.{SymId}
+use Rattle.std.proofs.lemmas.List.{length-drop, get_or_append_left, get_or_past, get_or_push, length_push, length-map, take-map, drop-map, take-append-le, drop-append-le}
+use Rattle.std.proofs.lemmas.List.Elements.{All-weaker}
+use Rattle.std.proofs.lemmas.Option.{slice_get_within, get_or_from_slice_get}
 use Rattle.kc_expr.specs.Form.{Form, Leaf}
 use Rattle.kc_expr.specs.When.{when_view}
 use Rattle.kc_read.specs.Statements.{Numbered}
 use Rattle.kc_tree.specs.declared.layout.Tables.{Tables}
 use Rattle.kc_tree.specs.declared.parts.Choice.{Choice}
-use Rattle.kc_tree.specs.declared.parts.ChoiceDefault.{ChoiceDefault}
 use Rattle.kc_tree.specs.declared.parts.Definition.{Definition}
 use Rattle.kc_tree.specs.declared.parts.DefinitionId.{DefinitionId}
 use Rattle.kc_tree.specs.declared.parts.Entry.{Entry}
@@ -35,7 +33,7 @@ use Rattle.kc_tree.specs.TreeFacts.{Condition, Guarded, Bounds, MenuShown, Comme
 use Rattle.kc_build.specs.EntryLines.{default_row, range_row}
 use Rattle.kc_build.specs.Growth.{IsGrown}
 use Rattle.kc_build.specs.Said.{AreRowsThere, IsEntryThere, IsSpanBelow, IsTitleThere}
-use Rattle.kc_build.specs.Stacks.{AreBlocksPlain, AreBlocksVisible, AreBlocksWithin, AreOpen, AreTitlesWithin, AsksNothing, block_view, open_blocks}
+use Rattle.kc_build.specs.Stacks.{AreBlocksPlain, AreBlocksVisible, AreBlocksWithin, AreOpen, AreTitlesWithin, AsksNothing, block_view}
 use Rattle.kc_build.specs.declared.blocks.Block.{Block}
 use Rattle.kc_build.specs.declared.blocks.Blocks.{Blocks}
 use Rattle.kc_build.specs.declared.entries.Walk.{Walk}
@@ -111,7 +109,8 @@ carries_grown old new mode n j h at g = record {
   modes = λ i k e. by_place i k e (cases_lt i (length old)) (cases_lt i (length new));
 }
   where
-    by_place : (i k : ℕ) → (condition_in new i).mode ≡ Some k → ((i < length old) ⊎ (length old ≤ i)) → ((i < length new) ⊎ (length new ≤ i)) → (j : ℕ) × (j ≤ i) × ((condition_in old j).mode ≡ Some k)
+    by_place : (i k : ℕ) → (condition_in new i).mode ≡ Some k → ((i < length old) ⊎ (length old ≤ i)) → ((i < length new) ⊎ (length new ≤ i)) →
+        (j : ℕ) × (j ≤ i) × ((condition_in old j).mode ≡ Some k)
     by_place i k e (inl before) q = (i, omega arith, sym (ap (λ (c : Condition). c.mode) (g.keeps i before)) ∙ e)
     by_place i k e (inr past) (inl within) = (j, omega arith, at ∙ sym (g.modes i past within) ∙ e)
     by_place i k e (inr past) (inr out) =
@@ -212,7 +211,8 @@ module _ (old new : List Condition) (g : Carries old new) where
   }
 
 -- One definition says the same: where the contexts that it leads to and its parts of the other tables do.
-prompt_alike : (old new : List Condition) (dep : Condition) (o : Option Prompt) → ((p : Prompt) → o ≡ Some p → condition_in new p.visible.0 ≡ condition_in old p.visible.0) → option_map (prompt_view new dep) o ≡ option_map (prompt_view old dep) o
+prompt_alike : (old new : List Condition) (dep : Condition) (o : Option Prompt) → ((p : Prompt) → o ≡ Some p → condition_in new p.visible.0 ≡ condition_in old p.visible.0) →
+    option_map (prompt_view new dep) o ≡ option_map (prompt_view old dep) o
 prompt_alike old new dep None h = refl
 prompt_alike old new dep (Some p) h = rw (h p refl) refl
 
@@ -242,7 +242,8 @@ spans s n m h l =
     let b : nat_le s.end m ≡ true = grind (arith, nat_tests) in
     rw (a, b) refl
 
-pub part_grown : {X Y : Type 0} (v : X → Y) (old new : List X) (more : List Y) (s : Span) → IsSpanBelow (length old) s → map v new ≡ map v old ++ more → map v (part_of new s) ≡ map v (part_of old s)
+pub part_grown : {X Y : Type 0} (v : X → Y) (old new : List X) (more : List Y) (s : Span) → IsSpanBelow (length old) s → map v new ≡ map v old ++ more →
+    map v (part_of new s) ≡ map v (part_of old s)
 part_grown v old new more s h e =
     let n : length new ≡ length old + length more = sym (length-map new v) ∙ ap length e ∙ length-append (map v old) more ∙ ap (λ (k : ℕ). k + length more) (length-map old v) in
     let up = h.goes_up in
@@ -258,24 +259,40 @@ part_grown v old new more s h e =
     ∙ sym (ap (λ (b : Bool). map v (spanned old s b)) (spans s (length old) (length old) h (omega arith)))
 
 module _ (old new : Tables) where
-  pub definition_alike : (d : Definition) → condition_in new.contexts d.within.0 ≡ condition_in old.contexts d.within.0 → ((p : Prompt) → d.prompt ≡ Some p → condition_in new.contexts p.visible.0 ≡ condition_in old.contexts p.visible.0) → map default_row (part_of new.defaults.items d.defaults) ≡ map default_row (part_of old.defaults.items d.defaults) → map range_row (part_of new.ranges.items d.ranges) ≡ map range_row (part_of old.ranges.items d.ranges) → definition_facts new d ≡ definition_facts old d
+  pub definition_alike : (d : Definition) → condition_in new.contexts d.within.0 ≡ condition_in old.contexts d.within.0 →
+      ((p : Prompt) → d.prompt ≡ Some p → condition_in new.contexts p.visible.0 ≡ condition_in old.contexts p.visible.0) →
+      map default_row (part_of new.defaults.items d.defaults) ≡ map default_row (part_of old.defaults.items d.defaults) →
+      map range_row (part_of new.ranges.items d.ranges) ≡ map range_row (part_of old.ranges.items d.ranges) → definition_facts new d ≡ definition_facts old d
   definition_alike d within visible defaults ranges =
       let before = condition_in old.contexts d.within.0 in
-      let prompt : option_map (prompt_view new.contexts (condition_in new.contexts d.within.0)) d.prompt ≡ option_map (prompt_view old.contexts before) d.prompt = ap (λ (c : Condition). option_map (prompt_view new.contexts c) d.prompt) within ∙ prompt_alike old.contexts new.contexts before d.prompt visible in
-      let given : map (default_view new.contexts (condition_in new.contexts d.within.0)) (part_of new.defaults.items d.defaults) ≡ map (default_view old.contexts before) (part_of old.defaults.items d.defaults) = ap (λ (c : Condition). map (default_view new.contexts c) (part_of new.defaults.items d.defaults)) within ∙ defaults_by_row new.contexts before (part_of new.defaults.items d.defaults) ∙ ap (map (default_under before)) defaults ∙ sym (defaults_by_row old.contexts before (part_of old.defaults.items d.defaults)) in
-      let bounds : map (range_view new.contexts (condition_in new.contexts d.within.0)) (part_of new.ranges.items d.ranges) ≡ map (range_view old.contexts before) (part_of old.ranges.items d.ranges) = ap (λ (c : Condition). map (range_view new.contexts c) (part_of new.ranges.items d.ranges)) within ∙ ranges_by_row new.contexts before (part_of new.ranges.items d.ranges) ∙ ap (map (bounds_under before)) ranges ∙ sym (ranges_by_row old.contexts before (part_of old.ranges.items d.ranges)) in
+      let prompt : option_map (prompt_view new.contexts (condition_in new.contexts d.within.0)) d.prompt ≡ option_map (prompt_view old.contexts before) d.prompt =
+      ap (λ (c : Condition). option_map (prompt_view new.contexts c) d.prompt) within ∙ prompt_alike old.contexts new.contexts before d.prompt visible in
+      let given : map (default_view new.contexts (condition_in new.contexts d.within.0)) (part_of new.defaults.items d.defaults) ≡
+      map (default_view old.contexts before) (part_of old.defaults.items d.defaults) =
+      ap (λ (c : Condition). map (default_view new.contexts c) (part_of new.defaults.items d.defaults)) within
+      ∙ defaults_by_row new.contexts before (part_of new.defaults.items d.defaults) ∙ ap (map (default_under before)) defaults
+      ∙ sym (defaults_by_row old.contexts before (part_of old.defaults.items d.defaults)) in
+      let bounds : map (range_view new.contexts (condition_in new.contexts d.within.0)) (part_of new.ranges.items d.ranges) ≡
+      map (range_view old.contexts before) (part_of old.ranges.items d.ranges) = ap (λ (c : Condition). map (range_view new.contexts c) (part_of new.ranges.items d.ranges)) within
+      ∙ ranges_by_row new.contexts before (part_of new.ranges.items d.ranges) ∙ ap (map (bounds_under before)) ranges
+      ∙ sym (ranges_by_row old.contexts before (part_of old.ranges.items d.ranges)) in
       λ i. record { symbol = d.symbol; dep = within i; prompt = prompt i; defaults = given i; ranges = bounds i }
 
-  pub choice_alike : (c : Choice) → condition_in new.contexts c.within.0 ≡ condition_in old.contexts c.within.0 → ((p : Prompt) → c.prompt ≡ Some p → condition_in new.contexts p.visible.0 ≡ condition_in old.contexts p.visible.0) → choice_facts new c ≡ choice_facts old c
+  pub choice_alike : (c : Choice) → condition_in new.contexts c.within.0 ≡ condition_in old.contexts c.within.0 →
+      ((p : Prompt) → c.prompt ≡ Some p → condition_in new.contexts p.visible.0 ≡ condition_in old.contexts p.visible.0) → choice_facts new c ≡ choice_facts old c
   choice_alike c within visible =
       let before = condition_in old.contexts c.within.0 in
-      let prompt : option_map (prompt_view new.contexts (condition_in new.contexts c.within.0)) c.prompt ≡ option_map (prompt_view old.contexts before) c.prompt = ap (λ (x : Condition). option_map (prompt_view new.contexts x) c.prompt) within ∙ prompt_alike old.contexts new.contexts before c.prompt visible in
-      let defaults : map (choice_default_view new.contexts (condition_in new.contexts c.within.0)) c.defaults.items ≡ map (choice_default_view old.contexts before) c.defaults.items = ap (λ (x : Condition). map (choice_default_view new.contexts x) c.defaults.items) within in
+      let prompt : option_map (prompt_view new.contexts (condition_in new.contexts c.within.0)) c.prompt ≡ option_map (prompt_view old.contexts before) c.prompt =
+      ap (λ (x : Condition). option_map (prompt_view new.contexts x) c.prompt) within ∙ prompt_alike old.contexts new.contexts before c.prompt visible in
+      let defaults : map (choice_default_view new.contexts (condition_in new.contexts c.within.0)) c.defaults.items ≡ map (choice_default_view old.contexts before) c.defaults.items =
+      ap (λ (x : Condition). map (choice_default_view new.contexts x) c.defaults.items) within in
       λ i. record { prompt = prompt i; defaults = defaults i; members = c.members.items }
 
   -- Under more contexts, with the same defaults and ranges up to those that are new.
   module _ (g : Extends old.contexts new.contexts) where
-    pub definition_extends : (more : List (Form × Option Form)) (bounds : List (Leaf × Leaf × Option Form)) → AreRowsThere old → map default_row new.defaults.items ≡ map default_row old.defaults.items ++ more → map range_row new.ranges.items ≡ map range_row old.ranges.items ++ bounds → (i : ℕ) (d : Definition) → slice_get old.definitions.items i ≡ Some d → definition_facts new d ≡ definition_facts old d
+    pub definition_extends : (more : List (Form × Option Form)) (bounds : List (Leaf × Leaf × Option Form)) → AreRowsThere old →
+        map default_row new.defaults.items ≡ map default_row old.defaults.items ++ more → map range_row new.ranges.items ≡ map range_row old.ranges.items ++ bounds →
+        (i : ℕ) (d : Definition) → slice_get old.definitions.items i ≡ Some d → definition_facts new d ≡ definition_facts old d
     definition_extends more bounds rows e f i d at =
         definition_alike d
         (g.keeps d.within.0 (old.within i d at))
@@ -283,7 +300,8 @@ module _ (old new : Tables) where
         (part_grown default_row old.defaults.items new.defaults.items more d.defaults (rows.defaults i d at) e)
         (part_grown range_row old.ranges.items new.ranges.items bounds d.ranges (rows.ranges i d at) f)
 
-    pub definition_extends_same : new.defaults.items ≡ old.defaults.items → new.ranges.items ≡ old.ranges.items → (i : ℕ) (d : Definition) → slice_get old.definitions.items i ≡ Some d → definition_facts new d ≡ definition_facts old d
+    pub definition_extends_same : new.defaults.items ≡ old.defaults.items → new.ranges.items ≡ old.ranges.items → (i : ℕ) (d : Definition) →
+        slice_get old.definitions.items i ≡ Some d → definition_facts new d ≡ definition_facts old d
     definition_extends_same e f i d at =
         definition_alike d
         (g.keeps d.within.0 (old.within i d at))
@@ -316,13 +334,16 @@ module _ (old new : Tables) where
     titled : (rest : List Title) → new.titles.items ≡ old.titles.items ++ rest → (i : ℕ) → i < length old.titles.items → slice_get new.titles.items i ≡ slice_get old.titles.items i
     titled rest e i h = ap (λ (l : List Title). slice_get l i) e ∙ get_front old.titles.items rest i h
 
-    title_says : (rest : List Title) → AreRowsThere old → new.titles.items ≡ old.titles.items ++ rest → (i : ℕ) → i < length old.titles.items → (title_text new (slice_get new.titles.items i) ≡ title_text old (slice_get old.titles.items i)) × (shown_when new (slice_get new.titles.items i) ≡ shown_when old (slice_get old.titles.items i))
+    title_says : (rest : List Title) → AreRowsThere old → new.titles.items ≡ old.titles.items ++ rest → (i : ℕ) → i < length old.titles.items →
+        (title_text new (slice_get new.titles.items i) ≡ title_text old (slice_get old.titles.items i)) ×
+        (shown_when new (slice_get new.titles.items i) ≡ shown_when old (slice_get old.titles.items i))
     title_says rest rows e i h =
         let o = titled rest e i h in
         let t = there_is old.titles.items i h in
         (ap (title_text old) o, ap (shown_when new) o ∙ by_title (slice_get old.titles.items i) (λ s q. title_there i s rows q) t.0 t.1)
 
-    pub shown_extends : (rest : List Title) (m : ℕ) (e : Entry) → AreRowsThere old → new.titles.items ≡ old.titles.items ++ rest → IsEntryThere (length old.titles.items) m e → shown_of new e ≡ shown_of old e
+    pub shown_extends : (rest : List Title) (m : ℕ) (e : Entry) → AreRowsThere old → new.titles.items ≡ old.titles.items ++ rest → IsEntryThere (length old.titles.items) m e →
+        shown_of new e ≡ shown_of old e
     shown_extends rest m (entry.Symbol s) rows e h = refl
     shown_extends rest m (entry.Menu id) rows e h =
         let s = title_says rest rows e id.0 h in
@@ -333,13 +354,16 @@ module _ (old new : Tables) where
         λ i. CommentShown (s.0 i) (s.1 i)
 
   module _ (g : Carries old.contexts new.contexts) where
-    pub definition_carries : (more : List (Form × Option Form)) (bounds : List (Leaf × Leaf × Option Form)) → AreRowsThere old → map default_row new.defaults.items ≡ map default_row old.defaults.items ++ more → map range_row new.ranges.items ≡ map range_row old.ranges.items ++ bounds → (i : ℕ) (d : Definition) → slice_get old.definitions.items i ≡ Some d → definition_facts new d ≡ definition_facts old d
+    pub definition_carries : (more : List (Form × Option Form)) (bounds : List (Leaf × Leaf × Option Form)) → AreRowsThere old →
+        map default_row new.defaults.items ≡ map default_row old.defaults.items ++ more → map range_row new.ranges.items ≡ map range_row old.ranges.items ++ bounds →
+        (i : ℕ) (d : Definition) → slice_get old.definitions.items i ≡ Some d → definition_facts new d ≡ definition_facts old d
     definition_carries = definition_extends (extends old.contexts new.contexts g)
 
     pub choice_carries : (k : ℕ) (c : Choice) → slice_get old.choices.items k ≡ Some c → choice_facts new c ≡ choice_facts old c
     choice_carries = choice_extends (extends old.contexts new.contexts g)
 
-    pub shown_carries : (rest : List Title) (m : ℕ) (e : Entry) → AreRowsThere old → new.titles.items ≡ old.titles.items ++ rest → IsEntryThere (length old.titles.items) m e → shown_of new e ≡ shown_of old e
+    pub shown_carries : (rest : List Title) (m : ℕ) (e : Entry) → AreRowsThere old → new.titles.items ≡ old.titles.items ++ rest → IsEntryThere (length old.titles.items) m e →
+        shown_of new e ≡ shown_of old e
     shown_carries = shown_extends (extends old.contexts new.contexts g)
 
   -- What selects and implies a symbol: where the lines are the same, and the definitions that they stand in say the same.
@@ -378,7 +402,8 @@ module _ (old new : Tables) where
 
 -- Rows that are there stay there.
 pub titles_stay : (old new : List Condition) (ts : List Title) → length old ≤ length new → All (IsTitleThere old) ts → All (IsTitleThere new) ts
-titles_stay old new ts h = All-weaker (IsTitleThere old) (IsTitleThere new) (λ t w. record { within = (let a = w.within in omega arith); visible = (let a = w.visible in omega arith) }) ts
+titles_stay old new ts h = All-weaker (IsTitleThere old) (IsTitleThere new)
+    (λ t w. record { within = (let a = w.within in omega arith); visible = (let a = w.visible in omega arith) }) ts
 
 entry_stays : (m n k l : ℕ) → m ≤ k → n ≤ l → (e : Entry) → IsEntryThere m n e → IsEntryThere k l e
 entry_stays m n k l a b (entry.Symbol s) h = h
@@ -390,13 +415,15 @@ pub entries_stay : (m n k l : ℕ) (es : List Entry) → m ≤ k → n ≤ l →
 entries_stay m n k l es a b = All-weaker (IsEntryThere m n) (IsEntryThere k l) (entry_stays m n k l a b) es
 
 -- The open blocks say the same under more contexts.
-pub open_extends : (ss : List Numbered) (i : ℕ) (old new : List Condition) (blocks : Blocks) → Extends old new → AreBlocksWithin old blocks → AreBlocksVisible old blocks → AreOpen ss i old blocks → AreOpen ss i new blocks
+pub open_extends : (ss : List Numbered) (i : ℕ) (old new : List Condition) (blocks : Blocks) → Extends old new → AreBlocksWithin old blocks → AreBlocksVisible old blocks →
+    AreOpen ss i old blocks → AreOpen ss i new blocks
 open_extends ss i old new blocks g w v h = record {
   innermost = block_alike old new g blocks.innermost (w 0 blocks.innermost refl) (v 0 blocks.innermost refl) ∙ h.innermost;
   outside = map_alike (block_view new) (block_view old) blocks.outside.items (λ j b e. block_alike old new g b (w (suc j) b e) (v (suc j) b e)) ∙ h.outside;
 }
 
-pub open_carries : (ss : List Numbered) (i : ℕ) (old new : List Condition) (blocks : Blocks) → Carries old new → AreBlocksWithin old blocks → AreBlocksVisible old blocks → AreOpen ss i old blocks → AreOpen ss i new blocks
+pub open_carries : (ss : List Numbered) (i : ℕ) (old new : List Condition) (blocks : Blocks) → Carries old new → AreBlocksWithin old blocks → AreBlocksVisible old blocks →
+    AreOpen ss i old blocks → AreOpen ss i new blocks
 open_carries ss i old new blocks g = open_extends ss i old new blocks (extends old new g)
 
 -- What a walk keeps of its contexts, blocks and titles.
@@ -429,15 +456,28 @@ held_carries old new blocks ts g = held_extends old new blocks ts (extends old n
 -- All of it as the ghost fields of the tables and of a walk ask for it.
 abbrev pub Keeping : List Condition → List Definition → List Choice → List Title → Type 0
 Keeping conditions ds cs ts =
-    AreWithin conditions ds × (ArePromptsWithin conditions ds × (ArePromptsPlain conditions ds × (AreChoicesWithin conditions cs × (AreChoicesPlain conditions cs × (AreChoicePromptsWithin conditions cs × (AreChoicePromptsPlain conditions cs × (AreTitlesPlain conditions ts × (AreModesBelow conditions (length cs) × (AreModesBehind conditions cs × (AreModePromptsBehind conditions cs × Unit {0}))))))))))
+    AreWithin conditions ds × (ArePromptsWithin conditions ds ×
+    (ArePromptsPlain conditions ds × (AreChoicesWithin conditions cs ×
+    (AreChoicesPlain conditions cs × (AreChoicePromptsWithin conditions cs ×
+    (AreChoicePromptsPlain conditions cs × (AreTitlesPlain conditions ts ×
+    (AreModesBelow conditions (length cs) × (AreModesBehind conditions cs × (AreModePromptsBehind conditions cs × Unit {0}))))))))))
 
 pub keeping : (conditions : List Condition) (ds : List Definition) (cs : List Choice) (ts : List Title) → AreKept conditions ds cs ts → Keeping conditions ds cs ts
-keeping conditions ds cs ts k =
-    (k.within, (k.prompts_within, (k.prompts_plain, (k.choices_within, (k.choices_plain, (k.choice_prompts_within, (k.choice_prompts_plain, (k.titles_plain, (k.modes_below, (k.modes_behind, (k.mode_prompts_behind, tt)))))))))))
+keeping conditions ds cs ts k = (
+  k.within,
+  (
+    k.prompts_within,
+    (
+      k.prompts_plain,
+      (k.choices_within, (k.choices_plain, (k.choice_prompts_within, (k.choice_prompts_plain, (k.titles_plain, (k.modes_below, (k.modes_behind, (k.mode_prompts_behind, tt)))))))),
+    ),
+  ),
+)
 
 abbrev pub Holding : List Condition → List Title → Blocks → Type 0
 Holding conditions ts blocks =
-    AsksNothing conditions × (IsPlain conditions 0 × (AreBlocksWithin conditions blocks × (AreBlocksVisible conditions blocks × (AreBlocksPlain conditions blocks × (AreTitlesWithin conditions ts × Unit {0})))))
+    AsksNothing conditions × (IsPlain conditions 0 ×
+    (AreBlocksWithin conditions blocks × (AreBlocksVisible conditions blocks × (AreBlocksPlain conditions blocks × (AreTitlesWithin conditions ts × Unit {0})))))
 
 pub holding : (conditions : List Condition) (ts : List Title) (blocks : Blocks) → AreHeld conditions blocks ts → Holding conditions ts blocks
 holding conditions ts blocks h =
@@ -462,7 +502,8 @@ get_pushed_if {X} true xs new y i x e h = by_end (get_pushed xs y i x (sym (ap (
 get_pushed_if {X} false xs new y i x e h = inl (sym (ap (λ (l : List X). slice_get l i) e) ∙ h)
 
 -- a title more, which is shown under a context that is there and in which no mode counts
-pub keeping_title : (w : Walk) (b : Bool) (t : Title) (new : List Title) → new ≡ pushed b w.tables.titles.items t → t.visible.0 < length w.tables.contexts → IsPlain w.tables.contexts t.visible.0 → Keeping w.tables.contexts w.tables.definitions.items w.tables.choices.items new × Holding w.tables.contexts new w.blocks
+pub keeping_title : (w : Walk) (b : Bool) (t : Title) (new : List Title) → new ≡ pushed b w.tables.titles.items t → t.visible.0 < length w.tables.contexts →
+    IsPlain w.tables.contexts t.visible.0 → Keeping w.tables.contexts w.tables.definitions.items w.tables.choices.items new × Holding w.tables.contexts new w.blocks
 keeping_title w b t new e v p =
     let k = kept_by w.tables in
     let h = held_by w in (
@@ -481,7 +522,15 @@ keeping_title w b t new e v p =
             mode_prompts_behind = k.mode_prompts_behind;
           }),
       holding w.tables.contexts new w.blocks
-          (record { asks_nothing = h.asks_nothing; top_plain = h.top_plain; within = h.within; visible = h.visible; plain = h.plain; titles = λ i x at. within_by i x (get_pushed_if b w.tables.titles.items new t i x e at) }),
+          (record {
+            asks_nothing = h.asks_nothing;
+            top_plain = h.top_plain;
+            within = h.within;
+            visible = h.visible;
+            plain = h.plain;
+            titles =
+                λ i x at. within_by i x (get_pushed_if b w.tables.titles.items new t i x e at);
+          }),
     )
   where
     plain_by : (i : ℕ) (x : Title) → (slice_get w.tables.titles.items i ≡ Some x) ⊎ (t ≡ x) → IsPlain w.tables.contexts x.visible.0

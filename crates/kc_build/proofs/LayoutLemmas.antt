@@ -1,15 +1,15 @@
 -- The rows of symbols, with the definitions that they name, say what the statements say of the symbols.
-use Rattle.std.proofs.Common.{◌≡◌, ℕ, zero, suc, ◌+◌, ◌<◌, ◌≤◌, Bool, true, false, if◌then◌else◌, List, [], ◌∷◌, ◌++◌, length, filter, map, Option, Some, None, refl, ap, sym, ◌∙◌, arith, add-one, inl, inr, length-append}
+use Rattle.std.proofs.Common.{◌≡◌, ℕ, zero, suc, ◌<◌, ◌≤◌, Bool, true, false, if◌then◌else◌, List, [], ◌∷◌, ◌++◌, length, filter, map, Option, Some, None, refl, ap, sym, ◌∙◌, arith, add-one, inl, inr}
 use Rattle.std.specs.Prelude.{◌⊎◌}
-use Rattle.std.specs.List.{slice_get, filter_map, flat_map, cons_option, range_with_len}
+use Rattle.std.specs.List.{slice_get, filter_map, cons_option, range_with_len}
 use Rattle.std.specs.Option.{option_map}
 use Rattle.std.proofs.lemmas.List.{append-nil, map-append}
 use Rattle.std.proofs.lemmas.List.Elements.{filter-append, filter_map-append}
+use Rattle.std.proofs.lemmas.List.Folds.{flat_map-map}
 use Rattle.std.proofs.lemmas.Option.{slice_get-map}
-use Rattle.kc_expr.specs.declared.expression.Kind.{Kind}
 use Rattle.kc_expr.specs.declared.expression.SymId.{SymId}
 use Rattle.kc_expr.specs.Names.{symbol}
-use Rattle.kc_read.specs.Blocks.{attributes, numbers}
+use Rattle.kc_read.specs.Blocks.{numbers}
 use Rattle.kc_read.specs.Statements.{Numbered}
 use Rattle.kc_tree.specs.declared.layout.Layout.{Layout}
 use Rattle.kc_tree.specs.declared.layout.Tables.{Tables}
@@ -19,13 +19,13 @@ use Rattle.kc_tree.specs.Layouts as layouts
 use Rattle.kc_tree.specs.Layouts.{DefinitionFacts, facts_at, facts_by, facts_of, impliers_at, selectors_at, symbols_in}
 use Rattle.kc_tree.specs.Contexts.{mode_view}
 use Rattle.kc_tree.specs.Parts.{definition_ids}
-use Rattle.kc_tree.specs.TreeFacts.{Guarded, SymbolFacts}
 use Rattle.kc_tree.specs.Words.{is_symbol_of}
 use Rattle.kc_build.specs.Before.{definition_at, definition_line, definitions_before}
-use Rattle.kc_build.specs.Facts.{choice_of, defaults_at, definitions_of, dep, impliers_of, kind_of, prompt_at, range_under, selectors_of, symbol_at, symbol_facts}
+use Rattle.kc_build.specs.Facts.{choice_of, definitions_of, impliers_of, kind_of, selectors_of, symbol_at, symbol_facts}
 use Rattle.kc_build.specs.Known.{AreSymbols, Row, definition_number, row_of, row_view}
 use Rattle.kc_build.proofs.BlockLemmas.{numbers_from, numbers-from}
 use Rattle.kc_build.proofs.ElementLemmas.{same_is}
+use Rattle.kc_build.proofs.ListLemmas.{end_get, front_get, there_in}
 use Rattle.kc_build.proofs.MemberLemmas.{below_or_past}
 use Rattle.kc_build.proofs.PlaceLemmas.{get-map_numbers}
 
@@ -38,15 +38,12 @@ pub filter_map-map : {A B C : Type 0} (g : B → Option C) (f : A → B) (xs : L
 filter_map-map g f [] = refl
 filter_map-map g f (x ∷ xs) = ap (cons_option (g (f x))) (filter_map-map g f xs)
 
-pub flat_map-map_by : {A B C : Type 0} (g : B → List C) (f : A → B) (xs : List A) → flat_map g (map f xs) ≡ flat_map (λ x. g (f x)) xs
-flat_map-map_by g f [] = refl
-flat_map-map_by g f (x ∷ xs) = ap (λ l. g (f x) ++ l) (flat_map-map_by g f xs)
-
 pub filter_map-same : {A B : Type 0} (f g : A → Option B) (xs : List A) → ((x : A) → f x ≡ g x) → filter_map f xs ≡ filter_map g xs
 filter_map-same f g [] h = refl
 filter_map-same f g (x ∷ xs) h = rw (h x, filter_map-same f g xs h) refl
 
-length-listed : {A B : Type 0} (o : Option A) (p : Option B) (xs : List A) (ys : List B) → length xs ≡ length ys → length (cons_option o []) ≡ length (cons_option p []) → length (cons_option o xs) ≡ length (cons_option p ys)
+length-listed : {A B : Type 0} (o : Option A) (p : Option B) (xs : List A) (ys : List B) → length xs ≡ length ys → length (cons_option o []) ≡ length (cons_option p []) →
+    length (cons_option o xs) ≡ length (cons_option p ys)
 length-listed None None xs ys h e = h
 length-listed None (Some y) xs ys h e = absurd (omega arith)
 length-listed (Some x) None xs ys h e = absurd (omega arith)
@@ -60,20 +57,13 @@ pub range-numbers : (n : ℕ) → range_with_len 0 n ≡ numbers n
 range-numbers n = range_from 0 n ∙ sym (numbers-from n)
 
 -- What a function gives of the numbers below n: that of one of them stands behind as much as is given before it.
-front_get : {X : Type 0} (xs ys : List X) (i : ℕ) (x : X) → slice_get xs i ≡ Some x → slice_get (xs ++ ys) i ≡ Some x
-front_get [] ys i x e = absurd cc
-front_get (y ∷ xs) ys zero x e = e
-front_get (y ∷ xs) ys (suc i) x e = front_get xs ys i x e
-
-end_get : {X : Type 0} (xs : List X) (x : X) → slice_get (xs ++ x ∷ []) (length xs) ≡ Some x
-end_get [] x = refl
-end_get (y ∷ xs) x = end_get xs x
 
 module _ {X : Type 0} (f : ℕ → Option X) where
   given_next : (n : ℕ) → filter_map f (numbers (suc n)) ≡ filter_map f (numbers n) ++ cons_option (f n) []
   given_next n = filter_map-append f (numbers n) (n ∷ [])
 
-  given_by : (n j : ℕ) (x : X) → (j < n) ⊎ (n ≤ j) → j < suc n → f j ≡ Some x → (j < n → slice_get (filter_map f (numbers n)) (length (filter_map f (numbers j))) ≡ Some x) → slice_get (filter_map f (numbers (suc n))) (length (filter_map f (numbers j))) ≡ Some x
+  given_by : (n j : ℕ) (x : X) → (j < n) ⊎ (n ≤ j) → j < suc n → f j ≡ Some x →
+      (j < n → slice_get (filter_map f (numbers n)) (length (filter_map f (numbers j))) ≡ Some x) → slice_get (filter_map f (numbers (suc n))) (length (filter_map f (numbers j))) ≡ Some x
   given_by n j x (inl below) l e before =
       ap (λ (ys : List X). slice_get ys (length (filter_map f (numbers j)))) (given_next n)
       ∙ front_get (filter_map f (numbers n)) (cons_option (f n) []) (length (filter_map f (numbers j))) x (before below)
@@ -145,8 +135,8 @@ module _ (ss : List Numbered) where
       let ds = definitions_of ss s in
       let d = map-twice (λ (f : DefinitionFacts). f.dep) at ds in
       let p = filter_map-map (λ (f : DefinitionFacts). f.prompt) at ds in
-      let v = flat_map-map_by (λ (f : DefinitionFacts). f.defaults) at ds in
-      let r = flat_map-map_by (λ (f : DefinitionFacts). f.ranges) at ds in
+      let v = flat_map-map (λ (f : DefinitionFacts). f.defaults) at ds in
+      let r = flat_map-map (λ (f : DefinitionFacts). f.ranges) at ds in
       λ i. record {
         kind = kind_of ss s;
         choice = choice_of ss s;
@@ -164,7 +154,8 @@ module _ (ss : List Numbered) (t : Tables) (definitions_are : map (layouts.defin
   row_definition id =
       sym (slice_get-map (layouts.definition_facts t) t.definitions.items id.0) ∙ ap (λ (ds : List DefinitionFacts). slice_get ds id.0) definitions_are
 
-  row_definitions : (s : SymId) (ids : List DefinitionId) → map (λ (d : DefinitionId). d.0) ids ≡ map (definition_number ss) (definitions_of ss s) → filter_map (layouts.definition_at t) ids ≡ map (λ j. definition_at ss j s) (definitions_of ss s)
+  row_definitions : (s : SymId) (ids : List DefinitionId) → map (λ (d : DefinitionId). d.0) ids ≡ map (definition_number ss) (definitions_of ss s) →
+      filter_map (layouts.definition_at t) ids ≡ map (λ j. definition_at ss j s) (definitions_of ss s)
   row_definitions s ids e =
       filter_map-same (layouts.definition_at t) (λ (d : DefinitionId). slice_get (all_definitions ss) d.0) ids row_definition
       ∙ sym (filter_map-map (slice_get (all_definitions ss)) (λ (d : DefinitionId). d.0) ids)
@@ -178,27 +169,29 @@ module _ (ss : List Numbered) (t : Tables) (definitions_are : map (layouts.defin
       let k = ap (λ (r : Row). r.kind) e in
       let c = ap (λ (r : Row). r.choice) e in
       let d = row_definitions (symbol i) (definition_ids s) (ap (λ (r : Row). r.definitions) e) in
-      let said : facts_by s.kind (mode_view s.choice) (filter_map (layouts.definition_at t) (definition_ids s)) (selectors_at t i) (impliers_at t i) ≡ facts_by (kind_of ss (symbol i)) (choice_of ss (symbol i)) (map (λ j. definition_at ss j (symbol i)) (definitions_of ss (symbol i))) (selectors_of ss (symbol i)) (impliers_of ss (symbol i)) = λ j. facts_by (k j) (c j) (d j) (a j) (b j) in
+      let now = facts_by s.kind (mode_view s.choice) (filter_map (layouts.definition_at t) (definition_ids s)) (selectors_at t i) (impliers_at t i) in
+      let defined = map (λ j. definition_at ss j (symbol i)) (definitions_of ss (symbol i)) in
+      let said : now ≡ facts_by (kind_of ss (symbol i)) (choice_of ss (symbol i)) defined (selectors_of ss (symbol i)) (impliers_of ss (symbol i)) =
+      λ j. facts_by (k j) (c j) (d j) (a j) (b j) in
       said ∙ facts_are ss (symbol i)
-
-there_in : {X : Type 0} (xs : List X) (i : ℕ) → i < length xs → (x : X) × (slice_get xs i ≡ Some x)
-there_in [] i h = absurd (omega arith)
-there_in (x ∷ xs) zero h = (x, refl)
-there_in (x ∷ xs) (suc i) h = there_in xs i (omega arith)
 
 from_each : {B : Type 0} (f : ℕ → Option B) (g : ℕ → B) (n : ℕ) → ((i : ℕ) → i < n → f i ≡ Some (g i)) → filter_map f (numbers n) ≡ map g (numbers n)
 from_each f g zero h = refl
 from_each f g (suc n) h =
-    filter_map-append f (numbers n) (n ∷ []) ∙ ap (λ o. filter_map f (numbers n) ++ cons_option o []) (h n (omega arith)) ∙ ap (λ l. l ++ g n ∷ []) (from_each f g n (λ i l. h i (omega arith))) ∙ sym (map-append g (numbers n) (n ∷ []))
+    filter_map-append f (numbers n) (n ∷ []) ∙ ap (λ o. filter_map f (numbers n) ++ cons_option o []) (h n (omega arith))
+    ∙ ap (λ l. l ++ g n ∷ []) (from_each f g n (λ i l. h i (omega arith))) ∙ sym (map-append g (numbers n) (n ∷ []))
 
 row_at : (ss : List Numbered) (symbols : List Symbol) (i : ℕ) (s : Symbol) → AreSymbols ss symbols → i < length symbols → slice_get symbols i ≡ Some s → row_view s ≡ row_of ss i
 row_at ss symbols i s a l e =
-    let said : Some (row_view s) ≡ Some (row_of ss i) = ap (option_map row_view) (sym e) ∙ sym (slice_get-map row_view symbols i) ∙ ap (λ (rs : List Row). slice_get rs i) a ∙ get-map_numbers (row_of ss) (length symbols) i l in
+    let said : Some (row_view s) ≡ Some (row_of ss i) = ap (option_map row_view) (sym e) ∙ sym (slice_get-map row_view symbols i)
+    ∙ ap (λ (rs : List Row). slice_get rs i) a ∙ get-map_numbers (row_of ss) (length symbols) i l in
     cc
 
 -- What the rows say of the symbols is what the statements say.
-module _ (ss : List Numbered) (l : Layout) (rows : AreSymbols ss l.symbols.items) (definitions_are : map (layouts.definition_facts l.tables) l.tables.definitions.items ≡ definitions_before ss (length ss)) where
-  module _ (selectors_are : (i : ℕ) → i < length l.symbols.items → selectors_at l.tables i ≡ selectors_of ss (symbol i)) (impliers_are : (i : ℕ) → i < length l.symbols.items → impliers_at l.tables i ≡ impliers_of ss (symbol i)) where
+module _ (ss : List Numbered) (l : Layout) (rows : AreSymbols ss l.symbols.items)
+    (definitions_are : map (layouts.definition_facts l.tables) l.tables.definitions.items ≡ definitions_before ss (length ss)) where
+  module _ (selectors_are : (i : ℕ) → i < length l.symbols.items → selectors_at l.tables i ≡ selectors_of ss (symbol i))
+      (impliers_are : (i : ℕ) → i < length l.symbols.items → impliers_at l.tables i ≡ impliers_of ss (symbol i)) where
     symbol_is : (i : ℕ) → i < length l.symbols.items → facts_at l i ≡ Some (symbol_facts ss (symbol i))
     symbol_is i h =
         let s = there_in l.symbols.items i h in

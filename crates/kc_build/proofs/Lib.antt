@@ -6,8 +6,6 @@ mod ChainLemmas
 mod ChoiceLemmas
 mod ChoiceOpenLemmas
 mod CloserLemmas
-mod CollectLemmas
-mod ConditionLemmas
 mod CopyLemmas
 mod DefineLemmas
 mod DefineWalkLemmas
@@ -15,7 +13,7 @@ mod DefinedLemmas
 mod DiagnosedLemmas
 mod ElementLemmas
 mod EnterLemmas
-mod EntryLemmas
+mod EnteredLemmas
 mod EntryPlaceLemmas
 mod EntrySoundLemmas
 mod EntryWalkLemmas
@@ -30,6 +28,7 @@ mod KnownLemmas
 mod LayoutLemmas
 mod LineTextLemmas
 mod LineWalkLemmas
+mod ListLemmas
 mod MemberLemmas
 mod MemberSoundLemmas
 mod MembersLemmas

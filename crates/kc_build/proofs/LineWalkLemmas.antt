@@ -54,10 +54,12 @@ module _ (ss : List Numbered) (symbols : List Symbol) (w : Walk) (empty : AreEmp
   if_none true = refl
   if_none false = refl
 
-  pub walk-starts : w.blocks.innermost ≡ record { within = record { 0 = 0 }; visible = record { 0 = 0 }; entry = None } → w.blocks.outside.items ≡ [] → w.main_menu.items ≡ codes "Main menu" → length w.tables.reverses.selects.items ≡ length symbols → length w.tables.reverses.implies.items ≡ length symbols → IsWalk ss symbols 0 w
+  pub walk-starts : w.blocks.innermost ≡ record { within = record { 0 = 0 }; visible = record { 0 = 0 }; entry = None } → w.blocks.outside.items ≡ [] →
+      w.main_menu.items ≡ codes "Main menu" → length w.tables.reverses.selects.items ≡ length symbols → length w.tables.reverses.implies.items ≡ length symbols → IsWalk ss symbols 0 w
   walk-starts innermost outside menu selects implies = record {
     blocks = record {
-      innermost = ap (block_view w.tables.contexts) innermost ∙ ap (λ (l : List Condition). block_view l (record { within = record { 0 = 0 }; visible = record { 0 = 0 }; entry = None })) empty.contexts;
+      innermost = ap (block_view w.tables.contexts) innermost
+          ∙ ap (λ (l : List Condition). block_view l (record { within = record { 0 = 0 }; visible = record { 0 = 0 }; entry = None })) empty.contexts;
       outside = ap (map (block_view w.tables.contexts)) outside;
     };
     definitions = ap (map (definition_facts w.tables)) empty.definitions;
@@ -94,12 +96,14 @@ plain_by : (s : Numbered) (mode : Option ℕ) → (s ≡ ChoiceLine → mode ≡
 plain_by ChoiceLine mode h = h refl
 plain_by _ mode h = tt
 
-pub plain-head : (ss : List Numbered) (symbols : List Symbol) (i : ℕ) (s : Numbered) (w : Walk) → AreChoicesApart ss → slice_get ss i ≡ Some s → IsWalk ss symbols i w → IsPlainHead s (condition_in w.tables.contexts w.blocks.innermost.within.0).mode
+pub plain-head : (ss : List Numbered) (symbols : List Symbol) (i : ℕ) (s : Numbered) (w : Walk) → AreChoicesApart ss → slice_get ss i ≡ Some s → IsWalk ss symbols i w →
+    IsPlainHead s (condition_in w.tables.contexts w.blocks.innermost.within.0).mode
 plain-head ss symbols i s w apart at walk =
     plain_by s (condition_in w.tables.contexts w.blocks.innermost.within.0).mode (λ e. ap (λ (a : Asked). a.mode) walk.blocks.innermost ∙ apart i (at ∙ ap Some e))
 
 -- One entry more.
-module _ (lines : List Line) (symbols : List Symbol) (i end : ℕ) (head : Line) (h : i < length lines) (at : head ≡ get_or lines i head) (count : end ≡ i + 1 + prefix_len is_attribute (drop (i + 1) (said_by lines))) (within : end ≤ length lines) (begins : Begins (said_by lines) i) where
+module _ (lines : List Line) (symbols : List Symbol) (i end : ℕ) (head : Line) (h : i < length lines) (at : head ≡ get_or lines i head)
+    (count : end ≡ i + 1 + prefix_len is_attribute (drop (i + 1) (said_by lines))) (within : end ≤ length lines) (begins : Begins (said_by lines) i) where
   abbrev pub own_lines : List Line
   own_lines = take (end - (i + 1)) (drop (i + 1) lines)
 
@@ -108,7 +112,8 @@ module _ (lines : List Line) (symbols : List Symbol) (i end : ℕ) (head : Line)
       let view = λ (l : Line). statement_view l.statement in
       let many : prefix_len is_attribute (drop (i + 1) (said_by lines)) ≡ end - (i + 1) = omega arith in
       let behind : drop (suc i) (said_by lines) ≡ drop (i + 1) (said_by lines) = (rw add-one refl) in
-      ap (take_while is_attribute) behind ∙ ap (λ k. take k (drop (i + 1) (said_by lines))) many ∙ ap (take (end - (i + 1))) (drop-map view (i + 1) lines) ∙ take-map view (end - (i + 1)) (drop (i + 1) lines)
+      ap (take_while is_attribute) behind ∙ ap (λ k. take k (drop (i + 1) (said_by lines))) many ∙ ap (take (end - (i + 1))) (drop-map view (i + 1) lines)
+      ∙ take-map view (end - (i + 1)) (drop (i + 1) lines)
 
   place-is : i + 1 + length (said_by own_lines) ≡ end
   place-is =
@@ -131,7 +136,9 @@ module _ (lines : List Line) (symbols : List Symbol) (i end : ℕ) (head : Line)
     walk-next old new enters walk =
         subst (λ k. IsWalk (said_by lines) symbols k new) place-is (enters (said_by lines) i whole head-is walk)
 
-    pub diagnosed-next : (names : List (List ℕ)) (place : EntryPlace) (old new : Diagnostics) → IsPlace (said_by lines) i place → IsDiagnosed names (map line_view lines) i old → AreLookedAt names symbols place (line_view head) (map line_view own_lines) old new → IsDiagnosed names (map line_view lines) end new
+    pub diagnosed-next : (names : List (List ℕ)) (place : EntryPlace) (old new : Diagnostics) → IsPlace (said_by lines) i place →
+        IsDiagnosed names (map line_view lines) i old → AreLookedAt names symbols place (line_view head) (map line_view own_lines) old new → IsDiagnosed names (map line_view lines) end new
     diagnosed-next names place old new is old_is looked =
         subst (λ k. IsDiagnosed names (map line_view lines) k new) place-is
-        (entry_of_lines names lines symbols place i (end - (i + 1)) head own_lines old new whole.below whole.symbols_are h at refl attributes-are (begins (statement_view head.statement) read) is old_is looked)
+        (entry_of_lines names lines symbols place i (end - (i + 1)) head own_lines old new whole.below whole.symbols_are h at refl attributes-are
+        (begins (statement_view head.statement) read) is old_is looked)

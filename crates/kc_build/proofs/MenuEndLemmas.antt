@@ -1,7 +1,7 @@
 -- The entries of a list whose blocks are well nested: the end of a menu names that menu.
 use Rattle.std.proofs.Common.{◌≡◌, ℕ, zero, suc, ◌+◌, ◌<◌, ◌≤◌, Bool, true, false, cond, if◌then◌else◌, List, [], ◌∷◌, ◌++◌, length, Option, Some, None, is_some, refl, ap, sym, ◌∙◌, subst, arith, length-append, inl, inr}
 use Rattle.std.specs.Prelude.{◌⊎◌}
-use Rattle.std.specs.List.{slice_get, filter_map, cons_option, count_by, fold}
+use Rattle.std.specs.List.{slice_get, filter_map, cons_option, count_by}
 use Rattle.std.proofs.lemmas.List.Elements.{filter_map-append}
 use Rattle.kc_expr.specs.declared.expression.SymId.{SymId}
 use Rattle.kc_read.specs.Statements.{Numbered, ConfigLine, MenuLine, EndMenuLine}
@@ -11,21 +11,9 @@ use Rattle.kc_build.specs.Facts.{opener_of, is_first_definition, is_entry, entry
 use Rattle.kc_build.proofs.BlockLemmas.{there, round_last}
 use Rattle.kc_build.proofs.ChoiceLemmas.{fewer_before}
 use Rattle.kc_build.proofs.ExpansionLemmas.{AreNested}
+use Rattle.kc_build.proofs.ListLemmas.{count_next, end_get, front_get}
 use Rattle.kc_build.proofs.MemberLemmas.{below_or_past}
 use Rattle.kc_build.proofs.NestLemmas.{menu_closed}
-
-fold_snoc : (g : ℕ → ℕ → ℕ) (a : ℕ) (xs : List ℕ) (x : ℕ) → fold g a (xs ++ x ∷ []) ≡ g (fold g a xs) x
-fold_snoc g a [] x = refl
-fold_snoc g a (y ∷ xs) x = fold_snoc g (g a y) xs x
-
-get_front : {X : Type 0} (xs ys : List X) (i : ℕ) (x : X) → slice_get xs i ≡ Some x → slice_get (xs ++ ys) i ≡ Some x
-get_front [] ys i x e = absurd cc
-get_front (y ∷ xs) ys zero x e = e
-get_front (y ∷ xs) ys (suc i) x e = get_front xs ys i x e
-
-get_end : {X : Type 0} (xs : List X) (x : X) → slice_get (xs ++ x ∷ []) (length xs) ≡ Some x
-get_end [] x = refl
-get_end (y ∷ xs) x = get_end xs x
 
 get_snoc : {X : Type 0} (xs : List X) (o : Option X) (i : ℕ) (x : X) → slice_get (xs ++ cons_option o []) i ≡ Some x → (slice_get xs i ≡ Some x) ⊎ ((i ≡ length xs) × (o ≡ Some x))
 get_snoc [] None i x e = absurd cc
@@ -46,9 +34,6 @@ module _ {X : Type 0} (f : ℕ → Option X) (p : ℕ → Bool) where
   given_next : (n : ℕ) → filter_map f (numbers (suc n)) ≡ filter_map f (numbers n) ++ cons_option (f n) []
   given_next n = filter_map-append f (numbers n) (n ∷ [])
 
-  count_next : (n : ℕ) → count_by p (numbers (suc n)) ≡ count_by p (numbers n) + cond (p n) 1 0
-  count_next n = fold_snoc (λ (a x : ℕ). a + cond (p x) 1 0) 0 (numbers n) n
-
   one_more : (o : Option X) → length (cons_option o []) ≡ cond (is_some o) 1 0
   one_more None = refl
   one_more (Some x) = refl
@@ -60,21 +45,21 @@ module _ {X : Type 0} (f : ℕ → Option X) (p : ℕ → Bool) where
       let before = so_many n (λ j l. h j (omega arith)) in
       let here : length (cons_option (f n) []) ≡ cond (p n) 1 0 = one_more (f n) ∙ ap (λ (b : Bool). cond b 1 0) (sym (h n (omega arith))) in
       let whole : length (filter_map f (numbers (suc n))) ≡ length (filter_map f (numbers n)) + length (cons_option (f n) []) = ap length (given_next n) ∙ length-append (filter_map f (numbers n)) (cons_option (f n) []) in
-      let all = count_next n in
+      let all = count_next p n in
       omega arith
 
   -- what is given at a number stands after what is given before it
   stands_by : (n j : ℕ) (x : X) → (j < n) ⊎ (n ≤ j) → Tells (suc n) → j < suc n → f j ≡ Some x → (j < n → slice_get (filter_map f (numbers n)) (count_by p (numbers j)) ≡ Some x) → slice_get (filter_map f (numbers (suc n))) (count_by p (numbers j)) ≡ Some x
   stands_by n j x (inl below) h l e before =
       ap (λ (ys : List X). slice_get ys (count_by p (numbers j))) (given_next n)
-      ∙ get_front (filter_map f (numbers n)) (cons_option (f n) []) (count_by p (numbers j)) x (before below)
+      ∙ front_get (filter_map f (numbers n)) (cons_option (f n) []) (count_by p (numbers j)) x (before below)
   stands_by n j x (inr past) h l e before =
       let same : j ≡ n = omega arith in
       let many : count_by p (numbers j) ≡ length (filter_map f (numbers n)) = ap (λ (k : ℕ). count_by p (numbers k)) same ∙ sym (so_many n (λ k l. h k (omega arith))) in
       let last : f n ≡ Some x = sym (ap f same) ∙ e in
       ap (slice_get (filter_map f (numbers (suc n)))) many
       ∙ ap (λ (ys : List X). slice_get ys (length (filter_map f (numbers n)))) (given_next n ∙ ap (λ o. filter_map f (numbers n) ++ cons_option o []) last)
-      ∙ get_end (filter_map f (numbers n)) x
+      ∙ end_get (filter_map f (numbers n)) x
 
   pub stands_at : (n j : ℕ) (x : X) → Tells n → j < n → f j ≡ Some x → slice_get (filter_map f (numbers n)) (count_by p (numbers j)) ≡ Some x
   stands_at zero j x h l e = absurd (omega arith)

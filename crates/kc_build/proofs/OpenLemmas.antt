@@ -1,5 +1,5 @@
 -- The open blocks, behind an opener, a closer and another line.
-use Rattle.std.proofs.Common.{◌≡◌, ℕ, zero, suc, ◌+◌, ◌<◌, ◌≤◌, Bool, true, false, if◌then◌else◌, List, [], ◌∷◌, ◌++◌, length, filter, map, Option, Some, None, refl, ap, sym, ◌∙◌, arith, inl, inr}
+use Rattle.std.proofs.Common.{◌≡◌, ℕ, suc, if◌then◌else◌, List, [], ◌∷◌, ◌++◌, filter, map, Some, refl, ap, sym, ◌∙◌, arith, inl, inr}
 use Rattle.std.specs.Prelude.{◌⊎◌}
 use Rattle.std.specs.List.{slice_get, flat_map}
 use Rattle.std.specs.Option.{option_map}
@@ -8,15 +8,15 @@ use Rattle.std.proofs.lemmas.Option.{slice_get_within}
 use Rattle.kc_read.specs.declared.statement.Block as opener
 use Rattle.kc_read.specs.declared.statement.Block.TheVariants as block
 use Rattle.kc_read.specs.Statements.{Numbered}
-use Rattle.kc_read.specs.Blocks.{Bracket, Opens, Closes, NoBracket, bracket, enclosing, last_of}
+use Rattle.kc_read.specs.Blocks.{Opens, Closes, NoBracket, bracket, enclosing, last_of}
 use Rattle.kc_tree.specs.TreeFacts.{Condition}
-use Rattle.kc_build.specs.Facts.{block_parts, choice_number, entry_number, of_block, opener_of, own_visible}
+use Rattle.kc_build.specs.Facts.{block_parts, choice_number, entry_number, of_block, own_visible}
 use Rattle.kc_build.specs.Rounds.{block_visible}
 use Rattle.kc_build.specs.Stacks.{AreOpen, Asked, IsClosed, asked_at, block_view, open_blocks}
 use Rattle.kc_build.specs.declared.blocks.Block.{Block}
 use Rattle.kc_build.specs.declared.blocks.Blocks.{Blocks}
 use Rattle.kc_build.proofs.BlockLemmas.{front, enclosing-opens, enclosing-closes, enclosing-no, enclosing-last}
-use Rattle.kc_build.proofs.RoundLemmas.{round_at, round_snoc}
+use Rattle.kc_build.proofs.RoundLemmas.{round_snoc}
 
 -- A list that is empty or has a last element.
 pub ends : {X : Type 0} (xs : List X) → (xs ≡ []) ⊎ ((ys : List X) × (y : X) × (xs ≡ ys ++ y ∷ []))
@@ -86,7 +86,8 @@ module _ (ss : List Numbered) where
     asked_opened b o = ap asked_in (enclosing-opens ss i s b at o) ∙ asked_snoc (enclosing ss i) i
 
     -- the blocks behind an opener
-    pub open_opens : (b : opener.Block) (conditions : List Condition) (old new : Blocks) → bracket s ≡ Opens b → AreOpen ss i conditions old → block_view conditions new.innermost ≡ asked_inside i (asked_at ss i) → new.outside.items ≡ old.outside.items ++ old.innermost ∷ [] → AreOpen ss (suc i) conditions new
+    pub open_opens : (b : opener.Block) (conditions : List Condition) (old new : Blocks) → bracket s ≡ Opens b → AreOpen ss i conditions old →
+        block_view conditions new.innermost ≡ asked_inside i (asked_at ss i) → new.outside.items ≡ old.outside.items ++ old.innermost ∷ [] → AreOpen ss (suc i) conditions new
     open_opens b conditions old new o h inside outside = record {
       innermost = inside ∙ sym (asked_opened b o);
       outside =
@@ -128,7 +129,8 @@ module _ (ss : List Numbered) where
         by_end (inr e) =
             let left = (c.0 e.0 e.1 e.2).1 in
             let inner = (c.0 e.0 e.1 e.2).0 in
-            let split = split_last (enclosing ss i) (asked_at ss) (map (block_view conditions) e.0) (block_view conditions e.1) (sym (ap (map (block_view conditions)) e.2 ∙ map_push (block_view conditions) e.0 e.1) ∙ h.outside) in
+            let split = split_last (enclosing ss i) (asked_at ss) (map (block_view conditions) e.0) (block_view conditions e.1)
+            (sym (ap (map (block_view conditions)) e.2 ∙ map_push (block_view conditions) e.0 e.1) ∙ h.outside) in
             let whole = enclosing-last ss i split.k (let w = slice_get_within ss i s at in omega arith) split.last in
             let shorter : enclosing ss (suc i) ≡ enclosing ss split.k = after ∙ ap front whole ∙ front_snoc (enclosing ss split.k) split.k in
             record {

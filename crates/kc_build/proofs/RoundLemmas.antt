@@ -1,6 +1,6 @@
 -- What surrounds a place.
 use Rattle.std.proofs.Common.{◌≡◌, ℕ, ◌+◌, ◌<◌, ◌≤◌, Bool, true, false, cond, if◌then◌else◌, List, [], ◌∷◌, ◌++◌, length, filter, Some, refl, ap, sym, ◌∙◌, arith, get_or}
-use Rattle.std.specs.List.{slice_get, flat_map, count_by, fold}
+use Rattle.std.specs.List.{slice_get, flat_map, count_by}
 use Rattle.std.specs.Option.{option_map}
 use Rattle.std.proofs.lemmas.List.{append-nil}
 use Rattle.std.proofs.lemmas.List.Elements.{filter-append}
@@ -10,11 +10,12 @@ use Rattle.kc_read.specs.declared.line.Line.{Line}
 use Rattle.kc_read.specs.Reads.{statement_view}
 use Rattle.kc_read.specs.declared.statement.Block.TheVariants as block
 use Rattle.kc_read.specs.Statements.{Numbered, ChoiceLine}
-use Rattle.kc_read.specs.Blocks.{numbers, last_of, bracket, opened}
+use Rattle.kc_read.specs.Blocks.{last_of, bracket, opened}
 use Rattle.kc_build.specs.Facts.{of_block, block_parts, own_visible, choice_number, is_block}
 use Rattle.kc_build.specs.Passes.{said_by}
 use Rattle.kc_build.specs.Rounds.{Surroundings, next_count, block_visible, inside_from}
 use Rattle.kc_build.proofs.BlockLemmas.{last-snoc}
+use Rattle.kc_build.proofs.ListLemmas.{count_next}
 use Rattle.kc_build.proofs.PlaceLemmas.{numbers-next, statement_at}
 
 module _ (ss : List Numbered) where
@@ -40,26 +41,28 @@ module _ (ss : List Numbered) where
   pub round_snoc : (places : List ℕ) (k : ℕ) → round_at (places ++ k ∷ []) ≡ inside_from ss k (round_at places) (choice_number ss k)
   round_snoc places k =
       let p = parts-snoc (block_parts ss) places k in
-      let v : flat_map (own_visible ss) (filter (of_block ss block.Menu) (places ++ k ∷ [])) ≡ flat_map (own_visible ss) (filter (of_block ss block.Menu) places) ++ block_visible ss k = ap (flat_map (own_visible ss)) (filter-append (of_block ss block.Menu) places (k ∷ [])) ∙ kept (of_block ss block.Menu k) (own_visible ss) (filter (of_block ss block.Menu) places) k in
-      let m = ap (λ l. option_map (choice_number ss) (last_of l)) (filter-append (of_block ss block.Choice) places (k ∷ [])) ∙ chosen (of_block ss block.Choice k) (choice_number ss) (filter (of_block ss block.Choice) places) k in
+      let v : flat_map (own_visible ss) (filter (of_block ss block.Menu) (places ++ k ∷ [])) ≡
+      flat_map (own_visible ss) (filter (of_block ss block.Menu) places) ++ block_visible ss k =
+      ap (flat_map (own_visible ss)) (filter-append (of_block ss block.Menu) places (k ∷ []))
+      ∙ kept (of_block ss block.Menu k) (own_visible ss) (filter (of_block ss block.Menu) places) k in
+      let m = ap (λ l. option_map (choice_number ss) (last_of l)) (filter-append (of_block ss block.Choice) places (k ∷ []))
+      ∙ chosen (of_block ss block.Choice k) (choice_number ss) (filter (of_block ss block.Choice) places) k in
       λ i. record { parts = p i; visible = v i; mode = m i; opener = last-snoc places k i }
 
   by_line : (s : Numbered) (n : ℕ) → next_count s n ≡ n + cond (is_block block.Choice (opened (bracket s))) 1 0
   by_line ChoiceLine n = refl
   by_line _ n = omega arith
 
-  fold_snoc : (g : ℕ → ℕ → ℕ) (a : ℕ) (xs : List ℕ) (x : ℕ) → fold g a (xs ++ x ∷ []) ≡ g (fold g a xs) x
-  fold_snoc g a [] x = refl
-  fold_snoc g a (y ∷ xs) x = fold_snoc g (g a y) xs x
-
   pub choice_number-next : (i : ℕ) (s : Numbered) → slice_get ss i ≡ Some s → next_count s (choice_number ss i) ≡ choice_number ss (i + 1)
   choice_number-next i s h =
       let test : of_block ss block.Choice i ≡ is_block block.Choice (opened (bracket s)) = rw h refl in
-      by_line s (choice_number ss i) ∙ sym (ap (count_by (of_block ss block.Choice)) (numbers-next i) ∙ fold_snoc (λ (a x : ℕ). a + cond (of_block ss block.Choice x) 1 0) 0 (numbers i) i ∙ ap (λ (b : Bool). choice_number ss i + cond b 1 0) test)
+      by_line s (choice_number ss i) ∙ sym (ap (count_by (of_block ss block.Choice)) (numbers-next i)
+      ∙ count_next (of_block ss block.Choice) i ∙ ap (λ (b : Bool). choice_number ss i + cond b 1 0) test)
 
 -- The same for a walk over lines.
 module _ (ls : List Line) where
-  pub count-is : (i count next : ℕ) (x : Line) → i < length ls → x ≡ get_or ls i x → count ≡ choice_number (said_by ls) i → next ≡ next_count (statement_view x.statement) count → next ≡ choice_number (said_by ls) (i + 1)
+  pub count-is : (i count next : ℕ) (x : Line) → i < length ls → x ≡ get_or ls i x → count ≡ choice_number (said_by ls) i → next ≡ next_count (statement_view x.statement) count →
+      next ≡ choice_number (said_by ls) (i + 1)
   count-is i count next x h at n e =
       e ∙ ap (next_count (statement_view x.statement)) n ∙ choice_number-next (said_by ls) i (statement_view x.statement) (statement_at ls i x h at)
 

@@ -322,24 +322,21 @@ plain_m_modules = refl
 late_modules : facts_at (ConfigLine (codes "A") ∷ bool_line (codes "a") ∷ DependsLine (word (codes "m")) ∷ ConfigLine (codes "LKM") ∷ bool_line (codes "l") ∷ ModulesLine ∷ []) 0 ≡ fact kind.Bool None (cond (m_and 1 ∷ []) None ∷ []) (cond (m_and 1 ∷ []) None ∷ []) [] []
 late_modules = refl
 
--- `depends on` lines of one entry are joined
-two_dependencies : facts_at (ConfigLine (codes "A") ∷ bool_line (codes "a") ∷ DependsLine (word (codes "B")) ∷ DependsLine (word (codes "C")) ∷ []) 0 ≡ fact kind.Bool None (cond (Every (MoreForms (sym 2) (MoreForms (sym 3) NoForms)) ∷ []) None ∷ []) (cond (Every (MoreForms (sym 2) (MoreForms (sym 3) NoForms)) ∷ []) None ∷ []) [] []
+-- each `depends on` line of an entry is a part of its condition
+two_dependencies : facts_at (ConfigLine (codes "A") ∷ bool_line (codes "a") ∷ DependsLine (word (codes "B")) ∷ DependsLine (word (codes "C")) ∷ []) 0 ≡ fact kind.Bool None (cond (sym 2 ∷ sym 3 ∷ []) None ∷ []) (cond (sym 2 ∷ sym 3 ∷ []) None ∷ []) [] []
 two_dependencies = refl
 
--- so are `visible if` lines; a menu in a menu is shown by its own and those round it; a comment by neither
+-- so is each `visible if` line of a menu; a menu in a menu is shown by its own and those round it; a comment by neither
 abbrev menus : List Written
 menus = MenuLine (codes "o") ∷ VisibleLine (word (codes "A")) ∷ VisibleLine (word (codes "B")) ∷ DependsLine (word (codes "C")) ∷ MenuLine (codes "i") ∷ VisibleLine (word (codes "D")) ∷ CommentLine (codes "t") ∷ DependsLine (word (codes "E")) ∷ IfLine (word (codes "F")) ∷ ConfigLine (codes "X") ∷ TypeLine kind.Bool (Some (asked (codes "x") (Some (word (codes "G"))))) ∷ DefaultLine (word (codes "y")) (Some (word (codes "H"))) ∷ EndIfLine ∷ EndMenuLine ∷ EndMenuLine ∷ []
 
 menus_names : names_of menus ≡ codes "X" ∷ modules_word ∷ codes "A" ∷ codes "B" ∷ codes "C" ∷ codes "D" ∷ codes "E" ∷ codes "F" ∷ codes "G" ∷ codes "H" ∷ []
 menus_names = refl
 
-abbrev a_and_b : Form
-a_and_b = Every (MoreForms (sym 2) (MoreForms (sym 3) NoForms))
-
-menus_entries : entries (numbered_of menus) ≡ MenuShown (codes "o") (cond (sym 4 ∷ a_and_b ∷ []) None) ∷ MenuShown (codes "i") (cond (sym 4 ∷ a_and_b ∷ sym 5 ∷ []) None) ∷ CommentShown (codes "t") (cond (sym 4 ∷ sym 6 ∷ []) None) ∷ SymbolShown (symbol 0) ∷ EndShown 1 ∷ EndShown 0 ∷ []
+menus_entries : entries (numbered_of menus) ≡ MenuShown (codes "o") (cond (sym 4 ∷ sym 2 ∷ sym 3 ∷ []) None) ∷ MenuShown (codes "i") (cond (sym 4 ∷ sym 2 ∷ sym 3 ∷ sym 5 ∷ []) None) ∷ CommentShown (codes "t") (cond (sym 4 ∷ sym 6 ∷ []) None) ∷ SymbolShown (symbol 0) ∷ EndShown 1 ∷ EndShown 0 ∷ []
 menus_entries = refl
 
-menus_facts : facts_at menus 0 ≡ fact kind.Bool None (cond (sym 4 ∷ sym 7 ∷ []) None ∷ []) (cond (sym 4 ∷ sym 7 ∷ a_and_b ∷ sym 5 ∷ sym 8 ∷ []) None ∷ []) (given (txt (codes "y")) (cond (sym 4 ∷ sym 7 ∷ sym 9 ∷ []) None) ∷ []) []
+menus_facts : facts_at menus 0 ≡ fact kind.Bool None (cond (sym 4 ∷ sym 7 ∷ []) None ∷ []) (cond (sym 4 ∷ sym 7 ∷ sym 2 ∷ sym 3 ∷ sym 5 ∷ sym 8 ∷ []) None ∷ []) (given (txt (codes "y")) (cond (sym 4 ∷ sym 7 ∷ sym 9 ∷ []) None) ∷ []) []
 menus_facts = refl
 
 -- the last of several prompts of one entry counts

@@ -20,6 +20,7 @@ use Rattle.kc_build.specs.Facts.{entries, entry_at, is_first_definition, places,
 use Rattle.kc_build.specs.Trees.{facts_with}
 use Rattle.kc_build.proofs.ElementLemmas.{kept_at, same_is}
 use Rattle.kc_build.proofs.FirstLemmas.{defined_before, first-is, some_places}
+use Rattle.kc_build.proofs.ListLemmas.{front_get}
 use Rattle.kc_build.proofs.NumberingLemmas.{names_extend, numbered_at}
 use Rattle.kc_build.proofs.PlaceLemmas.{filter-next, get-map_numbers, length-map_numbers}
 
@@ -47,10 +48,6 @@ number_at : (n k : ℕ) → k < n → slice_get (numbers n) k ≡ Some k
 number_at n k h = sym (ap (λ (xs : List ℕ). slice_get xs k) (map_same (numbers n))) ∙ get-map_numbers (λ (k : ℕ). k) n k h
 
 -- Where a test passes, there is a first such place.
-front_get : {X : Type 0} (xs ys : List X) (k : ℕ) (x : X) → slice_get xs k ≡ Some x → slice_get (xs ++ ys) k ≡ Some x
-front_get [] ys k x h = absurd cc
-front_get (z ∷ xs) ys zero x h = h
-front_get (z ∷ xs) ys (suc k) x h = front_get xs ys k x h
 
 first_snoc : (xs : List ℕ) (n : ℕ) → (d : ℕ) × (slice_get (xs ++ n ∷ []) 0 ≡ Some d)
 first_snoc [] n = (n, refl)

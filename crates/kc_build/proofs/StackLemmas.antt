@@ -1,17 +1,7 @@
 -- Stacks: the last of a list, and of what a function gives for a list.
-use Rattle.std.proofs.Common.{◌≡◌, ℕ, List, [], ◌∷◌, ◌++◌, length, map, Some, refl, ap, arith, inl, inr}
-use Rattle.std.specs.Prelude.{◌⊎◌}
+use Rattle.std.proofs.Common.{◌≡◌, ℕ, List, [], ◌∷◌, ◌++◌, length, map, Some, refl, ap, arith}
 use Rattle.kc_read.specs.Blocks.{last_of}
 use Rattle.kc_build.proofs.BlockLemmas.{front}
-
--- A list that is empty or has a last element.
-pub ends : {X : Type 0} (xs : List X) → (xs ≡ []) ⊎ ((ys : List X) × (y : X) × (xs ≡ ys ++ y ∷ []))
-ends [] = inl refl
-ends {X} (x ∷ xs) = more (ends xs)
-  where
-    more : (xs ≡ []) ⊎ ((ys : List X) × (y : X) × (xs ≡ ys ++ y ∷ [])) → (x ∷ xs ≡ []) ⊎ ((ys : List X) × (y : X) × (x ∷ xs ≡ ys ++ y ∷ []))
-    more (inl e) = inr ([], x, ap (λ l. x ∷ l) e)
-    more (inr e) = inr (x ∷ e.0, e.1, ap (λ l. x ∷ l) e.2)
 
 pub no_snoc : {X : Type 0} (xs : List X) (x : X) → xs ++ x ∷ [] ≡ [] → ⊥
 no_snoc [] x h = cc

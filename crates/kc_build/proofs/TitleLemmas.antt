@@ -1,6 +1,6 @@
 -- What a menu and a comment do to the walk.
-use Rattle.std.proofs.Common.{◌≡◌, ℕ, zero, suc, ◌+◌, ◌*◌, ◌<◌, ◌≤◌, Bool, true, false, if◌then◌else◌, List, [], ◌∷◌, ◌++◌, length, map, Option, Some, None, refl, ap, sym, ◌∙◌, subst, arith, append_assoc}
-use Rattle.std.specs.List.{All, slice_get, filter_map, cons_option}
+use Rattle.std.proofs.Common.{◌≡◌, ℕ, suc, ◌+◌, ◌*◌, ◌<◌, ◌≤◌, Bool, false, if◌then◌else◌, List, [], ◌∷◌, ◌++◌, length, Option, Some, None, refl, ap, sym, ◌∙◌, subst, arith, append_assoc}
+use Rattle.std.specs.List.{slice_get, filter_map, cons_option}
 use Rattle.std.proofs.lemmas.List.{append-nil, length_push, nil_from_length}
 use Rattle.std.proofs.lemmas.List.Elements.{All-cons, All-nil}
 use Rattle.kc_expr.specs.Form.{Form}
@@ -16,7 +16,6 @@ use Rattle.kc_tree.specs.declared.parts.TitleId.{TitleId}
 use Rattle.kc_tree.specs.Contexts.{condition_in}
 use Rattle.kc_tree.specs.Layouts.{shown_of, shown_when as shown_in, title_condition, title_text}
 use Rattle.kc_tree.specs.TreeFacts.{Condition, CommentShown, MenuShown, Shown}
-use Rattle.kc_build.specs.Before.{main_menu_before}
 use Rattle.kc_build.specs.Facts.{block_parts, choice_number, dep, depends_form, entry_at, entry_number, of_block, own_deps, own_visible, shown_when, symbol_of, title_of, visible_form, visible_round}
 use Rattle.kc_build.specs.Growth.{IsGrown, Stands, and_all}
 use Rattle.kc_build.specs.Rounds.{block_visible}
@@ -74,7 +73,11 @@ pub record IsTitled (ss : List Numbered) (i : ℕ) (head : Numbered) : Type 0 wh
 
 -- One title and one entry more.
 module _ (ss : List Numbered) (symbols : List Symbol) (i : ℕ) (head : Numbered) (own : List Numbered) (h : IsHead ss i head own) (old new : Walk) (w : IsWalk ss symbols i old) where
-  pub titled_passes : (t : Title) (e : Entry) (s : Shown) → AreRest old new → IsTitled ss i head → Extends old.tables.contexts new.tables.contexts → length new.tables.contexts ≤ length old.tables.contexts + 2 * length own + 2 → AreOpen ss (suc i) new.tables.contexts new.blocks → new.tables.titles.items ≡ old.tables.titles.items ++ t ∷ [] → IsTitleThere new.tables.contexts t → new.tables.entries.items ≡ old.tables.entries.items ++ e ∷ [] → IsEntryThere (length new.tables.titles.items) (length new.tables.entries.items) e → shown_of new.tables e ≡ s → entry_at ss i (Some head) ≡ Some s → IsWalk ss symbols (place_after i own) new
+  pub titled_passes : (t : Title) (e : Entry) (s : Shown) → AreRest old new → IsTitled ss i head → Extends old.tables.contexts new.tables.contexts →
+      length new.tables.contexts ≤ length old.tables.contexts + 2 * length own + 2 → AreOpen ss (suc i) new.tables.contexts new.blocks →
+      new.tables.titles.items ≡ old.tables.titles.items ++ t ∷ [] → IsTitleThere new.tables.contexts t → new.tables.entries.items ≡ old.tables.entries.items ++ e ∷ [] →
+      IsEntryThere (length new.tables.titles.items) (length new.tables.entries.items) e → shown_of new.tables e ≡ s → entry_at ss i (Some head) ≡ Some s →
+      IsWalk ss symbols (place_after i own) new
   titled_passes t e s r q g few blocks titles title entries there shown says =
       walk_passes ss i head own h symbols old new w
       (record {
@@ -94,7 +97,8 @@ module _ (ss : List Numbered) (symbols : List Symbol) (i : ℕ) (head : Numbered
         entries_more = e ∷ [];
         entries = entries;
         few_entries = omega arith;
-        entries_there = All-cons (IsEntryThere (length new.tables.titles.items) (length new.tables.entries.items)) e [] there (All-nil (IsEntryThere (length new.tables.titles.items) (length new.tables.entries.items)));
+        entries_there = All-cons (IsEntryThere (length new.tables.titles.items) (length new.tables.entries.items)) e [] there
+            (All-nil (IsEntryThere (length new.tables.titles.items) (length new.tables.entries.items)));
         shown = ap (λ x. x ∷ []) shown ∙ sym (ap (λ o. cons_option o []) says);
         main_menu = ap (λ v. v.items) r.main_menu ∙ w.main_menu ∙ sym (main_menu_stays ss i head own h q.title);
       })
@@ -102,60 +106,96 @@ module _ (ss : List Numbered) (symbols : List Symbol) (i : ℕ) (head : Numbered
 
 -- A comment.
 module _ (text : List ℕ) (own : List Numbered) (old new : Walk) (rest : AreRest old new) (within : ContextId) (t : Title) (id : TitleId) where
-  pub comment_enters : IsGrown old.tables.contexts new.tables.contexts (condition_in old.tables.contexts old.blocks.innermost.within.0).mode (length own) → Stands new.tables.contexts within.0 (and_all (condition_in old.tables.contexts old.blocks.innermost.within.0) (filter_map depends_form own)) → new.blocks ≡ old.blocks → new.tables.titles.items ≡ old.tables.titles.items ++ t ∷ [] → t.text.items ≡ text → t.within ≡ within → t.visible ≡ record { 0 = 0 } → id.0 ≡ length old.tables.titles.items → new.tables.entries.items ≡ old.tables.entries.items ++ entry.Comment id ∷ [] → (symbols : List Symbol) → Enters symbols (CommentLine text) own old new
+  pub comment_enters : IsGrown old.tables.contexts new.tables.contexts (condition_in old.tables.contexts old.blocks.innermost.within.0).mode (length own) →
+      Stands new.tables.contexts within.0 (and_all (condition_in old.tables.contexts old.blocks.innermost.within.0) (filter_map depends_form own)) → new.blocks ≡ old.blocks →
+      new.tables.titles.items ≡ old.tables.titles.items ++ t ∷ [] → t.text.items ≡ text → t.within ≡ within → t.visible ≡ record { 0 = 0 } → id.0 ≡ length old.tables.titles.items →
+      new.tables.entries.items ≡ old.tables.entries.items ++ entry.Comment id ∷ [] → (symbols : List Symbol) → Enters symbols (CommentLine text) own old new
   comment_enters grown stands blocks titles said shown_within shown_visible number entries symbols ss i a h w =
       let there = old.within 0 old.blocks.innermost refl in
-      let g = carries_grown old.tables.contexts new.tables.contexts (condition_in old.tables.contexts old.blocks.innermost.within.0).mode (length own) old.blocks.innermost.within.0 there refl grown in
+      let g = carries_grown old.tables.contexts new.tables.contexts (condition_in old.tables.contexts old.blocks.innermost.within.0).mode
+      (length own) old.blocks.innermost.within.0 there refl grown in
       let one : length new.tables.titles.items ≡ length old.tables.titles.items + 1 = ap length titles ∙ length_push old.tables.titles.items t in
       let some : 0 < length new.tables.contexts = (let s = stands.there in omega arith) in
-      let depends : condition_in new.tables.contexts t.within.0 ≡ dep ss i = ap (λ x. condition_in new.tables.contexts x.0) shown_within ∙ stands.is ∙ dep_is ss i own old.tables.contexts old.blocks.innermost w.blocks.innermost h.attributes_are in
-      let nothing : (condition_in new.tables.contexts t.visible.0).parts ≡ [] = ap (λ x. (condition_in new.tables.contexts x.0).parts) shown_visible ∙ nil_from_length (condition_in new.tables.contexts 0).parts new.asks_nothing in
-      let condition : title_condition new.tables t ≡ dep ss i = (λ j. record { parts = (depends j).parts ++ nothing j; mode = (depends j).mode }) ∙ (λ j. record { parts = append-nil (dep ss i).parts j; mode = (dep ss i).mode }) in
+      let depends : condition_in new.tables.contexts t.within.0 ≡ dep ss i = ap (λ x. condition_in new.tables.contexts x.0) shown_within ∙ stands.is
+      ∙ dep_is ss i own old.tables.contexts old.blocks.innermost w.blocks.innermost h.attributes_are in
+      let nothing : (condition_in new.tables.contexts t.visible.0).parts ≡ [] = ap (λ x. (condition_in new.tables.contexts x.0).parts) shown_visible
+      ∙ nil_from_length (condition_in new.tables.contexts 0).parts new.asks_nothing in
+      let condition : title_condition new.tables t ≡ dep ss i = (λ j. record { parts = (depends j).parts ++ nothing j; mode = (depends j).mode })
+      ∙ (λ j. record { parts = append-nil (dep ss i).parts j; mode = (dep ss i).mode }) in
       titled_passes ss symbols i (CommentLine text) own h old new w t (entry.Comment id) (CommentShown text (dep ss i)) rest
       (record { symbol = refl; choice = rw (h.at) refl; title = refl })
       (extends old.tables.contexts new.tables.contexts g)
       (let l = grown.few in omega arith)
-      (subst (AreOpen ss (suc i) new.tables.contexts) (sym blocks) (open_passes ss i (CommentLine text) h.at new.tables.contexts old.blocks refl (open_carries ss i old.tables.contexts new.tables.contexts old.blocks g old.within old.visible w.blocks)))
+      (subst (AreOpen ss (suc i) new.tables.contexts) (sym blocks)
+      (open_passes ss i (CommentLine text) h.at new.tables.contexts old.blocks refl
+      (open_carries ss i old.tables.contexts new.tables.contexts old.blocks g old.within old.visible w.blocks)))
       titles
-      (record { within = subst (λ (x : ContextId). x.0 < length new.tables.contexts) (sym shown_within) stands.there; visible = subst (λ (x : ContextId). x.0 < length new.tables.contexts) (sym shown_visible) some })
+      (record {
+        within = subst (λ (x : ContextId). x.0 < length new.tables.contexts) (sym shown_within) stands.there;
+        visible =
+            subst (λ (x : ContextId). x.0 < length new.tables.contexts) (sym shown_visible) some;
+      })
       entries
       (omega arith)
       (comment_shown new old.tables.titles.items t id titles number ∙ (λ j. CommentShown (said j) (condition j)))
       refl
 
 -- A menu.
-module _ (text : List ℕ) (own : List Numbered) (old new : Walk) (rest : AreRest old new) (middle : List Condition) (within visible : ContextId) (t : Title) (id : TitleId) (number : ℕ) (b : Block) where
-  pub menu_enters : IsGrown old.tables.contexts middle (condition_in old.tables.contexts old.blocks.innermost.within.0).mode (length own) → Stands middle within.0 (and_all (condition_in old.tables.contexts old.blocks.innermost.within.0) (filter_map depends_form own)) → IsGrown middle new.tables.contexts (condition_in middle old.blocks.innermost.visible.0).mode (length own) → Stands new.tables.contexts visible.0 (and_all (condition_in middle old.blocks.innermost.visible.0) (filter_map visible_form own)) → new.tables.titles.items ≡ old.tables.titles.items ++ t ∷ [] → t.text.items ≡ text → t.within ≡ within → t.visible ≡ visible → id.0 ≡ length old.tables.titles.items → number ≡ length old.tables.entries.items → new.tables.entries.items ≡ old.tables.entries.items ++ entry.Menu id ∷ [] → b ≡ record { within = within; visible = visible; entry = Some number } → new.blocks.innermost ≡ b → new.blocks.outside.items ≡ old.blocks.outside.items ++ old.blocks.innermost ∷ [] → (symbols : List Symbol) → Enters symbols (MenuLine text) own old new
+module _ (text : List ℕ) (own : List Numbered) (old new : Walk) (rest : AreRest old new) (middle : List Condition) (within visible : ContextId) (t : Title) (id : TitleId)
+    (number : ℕ) (b : Block) where
+  pub menu_enters : IsGrown old.tables.contexts middle (condition_in old.tables.contexts old.blocks.innermost.within.0).mode (length own) →
+      Stands middle within.0 (and_all (condition_in old.tables.contexts old.blocks.innermost.within.0) (filter_map depends_form own)) →
+      IsGrown middle new.tables.contexts (condition_in middle old.blocks.innermost.visible.0).mode (length own) →
+      Stands new.tables.contexts visible.0 (and_all (condition_in middle old.blocks.innermost.visible.0) (filter_map visible_form own)) →
+      new.tables.titles.items ≡ old.tables.titles.items ++ t ∷ [] → t.text.items ≡ text → t.within ≡ within → t.visible ≡ visible → id.0 ≡ length old.tables.titles.items →
+      number ≡ length old.tables.entries.items → new.tables.entries.items ≡ old.tables.entries.items ++ entry.Menu id ∷ [] →
+      b ≡ record { within = within; visible = visible; entry = Some number } → new.blocks.innermost ≡ b →
+      new.blocks.outside.items ≡ old.blocks.outside.items ++ old.blocks.innermost ∷ [] → (symbols : List Symbol) → Enters symbols (MenuLine text) own old new
   menu_enters grown stands further sees titles said shown_within shown_visible id_is number_is entries block_is inner outside symbols ss i a h w =
       let there = old.within 0 old.blocks.innermost refl in
       let seen = old.visible 0 old.blocks.innermost refl in
-      let f = carries_grown old.tables.contexts middle (condition_in old.tables.contexts old.blocks.innermost.within.0).mode (length own) old.blocks.innermost.within.0 there refl grown in
+      let f = carries_grown old.tables.contexts middle (condition_in old.tables.contexts old.blocks.innermost.within.0).mode
+      (length own) old.blocks.innermost.within.0 there refl grown in
       let seen_still : old.blocks.innermost.visible.0 < length middle = (let l = f.longer in omega arith) in
       let k = carries_grown middle new.tables.contexts (condition_in middle old.blocks.innermost.visible.0).mode (length own) old.blocks.innermost.visible.0 seen_still refl further in
       let g = carries_both old.tables.contexts middle new.tables.contexts f k in
       let round = w.blocks.innermost in
       let one : length new.tables.titles.items ≡ length old.tables.titles.items + 1 = ap length titles ∙ length_push old.tables.titles.items t in
-      let depends : condition_in new.tables.contexts within.0 ≡ dep ss i = k.keeps within.0 stands.there ∙ stands.is ∙ dep_is ss i own old.tables.contexts old.blocks.innermost round h.attributes_are in
-      let shows : (condition_in new.tables.contexts visible.0).parts ≡ visible_round ss i ++ own_visible ss i = ap (λ (c : Condition). c.parts) sees.is ∙ ap (λ (c : Condition). c.parts ++ filter_map visible_form own) (f.keeps old.blocks.innermost.visible.0 seen) ∙ visible_is ss i own old.tables.contexts old.blocks.innermost round h.attributes_are in
+      let depends : condition_in new.tables.contexts within.0 ≡ dep ss i = k.keeps within.0 stands.there ∙ stands.is
+      ∙ dep_is ss i own old.tables.contexts old.blocks.innermost round h.attributes_are in
+      let shows : (condition_in new.tables.contexts visible.0).parts ≡ visible_round ss i ++ own_visible ss i = ap (λ (c : Condition). c.parts) sees.is
+      ∙ ap (λ (c : Condition). c.parts ++ filter_map visible_form own) (f.keeps old.blocks.innermost.visible.0 seen)
+      ∙ visible_is ss i own old.tables.contexts old.blocks.innermost round h.attributes_are in
       let depends_t : condition_in new.tables.contexts t.within.0 ≡ dep ss i = ap (λ x. condition_in new.tables.contexts x.0) shown_within ∙ depends in
-      let shows_t : (condition_in new.tables.contexts t.visible.0).parts ≡ visible_round ss i ++ own_visible ss i = ap (λ x. (condition_in new.tables.contexts x.0).parts) shown_visible ∙ shows in
+      let shows_t : (condition_in new.tables.contexts t.visible.0).parts ≡ visible_round ss i ++ own_visible ss i =
+      ap (λ x. (condition_in new.tables.contexts x.0).parts) shown_visible ∙ shows in
       let grouped = sym (append_assoc (dep ss i).parts (visible_round ss i) (own_visible ss i)) in
-      let condition : title_condition new.tables t ≡ shown_when ss i = (λ j. record { parts = (depends_t j).parts ++ shows_t j; mode = (depends_t j).mode }) ∙ (λ j. record { parts = grouped j; mode = (dep ss i).mode }) in
+      let condition : title_condition new.tables t ≡ shown_when ss i = (λ j. record { parts = (depends_t j).parts ++ shows_t j; mode = (depends_t j).mode })
+      ∙ (λ j. record { parts = grouped j; mode = (dep ss i).mode }) in
       let opens : own_deps ss i ≡ block_parts ss i = rw (h.at) refl in
       let opens_visible : own_visible ss i ≡ block_visible ss i = rw (h.at) refl in
       let other : of_block ss block.Choice i ≡ false = rw (h.at) refl in
-      let parts : (condition_in new.tables.contexts within.0).parts ≡ (asked_at ss i).parts ++ block_parts ss i = ap (λ (c : Condition). c.parts) depends ∙ ap (λ (l : List Form). (asked_at ss i).parts ++ l) opens in
-      let visible_parts : (condition_in new.tables.contexts visible.0).parts ≡ (asked_at ss i).visible ++ block_visible ss i = shows ∙ ap (λ (l : List Form). (asked_at ss i).visible ++ l) opens_visible in
-      let mode : (condition_in new.tables.contexts within.0).mode ≡ (if of_block ss block.Choice i then Some (choice_number ss i) else (asked_at ss i).mode) = ap (λ (c : Condition). c.mode) depends ∙ sym (ap (λ (x : Bool). if x then Some (choice_number ss i) else (asked_at ss i).mode) other) in
+      let parts : (condition_in new.tables.contexts within.0).parts ≡ (asked_at ss i).parts ++ block_parts ss i = ap (λ (c : Condition). c.parts) depends
+      ∙ ap (λ (l : List Form). (asked_at ss i).parts ++ l) opens in
+      let visible_parts : (condition_in new.tables.contexts visible.0).parts ≡ (asked_at ss i).visible ++ block_visible ss i = shows
+      ∙ ap (λ (l : List Form). (asked_at ss i).visible ++ l) opens_visible in
+      let mode : (condition_in new.tables.contexts within.0).mode ≡ (if of_block ss block.Choice i then Some (choice_number ss i) else (asked_at ss i).mode) =
+      ap (λ (c : Condition). c.mode) depends ∙ sym (ap (λ (x : Bool). if x then Some (choice_number ss i) else (asked_at ss i).mode) other) in
       let named : Some number ≡ Some (entry_number ss i) = ap Some (number_is ∙ entry_count ss symbols i old w a.ends) in
-      let inside = ap (block_view new.tables.contexts) (inner ∙ block_is) ∙ block_inside ss i new.tables.contexts (record { within = within; visible = visible; entry = Some number }) parts visible_parts mode named in
+      let inside = ap (block_view new.tables.contexts) (inner ∙ block_is)
+      ∙ block_inside ss i new.tables.contexts (record { within = within; visible = visible; entry = Some number }) parts visible_parts mode named in
       titled_passes ss symbols i (MenuLine text) own h old new w t (entry.Menu id) (MenuShown text (shown_when ss i)) rest
       (record { symbol = refl; choice = other; title = refl })
       (extends old.tables.contexts new.tables.contexts g)
       (let l = grown.few in let m = further.few in omega arith)
-      (open_opens ss i (MenuLine text) h.at block.Menu new.tables.contexts old.blocks new.blocks refl (open_carries ss i old.tables.contexts new.tables.contexts old.blocks g old.within old.visible w.blocks) inside outside)
+      (open_opens ss i (MenuLine text) h.at block.Menu new.tables.contexts old.blocks new.blocks refl
+      (open_carries ss i old.tables.contexts new.tables.contexts old.blocks g old.within old.visible w.blocks) inside outside)
       titles
-      (record { within = subst (λ (x : ContextId). x.0 < length new.tables.contexts) (sym shown_within) (let s = stands.there in let l = k.longer in omega arith); visible = subst (λ (x : ContextId). x.0 < length new.tables.contexts) (sym shown_visible) sees.there })
+      (record {
+        within = subst (λ (x : ContextId). x.0 < length new.tables.contexts) (sym shown_within) (let s = stands.there in let l = k.longer in omega arith);
+        visible =
+            subst (λ (x : ContextId). x.0 < length new.tables.contexts) (sym shown_visible) sees.there;
+      })
       entries
       (omega arith)
       (menu_shown new old.tables.titles.items t id titles id_is ∙ (λ j. MenuShown (said j) (condition j)))

@@ -1,9 +1,9 @@
 -- The walk behind an entry that defines no symbol.
-use Rattle.std.proofs.Common.{◌≡◌, ℕ, zero, suc, ◌+◌, ◌*◌, ◌<◌, ◌≤◌, Bool, true, false, cond, if◌then◌else◌, List, [], ◌∷◌, ◌++◌, length, filter, map, Option, Some, None, refl, ap, sym, ◌∙◌, subst, arith, add-one, get_or, length-append, take, codes, unwrap_or}
-use Rattle.std.specs.List.{All, slice_get, filter_map, flat_map, cons_option, count_by, fold}
+use Rattle.std.proofs.Common.{◌≡◌, ℕ, zero, suc, ◌+◌, ◌*◌, ◌≤◌, Bool, true, false, cond, if◌then◌else◌, List, [], ◌∷◌, ◌++◌, length, filter, map, Option, Some, None, refl, ap, sym, ◌∙◌, subst, arith, add-one, length-append, take, codes, unwrap_or}
+use Rattle.std.specs.List.{All, slice_get, filter_map, flat_map, cons_option}
 use Rattle.std.specs.Option.{is_some, option_map}
 use Rattle.std.proofs.lemmas.List.{append-nil, length-map, map-append}
-use Rattle.std.proofs.lemmas.List.Elements.{All-append, All-weaker}
+use Rattle.std.proofs.lemmas.List.Elements.{All-append}
 use Rattle.std.proofs.lemmas.List.Sums.{length-filter}
 use Rattle.std.proofs.lemmas.Option.{slice_get_within, get_or_from_slice_get}
 use Rattle.kc_expr.specs.declared.expression.SymId.{SymId}
@@ -12,28 +12,26 @@ use Rattle.kc_expr.specs.Names.{symbol}
 use Rattle.kc_read.specs.declared.statement.Block.TheVariants as block
 use Rattle.kc_read.specs.Statements.{Numbered, ConfigLine, CommentLine, MenuLine, EndMenuLine}
 use Rattle.kc_read.specs.Blocks.{last_of, numbers}
-use Rattle.kc_tree.specs.declared.layout.Tables.{Tables}
-use Rattle.kc_tree.specs.declared.parts.Choice.{Choice}
 use Rattle.kc_tree.specs.declared.parts.Definition.{Definition}
 use Rattle.kc_tree.specs.declared.parts.Entry.{Entry}
-use Rattle.kc_tree.specs.declared.parts.Reverse.{Reverse}
 use Rattle.kc_tree.specs.declared.parts.Symbol.{Symbol}
 use Rattle.kc_tree.specs.declared.parts.Title.{Title}
 use Rattle.kc_tree.specs.declared.reverses.Reverses.{Reverses}
-use Rattle.kc_tree.specs.Layouts.{choice_facts as choice_in, definition_facts, impliers_at, selectors_at, shown_of}
-use Rattle.kc_tree.specs.TreeFacts.{ChoiceFacts, Guarded, Shown, SymbolShown, EndShown}
-use Rattle.kc_build.specs.Before.{choice_before, choices_before, definition_line, definitions_before, entries_before, impliers_before, main_menu_before, members_before, selectors_before}
+use Rattle.kc_tree.specs.Layouts.{choice_facts as choice_in, definition_facts, shown_of}
+use Rattle.kc_tree.specs.TreeFacts.{Guarded, Shown, SymbolShown, EndShown}
+use Rattle.kc_build.specs.Before.{choice_before, choices_before, definitions_before, entries_before, impliers_before, main_menu_before, members_before, selectors_before}
 use Rattle.kc_build.specs.Facts.{can_be_target, choice_number, entry_at, entry_number, imply_of, is_entry, is_first_definition, naming_at, of_block, opener_of, select_of, symbol_at, symbol_of, title_of}
-use Rattle.kc_build.specs.Known.{AreMenusOpened, IsWhole}
+use Rattle.kc_build.specs.Known.{AreMenusOpened}
 use Rattle.kc_build.specs.ReverseRows.{HaveSources}
-use Rattle.kc_build.specs.Said.{AreRowsThere, HasHeads, IsEntryThere, IsSmall, IsSpanBelow, IsTitleThere}
+use Rattle.kc_build.specs.Said.{AreRowsThere, IsEntryThere, IsSmall, IsSpanBelow, IsTitleThere}
 use Rattle.kc_build.specs.Stacks.{AreOpen}
 use Rattle.kc_build.specs.Walks.{IsHead, IsWalk, place_after}
 use Rattle.kc_build.specs.declared.entries.Walk.{Walk}
 use Rattle.kc_build.proofs.EnterLemmas.{blocks_passed, definitions_passed, enclosing_passed, entries_passed, member_line, members_passed, names_passed, titles_passed}
 use Rattle.kc_build.proofs.GrownLemmas.{Extends, choice_extends, definition_extends_same, entries_stay, impliers_same, map_alike, selectors_same, shown_extends, titles_stay}
+use Rattle.kc_build.proofs.ListLemmas.{count_next}
 use Rattle.kc_build.proofs.OpenLemmas.{open_moves}
-use Rattle.kc_build.proofs.PlaceLemmas.{filter_map-next, numbers-next}
+use Rattle.kc_build.proofs.PlaceLemmas.{filter_map-next}
 
 -- an element by its place
 pub all_at : {X : Type 0} (P : X → Type 0) (xs : List X) (i : ℕ) (x : X) → All P xs → slice_get xs i ≡ Some x → P x
@@ -41,12 +39,6 @@ all_at P xs i x a e =
     subst P (get_or_from_slice_get xs i x x e) (a i x (slice_get_within xs i x e))
 
 -- How many choices and entries there are.
-fold_snoc : (g : ℕ → ℕ → ℕ) (a : ℕ) (xs : List ℕ) (x : ℕ) → fold g a (xs ++ x ∷ []) ≡ g (fold g a xs) x
-fold_snoc g a [] x = refl
-fold_snoc g a (y ∷ xs) x = fold_snoc g (g a y) xs x
-
-pub count_next : (p : ℕ → Bool) (n : ℕ) → count_by p (numbers (suc n)) ≡ count_by p (numbers n) + cond (p n) 1 0
-count_next p n = fold_snoc (λ (a x : ℕ). a + cond (p x) 1 0) 0 (numbers n) n
 
 if_some : (b : Bool) (s : SymId) → b ≡ is_some (if b then Some (SymbolShown s) else None)
 if_some true s = refl
@@ -73,9 +65,12 @@ module _ (ss : List Numbered) (ends : AreMenusOpened ss) where
   so_many_entries zero = refl
   so_many_entries (suc n) =
       let before = so_many_entries n in
-      let whole : entries_before ss (suc n) ≡ entries_before ss n ++ cons_option (entry_at ss n (slice_get ss n)) [] = (rw add-one at (filter_map-next (λ j. entry_at ss j (slice_get ss j)) n)) in
-      let here : length (cons_option (entry_at ss n (slice_get ss n)) []) ≡ cond (is_entry ss n (slice_get ss n)) 1 0 = one_more (entry_at ss n (slice_get ss n)) ∙ ap (λ (b : Bool). cond b 1 0) (sym (tells n (slice_get ss n) refl)) in
-      let size : length (entries_before ss (suc n)) ≡ length (entries_before ss n) + length (cons_option (entry_at ss n (slice_get ss n)) []) = ap length whole ∙ length-append (entries_before ss n) (cons_option (entry_at ss n (slice_get ss n)) []) in
+      let whole : entries_before ss (suc n) ≡ entries_before ss n ++ cons_option (entry_at ss n (slice_get ss n)) [] =
+      (rw add-one at (filter_map-next (λ j. entry_at ss j (slice_get ss j)) n)) in
+      let here : length (cons_option (entry_at ss n (slice_get ss n)) []) ≡ cond (is_entry ss n (slice_get ss n)) 1 0 = one_more (entry_at ss n (slice_get ss n))
+      ∙ ap (λ (b : Bool). cond b 1 0) (sym (tells n (slice_get ss n) refl)) in
+      let size : length (entries_before ss (suc n)) ≡ length (entries_before ss n) + length (cons_option (entry_at ss n (slice_get ss n)) []) = ap length whole
+      ∙ length-append (entries_before ss n) (cons_option (entry_at ss n (slice_get ss n)) []) in
       let all = count_next (λ j. is_entry ss j (slice_get ss j)) n in
       omega arith
 
@@ -128,18 +123,22 @@ module _ (ss : List Numbered) (i : ℕ) (head : Numbered) (own : List Numbered) 
 
     pub no_choice_passed : (symbols : List Symbol) → of_block ss block.Choice i ≡ false → choices_before ss symbols after ≡ choices_before ss symbols i
     no_choice_passed symbols o =
-        ap (map (choice_before ss symbols after)) (blocks_passed ss i head own h block.Choice ∙ ap (λ (b : Bool). filter (of_block ss block.Choice) (numbers i) ++ (if b then i ∷ [] else [])) o ∙ append-nil (filter (of_block ss block.Choice) (numbers i)))
+        ap (map (choice_before ss symbols after))
+        (blocks_passed ss i head own h block.Choice ∙ ap (λ (b : Bool). filter (of_block ss block.Choice) (numbers i) ++ (if b then i ∷ [] else [])) o
+        ∙ append-nil (filter (of_block ss block.Choice) (numbers i)))
         ∙ choices_stay symbols (filter (of_block ss block.Choice) (numbers i))
 
     pub choice_passed : (symbols : List Symbol) → of_block ss block.Choice i ≡ true → choices_before ss symbols after ≡ choices_before ss symbols i ++ choice_before ss symbols i i ∷ []
     choice_passed symbols o =
-        ap (map (choice_before ss symbols after)) (blocks_passed ss i head own h block.Choice ∙ ap (λ (b : Bool). filter (of_block ss block.Choice) (numbers i) ++ (if b then i ∷ [] else [])) o)
+        ap (map (choice_before ss symbols after))
+        (blocks_passed ss i head own h block.Choice ∙ ap (λ (b : Bool). filter (of_block ss block.Choice) (numbers i) ++ (if b then i ∷ [] else [])) o)
         ∙ choices_stay symbols (filter (of_block ss block.Choice) (numbers i) ++ i ∷ [])
         ∙ map-append (choice_before ss symbols i) (filter (of_block ss block.Choice) (numbers i)) (i ∷ [])
 
   pub main_menu_stays : title_of head ≡ None → main_menu_before ss after ≡ main_menu_before ss i
   main_menu_stays none =
-      ap (λ (l : List (List ℕ)). unwrap_or (last_of l) (codes "Main menu")) (titles_passed ss i head own h ∙ ap (λ (o : Option (List ℕ)). filter_map title_of (take i ss) ++ cons_option o []) none ∙ append-nil (filter_map title_of (take i ss)))
+      ap (λ (l : List (List ℕ)). unwrap_or (last_of l) (codes "Main menu"))
+      (titles_passed ss i head own h ∙ ap (λ (o : Option (List ℕ)). filter_map title_of (take i ss) ++ cons_option o []) none ∙ append-nil (filter_map title_of (take i ss)))
 
   -- What such an entry does to the walk.
   module _ (symbols : List Symbol) (old new : Walk) where
@@ -181,7 +180,10 @@ module _ (ss : List Numbered) (i : ℕ) (head : Numbered) (own : List Numbered) 
       entries_now =
           ap (map (shown_of new.tables)) p.entries
           ∙ map-append (shown_of new.tables) old.tables.entries.items p.entries_more
-          ∙ ap (λ (l : List Shown). l ++ map (shown_of new.tables) p.entries_more) (map_alike (shown_of new.tables) (shown_of old.tables) old.tables.entries.items (λ k e at. shown_extends old.tables new.tables p.contexts p.titles_more (length old.tables.entries.items) e w.rows p.titles (all_at (IsEntryThere (length old.tables.titles.items) (length old.tables.entries.items)) old.tables.entries.items k e w.rows.entries at)) ∙ w.entries)
+          ∙ ap (λ (l : List Shown). l ++ map (shown_of new.tables) p.entries_more)
+          (map_alike (shown_of new.tables) (shown_of old.tables) old.tables.entries.items
+          (λ k e at. shown_extends old.tables new.tables p.contexts p.titles_more (length old.tables.entries.items) e w.rows p.titles
+          (all_at (IsEntryThere (length old.tables.titles.items) (length old.tables.entries.items)) old.tables.entries.items k e w.rows.entries at)) ∙ w.entries)
           ∙ ap (λ (l : List Shown). entries_before ss i ++ l) p.shown
           ∙ sym (entries_passed ss i head own h)
 
@@ -193,11 +195,19 @@ module _ (ss : List Numbered) (i : ℕ) (head : Numbered) (own : List Numbered) 
 
       rows_now : AreRowsThere new.tables
       rows_now = record {
-        defaults = λ k d e. subst (λ (n : ℕ). IsSpanBelow n d.defaults) (sym (ap (λ v. length v.items) p.defaults)) (w.rows.defaults k d (sym (ap (λ (l : List Definition). slice_get l k) same_definitions) ∙ e));
-        ranges = λ k d e. subst (λ (n : ℕ). IsSpanBelow n d.ranges) (sym (ap (λ v. length v.items) p.ranges)) (w.rows.ranges k d (sym (ap (λ (l : List Definition). slice_get l k) same_definitions) ∙ e));
-        sources = subst (λ (n : ℕ). HaveSources n new.tables.reverses.lines.items) (sym (ap length same_definitions)) (subst (λ (r : Reverses). HaveSources (length old.tables.definitions.items) r.lines.items) (sym p.reverses) w.rows.sources);
-        titles = subst (All (IsTitleThere new.tables.contexts)) (sym p.titles) (All-append (IsTitleThere new.tables.contexts) old.tables.titles.items p.titles_more (titles_stay old.tables.contexts new.tables.contexts old.tables.titles.items p.contexts.longer w.rows.titles) p.titles_there);
-        entries = subst (All (IsEntryThere (length new.tables.titles.items) (length new.tables.entries.items))) (sym p.entries) (All-append (IsEntryThere (length new.tables.titles.items) (length new.tables.entries.items)) old.tables.entries.items p.entries_more (entries_stay (length old.tables.titles.items) (length old.tables.entries.items) (length new.tables.titles.items) (length new.tables.entries.items) old.tables.entries.items (let a = more_titles in omega arith) (let a = more_entries in omega arith) w.rows.entries) p.entries_there);
+        defaults = λ k d e. subst (λ (n : ℕ). IsSpanBelow n d.defaults) (sym (ap (λ v. length v.items) p.defaults))
+            (w.rows.defaults k d (sym (ap (λ (l : List Definition). slice_get l k) same_definitions) ∙ e));
+        ranges = λ k d e. subst (λ (n : ℕ). IsSpanBelow n d.ranges) (sym (ap (λ v. length v.items) p.ranges))
+            (w.rows.ranges k d (sym (ap (λ (l : List Definition). slice_get l k) same_definitions) ∙ e));
+        sources = subst (λ (n : ℕ). HaveSources n new.tables.reverses.lines.items) (sym (ap length same_definitions))
+            (subst (λ (r : Reverses). HaveSources (length old.tables.definitions.items) r.lines.items) (sym p.reverses) w.rows.sources);
+        titles = subst (All (IsTitleThere new.tables.contexts)) (sym p.titles)
+            (All-append (IsTitleThere new.tables.contexts) old.tables.titles.items p.titles_more
+            (titles_stay old.tables.contexts new.tables.contexts old.tables.titles.items p.contexts.longer w.rows.titles) p.titles_there);
+        entries = subst (All (IsEntryThere (length new.tables.titles.items) (length new.tables.entries.items))) (sym p.entries)
+            (All-append (IsEntryThere (length new.tables.titles.items) (length new.tables.entries.items)) old.tables.entries.items p.entries_more
+            (entries_stay (length old.tables.titles.items) (length old.tables.entries.items) (length new.tables.titles.items) (length new.tables.entries.items) old.tables.entries.items
+            (let a = more_titles in omega arith) (let a = more_entries in omega arith) w.rows.entries) p.entries_there);
       }
 
       small_now : IsSmall after new.tables
@@ -206,7 +216,8 @@ module _ (ss : List Numbered) (i : ℕ) (head : Numbered) (own : List Numbered) 
         definitions = (let a = w.small.definitions in let b = ap length same_definitions in omega arith);
         defaults = (let a = w.small.defaults in let b : length new.tables.defaults.items ≡ length old.tables.defaults.items = ap (λ v. length v.items) p.defaults in omega arith);
         ranges = (let a = w.small.ranges in let b : length new.tables.ranges.items ≡ length old.tables.ranges.items = ap (λ v. length v.items) p.ranges in omega arith);
-        lines = (let a = w.small.lines in let b : length new.tables.reverses.lines.items ≡ length old.tables.reverses.lines.items = ap (λ (r : Reverses). length r.lines.items) p.reverses in omega arith);
+        lines = (let a = w.small.lines in let b : length new.tables.reverses.lines.items ≡ length old.tables.reverses.lines.items =
+            ap (λ (r : Reverses). length r.lines.items) p.reverses in omega arith);
         titles = (let a = w.small.titles in let b = more_titles in let c = p.few_titles in omega arith);
         entries = (let a = w.small.entries in let b = more_entries in let c = p.few_entries in omega arith);
         choices = (let a = w.small.choices in let b = p.few_choices in omega arith);
@@ -221,13 +232,18 @@ module _ (ss : List Numbered) (i : ℕ) (head : Numbered) (own : List Numbered) 
         choices = p.choices;
         entries = entries_now;
         main_menu = p.main_menu;
-        heads = record { selects = ap (λ (r : Reverses). length r.selects.items) p.reverses ∙ w.heads.selects; implies = ap (λ (r : Reverses). length r.implies.items) p.reverses ∙ w.heads.implies };
+        heads = record {
+          selects = ap (λ (r : Reverses). length r.selects.items) p.reverses
+              ∙ w.heads.selects;
+          implies = ap (λ (r : Reverses). length r.implies.items) p.reverses ∙ w.heads.implies;
+        };
         rows = rows_now;
         small = small_now;
       }
 
     -- where no choice begins, the choices say the same
-    pub choices_say_same : Extends old.tables.contexts new.tables.contexts → new.tables.choices ≡ old.tables.choices → map (choice_in new.tables) new.tables.choices.items ≡ map (choice_in old.tables) old.tables.choices.items
+    pub choices_say_same : Extends old.tables.contexts new.tables.contexts → new.tables.choices ≡ old.tables.choices →
+        map (choice_in new.tables) new.tables.choices.items ≡ map (choice_in old.tables) old.tables.choices.items
     choices_say_same g e =
         ap (λ v. map (choice_in new.tables) v.items) e
         ∙ map_alike (choice_in new.tables) (choice_in old.tables) old.tables.choices.items (choice_extends old.tables new.tables g)

@@ -29,6 +29,7 @@ use Rattle.kc_build.proofs.DefinedLemmas.{AreNames}
 use Rattle.kc_build.proofs.ElementLemmas.{All-at}
 use Rattle.kc_build.proofs.EntrySoundLemmas.{entries_sound}
 use Rattle.kc_build.proofs.FormedLemmas.{all_sound, defined_if}
+use Rattle.kc_build.proofs.GrownLemmas.{get_front}
 use Rattle.kc_build.proofs.MemberSoundLemmas.{all_listed, choices_sound}
 use Rattle.kc_build.proofs.NumberingLemmas.{names_extend, numbered_below}
 use Rattle.kc_build.proofs.ShapeLemmas.{choices_alone, ends_name_menus}
@@ -77,11 +78,6 @@ name_by name false true true false l s p h = absurd cc
 
 good_is : (name : List ℕ) → is_good_name name ≡ true → IsSymbolName name
 good_is name h = name_by name (same_name name if_word || is_letter name) (nat_le 1 (length name)) (nat_le (length name) 255) (list_all is_name_byte name) refl refl refl h
-
-front_at : (xs ys : List (List ℕ)) (i : ℕ) → i < length xs → slice_get (xs ++ ys) i ≡ slice_get xs i
-front_at [] ys i h = absurd (omega arith)
-front_at (x ∷ xs) ys zero h = refl
-front_at (x ∷ xs) ys (suc i) h = front_at xs ys i (omega arith)
 
 -- Where nothing is refused, no member is bad.
 append_none : {A : Type 0} (xs ys : List A) → xs ++ ys ≡ [] → xs ≡ []
@@ -154,7 +150,7 @@ module _ (ls : List (Placed Written)) where
       let n = count_is in
       let b : i < length (defined (statements ls)) = omega arith in
       let x = names_extend (statements ls) in
-      let first : slice_get (defined (statements ls)) i ≡ Some name = sym (ap (λ (ns : List (List ℕ)). slice_get ns i) x.1 ∙ front_at (defined (statements ls)) x.0 i b) ∙ h in
+      let first : slice_get (defined (statements ls)) i ≡ Some name = sym (ap (λ (ns : List (List ℕ)). slice_get ns i) x.1 ∙ get_front (defined (statements ls)) x.0 i b) ∙ h in
       good_is name (All-at (λ m. is_good_name m ≡ true) (defined (statements ls)) i name k.good first)
 
   pub well_formed : AreNames (defined (statements ls)) → AreDistinct (names_of (statements ls)) → IsShaped ls → late_refusals (names_of (statements ls)) (numbered_lines ls) ≡ [] → IsWellFormed whole

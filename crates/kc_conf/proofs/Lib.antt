@@ -2,6 +2,7 @@ pub mod ExistenceLemmas
 pub mod HeardLemmas
 pub mod ListLemmas
 pub mod LostLemmas
+pub mod PromptLemmas
 pub mod PlacesLemmas
 pub mod OutcomeLemmas
 pub mod Once

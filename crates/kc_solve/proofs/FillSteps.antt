@@ -237,7 +237,8 @@ module _ (tree : TreeFacts) (l : Layout) (given : List (Option UserValue)) (chos
       let n = node_below tree l nodes now.order k b in
       omega (arith, n, at, now.order.rows.count, now.choice_count)
 
-empty_at : {A : Type 0} (n i : ℕ) (x : A) → get_or (replicate n None) i None ≡ Some x → ⊥
+-- an empty list of places holds nothing
+pub empty_at : {A : Type 0} (n i : ℕ) (x : A) → get_or (replicate n None) i None ≡ Some x → ⊥
 empty_at {A} n i x e =
     let len : length (replicate {A = Option A} n None) ≡ n = length-replicate n None in
     let l = there (replicate n None) i x e in

@@ -6,7 +6,7 @@ ghost use Rattle.kc_expr.specs.declared.expression.Tri.TheVariants.{N};
 ghost use Rattle.kc_order.specs.Solution.{IsOnlySolution, Solves};
 ghost use Rattle.kc_solve.specs.Graphs.{IsGraphOf};
 ghost use Rattle.kc_solve.specs.Places.{places, valuation};
-ghost use Rattle.kc_tree.specs.Layouts.{facts_of};
+ghost use Rattle.kc_tree.specs.Layouts.{IsLayoutOf, facts_of};
 ghost use Rattle.kc_values.specs.Known.{known_at};
 ghost use Rattle.kc_user.specs.Given.{At};
 ghost use Rattle.kc_user.specs.Places.{IsUserOf, place_at};

@@ -72,7 +72,7 @@ any_reverse p (x ∷ xs) =
     turned a b c h = grind arith
 
 -- what is found under a number, whatever else is
-pub passes_same : {X : Type 0} (p q : X → Bool) (o : Option X) → ((x : X) → o ≡ Some x → p x ≡ q x) → passes p o ≡ passes q o
+passes_same : {X : Type 0} (p q : X → Bool) (o : Option X) → ((x : X) → o ≡ Some x → p x ≡ q x) → passes p o ≡ passes q o
 passes_same p q None h = refl
 passes_same p q (Some x) h = h x refl
 

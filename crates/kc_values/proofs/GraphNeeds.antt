@@ -75,7 +75,8 @@ module _ (tree : TreeFacts) (l : Layout) (g : Nodes) (made : AreNodeRows tree l 
       ∙ ap (rows.choice_row_of l) is
 
   -- a choice whose mode counts in a context depends on those before it
-  pub behind : (i : ℕ) (c : Context) → IsStep l.tables.contexts i c → (k : Choice) → rows.choice_row l c.mode ≡ Some k → (k.within.0 < i) × ((p : Prompt) → k.prompt ≡ Some p → p.visible.0 < i)
+  pub behind : (i : ℕ) (c : Context) → IsStep l.tables.contexts i c → (k : Choice) → rows.choice_row l c.mode ≡ Some k →
+      (k.within.0 < i) × ((p : Prompt) → k.prompt ≡ Some p → p.visible.0 < i)
   behind i c step k e = by_mode c.mode refl e
     where
       by_mode : (o : Option ChoiceId) → c.mode ≡ o → rows.choice_row l o ≡ Some k → (k.within.0 < i) × ((p : Prompt) → k.prompt ≡ Some p → p.visible.0 < i)

@@ -1,5 +1,5 @@
 -- What a tree says of a symbol and a choice is what the rows of its layout say.
-use Rattle.std.proofs.Common.{◌≡◌, ℕ, List, Option, Some, None, refl, sym, ap, ◌∙◌}
+use Rattle.std.proofs.Common.{length, ◌≡◌, ℕ, List, Option, Some, None, refl, sym, ap, ◌∙◌}
 use Rattle.std.specs.List.{slice_get}
 use Rattle.std.specs.Option.{option_map}
 use Rattle.std.proofs.lemmas.Option.{slice_get-map}
@@ -10,12 +10,15 @@ use Rattle.kc_tree.specs.declared.parts.Choice.{Choice}
 use Rattle.kc_tree.specs.declared.parts.Symbol.{Symbol}
 use Rattle.kc_tree.specs.Layouts.{IsLayoutOf, facts_of, facts_at, choice_facts}
 use Rattle.kc_tree.specs.TreeFacts.{SymbolFacts, ChoiceFacts, TreeFacts}
-use Rattle.kc_tree.proofs.TreeLemmas.{symbols-at}
+use Rattle.kc_tree.proofs.TreeLemmas.{symbols-at, symbols-length}
 use Rattle.kc_values.specs.Table.{kind_in}
 
 module _ (tree : TreeFacts) (l : Layout) (laid : IsLayoutOf tree l) where
   pub facts_laid : (i : ℕ) → slice_get tree.symbols i ≡ facts_at l i
   facts_laid i = ap (λ (fs : List SymbolFacts). slice_get fs i) laid.symbols ∙ symbols-at l i
+
+  pub symbols_count : length tree.symbols ≡ length l.symbols.items
+  symbols_count = ap length laid.symbols ∙ symbols-length l
 
   pub choices_laid : (k : ℕ) → slice_get tree.choices k ≡ option_map (choice_facts l.tables) (slice_get l.tables.choices.items k)
   choices_laid k = ap (λ (cs : List ChoiceFacts). slice_get cs k) laid.choices ∙ slice_get-map (choice_facts l.tables) l.tables.choices.items k

@@ -39,7 +39,7 @@ use Rattle.kc_values.proofs.TreeNeeds.{needs_at, needs_length}
 
 module _ (tree : TreeFacts) (l : Layout) (laid : IsLayoutOf tree l) (g : Nodes) (made : AreNodeRows tree l g) (is : IsGraph g) (v : ℕ) where
   -- a node stands for the symbol v
-  abbrev st : ℕ → Bool
+  abbrev pub st : ℕ → Bool
   st t = stands v (stands_for g.symbols (groups_of g) t)
 
   of_symbol : (t : ℕ) → t < length l.symbols.items → st t ≡ (t == v)
@@ -69,7 +69,7 @@ module _ (tree : TreeFacts) (l : Layout) (laid : IsLayoutOf tree l) (g : Nodes) 
   of_row ns ss = list_any-append st ns (rows.defined l ss) ∙ ap (λ b. list_any st ns || b) (of_names ss)
 
   -- contexts below a bound stand for what their conditions name
-  abbrev Told : ℕ → Type 0
+  abbrev pub Told : ℕ → Type 0
   Told bound = (i : ℕ) → i < bound → list_any st (rows.context_nodes l i) ≡ asks tree l v (condition_in l.tables.contexts i)
 
   -- the mode of a choice
@@ -100,7 +100,8 @@ module _ (tree : TreeFacts) (l : Layout) (laid : IsLayoutOf tree l) (g : Nodes) 
         ap (λ x. x || own) (list_any-append st (rows.context_nodes l outer) [] ∙ ap (λ x. x || false) (told outer b ∙ asks_parts tree l v c))
         ∙ turned (forms tree l v c.parts) (mode tree l v c.mode) own
         ∙ sym (asks_parts tree l v (record { parts = c.parts ++ listed (Some (form_of e.value)); mode = mode_view o })
-        ∙ ap (λ x. x || mode tree l v (mode_view o)) (forms_more tree l v c.parts (listed (Some (form_of e.value))) ∙ ap (λ x. forms tree l v c.parts || x) (forms_when tree l v (Some (form_of e.value))))
+        ∙ ap (λ x. x || mode tree l v (mode_view o))
+        (forms_more tree l v c.parts (listed (Some (form_of e.value))) ∙ ap (λ x. forms tree l v c.parts || x) (forms_when tree l v (Some (form_of e.value))))
         ∙ ap (λ m. (forms tree l v c.parts || own) || mode tree l v m) (keeps (form_of e.value) refl))
       where
         turned : (a m x : Bool) → (((a || m) || false) || x) ≡ ((a || x) || m)
@@ -109,7 +110,9 @@ module _ (tree : TreeFacts) (l : Layout) (laid : IsLayoutOf tree l) (g : Nodes) 
         let c = condition_in l.tables.contexts outer in
         let mn = rows.mode_nodes l o in
         let mw = names tree l v (rows.mode_names l o) in
-        ap (λ x. x || mw) (list_any-append st (rows.context_nodes l outer) mn ∙ ap (λ x. x || list_any st mn) (told outer b ∙ asks_parts tree l v c ∙ ap (λ x. forms tree l v c.parts || x) (no_mode tree l v c.mode (begins refl))))
+        let first : list_any st (rows.context_nodes l outer) ≡ (forms tree l v c.parts || false) =
+        told outer b ∙ asks_parts tree l v c ∙ ap (λ x. forms tree l v c.parts || x) (no_mode tree l v c.mode (begins refl)) in
+        ap (λ x. x || mw) (list_any-append st (rows.context_nodes l outer) mn ∙ ap (λ x. x || list_any st mn) first)
         ∙ turned (forms tree l v c.parts) (list_any st mn) mw
         ∙ ap (λ x. (forms tree l v c.parts || false) || x) (mode_needs o there)
         ∙ sym (asks_parts tree l v (record { parts = c.parts ++ []; mode = mode_view o })
@@ -154,11 +157,11 @@ module _ (tree : TreeFacts) (l : Layout) (laid : IsLayoutOf tree l) (g : Nodes) 
         | inr same ↦ one_context i (omega arith) (λ j d. before j (omega arith))
       ]
 
-  told : Told (length l.tables.contexts)
+  pub told : Told (length l.tables.contexts)
   told = told_to (length l.tables.contexts) (omega arith)
 
   -- the selection of a choice
-  choice_told : (k : ℕ) → k < length l.tables.choices.items → st (choice_number l k) ≡ names tree l v (spec.names_of_choice tree (choice_at tree k))
+  pub choice_told : (k : ℕ) → k < length l.tables.choices.items → st (choice_number l k) ≡ names tree l v (spec.names_of_choice tree (choice_at tree k))
   choice_told k b =
       elim (slice_get_cases l.tables.choices.items k).1 [
         | inl h ↦

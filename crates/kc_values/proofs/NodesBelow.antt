@@ -135,7 +135,8 @@ module _ (l : Layout) (b : ℕ) (fits : length l.symbols.items + length l.tables
   reverses_below : (last : Option ReverseId) → none b (rows.reverses_nodes l last)
   reverses_below last =
       any_flat (far b) (λ (r : Reverse). rows.source_nodes l (rows.definition_at l r.source)) (rows.lines_from l last)
-      ∙ any_none (λ (r : Reverse). list_any (far b) (rows.source_nodes l (rows.definition_at l r.source))) (λ r. source_below r.source (rows.definition_at l r.source) refl) (rows.lines_from l last)
+      ∙ any_none (λ (r : Reverse). list_any (far b) (rows.source_nodes l (rows.definition_at l r.source)))
+      (λ r. source_below r.source (rows.definition_at l r.source) refl) (rows.lines_from l last)
 
   truth_below : (i : ℕ) (s : Symbol) → none b (rows.truth_nodes l i s)
   truth_below i s =

@@ -209,32 +209,33 @@ module _ (tree : TreeFacts) (l : Layout) (v : ℕ) (st : ℕ → Bool) (bound : 
       let same : prompt_view l.tables.contexts c p ≡ d = cc in
       ap (λ (x : Condition). is_some x.mode) (sym same) ∙ h
 
-  -- the prompt of a choice that stands in a context below the bound
+  -- a prompt and the context that it stands in
+  prompt_needs : (within : ℕ) (o : Option Prompt) → within < bound → IsBelow o →
+      (known (cond (is_some o) (rows.context_nodes l within) [] ++ rows.prompt_nodes l o) || names tree l v (rows.prompt_names o)) ≡
+      passes (asks tree l v) (option_map (prompt_view l.tables.contexts (cond_at within)) o)
+  prompt_needs within o b h =
+      let own = rows.context_nodes l within in
+      let rest = known (rows.prompt_nodes l o) in
+      let first : known (cond (is_some o) own []) ≡ (is_some o && asks tree l v (cond_at within)) = any_if st (is_some o) own ∙ ap (λ x. is_some o && x) (at within b) in
+      ap (λ x. x || names tree l v (rows.prompt_names o)) (list_any-append st (cond (is_some o) own []) (rows.prompt_nodes l o) ∙ ap (λ x. x || rest) first)
+      ∙ regroup (is_some o && asks tree l v (cond_at within)) rest (names tree l v (rows.prompt_names o))
+      ∙ sym (prompt_asks (cond_at within) o h)
+    where
+      regroup : (a b c : Bool) → ((a || b) || c) ≡ (a || (b || c))
+      regroup a b c = grind arith
+
+  -- that of a choice, whose parts alone count
   pub choice_prompt_needs : (within : ℕ) (o : Option Prompt) → within < bound → IsPlain l.tables.contexts within → IsBelow o →
       (known (cond (is_some o) (rows.context_nodes l within) [] ++ rows.prompt_nodes l o) || names tree l v (rows.prompt_names o)) ≡
       names tree l v (spec.parts_names (option_map (prompt_view l.tables.contexts (cond_at within)) o))
   choice_prompt_needs within o b plain h =
-      let c = cond_at within in
-      let own = rows.context_nodes l within in
-      ap (λ x. x || names tree l v (rows.prompt_names o)) (list_any-append st (cond (is_some o) own []) (rows.prompt_nodes l o) ∙ ap (λ x. x || known (rows.prompt_nodes l o)) (any_if st (is_some o) own ∙ ap (λ x. is_some o && x) (at within b)))
-      ∙ regroup (is_some o && asks tree l v c) (known (rows.prompt_nodes l o)) (names tree l v (rows.prompt_names o))
-      ∙ sym (parts_asks (option_map (prompt_view l.tables.contexts c) o) (view_plain c o plain) ∙ prompt_asks c o h)
-    where
-      regroup : (a b c : Bool) → ((a || b) || c) ≡ (a || (b || c))
-      regroup a b c = grind arith
+      prompt_needs within o b h ∙ sym (parts_asks (option_map (prompt_view l.tables.contexts (cond_at within)) o) (view_plain (cond_at within) o plain))
 
   -- a definition whose context is below the bound
   module _ (d : Definition) (within : d.within.0 < bound) (prompt : IsBelow d.prompt) where
     -- its prompt alone
     entry_needs : (known (rows.entry_nodes l d) || names tree l v (rows.entry_names l d)) ≡ passes (asks tree l v) (definition_facts l.tables d).prompt
-    entry_needs =
-        let own = rows.context_nodes l d.within.0 in
-        ap (λ x. x || names tree l v (rows.prompt_names d.prompt)) (list_any-append st (cond (is_some d.prompt) own []) (rows.prompt_nodes l d.prompt) ∙ ap (λ x. x || known (rows.prompt_nodes l d.prompt)) (any_if st (is_some d.prompt) own ∙ ap (λ x. is_some d.prompt && x) (at d.within.0 within)))
-        ∙ regroup (is_some d.prompt && asks tree l v (cond_at d.within.0)) (known (rows.prompt_nodes l d.prompt)) (names tree l v (rows.prompt_names d.prompt))
-        ∙ sym (prompt_asks (cond_at d.within.0) d.prompt prompt)
-      where
-        regroup : (a b c : Bool) → ((a || b) || c) ≡ (a || (b || c))
-        regroup a b c = grind arith
+    entry_needs = prompt_needs d.within.0 d.prompt within prompt
 
     definition_needs : (kind : Kind) → (known (rows.definition_nodes l kind d) || names tree l v (rows.definition_names l kind d)) ≡
         ((rows.is_truth kind && asks tree l v (definition_facts l.tables d).dep)
@@ -263,7 +264,8 @@ module _ (tree : TreeFacts) (l : Layout) (v : ℕ) (st : ℕ → Bool) (bound : 
         (names tree l v (spec.guarded_names tree symbols (definition_facts l.tables d).defaults)) (names tree l v (spec.guarded_names tree spec.bounds_names (definition_facts l.tables d).ranges))
         (some_length ds) (some_length rs) nodes own p df rf
       where
-        together : (t sp sd sr ld lr n a pn pw dn rn ns ow p df rf : Bool) → ld ≡ sd → lr ≡ sr → ns ≡ (((t || (sp || (ld || (n && lr)))) && a) || pn) → ow ≡ ((pw || dn) || (n && rn)) →
+        together : (t sp sd sr ld lr n a pn pw dn rn ns ow p df rf : Bool) → ld ≡ sd → lr ≡ sr →
+            ns ≡ (((t || (sp || (ld || (n && lr)))) && a) || pn) → ow ≡ ((pw || dn) || (n && rn)) →
             p ≡ ((sp && a) || (pn || pw)) → df ≡ ((sd && a) || dn) → rf ≡ ((sr && a) || rn) → (ns || ow) ≡ ((t && a) || ((p || df) || (n && rf)))
         together t sp sd sr ld lr n a pn pw dn rn ns ow p df rf e f g h i j k = grind arith
 
@@ -377,7 +379,7 @@ module _ (tree : TreeFacts) (l : Layout) (v : ℕ) (st : ℕ → Bool)
   reverse_needs None = refl
   reverse_needs (Some r) = source_needs r (rows.definition_at l r.source) refl
 
-  pub reverses_needs : (last : Option ReverseId) →
+  reverses_needs : (last : Option ReverseId) →
       (list_any st (rows.reverses_nodes l last) || names tree l v (rows.reverses_names l last)) ≡ names tree l v (spec.guarded_names tree spec.one_name (reverses_from l.tables last))
   reverses_needs last =
       let chain = chain_of (chains_of l.tables.reverses.lines.items) last in
@@ -415,7 +417,9 @@ module _ (tree : TreeFacts) (l : Layout) (v : ℕ) (st : ℕ → Bool)
 
     text_needs : rows.is_truth s.kind ≡ false → rows.is_number s.kind ≡ false →
         (list_any st (rows.definitions_nodes l s) || name (rows.definitions_names l s)) ≡ name (spec.names_of_all tree (facts_of l i s))
-    text_needs t n = definitions_needs s.kind (definition_ids s) ∙ close (rows.is_truth s.kind) (rows.is_number s.kind) (list_any dep_of (rows.definitions_of l (definition_ids s))) (list_any prompt_of (rows.definitions_of l (definition_ids s)))
+    text_needs t n =
+        definitions_needs s.kind (definition_ids s)
+        ∙ close (rows.is_truth s.kind) (rows.is_number s.kind) (list_any dep_of (rows.definitions_of l (definition_ids s))) (list_any prompt_of (rows.definitions_of l (definition_ids s)))
         (list_any defaults_of (rows.definitions_of l (definition_ids s))) (list_any ranges_of (rows.definitions_of l (definition_ids s))) t n ∙ sym common_seen
       where
         close : (t n a p d r : Bool) → t ≡ false → n ≡ false → ((t && a) || ((p || d) || (n && r))) ≡ (p || d)
@@ -424,7 +428,8 @@ module _ (tree : TreeFacts) (l : Layout) (v : ℕ) (st : ℕ → Bool)
     number_needs : rows.is_truth s.kind ≡ false → rows.is_number s.kind ≡ true →
         (list_any st (rows.definitions_nodes l s) || name (rows.definitions_names l s)) ≡ name (spec.names_of_number tree (facts_of l i s))
     number_needs t n =
-        definitions_needs s.kind (definition_ids s) ∙ close (rows.is_truth s.kind) (rows.is_number s.kind) (list_any dep_of (rows.definitions_of l (definition_ids s))) (list_any prompt_of (rows.definitions_of l (definition_ids s)))
+        definitions_needs s.kind (definition_ids s)
+        ∙ close (rows.is_truth s.kind) (rows.is_number s.kind) (list_any dep_of (rows.definitions_of l (definition_ids s))) (list_any prompt_of (rows.definitions_of l (definition_ids s)))
         (list_any defaults_of (rows.definitions_of l (definition_ids s))) (list_any ranges_of (rows.definitions_of l (definition_ids s))) t n
         ∙ sym (name_both (spec.names_of_all tree (facts_of l i s)) (spec.guarded_names tree spec.bounds_names (facts_of l i s).ranges)
         ∙ ap (λ b. b || name (spec.guarded_names tree spec.bounds_names (facts_of l i s).ranges)) common_seen
@@ -454,7 +459,8 @@ module _ (tree : TreeFacts) (l : Layout) (v : ℕ) (st : ℕ → Bool)
         name_both ((dw ++ sw) ++ iw) kw ∙ ap (λ b. b || name kw) (name_both (dw ++ sw) iw ∙ ap (λ b. b || name iw) (name_both dw sw)) in
         let seen : name (spec.names_of_truth tree f) ≡ (name (spec.names_of_all tree f) || (name deps || (name sel || (name imp || name kw)))) =
         name_both (spec.names_of_all tree f) (deps ++ (sel ++ (imp ++ kw)))
-        ∙ ap (λ b. name (spec.names_of_all tree f) || b) (name_both deps (sel ++ (imp ++ kw)) ∙ ap (λ b. name deps || b) (name_both sel (imp ++ kw) ∙ ap (λ b. name sel || b) (name_both imp kw))) in
+        ∙ ap (λ b. name (spec.names_of_all tree f) || b)
+        (name_both deps (sel ++ (imp ++ kw)) ∙ ap (λ b. name deps || b) (name_both sel (imp ++ kw) ∙ ap (λ b. name sel || b) (name_both imp kw))) in
         close (rows.is_truth s.kind) (rows.is_number s.kind) (list_any dep_of (rows.definitions_of l (definition_ids s))) (list_any prompt_of (rows.definitions_of l (definition_ids s)))
         (list_any defaults_of (rows.definitions_of l (definition_ids s))) (list_any ranges_of (rows.definitions_of l (definition_ids s)))
         (list_any st dn) (list_any st sn) (list_any st in') (name dw) (name sw) (name iw) (name kw) (name (spec.names_of_all tree f)) (name deps) (name sel) (name imp)
@@ -464,7 +470,8 @@ module _ (tree : TreeFacts) (l : Layout) (v : ℕ) (st : ℕ → Bool)
         (reverses_needs (rows.last_imply l i) ∙ sym (guarded_reverse spec.one_name (reverses_from l.tables (rows.last_imply l i))))
       where
         close : (t n de p df r dn sn in' dw sw iw kw all deps sel imp ns ow want : Bool) → t ≡ true → n ≡ false → ns ≡ ((dn || sn) || in') → ow ≡ (((dw || sw) || iw) || kw) →
-            want ≡ (all || (deps || (sel || (imp || kw)))) → (dn || dw) ≡ ((t && de) || ((p || df) || (n && r))) → all ≡ (p || df) → deps ≡ de → (sn || sw) ≡ sel → (in' || iw) ≡ imp → (ns || ow) ≡ want
+            want ≡ (all || (deps || (sel || (imp || kw)))) → (dn || dw) ≡ ((t && de) || ((p || df) || (n && r))) → all ≡ (p || df) → deps ≡ de →
+            (sn || sw) ≡ sel → (in' || iw) ≡ imp → (ns || ow) ≡ want
         close t n de p df r dn sn in' dw sw iw kw all deps sel imp ns ow want e1 e2 e3 e4 e5 e6 e7 e8 e9 e10 = grind arith
 
     by_kind_needs : (kind : Kind) → s.kind ≡ kind →
@@ -535,6 +542,7 @@ module _ (tree : TreeFacts) (l : Layout) (v : ℕ) (st : ℕ → Bool)
         nodes own seen (members_needs c.members.items) (choice_prompt_needs tree l v st (length l.tables.contexts) at c.within.0 c.prompt within (l.tables.choices_plain k c e) below)
         defaults (choice_defaults_names tree l v dep c.defaults.items)
       where
-        close : (mn pn dn mw pw dw m p d h ns ow want : Bool) → ns ≡ ((mn || pn) || dn) → ow ≡ ((mw || pw) || dw) → want ≡ (m || (p || d)) → (mn || mw) ≡ m → (pn || pw) ≡ p → dn ≡ h → d ≡ (h || dw) →
+        close : (mn pn dn mw pw dw m p d h ns ow want : Bool) → ns ≡ ((mn || pn) || dn) → ow ≡ ((mw || pw) || dw) → want ≡ (m || (p || d)) → (mn || mw) ≡ m →
+            (pn || pw) ≡ p → dn ≡ h → d ≡ (h || dw) →
             (ns || ow) ≡ want
         close mn pn dn mw pw dw m p d h ns ow want e1 e2 e3 e4 e5 e6 e7 = grind arith

@@ -32,7 +32,7 @@ pub untouched : (n : ℕ) (row : Row) → IsRow [] [] row → row_of n row ≡ [
 untouched n row empty = ap (λ x. x ++ numbers n row.names.items) empty.nodes_are ∙ ap (numbers n) empty.names_are
 
 -- rows behind those that were added
-pub rows_behind : (old now next : Nodes) (xs ys : List (List ℕ)) → now ≡ record old { rows = old.rows ++ xs } → next ≡ record now { rows = now.rows ++ ys } →
+rows_behind : (old now next : Nodes) (xs ys : List (List ℕ)) → now ≡ record old { rows = old.rows ++ xs } → next ≡ record now { rows = now.rows ++ ys } →
     next ≡ record old { rows = old.rows ++ (xs ++ ys) }
 rows_behind old now next xs ys e more =
     let push : Nodes → Nodes = λ g. record g { rows = g.rows ++ ys } in
@@ -76,7 +76,8 @@ choices_more l old now next cs i c row b is e more r =
     ∙ ap (λ x. by (map f x)) (sym (take_more cs i c b))
 
 -- and of one symbol more
-pub symbols_more : (tree : TreeFacts) (l : Layout) (old now next : Nodes) (ss : List Symbol) (i : ℕ) (s : Symbol) (row : List ℕ) → ss ≡ l.symbols.items → i < length ss → s ≡ get_or ss i s →
+pub symbols_more : (tree : TreeFacts) (l : Layout) (old now next : Nodes) (ss : List Symbol) (i : ℕ) (s : Symbol) (row : List ℕ) →
+    ss ≡ l.symbols.items → i < length ss → s ≡ get_or ss i s →
     now ≡ record old { rows = old.rows ++ map (λ k. rows.symbol_row tree l k (slice_get l.symbols.items k)) (range_with_len 0 i) } → next ≡ record now { rows = now.rows ++ row ∷ [] } →
     row ≡ rows.symbol_row tree l i (Some s) →
     next ≡ record old { rows = old.rows ++ map (λ k. rows.symbol_row tree l k (slice_get l.symbols.items k)) (range_with_len 0 (i + 1)) }

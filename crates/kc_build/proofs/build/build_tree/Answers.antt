@@ -4,13 +4,18 @@ use Rattle.kc_read.specs.Reads.{line_view}
 use Rattle.kc_tree.specs.Wholes.{tree_of}
 use Rattle.kc_build.specs.Assemblies.{assembled_view}
 use Rattle.kc_build.specs.Trees.{tree_with}
-use Rattle.kc_build.proofs.BuildLemmas.{assembled-lines, count-few, late-memory, lines-apart, lines-below, lines-formed, lines-opened}
+use Rattle.kc_build.proofs.BuildLemmas.{assembled-lines, count-few, late-memory, lines-apart, lines-below, lines-formed, lines-opened, lines-typed}
 use Rattle.kc_build.proofs.build.build_tree.Goals as goal
 
 pub assemble-requires-clause-below : goal.assemble-requires-clause-below
 assemble-requires-clause-below c =
     let x = c.in_ok-names.ensures.listed in
     lines-below x.0 c.in_ok-names.field-0 x.2 c.deref.result.now c.deref.ensures.value
+
+pub assemble-requires-clause-typed : goal.assemble-requires-clause-typed
+assemble-requires-clause-typed c =
+    let x = c.in_ok-names.ensures.listed in
+    lines-typed x.0 c.in_ok-names.field-0 x.2 (bytes_in c.args.map.now) c.args.root.now x.1 c.deref.result.now c.deref.ensures.value
 
 pub assemble-requires-clause-apart : goal.assemble-requires-clause-apart
 assemble-requires-clause-apart c =
@@ -33,7 +38,8 @@ of-requires c =
     let l = c.in_ok-names.field-0 in
     let parts = c.in-Ok-assembled.parts in
     let says : assembled_view l.names (Ok parts) ≡ tree_with l.names l.count l.modules (map line_view c.deref.result.now) = (rw c.in-Ok-assembled.is at c.in-Ok.ensures) in
-    lines-formed x.0 l x.2 (bytes_in c.args.map.now) c.args.root.now (tree_of l.names parts) x.1 c.are_distinct.ensures (assembled-lines x.0 l x.2 c.deref.result.now (Ok parts) c.deref.ensures.value says)
+    lines-formed x.0 l x.2 (bytes_in c.args.map.now) c.args.root.now (tree_of l.names parts) x.1 c.are_distinct.ensures
+    (assembled-lines x.0 l x.2 c.deref.result.now (Ok parts) c.deref.ensures.value says)
 
 pub returns-in-Ok-assembled-clause-built : goal.returns-in-Ok-assembled-clause-built
 returns-in-Ok-assembled-clause-built c =

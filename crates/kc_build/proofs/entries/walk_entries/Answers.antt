@@ -12,14 +12,17 @@ pub entries-init : goal.entries-init
 entries-init c = record {
   within = omega arith;
   begins = λ s e. inr refl;
-  walk = walk-starts (said_by c.args.lines.now) c.args.symbols.now _ c.in_ok-empty.ensures.empty c.new.ensures.top c.new.ensures.outside c.in_ok-from_slice.ensures.items c.in_ok-empty.ensures.selects c.in_ok-empty.ensures.implies;
-  diagnosed = diagnosed_start c.args.names.now (map line_view c.args.lines.now) c.new-diagnostics.result c.new-diagnostics.ensures.warnings c.new-diagnostics.ensures.member c.new-diagnostics.ensures.default;
+  walk = walk-starts (said_by c.args.lines.now) c.args.symbols.now _ c.in_ok-empty.ensures.empty c.new.ensures.top c.new.ensures.outside c.in_ok-from_slice.ensures.items
+      c.in_ok-empty.ensures.selects c.in_ok-empty.ensures.implies;
+  diagnosed = diagnosed_start c.args.names.now (map line_view c.args.lines.now) c.new-diagnostics.result c.new-diagnostics.ensures.warnings
+      c.new-diagnostics.ensures.member c.new-diagnostics.ensures.default;
 }
 
 pub enter-requires-clause-plain : goal.enter-requires-clause-plain
 enter-requires-clause-plain c =
     let lines = c.args.lines.now in
-    plain-head (said_by lines) c.args.symbols.now c.entries.place _ c.entries.walk c.requires.apart (statement_at lines c.entries.place c.index-lines-place.result c.entries-test.true c.index-lines-place.is) c.entries.invariant.walk
+    plain-head (said_by lines) c.args.symbols.now c.entries.place _ c.entries.walk c.requires.apart
+    (statement_at lines c.entries.place c.index-lines-place.result c.entries-test.true c.index-lines-place.is) c.entries.invariant.walk
 
 pub entries-preserved : goal.entries-preserved
 entries-preserved c =
@@ -35,6 +38,8 @@ entries-preserved c =
     record {
       within = e.within;
       begins = begins-next lines symbols i end head c.entries-test.true c.index-lines-place.is e.count e.within c.entries.invariant.begins;
-      walk = walk-next lines symbols i end head c.entries-test.true c.index-lines-place.is e.count e.within c.entries.invariant.begins whole c.entries.walk c.enter.new.self c.in_ok-enter.ensures c.entries.invariant.walk;
-      diagnosed = diagnosed-next lines symbols i end head c.entries-test.true c.index-lines-place.is e.count e.within c.entries.invariant.begins whole c.args.names.now c.place_of-known.result c.entries.diagnostics c.look_at_entry.new.self place c.entries.invariant.diagnosed c.in_ok-look_at_entry.ensures;
+      walk = walk-next lines symbols i end head c.entries-test.true c.index-lines-place.is e.count e.within c.entries.invariant.begins whole c.entries.walk
+          c.enter.new.self c.in_ok-enter.ensures c.entries.invariant.walk;
+      diagnosed = diagnosed-next lines symbols i end head c.entries-test.true c.index-lines-place.is e.count e.within c.entries.invariant.begins whole c.args.names.now
+          c.place_of-known.result c.entries.diagnostics c.look_at_entry.new.self place c.entries.invariant.diagnosed c.in_ok-look_at_entry.ensures;
     }

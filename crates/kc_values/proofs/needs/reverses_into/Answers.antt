@@ -38,7 +38,8 @@ lines-preserved c =
           let pushed : Row = record now { names = w.push.new.self } in
           let push : Adds now pushed [] (d.symbol ∷ []) = record { nodes_are = sym (append-nil now.nodes.items); names_are = w.in_ok-push.ensures.items } in
           let two = adds_both now pushed w.context_into.new.out [] (rows.context_nodes l d.within.0) (d.symbol ∷ []) [] push w.in_ok-context_into.ensures in
-          let three = adds_both now w.context_into.new.out w.own_into.new.out (rows.context_nodes l d.within.0) [] (d.symbol ∷ []) (rows.when_names (when_view r.when)) two w.in_ok-own_into.ensures in
+          let three = adds_both now w.context_into.new.out w.own_into.new.out (rows.context_nodes l d.within.0) []
+          (d.symbol ∷ []) (rows.when_names (when_view r.when)) two w.in_ok-own_into.ensures in
           adds_of_left now next (rows.context_nodes l d.within.0 ++ []) leftNodes _ (d.symbol ∷ rows.when_names (when_view r.when)) leftNames _ _ _
           (rw w.out-is three)
           (allNodes ∙ ap (λ o. rows.source_nodes l o ++ leftNodes) found ∙ ap (λ x. x ++ leftNodes) (sym (append-nil (rows.context_nodes l d.within.0))))

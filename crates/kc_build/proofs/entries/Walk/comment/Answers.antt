@@ -1,5 +1,5 @@
 -- A comment: its title is shown under its own context, and under nothing of what is visible.
-use Rattle.std.proofs.Common.{refl, ap, sym, ◌∙◌, arith, ◌≡◌, ◌++◌, ◌∷◌, [], length}
+use Rattle.std.proofs.Common.{refl, ap, ◌∙◌, ◌≡◌, ◌++◌, ◌∷◌, [], length}
 use Rattle.std.specs.List.{filter_map}
 use Rattle.std.proofs.lemmas.List.{length-map}
 use Rattle.kc_read.specs.Reads.{statement_view}
@@ -8,7 +8,6 @@ use Rattle.kc_tree.specs.declared.parts.Entry.TheVariants as entry
 use Rattle.kc_build.specs.Facts.{depends_form}
 use Rattle.kc_build.specs.Growth.{IsGrown, Stands, and_all}
 use Rattle.kc_build.specs.Passes.{said_by}
-use Rattle.kc_build.specs.declared.blocks.Block.{Block}
 use Rattle.kc_build.proofs.HeldLemmas.{carries_entry, keeping_both}
 use Rattle.kc_build.proofs.TitleLemmas.{comment_enters}
 use Rattle.kc_build.proofs.entries.Walk.comment.Goals as goal
@@ -20,7 +19,8 @@ entry_context-requires-clause-there c =
 pub invariant_of-self : goal.invariant_of-self
 invariant_of-self c =
     let old = c.args.self.now in
-    keeping_both old c.entry_context.new.contexts (carries_entry old c.innermost-round.result c.entry_context.new.contexts (length c.args.own.now) c.innermost-round.ensures c.entry_context.ensures.kept)
+    keeping_both old c.entry_context.new.contexts
+    (carries_entry old c.innermost-round.result c.entry_context.new.contexts (length c.args.own.now) c.innermost-round.ensures c.entry_context.ensures.kept)
 
 pub returns : goal.returns
 returns c =
@@ -28,9 +28,13 @@ returns c =
     let made = c.add_title.new.self in
     let t = c.in_ok-title.ensures.title in
     let n : length (said_by c.args.own.now) ≡ length c.args.own.now = length-map c.args.own.now (λ l. statement_view l.statement) in
-    let grown : IsGrown old.tables.contexts made.tables.contexts (condition_in old.tables.contexts old.blocks.innermost.within.0).mode (length (said_by c.args.own.now)) = rw (t.contexts, n, ← c.innermost-round.ensures) c.in_ok-within.ensures.kept in
-    let stands : Stands made.tables.contexts c.in_ok-within.within.0 (and_all (condition_in old.tables.contexts old.blocks.innermost.within.0) (filter_map depends_form (said_by c.args.own.now))) = rw (t.contexts, ← c.innermost-round.ensures) c.in_ok-within.ensures.made in
-    let entries : c.push.new.self.items ≡ old.tables.entries.items ++ entry.Comment c.in_ok-title.title ∷ [] = c.in_ok-push.ensures.items ∙ ap (λ v. v.items ++ entry.Comment c.in_ok-title.title ∷ []) t.entries in
+    let grown : IsGrown old.tables.contexts made.tables.contexts (condition_in old.tables.contexts old.blocks.innermost.within.0).mode (length (said_by c.args.own.now)) =
+    rw (t.contexts, n, ← c.innermost-round.ensures) c.in_ok-within.ensures.kept in
+    let stands : Stands made.tables.contexts c.in_ok-within.within.0
+    (and_all (condition_in old.tables.contexts old.blocks.innermost.within.0) (filter_map depends_form (said_by c.args.own.now))) =
+    rw (t.contexts, ← c.innermost-round.ensures) c.in_ok-within.ensures.made in
+    let entries : c.push.new.self.items ≡ old.tables.entries.items ++ entry.Comment c.in_ok-title.title ∷ [] = c.in_ok-push.ensures.items
+    ∙ ap (λ v. v.items ++ entry.Comment c.in_ok-title.title ∷ []) t.entries in
     comment_enters c.args.text.now (said_by c.args.own.now) old _
     (record { definitions = t.definitions; defaults = t.defaults; ranges = t.ranges; reverses = t.reverses; choices = t.choices; main_menu = t.main_menu })
     c.in_ok-within.within t.title c.in_ok-title.title

@@ -1,6 +1,5 @@
 -- What is known of an entry before the walk goes into it.
-use Rattle.std.proofs.Common.{◌≡◌, refl, ap, sym, ◌∙◌, arith, Some}
-use Rattle.kc_read.specs.declared.statement.Statement.{Statement}
+use Rattle.std.proofs.Common.{◌≡◌, ap, sym, ◌∙◌, arith, Some}
 use Rattle.kc_read.specs.Reads.{statement_view}
 use Rattle.kc_read.specs.Statements.{ConfigLine, ChoiceLine}
 use Rattle.kc_build.specs.Facts.{choice_number, symbol_of}
