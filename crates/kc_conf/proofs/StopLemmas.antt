@@ -10,12 +10,15 @@ use Rattle.kc_read.specs.declared.refusal.Refusal.{Refusal}
 use Rattle.kc_tree.specs.Layouts.{IsLayoutOf}
 use Rattle.kc_tree.specs.TreeFacts.{TreeFacts}
 use Rattle.kc_tree.specs.declared.layout.Layout.{Layout}
+use Rattle.kc_build.specs.Trees.{IsTreeOf}
+use Rattle.kc_values.specs.Laws.{IsAccepted}
 use Rattle.kc_solve.specs.Graphs.{IsGraphOf}
+use Rattle.kc_solve.specs.Refused.{NamesLoop}
 use Rattle.kc_conf.specs.ErrorLines.{refusal_line}
 use Rattle.kc_conf.specs.Faults.{Broken, Finishes}
 use Rattle.kc_conf.specs.Given.{AreAllToCome}
 use Rattle.kc_conf.specs.Kept.{Holds}
-use Rattle.kc_conf.specs.Outcome.{IsAcceptedTree, IsOutcome, IsRefusedTree, OneAnswer, Outcome, refused, refused_tree, root_of}
+use Rattle.kc_conf.specs.Outcome.{IsAcceptedTree, IsOutcome, IsRefusedTree, looped, no_tree, OneAnswer, Outcome, refused, refused_tree, root_of}
 use Rattle.kc_conf.specs.Places.{Places}
 use Rattle.kc_conf.specs.Stops.{IsOutOfMemory}
 use Rattle.kc_conf.specs.declared.cause.Cause.{Cause}
@@ -24,6 +27,21 @@ use Rattle.kc_conf.specs.declared.options.Status.{Status}
 use Rattle.kc_conf.proofs.OutcomeLemmas.{Broken-nothing}
 use Rattle.kc_conf.proofs.ReadsLemmas.{left_of, AreAllToCome-self}
 use Rattle.kc_conf.proofs.RunLemmas.{Broken-refused_tree}
+
+-- ---- the tree of a root file whose name is known
+
+module _ (files : Files) (name root : List ℕ) (same : name ≡ root) where
+  pub accepted_as : (tree : TreeFacts) → IsTreeOf files name (Ok tree) → IsAccepted tree → IsAcceptedTree files root tree
+  accepted_as tree built accepted = record { built = subst (λ n. IsTreeOf files n (Ok tree)) same built; accepted = accepted }
+
+  -- the list is refused
+  pub refused_as : (r : Refusal) → (r.code ≢ NoMemory → IsTreeOf files name (Err (refusal_view r))) → r.code ≢ NoMemory → IsRefusedTree files root (refusal_view r)
+  refused_as r refused known = no_tree (subst (λ n. IsTreeOf files n (Err (refusal_view r))) same (refused known))
+
+  -- or a loop is
+  pub looped_as : (tree : TreeFacts) (r : Refusal) → IsTreeOf files name (Ok tree) → NamesLoop tree r → r.code ≢ NoMemory → IsRefusedTree files root (refusal_view r)
+  looped_as tree r built names known =
+      let (text, named, is) = names known in looped tree text (subst (λ n. IsTreeOf files n (Ok tree)) same built) named is
 
 -- ---- refused
 
