@@ -67,7 +67,7 @@ module _ (law : OneAnswer) (there : OpenedAreThere) (files : Files) (options : O
     map left_of given,
     AreAllToCome-self given,
     λ outcome is.
-    subst (λ c. Broken outcome c old new) (sym out.cause_is) (subst (λ (p : Places). Broken outcome _ old p) (sym out.nothing) (Broken-nothing outcome old)),
+        subst (λ c. Broken outcome c old new) (sym out.cause_is) (subst (λ (p : Places). Broken outcome _ old p) (sym out.nothing) (Broken-nothing outcome old)),
   )
   Broken-refusal given cause old new (inr (known, broken)) = (
     map left_of given,
