@@ -12,3 +12,4 @@ pub mod RuleLemmas
 pub mod RunLemmas
 pub mod StreamLemmas
 pub mod TellingLemmas
+pub mod StopLemmas
