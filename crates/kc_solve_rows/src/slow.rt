@@ -1,9 +1,10 @@
 //! The plain slow solver, beside which the tests hold the solver: every value computed anew, in rounds.
 
-ghost use Rattle.std.specs.Prelude.{◌≡◌, ◌<◌, length, slice_get, Some, IfOk, IfSome, OnOk, []};
+ghost use Rattle.std.specs.Prelude.{◌≡◌, ◌<◌, length, replicate, slice_get, None, Some, IfOk, IfSome, OnOk, []};
 ghost use Rattle.kc_expr.specs.Value.{known_of};
 ghost use Rattle.kc_expr.specs.declared.expression.Tri.TheVariants.{N};
 ghost use Rattle.kc_order.specs.Solution.{IsOnlySolution, Solves};
+ghost use Rattle.kc_solve.specs.Filling.{IsFilledSymbol};
 ghost use Rattle.kc_solve.specs.Graphs.{IsGraphOf};
 ghost use Rattle.kc_solve.specs.Places.{places, valuation};
 ghost use Rattle.kc_tree.specs.Layouts.{IsLayoutOf, facts_of};
@@ -17,7 +18,6 @@ ghost use Rattle.kc_values.specs.Table.{known_value};
 ghost use Rattle.kc_values.specs.Values.{by_choice, member_equation};
 
 use kc_expr::expression::{Kind, SymId, Tri};
-use kc_expr::values::value_depends_on_symbols;
 use kc_order::ordered_are_accepted;
 use kc_solve::order::Order;
 use kc_tree::layout::Layout;
@@ -27,7 +27,7 @@ use kc_user::user::User;
 use kc_user::value::UserValue;
 use kc_values::choices::selected_in;
 use kc_values::equation::own_equation;
-use kc_values::laws::{accepted_have_one_solution, choices_stand_alone};
+use kc_values::laws::accepted_have_one_solution;
 use kc_values::table::{Table, Value};
 use std::alloc::{AllocError, Global};
 
@@ -69,6 +69,22 @@ fn first_values(alloc: Global, tree: &Tree) -> Result<Vec<Option<Value>>, AllocE
     Ok(values)
 }
 
+// A table of n and empty texts, where nothing is settled.
+fn first_table<'t>(
+    alloc: Global,
+    tree: &'t Tree,
+    layout: &'t Layout,
+) -> Result<Table<'t>, AllocError>
+    requires { IsLayoutOf tree.now layout.now }
+    ensures tree { IfOk result (λ t. t.tree.now ≡ tree.now) }
+    ensures count { IfOk result (λ t. length t.values.items ≡ symbol_count tree.now) }
+    ensures unsettled { IfOk result (λ t. t.contexts.items ≡ replicate (length layout.now.tables.contexts) None) }
+{
+    let mut table = Table::empty(alloc, tree, layout)?;
+    table.values = first_values(alloc, tree)?;
+    Ok(table)
+}
+
 // The value of a member of a choice: y where it is selected. The selection is found anew.
 fn member_value(table: &Table, id: SymId, choice: ChoiceId, chosen: &[Option<SymId>]) -> Tri
     requires { choice.0 < length chosen.now }
@@ -103,6 +119,29 @@ fn value_anew(
     }
 }
 
+// Writes the value that the equation of a symbol gives, under the values of the table.
+fn compute_anew(
+    alloc: Global,
+    table: &mut Table<'_>,
+    id: SymId,
+    given: &[Option<UserValue>],
+    chosen: &[Option<SymId>],
+) -> Result<(), AllocError>
+    requires defined { id.0 < length table.old.values.items }
+    requires full { length table.old.values.items ≡ symbol_count table.old.tree.now }
+    requires given { length given.now ≡ length table.old.values.items }
+    requires chosen { length chosen.now ≡ length table.old.tree.now.choices }
+    requires unsettled { table.old.contexts.items ≡ replicate (length table.old.contexts.items) None }
+    ensures { OnOk result (IsFilledSymbol given.now chosen.now id table.old table.new) }
+{
+    // A member's choice is one of the tree's: `symbol_count` says so.
+    let _count = table.tree.symbol_count();
+    let symbol = symbol_row(table.layout, id);
+    let value = value_anew(alloc, table, id, symbol, given, chosen)?;
+    table.values[id.0] = Some(value);
+    Ok(())
+}
+
 /// The values that [`kc_solve::solve::solve`] finds, by the plainest way there is. In a table of n and empty texts
 /// every equation is computed anew, one symbol after another in the order of their first definitions, in as many rounds
 /// as there are symbols; the order is only asked that there is one (our own). The caller owes the layout, the order and the
@@ -125,26 +164,14 @@ pub fn slow_table<'t>(
 {
     accepted_have_one_solution();
     ordered_are_accepted();
-    value_depends_on_symbols();
-    choices_stand_alone();
     let _nodes = order.nodes();
     let count = tree.symbol_count();
     let given = user.symbols();
     let chosen = user.choices();
-    let mut table = Table::empty(alloc, tree, layout)?;
-    table.values = first_values(alloc, tree)?;
+    let mut table = first_table(alloc, tree, layout)?;
     for _round in 0..count {
         for i in 0..count {
-            let id = SymId(i);
-            let value = value_anew(
-                alloc,
-                &table,
-                id,
-                symbol_row(table.layout, id),
-                given,
-                chosen,
-            )?;
-            table.values[i] = Some(value);
+            compute_anew(alloc, &mut table, SymId(i), given, chosen)?;
         }
     }
     Ok(table)

@@ -1,4 +1,4 @@
--- For proofs: Tables without rows.
+-- Trusted: Tables without rows.
 use Rattle.std.specs.Prelude.{◌≡◌, [], ◌∷◌}
 use Rattle.kc_tree.specs.declared.layout.Tables.{Tables}
 use Rattle.kc_tree.specs.Contexts.{top}

@@ -1,4 +1,4 @@
--- For proofs: The rows of the graph of needs as they are made: for each node the contexts and choices that it needs, and the names.
+-- Trusted: The rows of the graph of needs as they are made: for each node the contexts and choices that it needs, and the names.
 use Rattle.std.specs.Prelude.{◌≡◌, ℕ, ◌<◌, ◌==◌, ◌&&◌, ◌||◌, if◌then◌else◌, Bool, true, false, List, [], ◌∷◌, ◌++◌, filter, map, length, nat_lt, is_some, Option, Some, None, slice_get, slice_index_or}
 use Rattle.std.specs.Option.{option_and_then}
 use Rattle.std.specs.List.{filter_map, flat_map, range_with_len}

@@ -1,4 +1,4 @@
--- For proofs: The nodes of the graph of needs, by number: symbols, contexts, choices.
+-- Trusted: The nodes of the graph of needs, by number: symbols, contexts, choices.
 use Rattle.std.specs.Prelude.{◌≡◌, ◌<◌, ◌≤◌, ◌+◌, ℕ, length}
 use Rattle.kc_tree.specs.declared.layout.Layout.{Layout}
 use Rattle.kc_values.specs.declared.nodes.Node.{Node}
