@@ -8,8 +8,8 @@ use Rattle.kc_tree.specs.Layouts.{IsLayoutOf, facts_of}
 use Rattle.kc_tree.specs.TreeFacts.{TreeFacts}
 use Rattle.kc_tree.specs.declared.layout.Layout.{Layout}
 use Rattle.kc_tree.specs.declared.parts.Symbol.{Symbol}
-use Rattle.kc_user.specs.Given.{At}
-use Rattle.kc_user.specs.Places.{place_at}
+use Rattle.kc_user.specs.Given.{At, Given}
+use Rattle.kc_user.specs.Places.{Places, place_at}
 use Rattle.kc_values.specs.Differs.{given_of}
 use Rattle.kc_values.specs.Lookups.{facts, name}
 use Rattle.kc_values.proofs.Laid.{symbol_found}
@@ -52,8 +52,18 @@ module _ (s : Solution) (tree : TreeFacts) (same : tree ≡ s.tree) (l : Layout)
 
   -- and none without a prompt
   pub lost-unprompted : (row : Symbol) → Some row ≡ slice_get l.symbols.items i → (b : Bool) → b ≡ has_prompt (facts_of l 0 row).prompts → b ≡ false → lost_at s i ≡ []
-  lost-unprompted row e b is no = line (Some row) e ∙ ap (λ c. if c then its_line row else []) (sym is ∙ no)
+  lost-unprompted row e b is none = line (Some row) e ∙ ap (λ c. if c then its_line row else []) (sym is ∙ none)
 
   pub lost-prompted : (row : Symbol) → Some row ≡ slice_get l.symbols.items i → (b : Bool) → b ≡ has_prompt (facts_of l 0 row).prompts → b ≡ true →
       lost_at s i ≡ lost_by (name s.tree (symbol i)) row.kind (place_at s.places (At i)) (given_of (known s (symbol i)))
-  lost-prompted row e b is yes = line (Some row) e ∙ ap (λ c. if c then its_line row else []) (sym is ∙ yes)
+  lost-prompted row e b is some = line (Some row) e ∙ ap (λ c. if c then its_line row else []) (sym is ∙ some)
+
+  -- else the line of what was given and what it is
+  pub lost-line : (row : Symbol) → Some row ≡ slice_get l.symbols.items i → (b : Bool) → b ≡ has_prompt (facts_of l 0 row).prompts → b ≡ true →
+      (called : List ℕ) (places : Places) (given : Option Given) (value : Given) → called ≡ name tree (symbol i) → places ≡ s.places → given ≡ place_at places (At i) →
+      value ≡ given_of (known s (symbol i)) → lost_by called row.kind given value ≡ lost_at s i
+  lost-line row e b is some called places given value called_is places_are given_is value_is =
+      ap (λ n. lost_by n row.kind given value) (called_is ∙ ap (λ (t : TreeFacts). name t (symbol i)) same)
+      ∙ ap (λ g. lost_by (name s.tree (symbol i)) row.kind g value) (given_is ∙ ap (λ p. place_at p (At i)) places_are)
+      ∙ ap (λ v. lost_by (name s.tree (symbol i)) row.kind (place_at s.places (At i)) v) value_is
+      ∙ sym (lost-prompted row e b is some)

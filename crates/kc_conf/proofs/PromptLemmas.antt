@@ -6,21 +6,12 @@ use Rattle.std.specs.List.{filter_map, cons_option}
 use Rattle.kc_tree.specs.declared.layout.Layout.{Layout}
 use Rattle.kc_tree.specs.declared.parts.Definition.{Definition}
 use Rattle.kc_tree.specs.declared.parts.DefinitionId.{DefinitionId}
-use Rattle.kc_tree.specs.declared.parts.Prompt.{Prompt}
 use Rattle.kc_tree.specs.declared.parts.Symbol.{Symbol}
 use Rattle.kc_tree.specs.Layouts.{DefinitionFacts, definition_at, definition_facts}
 use Rattle.kc_tree.specs.Parts.{definition_ids}
 use Rattle.kc_tree.specs.TreeFacts.{Condition}
 use Rattle.kc_values.proofs.DefinitionLemmas.{definitions_from, definitions-some, definitions-none, definitions-end}
 use Rattle.kc_conf.specs.Lost.{has_prompt, is_prompted}
-
-some_mapped : {X Y : Type 0} (f : X → Y) (o : Option X) → is_some (option_map f o) ≡ is_some o
-some_mapped f None = refl
-some_mapped f (Some x) = refl
-
--- a definition has a prompt where its row has one
-pub prompted : (l : Layout) (o : Option Definition) (d : Definition) (b : Bool) → Some d ≡ o → b ≡ is_some d.prompt → b ≡ is_prompted (option_map (definition_facts l.tables) o)
-prompted l o d b e h = h ∙ sym (some_mapped _ d.prompt) ∙ ap (λ x. is_prompted (option_map (definition_facts l.tables) x)) e
 
 module _ (l : Layout) (s : Symbol) where
   -- whether one of the definitions from one on has a prompt

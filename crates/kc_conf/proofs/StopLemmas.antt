@@ -22,8 +22,10 @@ use Rattle.kc_conf.specs.Outcome.{IsAcceptedTree, IsOutcome, IsRefusedTree, loop
 use Rattle.kc_conf.specs.Places.{Places}
 use Rattle.kc_conf.specs.Stops.{IsOutOfMemory}
 use Rattle.kc_conf.specs.declared.cause.Cause.{Cause}
+use Rattle.kc_conf.specs.declared.cause.Cause.TheVariants.{Memory}
 use Rattle.kc_conf.specs.declared.options.Options.{Options}
 use Rattle.kc_conf.specs.declared.options.Status.{Status}
+use Rattle.kc_conf.specs.declared.runs.Kept.{Kept}
 use Rattle.kc_conf.proofs.OutcomeLemmas.{Broken-nothing}
 use Rattle.kc_conf.proofs.ReadsLemmas.{left_of, AreAllToCome-self}
 use Rattle.kc_conf.proofs.RunLemmas.{Broken-refused_tree}
@@ -67,7 +69,7 @@ module _ (law : OneAnswer) (there : OpenedAreThere) (files : Files) (options : O
     map left_of given,
     AreAllToCome-self given,
     λ outcome is.
-        subst (λ c. Broken outcome c old new) (sym out.cause_is) (subst (λ (p : Places). Broken outcome _ old p) (sym out.nothing) (Broken-nothing outcome old)),
+        subst (λ c. Broken outcome c old new) (sym out.cause_is) (subst (λ (p : Places). Broken outcome Memory old p) (sym out.nothing) (Broken-nothing outcome old)),
   )
   Broken-refusal given cause old new (inr (known, broken)) = (
     map left_of given,
@@ -76,10 +78,10 @@ module _ (law : OneAnswer) (there : OpenedAreThere) (files : Files) (options : O
   )
 
   -- where it ends, no tree is accepted
-  pub nothing_accepted : {P : TreeFacts → Type 0} (Ends : Status → Type 0) (result : Result Status Cause) → IfOk result (λ status. (r.code ≢ NoMemory) × Ends status) →
-      OnOk result ((tree : TreeFacts) → IsAcceptedTree files (root_of options) tree → P tree)
-  nothing_accepted Ends (Ok status) (known, ends) = λ tree accepted. absurd (law.not_both files (root_of options) (refusal_view r) tree (why known) accepted)
-  nothing_accepted Ends (Err cause) ends = tt
+  pub nothing_accepted : (kept : Option Kept) (Ends : Status → Type 0) (result : Result Status Cause) → IfOk result (λ status. (r.code ≢ NoMemory) × Ends status) →
+      OnOk result ((tree : TreeFacts) → IsAcceptedTree files (root_of options) tree → Holds tree kept)
+  nothing_accepted kept Ends (Ok status) (known, ends) = λ tree accepted. absurd (law.not_both files (root_of options) (refusal_view r) tree (why known) accepted)
+  nothing_accepted kept Ends (Err cause) ends = tt
 
 -- ---- kept
 

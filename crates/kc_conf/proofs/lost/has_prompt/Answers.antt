@@ -15,4 +15,4 @@ loop-i-preserved c =
 
 pub returns : goal.returns
 returns c =
-    sym (prompt_end c.args.layout.now c.args.symbol.now c.loop-i.i (omega (arith, c.definition_count.ensures))) ∙ c.loop-i.invariant
+    sym (prompt_end c.args.layout.now c.args.symbol.now c.loop-i.i (omega (arith, c.definition_count-i-end.ensures))) ∙ c.loop-i.invariant

@@ -31,7 +31,7 @@ pub returns-in-Err-clause-kept : goal.returns-in-Err-clause-kept
 returns-in-Err-clause-kept g c =
     let files = bytes_in c.args.files.now in
     let why = refused_as files c.as_bytes.result.now (root_of c.args.options.now) c.as_bytes.ensures.value c.in-Err.refusal c.in-Err.ensures.refused in
-    nothing_accepted c.one_answer.ensures c.opened_are_one_list.ensures.there files c.args.options.now c.in-Err.refusal why
+    nothing_accepted c.one_answer.ensures c.opened_are_one_list.ensures.there files c.args.options.now c.in-Err.refusal why c.args.kept.now
     (λ status. Finishes (refused (refusal_line (refusal_view c.in-Err.refusal))) status (g.O.Outputs.seen c.args.outputs.now) (g.O.Outputs.seen c.refuse.new.outputs)) c.refuse.result c.refuse.ensures.ok
 
 -- ---- a tree that is accepted
@@ -55,7 +55,7 @@ returns-in-Ok-of-clause-kept g c =
     let files = bytes_in c.args.files.now in
     let root = root_of c.args.options.now in
     let accepted = accepted_as files c.as_bytes.result.now root c.as_bytes.ensures.value c.in-Ok.tree c.in-Ok.ensures.built c.in-Ok-of.ensures.accepted in
-    Holds-ended c.one_answer.ensures files root c.in-Ok.tree accepted c.layout.result.now c.in-Ok-of.order c.layout.ensures.laid c.in-Ok-of.ensures.same c.run_accepted-ended.result
+    Holds-ended c.one_answer.ensures files root c.in-Ok.tree accepted c.layout-layout.result.now c.in-Ok-of.order c.layout-layout.ensures.laid c.in-Ok-of.ensures.same c.run_accepted-ended.result
 
 pub returns-in-Ok-of-clause-refused_kept : goal.returns-in-Ok-of-clause-refused_kept
 returns-in-Ok-of-clause-refused_kept g c = λ r refused.
@@ -69,7 +69,7 @@ returns-in-Ok-of-clause-either_kept g c = λ tree is.
     let files = bytes_in c.args.files.now in
     let root = root_of c.args.options.now in
     let accepted = accepted_as files c.as_bytes.result.now root c.as_bytes.ensures.value c.in-Ok.tree c.in-Ok.ensures.built c.in-Ok-of.ensures.accepted in
-    inr (Holds-accepted c.one_answer.ensures files root c.in-Ok.tree accepted c.layout.result.now c.in-Ok-of.order c.layout.ensures.laid c.in-Ok-of.ensures.same tree is)
+    inr (Holds-accepted c.one_answer.ensures files root c.in-Ok.tree accepted c.layout-layout.result.now c.in-Ok-of.order c.layout-layout.ensures.laid c.in-Ok-of.ensures.same tree is)
 
 -- ---- a loop
 
@@ -78,23 +78,23 @@ returns-in-Err-of-clause-ok g c =
     let files = bytes_in c.args.files.now in
     let r = c.in-Err-of.refusal in
     let why = looped_as files c.as_bytes.result.now (root_of c.args.options.now) c.as_bytes.ensures.value c.in-Ok.tree r c.in-Ok.ensures.built c.in-Err-of.ensures.refused in
-    IfOk-weaker c.refuse-2.result _ _
+    IfOk-weaker c.refuse-in-Err-of.result _ _
     (λ status. Finishes-refusal c.one_answer.ensures c.opened_are_one_list.ensures.there files c.args.options.now r why (map g.I.Input.remaining c.args.inputs.now)
-    status (g.O.Outputs.seen c.args.outputs.now) (g.O.Outputs.seen c.refuse-2.new.outputs)) c.refuse-2.ensures.ok
+    status (g.O.Outputs.seen c.args.outputs.now) (g.O.Outputs.seen c.refuse-in-Err-of.new.outputs)) c.refuse-in-Err-of.ensures.ok
 
 pub returns-in-Err-of-clause-err : goal.returns-in-Err-of-clause-err
 returns-in-Err-of-clause-err g c =
     let files = bytes_in c.args.files.now in
     let r = c.in-Err-of.refusal in
     let why = looped_as files c.as_bytes.result.now (root_of c.args.options.now) c.as_bytes.ensures.value c.in-Ok.tree r c.in-Ok.ensures.built c.in-Err-of.ensures.refused in
-    IfErr-weaker c.refuse-2.result _ _
+    IfErr-weaker c.refuse-in-Err-of.result _ _
     (λ cause. Broken-refusal c.one_answer.ensures c.opened_are_one_list.ensures.there files c.args.options.now r why (map g.I.Input.remaining c.args.inputs.now)
-    cause (g.O.Outputs.seen c.args.outputs.now) (g.O.Outputs.seen c.refuse-2.new.outputs)) c.refuse-2.ensures.err
+    cause (g.O.Outputs.seen c.args.outputs.now) (g.O.Outputs.seen c.refuse-in-Err-of.new.outputs)) c.refuse-in-Err-of.ensures.err
 
 pub returns-in-Err-of-clause-kept : goal.returns-in-Err-of-clause-kept
 returns-in-Err-of-clause-kept g c =
     let files = bytes_in c.args.files.now in
     let r = c.in-Err-of.refusal in
     let why = looped_as files c.as_bytes.result.now (root_of c.args.options.now) c.as_bytes.ensures.value c.in-Ok.tree r c.in-Ok.ensures.built c.in-Err-of.ensures.refused in
-    nothing_accepted c.one_answer.ensures c.opened_are_one_list.ensures.there files c.args.options.now r why
-    (λ status. Finishes (refused (refusal_line (refusal_view r))) status (g.O.Outputs.seen c.args.outputs.now) (g.O.Outputs.seen c.refuse-2.new.outputs)) c.refuse-2.result c.refuse-2.ensures.ok
+    nothing_accepted c.one_answer.ensures c.opened_are_one_list.ensures.there files c.args.options.now r why c.args.kept.now
+    (λ status. Finishes (refused (refusal_line (refusal_view r))) status (g.O.Outputs.seen c.args.outputs.now) (g.O.Outputs.seen c.refuse-in-Err-of.new.outputs)) c.refuse-in-Err-of.result c.refuse-in-Err-of.ensures.ok
