@@ -1,17 +1,17 @@
 -- One more node of the table filled, along an order of the nodes of a tree.
-use Rattle.std.proofs.Common.{◌≡◌, ◌≢◌, ◌⊎◌, ℕ, ◌<◌, ◌≤◌, ◌+◌, List, [], ◌∷◌, ◌++◌, length, Option, Some, None, sym, ◌∙◌, ap, inl, inr, refl, subst, arith, get_or, take, eqb, flat_map}
+use Rattle.std.proofs.Common.{◌≡◌, ◌≢◌, ◌⊎◌, ℕ, ◌<◌, ◌≤◌, ◌+◌, List, [], ◌∷◌, length, Option, Some, None, sym, ◌∙◌, ap, inl, inr, subst, arith, get_or, take, eqb, flat_map}
 use Rattle.std.specs.Prelude.{slice_index_or, replicate}
 use Rattle.std.specs.List.{AllByRecursion, Contains}
 use Rattle.std.proofs.lemmas.Bool.{cases_eq, cases_lt, eqb-false}
 use Rattle.std.proofs.lemmas.List.{get_or_past, get_or-take, length-take-le, get_or_default, take_more, get_or-replicate, length-replicate, length-map}
-use Rattle.std.proofs.lemmas.List.Elements.{Contains-get_or, Contains-append_left, Contains-append_right, Contains-push_cases}
+use Rattle.std.proofs.lemmas.List.Elements.{Contains-get_or, Contains-append_right, Contains-push_cases}
 use Rattle.std.proofs.lemmas.Map.Keys.{apart_from_distinct}
 use Rattle.kc_expr.specs.Names.{symbol}
 use Rattle.kc_expr.specs.Value.{Known}
 use Rattle.kc_expr.specs.declared.expression.SymId.{SymId}
 use Rattle.kc_expr.specs.declared.expression.Tri.{Tri}
 use Rattle.kc_expr.proofs.AgreeLemmas.{depends_on_symbols}
-use Rattle.kc_order.specs.Graph.{Nodes, IsGraph, groups_of, stands_for, needs_of}
+use Rattle.kc_order.specs.Graph.{Nodes, groups_of, stands_for}
 use Rattle.kc_order.specs.Needs.{needs_in}
 use Rattle.kc_order.specs.Solution.{Solves}
 use Rattle.kc_order.proofs.Alike.{symbols_first}
@@ -26,11 +26,10 @@ use Rattle.kc_user.specs.Places.{member_place}
 use Rattle.kc_user.specs.declared.value.UserValue.{UserValue}
 use Rattle.kc_values.specs.Lookups.{choice_at}
 use Rattle.kc_values.specs.Needs.{condition_names, names_of_choice, needs}
-use Rattle.kc_values.specs.Nodes.{choice_number, context_number, first_choice, node_count}
+use Rattle.kc_values.specs.Nodes.{choice_number, context_number}
 use Rattle.kc_values.specs.Settled.{AreContextsSettled, rank}
 use Rattle.kc_values.specs.Solution.{symbol_count, equations}
 use Rattle.kc_values.specs.Table.{known_in}
-use Rattle.kc_values.specs.Values.{condition, selected}
 use Rattle.kc_values.specs.declared.table.Table.{Table}
 use Rattle.kc_values.specs.declared.table.Value.{Value}
 use Rattle.kc_values.proofs.OnlyNamed.{same_condition, same_selected}

@@ -1,8 +1,7 @@
 -- What the contexts and choices of a tree name, their nodes stand for.
-use Rattle.std.proofs.Common.{◌≡◌, ◌==◌, ◌&&◌, ◌||◌, ℕ, ◌<◌, ◌+◌, Bool, true, false, List, [], ◌∷◌, length, Option, sym, ◌∙◌, ap, arith, cond, zero, suc, refl, get_or}
+use Rattle.std.proofs.Common.{◌≡◌, ◌==◌, ◌&&◌, ◌||◌, ℕ, ◌<◌, Bool, true, false, List, [], ◌∷◌, length, sym, ◌∙◌, ap, arith, cond, zero, suc, refl}
 use Rattle.std.specs.List.{Contains, list_any}
 use Rattle.std.proofs.lemmas.Bool.{eq-eqb, lt-ltb, true≢false}
-use Rattle.std.proofs.lemmas.List.{get_or_default}
 use Rattle.std.proofs.lemmas.List.Folds.{list_any_at}
 use Rattle.kc_expr.specs.Names.{symbol}
 use Rattle.kc_expr.specs.declared.expression.SymId.{SymId}

@@ -1,5 +1,5 @@
 -- What has an order is accepted, be it through groups.
-use Rattle.std.proofs.Common.{◌≡◌, ℕ, ◌<◌, List, length, sym, ◌∙◌, ap, subst, arith, false}
+use Rattle.std.proofs.Common.{ℕ, ◌<◌, List, length, sym, ◌∙◌, ap, arith}
 use Rattle.kc_order.specs.Graph.{Nodes, IsGraph, needs_of}
 use Rattle.kc_order.specs.Needs.{IsAccepted, needs_in, stuck_after}
 use Rattle.kc_order.specs.Order.{Orders}

@@ -10,7 +10,7 @@ use Rattle.kc_expr.specs.contracts.expression.Tri as tri_row
 use Rattle.kc_expr.specs.declared.expression.Tri.{Tri}
 use Rattle.kc_expr.specs.declared.expression.Tri.TheVariants.{Y}
 use Rattle.kc_tree.specs.Contexts.{IsContext, IsPlain, condition_in, top}
-use Rattle.kc_tree.specs.Layouts.{IsLayoutOf, shown_of, shown_when, title_condition}
+use Rattle.kc_tree.specs.Layouts.{shown_of, shown_when, title_condition}
 use Rattle.kc_tree.specs.TreeFacts.{Condition, TreeFacts}
 use Rattle.kc_tree.specs.declared.layout.Layout.{Layout}
 use Rattle.kc_tree.specs.declared.parts.Context.{Context}

@@ -21,10 +21,9 @@ use Rattle.kc_expr.specs.declared.expression.Kind.TheVariants.{Undefined, Bool a
 use Rattle.kc_expr.proofs.AgreeLemmas.{depends_on_symbols}
 use Rattle.kc_order.specs.Solution.{IsUpdate}
 use Rattle.kc_tree.specs.Contexts.{mode_view}
-use Rattle.kc_tree.specs.Layouts.{IsLayoutOf, facts_of, choices_in, choice_facts}
+use Rattle.kc_tree.specs.Layouts.{facts_of}
 use Rattle.kc_tree.specs.TreeCode.{symbol_code}
 use Rattle.kc_tree.specs.TreeFacts.{IsWellFormed, SymbolFacts, TreeFacts}
-use Rattle.kc_tree.specs.declared.layout.Layout.{Layout}
 use Rattle.kc_tree.specs.declared.parts.ChoiceId.{ChoiceId}
 use Rattle.kc_tree.specs.declared.parts.Symbol.{Symbol}
 use Rattle.kc_tree.proofs.TreeLemmas.{symbols-length, symbols-at}

@@ -1,11 +1,9 @@
 use Rattle.std.proofs.Common.{◌≡◌, ◌+◌, ℕ, arith, length, sym, subst, ◌∙◌, ap}
 use Rattle.std.specs.Prelude.{slice_index_or, None}
 use Rattle.kc_tree.specs.TreeFacts.{TreeFacts}
-use Rattle.kc_tree.specs.declared.layout.Layout.{Layout}
 use Rattle.kc_values.specs.Solution.{symbol_count}
-use Rattle.kc_values.specs.declared.table.Table.{Table}
 use Rattle.kc_solve.specs.Filling.{IsSelection, IsUnreadIn, IsFilledTable, IsFilledTo}
-use Rattle.kc_solve.proofs.FillSteps.{AreNamesThere, begins, choice_next, choice_there, choices_length, context_next, solves, symbol_next, unread}
+use Rattle.kc_solve.proofs.FillSteps.{begins, choice_next, choice_there, choices_length, context_next, solves, symbol_next, unread}
 use Rattle.kc_solve.proofs.GroupNames.{names_there}
 use Rattle.kc_solve.proofs.TableSteps.{row_count}
 use Rattle.kc_solve.proofs.fill.fill.Goals as goal

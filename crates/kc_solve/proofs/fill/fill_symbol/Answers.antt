@@ -1,11 +1,9 @@
-use Rattle.std.proofs.Common.{◌≡◌, arith, refl, subst, ◌∙◌, ap}
+use Rattle.std.proofs.Common.{arith, refl, ◌∙◌, ap}
 use Rattle.kc_values.specs.Selections.{given_for}
-use Rattle.kc_values.specs.Table.{known_value}
 use Rattle.kc_values.specs.Known.{known_at}
 use Rattle.kc_values.specs.Values.{by_choice}
 use Rattle.kc_tree.specs.Contexts.{mode_view}
 use Rattle.kc_tree.specs.Layouts.{facts_of}
-use Rattle.kc_solve.specs.Filling.{AreFilledValues}
 use Rattle.kc_solve.proofs.FillSteps.{settled_stays}
 use Rattle.kc_solve.proofs.TableSteps.{filled_value, place_given, row_count}
 use Rattle.kc_solve.proofs.fill.fill_symbol.Goals as goal

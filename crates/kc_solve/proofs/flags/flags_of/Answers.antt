@@ -1,4 +1,4 @@
-use Rattle.std.proofs.Common.{◌<◌, ◌++◌, map, length, sym, ◌∙◌, ap, refl, arith}
+use Rattle.std.proofs.Common.{◌++◌, map, length, sym, ◌∙◌, ap, refl, arith}
 use Rattle.std.proofs.lemmas.List.FromFn.{length-map-range_with_len}
 use Rattle.kc_expr.specs.Names.{symbol}
 use Rattle.kc_tree.specs.Layouts.{facts_of}
