@@ -32,7 +32,8 @@ returns-in-Err-clause-kept g c =
     let files = bytes_in c.args.files.now in
     let why = refused_as files c.as_bytes.result.now (root_of c.args.options.now) c.as_bytes.ensures.value c.in-Err.refusal c.in-Err.ensures.refused in
     nothing_accepted c.one_answer.ensures c.opened_are_one_list.ensures.there files c.args.options.now c.in-Err.refusal why c.args.kept.now
-    (λ status. Finishes (refused (refusal_line (refusal_view c.in-Err.refusal))) status (g.O.Outputs.seen c.args.outputs.now) (g.O.Outputs.seen c.refuse.new.outputs)) c.refuse.result c.refuse.ensures.ok
+    (λ status. Finishes (refused (refusal_line (refusal_view c.in-Err.refusal))) status (g.O.Outputs.seen c.args.outputs.now) (g.O.Outputs.seen c.refuse.new.outputs))
+    c.refuse.result c.refuse.ensures.ok
 
 -- ---- a tree that is accepted
 
@@ -97,4 +98,5 @@ returns-in-Err-of-clause-kept g c =
     let r = c.in-Err-of.refusal in
     let why = looped_as files c.as_bytes.result.now (root_of c.args.options.now) c.as_bytes.ensures.value c.in-Ok.tree r c.in-Ok.ensures.built c.in-Err-of.ensures.refused in
     nothing_accepted c.one_answer.ensures c.opened_are_one_list.ensures.there files c.args.options.now r why c.args.kept.now
-    (λ status. Finishes (refused (refusal_line (refusal_view r))) status (g.O.Outputs.seen c.args.outputs.now) (g.O.Outputs.seen c.refuse-in-Err-of.new.outputs)) c.refuse-in-Err-of.result c.refuse-in-Err-of.ensures.ok
+    (λ status. Finishes (refused (refusal_line (refusal_view r))) status (g.O.Outputs.seen c.args.outputs.now) (g.O.Outputs.seen c.refuse-in-Err-of.new.outputs))
+    c.refuse-in-Err-of.result c.refuse-in-Err-of.ensures.ok
