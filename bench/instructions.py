@@ -18,6 +18,7 @@ TOP = pathlib.Path(__file__).resolve().parent.parent
 # Each row with what the functions' names look like; the first that fits counts.
 ROWS = [
     ("`kc_tree`", r"kc_tree::"),
+    ("`kc_build`", r"kc_build::"),
     ("taking and giving back memory", r"malloc/|rattle_alloc|rattle_realloc|rattle_dealloc|rattle_free"),
     ("`kc_text` and `bstr`", r"kc_text::|bstr::"),
     ("the table of names", r"kc_expr::names?::|indexmap::|core::hash::"),

@@ -3,7 +3,7 @@
 # of one run of kconf: bench/shapes.sh [SHAPE ..], all shapes without one.
 #
 # kconf is crates/kconf/out/kconf (make build), or the program that KCONF names. It fails where a doubling of a shape makes time or
-# memory more than 2.6 times as much, but for the shapes that are marked as not linear yet: of those the growth is shown alone.
+# memory more than 2.6 times as much.
 # Time is the least of ten runs, and of thirty where it would be too much. What takes less than 0.05 seconds or 16 MiB counts as so
 # much, and a run may have 6 GiB. The machine should have nothing else to do.
 set -eu
@@ -181,26 +181,26 @@ def unknown_names(count):
     return config("A", "bool"), "".join(f"CONFIG_U_{i}=y\n" for i in range(count))
 
 
-# Each shape with its least size, and whether it is to grow with its size alone today.
+# Each shape with its least size. A tree has at most 65,535 symbols.
 SHAPES = [
-    (loop_beside_a_chain, 16000, True),
-    (loop_beside_wide_conditions, 1000, True),
-    (hidden_choice_defaults, 15000, True),
-    (visible_strangers, 15000, True),
-    (depends_and_defaults, 1000, False),
-    (depends_and_ranges, 1000, False),
-    (depends_and_selects, 1000, False),
-    (menu_round_symbols, 1000, False),
-    (menu_round_choices, 1000, False),
-    (menu_round_comments, 2000, False),
-    (menu_round_one_symbol, 1000, False),
-    (menu_round_selects, 1000, False),
-    (hidden_menu_round_symbols, 1000, False),
-    (hidden_menu_round_choices, 1000, False),
-    (hidden_menu_round_comments, 16000, True),
-    (hidden_menu_round_one_symbol, 1000, False),
-    (hidden_menu_round_selects, 1000, False),
-    (unknown_names, 500000, True),
+    (loop_beside_a_chain, 16000),
+    (loop_beside_wide_conditions, 1000),
+    (hidden_choice_defaults, 15000),
+    (visible_strangers, 15000),
+    (depends_and_defaults, 16000),
+    (depends_and_ranges, 16000),
+    (depends_and_selects, 8000),
+    (menu_round_symbols, 8000),
+    (menu_round_choices, 8000),
+    (menu_round_comments, 16000),
+    (menu_round_one_symbol, 16000),
+    (menu_round_selects, 8000),
+    (hidden_menu_round_symbols, 8000),
+    (hidden_menu_round_choices, 8000),
+    (hidden_menu_round_comments, 16000),
+    (hidden_menu_round_one_symbol, 16000),
+    (hidden_menu_round_selects, 8000),
+    (unknown_names, 500000),
 ]
 
 
@@ -266,19 +266,17 @@ def main():
     program, wanted = sys.argv[1], sys.argv[2:]
     if not os.access(program, os.X_OK):
         sys.exit(f"there is no {program}: make build makes it")
-    strange = set(wanted) - {shape.__name__ for shape, _, _ in SHAPES}
+    strange = set(wanted) - {shape.__name__ for shape, _ in SHAPES}
     if strange:
         sys.exit(f"no shape is named {', '.join(sorted(strange))}")
     failed = []
-    for shape, least, linear in SHAPES:
+    for shape, least in SHAPES:
         name = shape.__name__
         if wanted and name not in wanted:
             continue
-        rows = measured(program, shape, least, 1 + AGAIN * linear)
-        print(f"{name:<28}", *(f"{count:>7}: {seconds:7.3f} s {peak:7.1f} MiB" for count, seconds, peak in rows),
-              "" if linear else "  not linear yet", flush=True)
-        if linear:
-            failed += [f"{name}: from {count} to {2 * count} it takes {much} times as much" for count, much in grown(rows)]
+        rows = measured(program, shape, least, 1 + AGAIN)
+        print(f"{name:<28}", *(f"{count:>7}: {seconds:7.3f} s {peak:7.1f} MiB" for count, seconds, peak in rows), flush=True)
+        failed += [f"{name}: from {count} to {2 * count} it takes {much} times as much" for count, much in grown(rows)]
     for line in failed:
         print(line)
     return 1 if failed else 0

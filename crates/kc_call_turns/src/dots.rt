@@ -1,7 +1,8 @@
 //! A `.config` that is read, values, and the three files.
 ghost use Rattle.std.specs.Prelude.{◌≡◌, IfOk};
 ghost use Rattle.kc_user.specs.Places.{IsUserOf};
-ghost use Rattle.kc_values.specs.Needs.{needs};
+ghost use Rattle.kc_solve.specs.Graphs.{IsGraphOf};
+ghost use Rattle.kc_tree.specs.Layouts.{IsLayoutOf};
 
 use crate::end::{End, done, refused};
 use crate::paper::Paper;
@@ -16,6 +17,7 @@ use kc_expr::values::Values;
 use kc_solve::order::Order;
 use kc_solve::solve::solve;
 use kc_solve::solved::Solved;
+use kc_tree::layout::Layout;
 use kc_tree::tree::Tree;
 use kc_user::user::User;
 use kc_user::value::UserValue;
@@ -122,10 +124,11 @@ fn user_of(alloc: Global, tree: &Tree, prefix: &Prefix) -> Result<User, AllocErr
 }
 
 // The order of the tree's symbols.
-fn order_of(alloc: Global, tree: &Tree) -> Result<Order, AllocError>
-    ensures { IfOk result (λ order. order ≡ needs tree.now) }
+fn order_of(alloc: Global, tree: &Tree, layout: &Layout) -> Result<Order, AllocError>
+    requires { IsLayoutOf tree.now layout.now }
+    ensures { IfOk result (IsGraphOf tree.now layout.now) }
 {
-    match Order::of(alloc, tree) {
+    match Order::of(alloc, tree, layout) {
         Ok(order) => Ok(order),
         Err(_) => Err(AllocError),
     }
@@ -141,8 +144,9 @@ pub(crate) fn call_solve(alloc: Global) -> Result<End, AllocError> {
     let tree = tree_of(alloc)?;
     let prefix = prefix_of(alloc)?;
     let user = user_of(alloc, &tree, &prefix)?;
-    let order = order_of(alloc, &tree)?;
-    match solve(alloc, &tree, &order, &user) {
+    let layout = tree.layout();
+    let order = order_of(alloc, &tree, layout)?;
+    match solve(alloc, &tree, layout, &order, &user) {
         Ok(solved) => Ok(done(has_values(&solved))),
         Err(_) => Ok(End::Refused),
     }
@@ -224,7 +228,8 @@ pub(crate) fn call_write(alloc: Global, which: Output) -> Result<End, AllocError
     let tree = tree_of(alloc)?;
     let prefix = prefix_of(alloc)?;
     let user = user_of(alloc, &tree, &prefix)?;
-    let order = order_of(alloc, &tree)?;
-    let solved = solve(alloc, &tree, &order, &user)?;
+    let layout = tree.layout();
+    let order = order_of(alloc, &tree, layout)?;
+    let solved = solve(alloc, &tree, layout, &order, &user)?;
     write(alloc, &tree, &solved, &prefix, which)
 }

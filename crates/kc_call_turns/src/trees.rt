@@ -1,6 +1,7 @@
 //! Files, trees and orders.
 
 use crate::end::{End, done, refused};
+use kc_build::build_tree;
 use kc_expr::expression::SymId;
 use kc_read::file_map::FileMap;
 use kc_read::refusal::{Code, Refusal};
@@ -99,7 +100,7 @@ fn files_of(alloc: Global, kconfig: &[u8]) -> Result<FileMap, AllocError> {
 // The tree of this one file.
 fn tree_with(alloc: Global, kconfig: &[u8]) -> Result<Tree, AllocError> {
     let files = files_of(alloc, kconfig)?;
-    match Tree::build(alloc, &files, b"Kconfig") {
+    match build_tree(alloc, &files, b"Kconfig") {
         Ok(tree) => Ok(tree),
         Err(_) => Err(AllocError),
     }
@@ -118,7 +119,7 @@ fn is_memory(refusal: &Refusal) -> bool {
 /// `build`.
 pub(crate) fn call_build(alloc: Global) -> Result<End, AllocError> {
     let files = files_of(alloc, KCONFIG)?;
-    match Tree::build(alloc, &files, b"Kconfig") {
+    match build_tree(alloc, &files, b"Kconfig") {
         Ok(tree) => {
             let has_symbols = tree.symbol_count() == 4 && tree.find(b"N") == Some(SymId(2));
             let warned = are_named(
@@ -132,21 +133,21 @@ pub(crate) fn call_build(alloc: Global) -> Result<End, AllocError> {
 }
 
 // A stands before B, and each symbol once.
-fn is_order(symbols: &[u32]) -> bool {
-    let first = symbols.iter().position(|symbol| *symbol == 0);
-    let second = symbols.iter().position(|symbol| *symbol == 1);
-    symbols.len() == 4
+fn is_order(nodes: &[u32]) -> bool {
+    let first = nodes.iter().position(|node| *node == 0);
+    let second = nodes.iter().position(|node| *node == 1);
+    nodes.len() >= 4
         && first.is_some()
         && first < second
-        && symbols.contains(&2)
-        && symbols.contains(&3)
+        && nodes.contains(&2)
+        && nodes.contains(&3)
 }
 
 /// `Order::of`, of the tree of the calls.
 pub(crate) fn call_order_of(alloc: Global) -> Result<End, AllocError> {
     let tree = tree_of(alloc)?;
-    match Order::of(alloc, &tree) {
-        Ok(order) => Ok(done(is_order(order.symbols()))),
+    match Order::of(alloc, &tree, tree.layout()) {
+        Ok(order) => Ok(done(is_order(order.nodes()))),
         Err(refusal) => Ok(refused(is_memory(&refusal))),
     }
 }
@@ -154,7 +155,7 @@ pub(crate) fn call_order_of(alloc: Global) -> Result<End, AllocError> {
 /// `Order::of`, of a tree whose loop is named.
 pub(crate) fn call_order_of_loop(alloc: Global) -> Result<End, AllocError> {
     let tree = tree_with(alloc, LOOP)?;
-    match Order::of(alloc, &tree) {
+    match Order::of(alloc, &tree, tree.layout()) {
         Ok(_) => Ok(End::Wrong),
         Err(refusal) => {
             if refusal.code == Code::Memory {

@@ -8,7 +8,7 @@ use Rattle.kc_make.specs.Opened.{OpenedAreThere}
 use Rattle.kc_read.specs.Expansion.{Expands, Log, Refused}
 use Rattle.kc_read.specs.Files.{Files}
 use Rattle.kc_tree.specs.TreeFacts.{TreeFacts}
-use Rattle.kc_tree.specs.Trees.{IsTreeOf, TreesAreWellFormed, tree_of_log}
+use Rattle.kc_build.specs.Trees.{IsTreeOf, TreesAreWellFormed, tree_of_log}
 use Rattle.kc_user.specs.Places.{ArePlaces, IsUserOf, Places, no_places, place_at}
 use Rattle.kc_order.specs.Laws as order
 use Rattle.kc_order.specs.Needs.{needs_in}
@@ -21,7 +21,7 @@ use Rattle.kc_solve.specs.Refused.{loop_refused}
 use Rattle.kc_solve.specs.Solved.{Solution, value_of}
 use Rattle.kc_dot.specs.Reading.{Read, Stop}
 use Rattle.kc_dot.specs.Streams.{StreamsLeavePlaces}
-use Rattle.kc_words.specs.declared.options.Options.{Options}
+use Rattle.kc_conf.specs.declared.options.Options.{Options}
 use Rattle.kc_conf.specs.ErrorLines.{refusal_line, too_long_line}
 use Rattle.kc_conf.specs.Existence.{AcceptedHaveAnOutcome, AnswerExists, OutcomeExists, SolutionExists}
 use Rattle.kc_conf.specs.Outcome.{IsAcceptedTree, IsLenientOutcome, IsOutcome, IsOutcomeOfReading, IsRefusedTree, IsSolutionFor, Outcome, accepted_tree, lines_text, long_line, looped, names_of, no_tree, noted, outcome_of, read_of, refused, refused_tree, root_of, streams, strictly, whole, with_rule}

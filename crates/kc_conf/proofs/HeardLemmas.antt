@@ -24,7 +24,7 @@ use Rattle.kc_dot.specs.Effects.{Effect, Silent, Warns, Assigns, SetAgain, Troub
 use Rattle.kc_dot.specs.Reading.{Line, Read, assignments, counted, effect, is_within, lines_of, places_after, places_given, reading, stop_at, trouble_of, warning, warning_words, warnings}
 use Rattle.kc_dot.proofs.PlaceLemmas.{IsUserOf-given, places_given-nothing, places_given-one}
 use Rattle.kc_dot.proofs.ReadingLemmas.{places_after-append}
-use Rattle.kc_words.specs.declared.options.Options.{Options}
+use Rattle.kc_conf.specs.declared.options.Options.{Options}
 use Rattle.kc_conf.specs.Heard.{IsHeard, IsKeptOrTold, IsSetAgain, NothingIsLost, StandsIn}
 use Rattle.kc_conf.specs.Lost.{has_prompt, lost_at, lost_by, lost_line, lost_lines, lost_of, same_given}
 use Rattle.kc_conf.specs.Outcome.{Outcome, lines_text, lost_told, names_of, noted, outcome_of, read_of, streams, with_rule}

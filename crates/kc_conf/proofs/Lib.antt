@@ -2,6 +2,7 @@ pub mod ExistenceLemmas
 pub mod HeardLemmas
 pub mod ListLemmas
 pub mod LostLemmas
+pub mod PromptLemmas
 pub mod PlacesLemmas
 pub mod OutcomeLemmas
 pub mod Once
@@ -11,3 +12,4 @@ pub mod RuleLemmas
 pub mod RunLemmas
 pub mod StreamLemmas
 pub mod TellingLemmas
+pub mod StopLemmas

@@ -1,8 +1,20 @@
 -- The lines of the values that are lost, symbol by symbol.
-use Rattle.std.proofs.Common.{◌≡◌, ℕ, ◌+◌, List, ◌++◌, zero, suc, sym, ◌∙◌, ap, arith, append_assoc, append-nil}
-use Rattle.std.specs.List.{flat_map, range_with_len}
-use Rattle.kc_solve.specs.Solved.{Solution}
-use Rattle.kc_conf.specs.Lost.{lost_at}
+use Rattle.std.proofs.Common.{◌≡◌, ℕ, ◌+◌, Bool, true, false, List, [], ◌++◌, Option, Some, None, zero, suc, sym, ◌∙◌, ap, arith, append_assoc, append-nil}
+use Rattle.std.specs.Prelude.{if◌then◌else◌}
+use Rattle.std.specs.List.{slice_get, flat_map, range_with_len}
+use Rattle.std.specs.Option.{option_map}
+use Rattle.kc_expr.specs.Names.{symbol}
+use Rattle.kc_tree.specs.Layouts.{IsLayoutOf, facts_of}
+use Rattle.kc_tree.specs.TreeFacts.{TreeFacts}
+use Rattle.kc_tree.specs.declared.layout.Layout.{Layout}
+use Rattle.kc_tree.specs.declared.parts.Symbol.{Symbol}
+use Rattle.kc_user.specs.Given.{At, Given}
+use Rattle.kc_user.specs.Places.{Places, place_at}
+use Rattle.kc_values.specs.Differs.{given_of}
+use Rattle.kc_values.specs.Lookups.{facts, name}
+use Rattle.kc_values.proofs.Laid.{symbol_found}
+use Rattle.kc_solve.specs.Solved.{Solution, known}
+use Rattle.kc_conf.specs.Lost.{has_prompt, lost_at, lost_by, lost_of}
 
 flat_range : {X : Type 0} (f : ℕ → List X) (a n : ℕ) → flat_map f (range_with_len a (suc n)) ≡ flat_map f (range_with_len a n) ++ f (a + n)
 flat_range f a zero = append-nil (f a) ∙ ap f (omega arith)
@@ -20,3 +32,38 @@ one_more_lost s i old new before one =
     let here : 0 + i ≡ i = omega arith in
     one ∙ ap (λ x. x ++ f i) before
     ∙ sym (ap (λ m. flat_map f (range_with_len 0 m)) next ∙ flat_range f 0 i ∙ ap (λ m. flat_map f (range_with_len 0 i) ++ f m) here)
+
+-- ---- the line of a symbol
+
+module _ (s : Solution) (tree : TreeFacts) (same : tree ≡ s.tree) (l : Layout) (laid : IsLayoutOf tree l) (i : ℕ) where
+  found : (o : Option Symbol) → o ≡ slice_get l.symbols.items i → facts s.tree (symbol i) ≡ option_map (facts_of l i) o
+  found o e = sym (ap (λ (t : TreeFacts). slice_get t.symbols i) same) ∙ sym (symbol_found tree l laid i o e)
+
+  line : (o : Option Symbol) → o ≡ slice_get l.symbols.items i →
+      lost_at s i ≡ lost_of (name s.tree (symbol i)) (option_map (facts_of l i) o) (place_at s.places (At i)) (given_of (known s (symbol i)))
+  line o e = ap (λ f. lost_of (name s.tree (symbol i)) f (place_at s.places (At i)) (given_of (known s (symbol i)))) (found o e)
+
+  -- none without a row
+  pub lost-nowhere : None ≡ slice_get l.symbols.items i → lost_at s i ≡ []
+  lost-nowhere e = line None e
+
+  abbrev its_line : Symbol → List (List ℕ)
+  its_line row = lost_by (name s.tree (symbol i)) row.kind (place_at s.places (At i)) (given_of (known s (symbol i)))
+
+  -- and none without a prompt
+  pub lost-unprompted : (row : Symbol) → Some row ≡ slice_get l.symbols.items i → (b : Bool) → b ≡ has_prompt (facts_of l 0 row).prompts → b ≡ false → lost_at s i ≡ []
+  lost-unprompted row e b is none = line (Some row) e ∙ ap (λ c. if c then its_line row else []) (sym is ∙ none)
+
+  pub lost-prompted : (row : Symbol) → Some row ≡ slice_get l.symbols.items i → (b : Bool) → b ≡ has_prompt (facts_of l 0 row).prompts → b ≡ true →
+      lost_at s i ≡ lost_by (name s.tree (symbol i)) row.kind (place_at s.places (At i)) (given_of (known s (symbol i)))
+  lost-prompted row e b is some = line (Some row) e ∙ ap (λ c. if c then its_line row else []) (sym is ∙ some)
+
+  -- else the line of what was given and what it is
+  pub lost-line : (row : Symbol) → Some row ≡ slice_get l.symbols.items i → (b : Bool) → b ≡ has_prompt (facts_of l 0 row).prompts → b ≡ true →
+      (called : List ℕ) (places : Places) (given : Option Given) (value : Given) → called ≡ name tree (symbol i) → places ≡ s.places → given ≡ place_at places (At i) →
+      value ≡ given_of (known s (symbol i)) → lost_by called row.kind given value ≡ lost_at s i
+  lost-line row e b is some called places given value called_is places_are given_is value_is =
+      ap (λ n. lost_by n row.kind given value) (called_is ∙ ap (λ (t : TreeFacts). name t (symbol i)) same)
+      ∙ ap (λ g. lost_by (name s.tree (symbol i)) row.kind g value) (given_is ∙ ap (λ p. place_at p (At i)) places_are)
+      ∙ ap (λ v. lost_by (name s.tree (symbol i)) row.kind (place_at s.places (At i)) v) value_is
+      ∙ sym (lost-prompted row e b is some)

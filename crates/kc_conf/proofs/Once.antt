@@ -4,7 +4,7 @@ use Rattle.kc_make.specs.Opened.{AreOpened, OpenedAreOne}
 use Rattle.kc_read.specs.Expansion.{Expands, Log, Refused}
 use Rattle.kc_read.specs.Files.{Files}
 use Rattle.kc_tree.specs.TreeFacts.{TreeFacts}
-use Rattle.kc_tree.specs.Trees.{IsTreeOf, OneTree, tree_of_log}
+use Rattle.kc_build.specs.Trees.{IsTreeOf, OneTree, tree_of_log}
 use Rattle.kc_user.specs.Places.{Places, place_at}
 use Rattle.kc_expr.specs.Value.{Written}
 use Rattle.kc_expr.specs.declared.expression.Kind.TheVariants.{Undefined}
@@ -17,7 +17,7 @@ use Rattle.kc_solve.specs.LoopText.{loop_text}
 use Rattle.kc_solve.specs.Refused.{IsLoopText, loop_refused}
 use Rattle.kc_solve.specs.Solved.{Solution, value_of}
 use Rattle.kc_dot.specs.Reading.{Read}
-use Rattle.kc_words.specs.declared.options.Options.{Options}
+use Rattle.kc_conf.specs.declared.options.Options.{Options}
 use Rattle.kc_conf.specs.ErrorLines.{refusal_line, too_long_line}
 use Rattle.kc_conf.specs.Outcome.{Outcome, IsLenientOutcome, OneAnswer, OneOutcome, strictly, noted, lines_text, refused, outcome_of, read_of, root_of, IsRefusedTree, no_tree, looped, IsAcceptedTree, IsSolutionFor, refused_tree, accepted_tree, IsOutcomeOfReading, IsOutcomeOfTree, long_line, whole, with_rule}
 use Rattle.std.proofs.lemmas.List.{ext_get_or}

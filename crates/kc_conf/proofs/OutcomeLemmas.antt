@@ -6,7 +6,7 @@ use Rattle.kc_dot.proofs.SinkLemmas.{extended-nothing}
 use Rattle.kc_conf.specs.Places.{Place, Places, with_place, written, begun_with, Broke}
 use Rattle.kc_tree.specs.TreeFacts.{TreeFacts}
 use Rattle.kc_solve.specs.Solved.{Solution}
-use Rattle.kc_words.specs.declared.options.Options.{Options}
+use Rattle.kc_conf.specs.declared.options.Options.{Options}
 use Rattle.kc_conf.specs.ErrorLines.{strict_line}
 use Rattle.kc_conf.specs.Outcome.{Outcome, is_done, is_told, lines_text, lost_told, noted, outcome_of, refused, strictly}
 use Rattle.kc_conf.specs.Reads.{behind_warnings, silent, strictly_after}

@@ -5,7 +5,7 @@ use Rattle.std.proofs.lemmas.Grind.{flat_map-append}
 use Rattle.std.specs.Prelude.{flat_map}
 use Rattle.kc_dot.proofs.SinkLemmas.{extended-extended}
 use Rattle.kc_dot.specs.Sink.{extended, next_failure}
-use Rattle.kc_words.specs.declared.options.Options.{Options}
+use Rattle.kc_conf.specs.declared.options.Options.{Options}
 use Rattle.kc_conf.specs.Faults.{marked, error_line, NotesLine, Reports, StrikesNotes}
 use Rattle.kc_conf.specs.Places.{Place, Places, at, with_place, grown, failed, written, Only, Only-same, Broke}
 use Rattle.kc_conf.specs.Reads.{counted_notes}

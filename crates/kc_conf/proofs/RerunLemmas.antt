@@ -6,7 +6,7 @@ use Rattle.kc_expr.specs.declared.expression.Kind.TheVariants.{Undefined}
 use Rattle.std.proofs.lemmas.List.{ext_get_or}
 use Rattle.kc_read.specs.Files.{Files}
 use Rattle.kc_tree.specs.TreeFacts.{Shown, SymbolShown, MenuShown, EndShown, CommentShown, TreeFacts}
-use Rattle.kc_tree.specs.Trees.{TreesAreWellFormed}
+use Rattle.kc_build.specs.Trees.{TreesAreWellFormed}
 use Rattle.kc_user.specs.Given.{Given, Slot}
 use Rattle.kc_user.specs.Places.{ArePlaces, Places, no_places, place_at}
 use Rattle.kc_order.specs.Solution.{Solves}
@@ -20,7 +20,7 @@ use Rattle.kc_dot.specs.Streams.{StreamsLeavePlaces}
 use Rattle.kc_dot.specs.Texts.{config_heading, config_text, entries_text, entry_text, ends_after, minimal_text, shown_title}
 use Rattle.kc_dot.specs.Prefixes.{is_prefix}
 use Rattle.kc_dot.proofs.SolutionLemmas.{solution_of}
-use Rattle.kc_words.specs.declared.options.Options.{Options}
+use Rattle.kc_conf.specs.declared.options.Options.{Options}
 use Rattle.kc_conf.specs.Outcome.{IsAcceptedTree, IsLenientOutcome, IsOutcome, IsOutcomeOfReading, IsRefusedTree, IsSolutionFor, OneAnswer, Outcome, accepted_tree, lines_text, long_line, names_of, noted, outcome_of, read_of, refused, refused_tree, root_of, streams, strictly, text_if, whole, with_rule}
 use Rattle.kc_conf.proofs.OutcomeLemmas.{strictly-config, strictly-minimal, strictly-off}
 use Rattle.kc_conf.proofs.RuleLemmas.{rule-config, rule-minimal}

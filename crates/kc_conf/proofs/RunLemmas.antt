@@ -9,7 +9,7 @@ use Rattle.kc_user.specs.Places.{Places as UserPlaces, no_places}
 use Rattle.kc_solve.specs.Solved.{Solution, warnings}
 use Rattle.kc_dot.specs.Reading.{Read, Stop, reading, lines_of}
 use Rattle.kc_dot.specs.Sink.{BeginsWith}
-use Rattle.kc_words.specs.declared.options.Options.{Options}
+use Rattle.kc_conf.specs.declared.options.Options.{Options}
 use Rattle.kc_conf.specs.ErrorLines.{refusal_line, too_long_line}
 use Rattle.kc_conf.specs.Faults.{Finishes, Broken, StrikesNotes, IsOfOutputs, CountsInputs}
 use Rattle.kc_conf.specs.Given.{AreAllToCome}

@@ -5,7 +5,7 @@ use Rattle.std.proofs.lemmas.List.{drop_more, drop_all, length-map}
 use Rattle.kc_tree.specs.TreeFacts.{TreeFacts}
 use Rattle.kc_user.specs.Places.{Places}
 use Rattle.kc_dot.specs.Sink.{next_failure}
-use Rattle.kc_words.specs.declared.options.Options.{Options}
+use Rattle.kc_conf.specs.declared.options.Options.{Options}
 use Rattle.kc_conf.specs.Faults.{CountsInputs, StrikesNotes}
 use Rattle.kc_conf.specs.Outcome.{names_of}
 use Rattle.kc_conf.specs.Reads.{counted_input, IsOfStream, ReadSoFar, ReadsStream, BreaksStream, ReadsStreams, BreaksStreams}

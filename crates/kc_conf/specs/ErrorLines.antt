@@ -4,7 +4,8 @@ use Rattle.kc_read.specs.Expansion.{Refused}
 use Rattle.kc_read.specs.declared.refusal.Code.{Code}
 use Rattle.kc_read.specs.declared.refusal.Code.TheVariants as code
 use Rattle.kc_text.specs.Limits.{longest_line}
-use Rattle.kc_read.specs.Limits.{most_lines, most_symbols}
+use Rattle.kc_expr.specs.Limits.{most_symbols}
+use Rattle.kc_read.specs.Limits.{most_lines}
 use Rattle.kc_dot.specs.Limits.{longest_config_line}
 use Rattle.kc_dot.specs.Reading.{Stop}
 

@@ -4,7 +4,7 @@ use Rattle.std.specs.Option.{option_map_or}
 use Rattle.kc_dot.specs.Sink.{BeginsWith, next_failure}
 use Rattle.kc_dot.specs.declared.fault.WriteFault.{WriteFault}
 use Rattle.kc_dot.specs.declared.fault.WriteFault.TheVariants as write
-use Rattle.kc_words.specs.declared.options.Options.{Options}
+use Rattle.kc_conf.specs.declared.options.Options.{Options}
 use Rattle.kc_conf.specs.Outcome.{Outcome, names_of}
 use Rattle.kc_conf.specs.Places.{Places, at, with_place, failed, written, begun_with, made_if, Broke}
 use Rattle.kc_conf.specs.declared.outputs.Which.{Which}

@@ -9,7 +9,7 @@ use Rattle.kc_values.specs.Lookups.{facts, name}
 use Rattle.kc_solve.specs.Solved.{Solution, known}
 use Rattle.kc_dot.specs.Effects.{Effect, Silent, Warns, Assigns, SetAgain, warning_line}
 use Rattle.kc_dot.specs.Reading.{Line, effect, lines_of}
-use Rattle.kc_words.specs.declared.options.Options.{Options}
+use Rattle.kc_conf.specs.declared.options.Options.{Options}
 use Rattle.kc_conf.specs.Lost.{has_prompt, lost_line}
 use Rattle.kc_conf.specs.Outcome.{IsOutcome, Outcome, names_of, streams}
 use Rattle.kc_conf.specs.Reruns.{IsWhole}

@@ -3,7 +3,7 @@ use Rattle.std.specs.Prelude.{◌≡◌, ℕ, Bool, true, false, ◌&&◌, if◌
 use Rattle.kc_read.specs.Expansion.{Refused}
 use Rattle.kc_read.specs.Files.{Files}
 use Rattle.kc_tree.specs.TreeFacts.{TreeFacts}
-use Rattle.kc_tree.specs.Trees.{IsTreeOf}
+use Rattle.kc_build.specs.Trees.{IsTreeOf}
 use Rattle.kc_user.specs.Places.{Places, no_places}
 use Rattle.kc_values.specs.Laws.{IsAccepted}
 use Rattle.kc_solve.specs.Refused.{IsLoopText, loop_refused}
@@ -11,7 +11,7 @@ use Rattle.kc_solve.specs.Solved.{Solution, IsSolution, warnings}
 use Rattle.kc_dot.specs.Reading.{Read, Stop, Stream, reading_of}
 use Rattle.kc_dot.specs.SolutionTold.{told_of}
 use Rattle.kc_dot.specs.Texts.{config_text, header_text, minimal_text}
-use Rattle.kc_words.specs.declared.options.Options.{Options}
+use Rattle.kc_conf.specs.declared.options.Options.{Options}
 use Rattle.kc_make.specs.Opened.{AreOpened, made_of}
 use Rattle.kc_make.specs.Rules.{rule_text}
 use Rattle.kc_conf.specs.ErrorLines.{refusal_line, strict_line, too_long_line}

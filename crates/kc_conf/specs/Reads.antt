@@ -11,7 +11,7 @@ use Rattle.kc_conf.specs.ErrorLines.{strict_line}
 use Rattle.kc_conf.specs.Faults.{marked}
 use Rattle.kc_conf.specs.Outcome.{Outcome, is_done, is_told, lines_text, lost_told, outcome_of, refused, streams}
 use Rattle.kc_conf.specs.Places.{Places, written}
-use Rattle.kc_words.specs.declared.options.Options.{Options}
+use Rattle.kc_conf.specs.declared.options.Options.{Options}
 use Rattle.kc_conf.specs.declared.cause.Cause.{Cause}
 use Rattle.kc_conf.specs.declared.cause.Cause.TheVariants as cause
 use Rattle.kc_conf.specs.declared.outputs.Which.TheVariants.{Notes}

@@ -8,7 +8,7 @@ use Rattle.kc_dot.specs.Laws.{ConfigGivesBack, HasShortLines, MinimalGivesBack, 
 use Rattle.kc_dot.specs.Prefixes.{is_prefix}
 use Rattle.kc_dot.specs.SolutionTold.{told_of}
 use Rattle.kc_dot.specs.Texts.{config_text, minimal_text}
-use Rattle.kc_words.specs.declared.options.Options.{Options}
+use Rattle.kc_conf.specs.declared.options.Options.{Options}
 use Rattle.kc_conf.specs.Outcome.{IsAcceptedTree, IsOutcome, IsSolutionFor, Outcome, lines_text, noted, outcome_of, read_of, root_of, with_rule}
 
 -- A run that refuses nothing: its tree is accepted, no line of its streams is too long, and these are the values.

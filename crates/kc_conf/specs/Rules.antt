@@ -1,6 +1,6 @@
 -- For proofs: The rule for make behind the files of a run.
 use Rattle.std.specs.Prelude.{◌≡◌, ℕ, List, if◌then◌else◌}
-use Rattle.kc_words.specs.declared.options.Options.{Options}
+use Rattle.kc_conf.specs.declared.options.Options.{Options}
 use Rattle.kc_conf.specs.Faults.{BreaksFile}
 use Rattle.kc_conf.specs.Outcome.{depfile_text, is_done, text_if}
 use Rattle.kc_conf.specs.Places.{Places, made_if}

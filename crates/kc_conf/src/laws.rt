@@ -4,12 +4,12 @@ ghost use Rattle.kc_conf.specs.Heard.{NothingIsLost};
 ghost use Rattle.kc_conf.specs.Reruns.{ConfigIsReadAgain, MinimalIsReadAgain, MinimalIsRunAgain, TextsHaveShortLines, WrittenAreWhole};
 
 use crate::runs::{one_answer, one_outcome};
+use kc_build::laws::trees_are_well_formed;
 use kc_dot::laws::{config_settles, minimal_gives_back, written_texts_are_short};
 use kc_dot::place_laws::reading_leaves_allowed_places;
 use kc_make::laws::opened_are_one_list;
 use kc_order::stuck_have_a_loop;
 use kc_read::laws::has_one_expansion;
-use kc_tree::laws::trees_are_well_formed;
 use kc_values::laws::{accepted_have_one_solution, equations_read_needs, needs_are_defined};
 
 /// An outcome with a `.config` is that of a run that refuses nothing: its tree is accepted, no line of its streams is too

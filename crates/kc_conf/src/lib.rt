@@ -16,7 +16,6 @@ mod writing;
 pub use cause::Cause;
 pub use input::Input;
 pub use kc_read::{Code, FileMap, Refusal};
-pub use kc_words::Options;
-pub use options::Status;
+pub use options::{Options, Status};
 pub use outputs::{Outputs, Which};
 pub use runs::{Kept, one_outcome, run, run_keeping};

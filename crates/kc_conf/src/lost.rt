@@ -2,7 +2,8 @@
 ghost use Rattle.std.specs.Prelude.{◌≡◌, ◌++◌, ◌<◌, length, map, IfOk, OnOk};
 ghost use Rattle.kc_expr.specs.Value.{known_of};
 ghost use Rattle.kc_solve.specs.Solved.{known};
-ghost use Rattle.kc_tree.specs.Views.{facts_of};
+ghost use Rattle.std.specs.Option.{option_and_then};
+ghost use Rattle.kc_tree.specs.Layouts.{definition_at, facts_of};
 ghost use Rattle.kc_user.specs.Given.{At};
 ghost use Rattle.kc_user.specs.Places.{place_at};
 ghost use Rattle.kc_user.specs.ValueView.{given_of_value};
@@ -13,15 +14,16 @@ ghost use Rattle.kc_conf.specs.Lost as spec;
 ghost use Rattle.kc_conf.specs.LostView.{given_by};
 ghost use Rattle.kc_conf.specs.Outcome.{lost_told};
 
+use crate::options::Options;
 use kc_expr::expression::{Kind, SymId, Tri};
 use kc_expr::values::{Values, tri_text};
 use kc_solve::solved::Solved;
 use kc_text::escape_into;
-use kc_tree::parts::Symbol;
+use kc_tree::layout::Layout;
+use kc_tree::parts::{DefinitionId, Symbol};
 use kc_user::user::User;
 use kc_user::value::UserValue;
-use kc_values::lookups::{facts, name};
-use kc_words::Options;
+use kc_values::lookups::name;
 use std::alloc::{AllocError, Global};
 
 // Adds a text as a `.config` writes it.
@@ -139,11 +141,29 @@ fn lost_by(
     Ok(())
 }
 
-// Whether a symbol has a prompt.
-fn has_prompt(symbol: &Symbol) -> bool
-    ensures { result ≡ spec.has_prompt (facts_of symbol.now).prompts }
+// Whether a definition has a prompt.
+fn is_prompted(layout: &Layout, id: Option<DefinitionId>) -> bool
+    ensures { result ≡ spec.is_prompted (option_and_then (definition_at layout.now.tables) id) }
 {
-    !symbol.prompts.is_empty()
+    match id {
+        Some(id) => match layout.definition(id) {
+            Some(definition) => definition.prompt.is_some(),
+            None => false,
+        },
+        None => false,
+    }
+}
+
+// Whether a symbol has a prompt.
+fn has_prompt(layout: &Layout, symbol: &Symbol) -> bool
+    ensures { result ≡ spec.has_prompt (facts_of layout.now 0 symbol.now).prompts }
+{
+    for i in 0..symbol.definition_count() {
+        if is_prompted(layout, symbol.definition(i)) {
+            return true;
+        }
+    }
+    false
 }
 
 // What stands in the symbol's place.
@@ -166,10 +186,11 @@ fn lost_into(
 {
     solved.is_solution();
     let tree = solved.tree();
-    let Some(symbol) = facts(tree, id) else {
+    let layout = tree.layout();
+    let Some(symbol) = layout.symbol(id) else {
         return Ok(());
     };
-    if !has_prompt(symbol) {
+    if !has_prompt(layout, symbol) {
         return Ok(());
     }
     let given = given_at(solved.user(), id);

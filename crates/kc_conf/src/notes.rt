@@ -8,13 +8,12 @@ ghost use Rattle.kc_conf.specs.Places.{written, Broke};
 ghost use Rattle.kc_conf.specs.Reads.{stop_of};
 
 use crate::cause::Cause;
-use crate::options::{name_of, stream_name};
+use crate::options::{Options, name_of, stream_name};
 use crate::outputs::{Outputs, Which, put_to};
 use crate::reading::LongLine;
 use itoa::Buffer;
 use kc_dot::Fault;
 use kc_read::refusal::{Code, Refusal};
-use kc_words::Options;
 
 // Writes the parts to the notes, one after another.
 fn note_parts<O: Outputs>(outputs: &mut O, parts: &[&[u8]]) -> Result<(), Fault>

@@ -1,10 +1,42 @@
-//! How a run ends, and the names that its error lines tell.
+//! What is asked of a run, how it ends, and the names that its error lines tell.
+
 ghost use Rattle.std.specs.Prelude.{◌≡◌, ◌<◌, ◌+◌, length, slice_get, Some};
 ghost use Rattle.kc_conf.specs.Faults.{name_of, stream_name};
 ghost use Rattle.kc_conf.specs.Outcome.{names_of};
 
 use crate::outputs::Which;
-use kc_words::Options;
+use kc_dot::prefix::Prefix;
+
+/// What is asked of a run. The names of files are as they were given.
+#[derive(Drop)]
+pub struct Options {
+    /// The folder of the Kconfig files, for names that do not begin with `/`.
+    pub root: String,
+    /// The `.config` to read.
+    pub config: String,
+    /// The full `.config` to write.
+    pub out: String,
+    /// The Kconfig file to begin with.
+    pub kconfig: String,
+    /// The header to write.
+    pub header: Option<String>,
+    /// The minimal `.config` to write.
+    pub minimal: Option<String>,
+    /// The rule for make to write.
+    pub depfile: Option<String>,
+    /// The files to read after the `.config`, in this order.
+    pub fragments: Vec<String>,
+    /// What stands before each symbol's name.
+    pub prefix: Prefix,
+    /// Whether the `.config` to read has to exist, as a fragment has to.
+    pub must_exist: bool,
+    /// Whether a warning is refused.
+    pub strict: bool,
+    /// Whether a value that was given and is not the symbol's is warned of.
+    pub warn_lost: bool,
+    /// Whether each file is replaced in one step at the end, and only where its text changes.
+    pub replace: bool,
+}
 
 /// How a run ends (our own).
 #[derive(Clone, Copy, Debug, PartialEq, Eq)]

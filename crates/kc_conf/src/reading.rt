@@ -9,14 +9,13 @@ ghost use Rattle.kc_conf.specs.Reads.{stop_of, counted_input, counted_notes, IsO
 
 use crate::cause::Cause;
 use crate::input::Input;
-use crate::options::stream_name;
+use crate::options::{Options, stream_name};
 use crate::outputs::Which;
 use kc_dot::fault::DotFault;
 use kc_dot::reader::DotReader;
 use kc_dot::{Fault, Sink};
 use kc_tree::tree::Tree;
 use kc_user::user::User;
-use kc_words::Options;
 use std::alloc::Global;
 
 const PIECE: usize = 4096;

@@ -7,8 +7,9 @@ ghost use Rattle.kc_read.specs.declared.refusal.Code.TheVariants.{Memory};
 ghost use Rattle.kc_make.specs.Opened.{AreOpened};
 ghost use Rattle.kc_user.specs.Places.{IsUserOf};
 ghost use Rattle.kc_tree.specs.TreeFacts.{TreeFacts};
-ghost use Rattle.kc_values.specs.Needs.{needs};
+ghost use Rattle.kc_solve.specs.Graphs.{IsGraphOf};
 ghost use Rattle.kc_solve.specs.Solved.{Solution};
+ghost use Rattle.kc_tree.specs.Layouts.{IsLayoutOf};
 ghost use Rattle.kc_conf.specs.ErrorLines.{refusal_line, strict_line, too_long_line};
 ghost use Rattle.kc_conf.specs.Faults.{Finishes, Broken, IsOfOutputs, CountsInputs, Faults};
 ghost use Rattle.kc_conf.specs.Given.{AreAllToCome};
@@ -16,6 +17,7 @@ ghost use Rattle.kc_conf.specs.Kept.{Holds};
 ghost use Rattle.kc_conf.specs.Outcome.{Outcome, is_told, lines_text, outcome_of, refused, strictly, with_rule, root_of, read_of, IsAcceptedTree, IsRefusedTree, IsSolutionFor, IsOutcome, IsOutcomeOfReading, IsOutcomeOfTree, OneAnswer, OneOutcome};
 ghost use Rattle.kc_conf.specs.Places.{Only};
 ghost use Rattle.kc_conf.specs.Rules.{BreaksInRule, EndsWithRule};
+ghost use Rattle.kc_conf.specs.Stops.{IsOutOfMemory};
 ghost use Rattle.kc_conf.specs.Reads.{behind_warnings, silent, stop_of, strictly_after};
 ghost use Rattle.kc_conf.specs.declared.cause.Cause.{Cause};
 
@@ -24,11 +26,13 @@ use crate::input::Input;
 use crate::laws::exactly_one_outcome;
 use crate::lost::lost_told;
 use crate::notes::{note_lines, note_refusal, note_strict, note_too_long, report};
-use crate::options::Status;
+use crate::options::{Options, Status};
 use crate::outputs::{Outputs, Which};
 use crate::reading::LongLine;
 use crate::telling::tell_streams;
 use crate::writing::{make_depfile, make_files};
+use kc_build::build_tree;
+use kc_build::laws::one_tree;
 use kc_dot::Fault;
 use kc_make::laws::opened_are_one_list;
 use kc_order::one_named_loop;
@@ -37,10 +41,9 @@ use kc_read::refusal::{Code, Refusal};
 use kc_solve::order::Order;
 use kc_solve::solve::solve;
 use kc_solve::solved::Solved;
-use kc_tree::laws::one_tree;
+use kc_tree::layout::Layout;
 use kc_tree::tree::Tree;
 use kc_user::user::User;
-use kc_words::Options;
 use std::alloc::Global;
 
 /// What a run made of a tree that it accepted.
@@ -50,21 +53,6 @@ pub struct Kept {
     pub tree: Tree,
     /// An order of its symbols, in which each comes after those that it needs.
     pub order: Order,
-}
-
-// The tree of the root file and an order of its symbols, or why no tree is accepted.
-fn accepted(alloc: Global, files: &FileMap, root: &[u8]) -> Result<(Tree, Order), Refusal>
-    ensures ok { IfOk result (λ both. IsAcceptedTree (bytes_in files.now) root.now both.0) }
-    ensures order { IfOk result (λ both. both.1 ≡ needs both.0) }
-    ensures refused { IfErr result (λ r. r.code ≢ Memory → IsRefusedTree (bytes_in files.now) root.now (refusal_view r)) }
-{
-    match Tree::build(alloc, files, root) {
-        Ok(tree) => match Order::of(alloc, &tree) {
-            Ok(order) => Ok((tree, order)),
-            Err(refusal) => Err(refusal),
-        },
-        Err(refusal) => Err(refusal),
-    }
 }
 
 // Writes the refusal of a tree.
@@ -168,12 +156,14 @@ fn run_solved<O: Outputs>(
     alloc: Global,
     options: &Options,
     tree: &Tree,
+    layout: &Layout,
     order: &Order,
     user: &User,
     is_warned: bool,
     outputs: &mut O,
 ) -> Result<Status, Cause>
-    requires order { order.now ≡ needs tree.now }
+    requires laid { IsLayoutOf tree.now layout.now }
+    requires order { IsGraphOf tree.now layout.now order.now }
     requires user { IsUserOf tree.now user.now }
     ensures ok { IfOk result (λ status. (solution : Solution) × IsSolutionFor tree.now user.now solution
         × Finishes (strictly_after options.now.strict is_warned (outcome_of options.now tree.now solution)) status (O.seen outputs.old) (O.seen outputs.new)) }
@@ -181,7 +171,7 @@ fn run_solved<O: Outputs>(
         → Broken (strictly_after options.now.strict is_warned (outcome_of options.now tree.now solution)) cause (O.seen outputs.old) (O.seen outputs.new)) }
     ensures cause { IfErr result IsOfOutputs }
 {
-    let solved = solve(alloc, tree, order, user)?;
+    let solved = solve(alloc, tree, layout, order, user)?;
     solved.is_solution();
     if let Err(Fault) = note_lines(outputs, solved.value_warnings()) {
         return Err(Cause::Write(Which::Notes));
@@ -195,12 +185,14 @@ fn run_read<I: Input, O: Outputs>(
     alloc: Global,
     options: &Options,
     tree: &Tree,
+    layout: &Layout,
     order: &Order,
     is_warned: bool,
     inputs: &mut [I],
     outputs: &mut O,
 ) -> Result<Status, Cause>
-    requires order { order.now ≡ needs tree.now }
+    requires laid { IsLayoutOf tree.now layout.now }
+    requires order { IsGraphOf tree.now layout.now order.now }
     requires inputs { length inputs.old ≡ length options.now.fragments.items + 1 }
     ensures ok { IfOk result (λ status. (all : List (List ℕ)) × AreAllToCome (map I.remaining inputs.old) all
         × ((part : Outcome) × IsOutcomeOfReading options.now tree.now (read_of options.now tree.now all) part
@@ -219,7 +211,9 @@ fn run_read<I: Input, O: Outputs>(
     match streamed.long {
         None => {
             let is_warned = is_either(is_warned, streamed.is_warned);
-            run_solved(alloc, options, tree, order, &user, is_warned, outputs)
+            run_solved(
+                alloc, options, tree, layout, order, &user, is_warned, outputs,
+            )
         }
         Some(long) => refuse_line(outputs, &long),
     }
@@ -230,11 +224,13 @@ fn run_tree<I: Input, O: Outputs>(
     alloc: Global,
     options: &Options,
     tree: &Tree,
+    layout: &Layout,
     order: &Order,
     inputs: &mut [I],
     outputs: &mut O,
 ) -> Result<Status, Cause>
-    requires order { order.now ≡ needs tree.now }
+    requires laid { IsLayoutOf tree.now layout.now }
+    requires order { IsGraphOf tree.now layout.now order.now }
     requires inputs { length inputs.old ≡ length options.now.fragments.items + 1 }
     ensures ok { IfOk result (λ status. (all : List (List ℕ)) × AreAllToCome (map I.remaining inputs.old) all
         × ((part : Outcome) × IsOutcomeOfTree options.now tree.now all part
@@ -249,7 +245,9 @@ fn run_tree<I: Input, O: Outputs>(
         return Err(Cause::Write(Which::Notes));
     }
     let is_warned = is_told_by(false, tree.parse_warnings());
-    run_read(alloc, options, tree, order, is_warned, inputs, outputs)
+    run_read(
+        alloc, options, tree, layout, order, is_warned, inputs, outputs,
+    )
 }
 
 // Writes the rule for make behind the files, where the run wrote them.
@@ -278,11 +276,13 @@ fn run_accepted<I: Input, O: Outputs>(
     files: &FileMap,
     options: &Options,
     tree: &Tree,
+    layout: &Layout,
     order: &Order,
     inputs: &mut [I],
     outputs: &mut O,
 ) -> Result<Status, Cause>
-    requires order { order.now ≡ needs tree.now }
+    requires laid { IsLayoutOf tree.now layout.now }
+    requires order { IsGraphOf tree.now layout.now order.now }
     requires inputs { length inputs.old ≡ length options.now.fragments.items + 1 }
     requires accepted { IsAcceptedTree (bytes_in files.now) (root_of options.now) tree.now }
     ensures ok { IfOk result (λ status. (all : List (List ℕ)) × AreAllToCome (map I.remaining inputs.old) all
@@ -296,9 +296,23 @@ fn run_accepted<I: Input, O: Outputs>(
 {
     one_answer();
     opened_are_one_list();
-    match run_tree(alloc, options, tree, order, inputs, outputs) {
+    match run_tree(alloc, options, tree, layout, order, inputs, outputs) {
         Ok(status) => end_run(alloc, files, options, status, outputs),
         Err(cause) => Err(cause),
+    }
+}
+
+// Writes why no tree is accepted, unless that is a want of memory.
+fn refuse<O: Outputs>(outputs: &mut O, refusal: &Refusal) -> Result<Status, Cause>
+    ensures ok { IfOk result (λ status. (refusal.now.code ≢ Memory) × Finishes (refused (refusal_line (refusal_view refusal.now))) status (O.seen outputs.old) (O.seen outputs.new)) }
+    ensures err { IfErr result (λ cause. IsOutOfMemory refusal.now cause (O.seen outputs.old) (O.seen outputs.new)
+        ⊎ ((refusal.now.code ≢ Memory) × Broken (refused (refusal_line (refusal_view refusal.now))) cause (O.seen outputs.old) (O.seen outputs.new))) }
+    ensures cause { IfErr result IsOfOutputs }
+    ensures only { Only Which.Notes (O.seen outputs.old) (O.seen outputs.new) }
+{
+    match refusal.code {
+        Code::Memory => Err(Cause::Memory),
+        _ => refuse_tree(outputs, refusal),
     }
 }
 
@@ -328,16 +342,20 @@ fn run_through<I: Input, O: Outputs>(
 {
     one_answer();
     opened_are_one_list();
-    match accepted(alloc, files, options.kconfig.as_bytes()) {
-        Ok((tree, order)) => {
-            let ended = run_accepted(alloc, files, options, &tree, &order, inputs, outputs);
+    let tree = match build_tree(alloc, files, options.kconfig.as_bytes()) {
+        Ok(tree) => tree,
+        Err(refusal) => return refuse(outputs, &refusal),
+    };
+    let layout = tree.layout();
+    match Order::of(alloc, &tree, layout) {
+        Ok(order) => {
+            let ended = run_accepted(
+                alloc, files, options, &tree, layout, &order, inputs, outputs,
+            );
             *kept = Some(Kept { tree, order });
             ended
         }
-        Err(refusal) => match refusal.code {
-            Code::Memory => Err(Cause::Memory),
-            _ => refuse_tree(outputs, &refusal),
-        },
+        Err(refusal) => refuse(outputs, &refusal),
     }
 }
 

@@ -10,12 +10,12 @@ ghost use Rattle.kc_conf.specs.Reads.{stop_of, counted_notes, BreaksStreams, Bre
 use crate::cause::Cause;
 use crate::input::Input;
 use crate::notes::note_text;
+use crate::options::Options;
 use crate::outputs::{OutputSink, Outputs, Which};
 use crate::reading::{LongLine, read_streams};
 use kc_dot::{Fault, Sink};
 use kc_tree::tree::Tree;
 use kc_user::user::User;
-use kc_words::Options;
 use std::alloc::Global;
 
 // A text that is kept in memory. It fails only where memory is refused.

@@ -10,6 +10,7 @@ ghost use Rattle.kc_conf.specs.Outcome.{depfile_text, outcome_of, root_of, text_
 ghost use Rattle.kc_conf.specs.Places.{at, ended, made_if, with_place};
 
 use crate::cause::Cause;
+use crate::options::Options;
 use crate::outputs::{OutputSink, Outputs, Which, put_to};
 use kc_dot::Fault;
 use kc_dot::config::write_config;
@@ -20,7 +21,6 @@ use kc_make::{add_rule, made_of};
 use kc_read::file_map::FileMap;
 use kc_solve::solved::Solved;
 use kc_tree::tree::Tree;
-use kc_words::Options;
 use std::alloc::{AllocError, Global};
 
 // What ends a run where writing that output failed so.

@@ -3,11 +3,11 @@ use Rattle.std.proofs.Common.{◌≡◌, ◌≢◌, ℕ, List, [], ◌∷◌, Op
 use Rattle.kc_read.specs.Expansion.{Refused}
 use Rattle.kc_read.specs.Files.{Files}
 use Rattle.kc_tree.specs.TreeFacts.{TreeFacts}
-use Rattle.kc_tree.specs.Trees.{IsTreeOf}
+use Rattle.kc_build.specs.Trees.{IsTreeOf}
 use Rattle.kc_load.specs.Expanding.{ExpandsAlike, OpensAlike}
 use Rattle.kc_make.specs.Opened.{AreOpened}
 use Rattle.kc_expr.specs.Names.{all_mentioned}
-use Rattle.kc_words.specs.declared.options.Options.{Options}
+use Rattle.kc_conf.specs.declared.options.Options.{Options}
 use Rattle.kc_conf.specs.Faults.{CountsInputs, Faults, Finishes}
 use Rattle.kc_conf.specs.Given.{AreAllToCome}
 use Rattle.kc_conf.specs.Outcome.{IsAcceptedTree, IsLenientOutcome, IsOutcome, IsRefusedTree, Outcome, accepted_tree, looped, no_tree, refused_tree, root_of}

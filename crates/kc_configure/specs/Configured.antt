@@ -3,7 +3,7 @@ use Rattle.std.specs.Prelude.{◌≡◌, ◌≢◌, ◌⊎◌, ℕ, List, Option
 use Rattle.kc_read.specs.Expansion.{Refused}
 use Rattle.kc_read.specs.Files.{Files}
 use Rattle.kc_tree.specs.TreeFacts.{TreeFacts}
-use Rattle.kc_words.specs.declared.options.Options.{Options}
+use Rattle.kc_conf.specs.declared.options.Options.{Options}
 use Rattle.kc_conf.specs.Faults.{CountsInputs, Faults, Finishes}
 use Rattle.kc_conf.specs.Given.{AreAllToCome}
 use Rattle.kc_conf.specs.Kept.{Holds}

@@ -1,7 +1,7 @@
 -- What drafts tell after their calls.
 use Rattle.std.proofs.Common.{◌≡◌, refl, ℕ, List, ap, Option, None, Some, option_map, ◌++◌, ◌∙◌, true, unwrap_or}
 use Rattle.kc_conf.specs.declared.outputs.Which.TheVariants.{Config, Header, Minimal, Depfile, Notes}
-use Rattle.kc_words.specs.declared.options.Options.{Options}
+use Rattle.kc_conf.specs.declared.options.Options.{Options}
 use Rattle.kc_disk.specs.Drafted.{drafted, longer, made_from, opened_as, shut, unmade}
 use Rattle.kc_disk.specs.Makers.{IsOpen, Made, Tells, Told, appended, closed, none_made, opened, with_made}
 use Rattle.kc_disk.specs.Reached.{unused}

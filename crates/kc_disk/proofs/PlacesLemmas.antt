@@ -1,6 +1,6 @@
 -- The outputs over a maker, step by step.
 use Rattle.std.proofs.Common.{◌≡◌, ◌≢◌, refl, ℕ, Bool, true, false, List, [], ◌++◌, sym, ap, ◌∙◌, Option, None, Some, append_assoc, append-nil, option_map}
-use Rattle.kc_words.specs.declared.options.Options.{Options}
+use Rattle.kc_conf.specs.declared.options.Options.{Options}
 use Rattle.kc_conf.specs.Faults.{name_of}
 use Rattle.kc_conf.specs.Places.{Place, Places, at, begun, ended, failed, grown, with_place}
 use Rattle.kc_conf.specs.declared.outputs.Which.{Which}

@@ -2,7 +2,7 @@
 use Rattle.std.proofs.Common.{◌≡◌, ◌≢◌, refl, ℕ, zero, suc, Bool, true, List, [], ◌∷◌, map, Option, Result, Err, sym, ap, ◌∙◌, subst, string_bytes}
 use Rattle.std.specs.Prelude.{IfErr, OnErr, slice_index}
 use Rattle.kc_read.specs.Files.{Files}
-use Rattle.kc_words.specs.declared.options.Options.{Options}
+use Rattle.kc_conf.specs.declared.options.Options.{Options}
 use Rattle.kc_load.specs.Expanding.{AreFilesOf}
 use Rattle.kc_load.specs.Faults.{IsLoadFault}
 use Rattle.kc_load.specs.declared.fault.LoadFault.{LoadFault}

@@ -3,7 +3,7 @@ use Rattle.std.proofs.Common.{◌≡◌, refl, ℕ, ◌<◌, Bool, true, false, 
 use Rattle.kc_conf.specs.Places.{Place, Places}
 use Rattle.kc_conf.specs.declared.outputs.Which.{Which}
 use Rattle.kc_conf.specs.declared.outputs.Which.TheVariants.{Config, Header, Minimal, Depfile, Notes}
-use Rattle.kc_words.specs.declared.options.Options.{Options}
+use Rattle.kc_conf.specs.declared.options.Options.{Options}
 use Rattle.kc_disk.specs.Standing.{Stand, Stands, is_current, place_of, places_of, waiting}
 use Rattle.kc_disk.specs.Lines.{ends_line}
 use Rattle.kc_disk.specs.Makers.{Made, Tells, Told}

@@ -2,7 +2,7 @@
 use Rattle.std.proofs.Common.{◌≡◌, ◌≢◌, refl, ℕ, ◌+◌, ◌-◌, Bool, List, [], ◌++◌, length, take, drop, sym, ap, ◌∙◌, subst, Option, None, Some, append_assoc, append-nil, option_map}
 use Rattle.std.proofs.Math.Seq.{take-add}
 use Rattle.std.proofs.lemmas.List.{take_rest}
-use Rattle.kc_words.specs.declared.options.Options.{Options}
+use Rattle.kc_conf.specs.declared.options.Options.{Options}
 use Rattle.kc_conf.specs.declared.outputs.Which.{Which}
 use Rattle.kc_conf.specs.declared.outputs.Which.TheVariants.{Config, Header, Minimal, Depfile, Notes}
 use Rattle.kc_disk.specs.Makers.{IsOpen, Made, Tells, Told, appended, made_of}

@@ -5,7 +5,7 @@ use Rattle.clap.specs.Words.{fault_of}
 use Rattle.kc_words.specs.Fields.{Holds, prefix_word}
 use Rattle.kc_words.specs.Kconf.{kconf_app, rows_for, words_of}
 use Rattle.kc_words.specs.Refusals.{IsRefused}
-use Rattle.kc_words.specs.declared.options.Options.{Options}
+use Rattle.kc_conf.specs.declared.options.Options.{Options}
 use Rattle.kc_words.specs.declared.usage.Usage.{Usage as NoOptions}
 use Rattle.kc_conf.specs.declared.options.Status.{Status}
 use Rattle.kc_disk.specs.Openers.{Source}

@@ -3,7 +3,7 @@ use Rattle.std.specs.Prelude.{◌≡◌, ◌≢◌, ◌⊎◌, ℕ, Bool, true, 
 use Rattle.kc_read.specs.Files.{Files}
 use Rattle.kc_dot.specs.Sink.{BeginsWith}
 use Rattle.kc_words.specs.Refusals.{text_of}
-use Rattle.kc_words.specs.declared.options.Options.{Options}
+use Rattle.kc_conf.specs.declared.options.Options.{Options}
 use Rattle.kc_words.specs.declared.usage.Usage.{Usage as NoOptions}
 use Rattle.kc_words.specs.declared.usage.Usage.TheVariants.{Help, Version, Bad, Memory as NoMemory}
 use Rattle.kc_load.specs.Expanding.{AreFilesOf}

@@ -4,7 +4,7 @@ use Rattle.kc_dot.specs.Sink.{BeginsWith}
 use Rattle.kc_conf.specs.Faults.{name_of}
 use Rattle.kc_conf.specs.Places.{Place, Places}
 use Rattle.kc_conf.specs.declared.outputs.Which.TheVariants.{Config, Header, Minimal, Depfile}
-use Rattle.kc_words.specs.declared.options.Options.{Options}
+use Rattle.kc_conf.specs.declared.options.Options.{Options}
 use Rattle.kc_disk.specs.Lines.{ends_line}
 use Rattle.kc_disk.specs.Makers.{Made, Told}
 

@@ -5,7 +5,7 @@ use Rattle.kc_conf.specs.Places.{Place, Places}
 use Rattle.kc_conf.specs.Faults.{name_of}
 use Rattle.kc_conf.specs.declared.outputs.Which.{Which}
 use Rattle.kc_conf.specs.declared.outputs.Which.TheVariants.{Config, Header, Minimal, Depfile, Notes}
-use Rattle.kc_words.specs.declared.options.Options.{Options}
+use Rattle.kc_conf.specs.declared.options.Options.{Options}
 use Rattle.kc_disk.specs.Makers.{Told, Made, made_of}
 use Rattle.kc_disk.specs.declared.records.Record.{Record}
 use Rattle.kc_disk.specs.declared.records.Records.{Records}

@@ -8,7 +8,7 @@ ghost use Rattle.kc_disk.specs.Stages.{left};
 use crate::devices::Devices;
 use crate::input::FileInput;
 use crate::opener::Opener;
-use kc_words::Options;
+use kc_conf::Options;
 use std::alloc::{AllocError, Global};
 
 /// The `.config`, which may be missing where `--must-exist` was not given, and then the fragments in order, each of which has

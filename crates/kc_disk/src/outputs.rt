@@ -12,9 +12,8 @@ use crate::buffer::Buffer;
 use crate::devices::Devices;
 use crate::maker::Maker;
 use crate::records::Records;
-use kc_conf::{Outputs, Which};
+use kc_conf::{Options, Outputs, Which};
 use kc_dot::Fault;
-use kc_words::Options;
 use std::marker::PhantomData;
 
 /// Config, Header, Minimal and Depfile are files that are made at their begin and closed at their end; the notes are standard error.

@@ -12,7 +12,7 @@ use Rattle.kc_user.specs.Places.{Places, place_at, no_places}
 use Rattle.kc_values.specs.Differs.{differs, default_selection, line_of, AllowedPlaces}
 use Rattle.kc_values.specs.Laws.{MembersAreTheirs, MembersAreBools, DifferingAreAllowed}
 use Rattle.kc_values.specs.Solution.{symbol_count, slot, rhs, equations}
-use Rattle.kc_tree.specs.Facts.{is_symbol_of}
+use Rattle.kc_tree.specs.Words.{is_symbol_of}
 use Rattle.kc_values.proofs.FixedLines.{slot_cases, named, Sel, differs-member}
 use Rattle.kc_dot.specs.Prefixes.{is_prefix}
 use Rattle.kc_dot.specs.Reading.{Read, lines_from, reading, places_given}

@@ -7,8 +7,7 @@ use Rattle.kc_expr.specs.declared.expression.SymId.{SymId}
 use Rattle.kc_expr.specs.declared.expression.Kind.{Kind}
 use Rattle.kc_expr.specs.declared.expression.Kind.TheVariants as kind
 use Rattle.kc_tree.specs.TreeFacts.{TreeFacts, SymbolFacts, IsWellFormed}
-use Rattle.kc_tree.specs.Views.{facts_of}
-use Rattle.kc_tree.specs.declared.parts.Symbol.{Symbol}
+use Rattle.kc_tree.specs.Contexts.{mode_view}
 use Rattle.kc_tree.specs.declared.parts.ChoiceId.{ChoiceId}
 use Rattle.kc_user.specs.Given.{Given}
 use Rattle.kc_user.specs.Places.{Places}
@@ -41,14 +40,12 @@ set_defined tree name text None = tt
 set_defined tree name text (Some s) = by_facts tree name s text (slice_get tree.symbols s.0) refl
 
 -- a member's choice is one of the tree's
-pub choice_there : (tree : TreeFacts) (i : ℕ) (symbol : Symbol) → IsWellFormed tree → slice_get tree.symbols i ≡ Some (facts_of symbol) → IfSome symbol.choice (λ choice. choice.0 < length tree.choices)
-choice_there tree i symbol formed found = go symbol.choice refl
-  where
-    go : (o : Option ChoiceId) → symbol.choice ≡ o → IfSome o (λ choice. choice.0 < length tree.choices)
-    go None is = tt
-    go (Some k) is =
-        let (c, listed, member) = formed.members_listed i (facts_of symbol) found k.0 (ap (option_map (λ (x : ChoiceId). x.0)) is) in
-        slice_get_within tree.choices k.0 c listed
+pub choice_there : (tree : TreeFacts) (i : ℕ) (facts : SymbolFacts) (choice : Option ChoiceId) → IsWellFormed tree → slice_get tree.symbols i ≡ Some facts → mode_view choice ≡ facts.choice →
+    IfSome choice (λ k. k.0 < length tree.choices)
+choice_there tree i facts None formed found is = tt
+choice_there tree i facts (Some k) formed found is =
+    let (c, listed, member) = formed.members_listed i facts found k.0 (sym is) in
+    slice_get_within tree.choices k.0 c listed
 
 -- the places after an assignment, whose symbol's choice was seen to before
 pub assigned : (tree : TreeFacts) (old mid new : Places) (s : SymId) (given : Given) →

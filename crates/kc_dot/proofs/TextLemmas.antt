@@ -2,6 +2,7 @@
 use Rattle.std.proofs.Common.{◌≡◌, ℕ, ◌+◌, ◌<◌, ◌≤◌, List, [], ◌∷◌, ◌++◌, Bool, true, false, length, map, take, drop, get_or, refl, sym, ap, ◌∙◌, subst, arith, append_assoc, append-nil, Option, Some}
 use Rattle.std.specs.Prelude.{slice_get}
 use Rattle.std.specs.List.{flat_map}
+use Rattle.std.specs.Option.{option_map}
 use Rattle.std.proofs.lemmas.List.{drop_more, drop_all}
 use Rattle.std.proofs.lemmas.List.FromFn.{length-map-range_with_len, get_or-map-range_with_len}
 use Rattle.std.proofs.lemmas.Option.{get_or_from_slice_get, slice_get_read, slice_get-map}
@@ -9,7 +10,9 @@ use Rattle.kc_expr.specs.declared.expression.SymId.{SymId}
 use Rattle.kc_expr.specs.Names.{symbol}
 use Rattle.kc_expr.specs.Value.{Known}
 use Rattle.kc_tree.specs.TreeFacts.{TreeFacts, Shown, SymbolShown, MenuShown, EndShown, CommentShown, IsWellFormed, IsEntrySound}
-use Rattle.kc_tree.specs.Views.{shown_of}
+use Rattle.kc_tree.specs.Layouts.{IsLayoutOf, shown_of}
+use Rattle.kc_tree.specs.declared.layout.Layout.{Layout}
+use Rattle.kc_tree.specs.declared.layout.Tables.{Tables}
 use Rattle.kc_tree.specs.declared.parts.Entry.{Entry}
 use Rattle.kc_dot.specs.Named.{HasName}
 use Rattle.kc_dot.specs.Effects.{name_of}
@@ -62,17 +65,19 @@ module _ (tree : TreeFacts) (prefix : List ℕ) (told : Told) where
       gap after_end ++ config_line (prefix ++ name) known ≡ entry_text tree prefix told after_end (SymbolShown s)
   symbol-written after_end s name known written found value = rw (written, name_is tree s name found, value) refl
 
-  -- one entry more
-  pub entries_next : (entries : List Entry) (i : ℕ) (entry : Entry) (after_end next : Bool) → i < length entries → entry ≡ get_or entries i entry →
-      next ≡ ends_after tree told after_end (shown_of entry) →
-      entries_text tree prefix told after_end (map shown_of (drop i entries)) ≡ entry_text tree prefix told after_end (shown_of entry) ++ entries_text tree prefix told next (map shown_of (drop (i + 1) entries))
-  entries_next entries i entry after_end next lt is goes =
-      let e : drop i entries ≡ entry ∷ drop (i + 1) entries = drop_more entries i entry lt ∙ ap (λ (x : Entry). x ∷ drop (i + 1) entries) (sym is) in
-      rw (e, goes) refl
+  module _ (t : Tables) where
+    -- one entry more
+    pub entries_next : (entries : List Entry) (i : ℕ) (entry : Entry) (after_end next : Bool) → i < length entries → entry ≡ get_or entries i entry →
+        next ≡ ends_after tree told after_end (shown_of t entry) →
+        entries_text tree prefix told after_end (map (shown_of t) (drop i entries)) ≡
+        entry_text tree prefix told after_end (shown_of t entry) ++ entries_text tree prefix told next (map (shown_of t) (drop (i + 1) entries))
+    entries_next entries i entry after_end next lt is goes =
+        let e : drop i entries ≡ entry ∷ drop (i + 1) entries = drop_more entries i entry lt ∙ ap (λ (x : Entry). x ∷ drop (i + 1) entries) (sym is) in
+        rw (e, goes) refl
 
-  -- no entry more
-  pub entries_end : (entries : List Entry) (i : ℕ) (after_end : Bool) → length entries ≤ i → entries_text tree prefix told after_end (map shown_of (drop i entries)) ≡ []
-  entries_end entries i after_end end = rw (drop_all i entries end) refl
+    -- no entry more
+    pub entries_end : (entries : List Entry) (i : ℕ) (after_end : Bool) → length entries ≤ i → entries_text tree prefix told after_end (map (shown_of t) (drop i entries)) ≡ []
+    entries_end entries i after_end end = rw (drop_all i entries end) refl
 
 -- a symbol among the entries is defined, so that it has a name
 module _ (tree : TreeFacts) (formed : IsWellFormed tree) where
@@ -85,8 +90,17 @@ module _ (tree : TreeFacts) (formed : IsWellFormed tree) where
   shown_has_name i (EndShown menu) sound = tt
   shown_has_name i (CommentShown text when) sound = tt
 
-  pub entry_has_name : (entries : List Entry) (i : ℕ) (entry : Entry) → map shown_of entries ≡ tree.entries → i < length entries → entry ≡ get_or entries i entry → HasName tree (shown_of entry)
-  entry_has_name entries i entry are lt is =
-      let here : slice_get entries i ≡ Some entry = slice_get_read entries (length entries) i entry refl lt is in
-      let found : slice_get tree.entries i ≡ Some (shown_of entry) = rw (← are, slice_get-map, here) refl in
-      shown_has_name i (shown_of entry) (formed.entries_sound i (shown_of entry) found)
+  pub entry_has_name : (i : ℕ) (shown : Shown) → slice_get tree.entries i ≡ Some shown → HasName tree shown
+  entry_has_name i shown found = shown_has_name i shown (formed.entries_sound i shown found)
+
+-- the entry at a place, by its row
+pub entry_at : (tree : TreeFacts) (l : Layout) (entries : List Entry) (i : ℕ) (entry : Entry) → IsLayoutOf tree l → entries ≡ l.tables.entries.items → i < length entries → entry ≡ get_or entries i entry →
+    slice_get tree.entries i ≡ Some (shown_of l.tables entry)
+entry_at tree l entries i entry laid are lt is =
+    let here : slice_get entries i ≡ Some entry = slice_get_read entries (length entries) i entry refl lt is in
+    ap (λ es. slice_get es i) laid.entries ∙ slice_get-map (shown_of l.tables) l.tables.entries.items i
+    ∙ ap (option_map (shown_of l.tables)) (sym (ap (λ es. slice_get es i) are) ∙ here)
+
+-- the entries are shown by their rows
+pub entries_are : (tree : TreeFacts) (l : Layout) (entries : List Entry) → IsLayoutOf tree l → entries ≡ l.tables.entries.items → tree.entries ≡ map (shown_of l.tables) entries
+entries_are tree l entries laid are = laid.entries ∙ sym (ap (map (shown_of l.tables)) are)

@@ -1,8 +1,8 @@
 //! The writer of the `.config`.
-ghost use Rattle.std.specs.Prelude.{◌≡◌, ◌++◌, ◌<◌, length, map as map_list, slice_get, Some, true, false, OnOk, OnErr, IfOk, IfErr, if◌then◌else◌};
+ghost use Rattle.std.specs.Prelude.{◌≡◌, ◌++◌, ◌<◌, length, slice_get, Some, true, false, OnOk, OnErr, IfOk, IfErr, if◌then◌else◌};
 ghost use Rattle.std.specs.Option.{option_copied};
-ghost use Rattle.kc_tree.specs.TreeFacts.{IsWellFormed, SymbolShown};
-ghost use Rattle.kc_tree.specs.Views.{condition_of, shown_of};
+ghost use Rattle.kc_tree.specs.TreeFacts.{SymbolShown};
+ghost use Rattle.kc_tree.specs.Layouts.{IsLayoutOf, shown_of, title_at, title_text};
 ghost use Rattle.kc_dot.specs.Laws.{ConfigGivesBack, HasShortLines};
 ghost use Rattle.kc_dot.specs.Sink.{extended, HandsOut};
 ghost use Rattle.kc_dot.specs.SolutionTold.{told_of};
@@ -21,7 +21,8 @@ use crate::sink::{Sink, put};
 use crate::symbol_line::{add_config_line, symbol_value};
 use kc_expr::expression::{SymId, Tri};
 use kc_solve::solved::Solved;
-use kc_tree::parts::{Cond, Entry};
+use kc_tree::layout::Layout;
+use kc_tree::parts::{Entry, TitleId};
 use kc_tree::tree::Tree;
 use std::alloc::{AllocError, Global};
 
@@ -33,13 +34,6 @@ fn is_shown(tri: Tri) -> bool
         Tri::N => false,
         Tri::M | Tri::Y => true,
     }
-}
-
-// Whether the condition is worth more than n.
-fn is_met(solved: &Solved<'_>, when: &Cond) -> bool
-    ensures { result ≡ is_shown ((told_of solved.now).truth (condition_of when.now)) }
-{
-    is_shown(solved.truth(when))
 }
 
 // Adds an empty line, the title and the lines around it, where it is shown.
@@ -72,18 +66,30 @@ fn add_gap(after_end: bool, page: &mut Vec<u8>) -> Result<(), AllocError>
     page.extend_from_slice(b"\n")
 }
 
+// The text of a title.
+fn text_of(layout: &Layout, title: TitleId) -> &[u8]
+    ensures { result.now ≡ title_text layout.now.tables (title_at layout.now.tables title) }
+{
+    match layout.title(title) {
+        Some(found) => &found.text,
+        None => b"",
+    }
+}
+
 // The title of the menu at this place among the entries, where it is shown.
 fn shown_title<'a>(tree: &'a Tree, solved: &Solved<'_>, menu: usize) -> Option<&'a [u8]>
+    requires { solved.now.tree ≡ tree.now }
     ensures { option_copied result ≡ shown_title (told_of solved.now) (slice_get tree.now.entries menu) }
 {
-    match tree.entries().get(menu) {
-        Some(Entry::Menu { text, when }) => {
-            if is_met(solved, when) {
-                return Some(text);
+    let layout = tree.layout();
+    match layout.entries().get(menu) {
+        Some(Entry::Menu(title)) => {
+            if is_shown(solved.shown(menu)) {
+                return Some(text_of(layout, *title));
             }
             None
         }
-        Some(Entry::Symbol(_) | Entry::End { .. } | Entry::Comment { .. }) => None,
+        Some(Entry::Symbol(_) | Entry::End(_) | Entry::Comment(_)) => None,
         None => None,
     }
 }
@@ -110,18 +116,16 @@ fn add_symbol_if(
     Ok(false)
 }
 
-// Adds the title where its condition is met. Answers whether the last line is an end line now.
+// Adds the title where it is shown. Answers whether the last line is an end line now.
 fn add_title(
-    solved: &Solved<'_>,
-    when: &Cond,
+    shown: bool,
     text: &[u8],
     after_end: bool,
     page: &mut Vec<u8>,
 ) -> Result<bool, AllocError>
-    ensures text { OnOk result (page.new.items ≡ page.old.items ++ title_if (is_shown ((told_of solved.now).truth (condition_of when.now))) text.now) }
-    ensures next { IfOk result (λ next. next ≡ (if is_shown ((told_of solved.now).truth (condition_of when.now)) then false else after_end)) }
+    ensures text { OnOk result (page.new.items ≡ page.old.items ++ title_if shown text.now) }
+    ensures next { IfOk result (λ next. next ≡ (if shown then false else after_end)) }
 {
-    let shown = is_met(solved, when);
     add_title_if(shown, text, page)?;
     Ok(!shown && after_end)
 }
@@ -138,21 +142,28 @@ fn add_end(title: Option<&[u8]>, after_end: bool, page: &mut Vec<u8>) -> Result<
 // Adds what an entry gives. Answers whether the last line is an end line now.
 fn add_entry(
     tree: &Tree,
+    layout: &Layout,
     solved: &Solved<'_>,
     prefix: &Prefix,
+    place: usize,
     entry: &Entry,
     after_end: bool,
     page: &mut Vec<u8>,
 ) -> Result<bool, AllocError>
-    requires { HasName tree.now (shown_of entry.now) }
-    ensures text { OnOk result (page.new.items ≡ page.old.items ++ entry_text tree.now prefix.now (told_of solved.now) after_end (shown_of entry.now)) }
-    ensures next { IfOk result (λ next. next ≡ ends_after tree.now (told_of solved.now) after_end (shown_of entry.now)) }
+    requires there { slice_get tree.now.entries place ≡ Some (shown_of layout.now.tables entry.now) }
+    requires laid { IsLayoutOf tree.now layout.now }
+    requires name { HasName tree.now (shown_of layout.now.tables entry.now) }
+    requires same { solved.now.tree ≡ tree.now }
+    ensures text { OnOk result (page.new.items ≡ page.old.items ++ entry_text tree.now prefix.now (told_of solved.now) after_end (shown_of layout.now.tables entry.now)) }
+    ensures next { IfOk result (λ next. next ≡ ends_after tree.now (told_of solved.now) after_end (shown_of layout.now.tables entry.now)) }
 {
     match entry {
         Entry::Symbol(id) => add_symbol_if(tree, solved, prefix, *id, after_end, page),
-        Entry::Menu { text, when } => add_title(solved, when, text, after_end, page),
-        Entry::Comment { text, when } => add_title(solved, when, text, after_end, page),
-        Entry::End { menu } => add_end(shown_title(tree, solved, *menu), after_end, page),
+        Entry::Menu(title) | Entry::Comment(title) => {
+            let shown = is_shown(solved.shown(place));
+            add_title(shown, text_of(layout, *title), after_end, page)
+        }
+        Entry::End(menu) => add_end(shown_title(tree, solved, *menu as usize), after_end, page),
     }
 }
 
@@ -164,6 +175,7 @@ fn put_entries<S: Sink>(
     page: &mut Vec<u8>,
     sink: &mut S,
 ) -> Result<(), WriteFault>
+    requires { solved.now.tree ≡ tree.now }
     ensures whole { OnOk result (S.taken sink.new ≡ extended (S.taken sink.old) (page.old.items ++ entries_text tree.now prefix.now (told_of solved.now) false tree.now.entries)) }
     ensures quiet { OnOk result (S.failures sink.new ≡ S.failures sink.old) }
     ensures beginning { OnErr result (HandsOut (page.old.items ++ entries_text tree.now prefix.now (told_of solved.now) false tree.now.entries) (S.taken sink.old) (S.taken sink.new)) }
@@ -172,10 +184,11 @@ fn put_entries<S: Sink>(
 {
     // The entries name symbols of the tree alone: `symbol_count` says so.
     let _ = tree.symbol_count();
-    let entries = tree.entries();
+    let layout = tree.layout();
+    let entries = layout.entries();
     let mut after_end = false;
-    for entry in entries {
-        after_end = add_entry(tree, solved, prefix, entry, after_end, page)?;
+    for (place, entry) in entries.iter().enumerate() {
+        after_end = add_entry(tree, layout, solved, prefix, place, entry, after_end, page)?;
         put_full(page, sink)?;
     }
     put(page, sink)?;
@@ -204,6 +217,7 @@ fn put_config<S: Sink>(
     prefix: &Prefix,
     sink: &mut S,
 ) -> Result<(), WriteFault>
+    requires { solved.now.tree ≡ tree.now }
     ensures whole { OnOk result (S.taken sink.new ≡ extended (S.taken sink.old) (config_text tree.now prefix.now (told_of solved.now))) }
     ensures quiet { OnOk result (S.failures sink.new ≡ S.failures sink.old) }
     ensures beginning { OnErr result (HandsOut (config_text tree.now prefix.now (told_of solved.now)) (S.taken sink.old) (S.taken sink.new)) }

@@ -4,6 +4,9 @@ pub mod Unique
 pub mod OneSolution
 pub mod OneRound
 pub mod Stays
+pub mod Groups
+pub mod FirstLemmas
+pub mod Alike
 pub mod Walks
 pub mod SearchSteps
 pub mod ByOrder

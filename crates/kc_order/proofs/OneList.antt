@@ -2,8 +2,8 @@
 use Rattle.std.proofs.Common.{◌≡◌, ℕ, ◌<◌, ◌≤◌, ◌+◌, ◌-◌, List, [], ◌∷◌, ◌++◌, length, get_or, zero, suc, sym, ◌∙◌, ap, refl, arith, take, drop, All, subst, length-drop}
 use Rattle.std.proofs.lemmas.List.{take_all, take-append-le, drop_at, drop-append-le, take-append-drop, drop-drop, drop_all, get_or_read}
 use Rattle.std.proofs.lemmas.List.Elements.{All-nil, All-cons, All-head, All-tail, All-take, All-drop, All-append}
-use Rattle.kc_order.specs.Rows.{in_row}
-use Rattle.kc_order.specs.RowLists.{rows_of, GoUp, begin, RowsBelow}
+use Rattle.kc_order.specs.Needs.{needs_in}
+use Rattle.kc_order.specs.Rows.{rows_of, GoUp, begin, RowsBelow}
 
 -- no end is past the last
 up_within : (from to : ℕ) (ends : List ℕ) → GoUp from to ends → from ≤ to
@@ -22,7 +22,7 @@ row_within from to (end ∷ ends) (suc zero) up l = row_within end to ends zero 
 row_within from to (end ∷ ends) (suc (suc r)) up l = row_within end to ends (suc r) up.1 (omega arith)
 
 pub row_is : (numbers : List ℕ) (from : ℕ) (ends : List ℕ) (r : ℕ) → r < length ends →
-    in_row (rows_of numbers from ends) r ≡ take (get_or ends r 0 - begin from ends r) (drop (begin from ends r) numbers)
+    needs_in (rows_of numbers from ends) r ≡ take (get_or ends r 0 - begin from ends r) (drop (begin from ends r) numbers)
 row_is numbers from [] r l = absurd (omega arith)
 row_is numbers from (end ∷ ends) zero l = refl
 row_is numbers from (end ∷ ends) (suc zero) l = row_is numbers end ends zero (omega arith)
@@ -81,7 +81,7 @@ below_numbers n numbers ends up below = below_from n numbers 0 ends up below
 pub record IsRow (numbers : List ℕ) (rows : List (List ℕ)) (r begins ends : ℕ) : Type 0 where
   pub goes_up : begins ≤ ends
   pub within : ends ≤ length numbers
-  pub holds : take (ends - begins) (drop begins numbers) ≡ in_row rows r
+  pub holds : take (ends - begins) (drop begins numbers) ≡ needs_in rows r
 
 pub is_row : (numbers ends : List ℕ) (rows : List (List ℕ)) (r b e : ℕ) → GoUp 0 (length numbers) ends → rows_of numbers 0 ends ≡ rows → r < length rows → b ≡ begin 0 ends r →
     e ≡ get_or ends r e → IsRow numbers rows r b e
@@ -92,5 +92,5 @@ is_row numbers ends rows r b e up view there begins_at ends_at =
     record {
       goes_up = omega (arith, within.goes_up, begins_at, end);
       within = omega (arith, within.within, end);
-      holds = ap (λ k. take (k - b) (drop b numbers)) end ∙ ap (λ k. take (get_or ends r 0 - k) (drop k numbers)) begins_at ∙ sym (row_is numbers 0 ends r l) ∙ ap (λ x. in_row x r) view;
+      holds = ap (λ k. take (k - b) (drop b numbers)) end ∙ ap (λ k. take (get_or ends r 0 - k) (drop k numbers)) begins_at ∙ sym (row_is numbers 0 ends r l) ∙ ap (λ x. needs_in x r) view;
     }

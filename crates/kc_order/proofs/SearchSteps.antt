@@ -14,14 +14,14 @@ use Rattle.kc_order.specs.declared.search.Mark.TheVariants.{New, Open, Done, Stu
 use Rattle.std.proofs.Common.{All, map, sum, sum_by}
 use Rattle.std.proofs.lemmas.List.{length-set, length-map, get_or-map}
 use Rattle.std.proofs.lemmas.List.Sums.{sum_by-set}
-use Rattle.kc_order.specs.Needs.{NeedsBelow, stuck_after}
+use Rattle.kc_order.specs.Needs.{NeedsBelow, needs_in, stuck_after}
 use Rattle.kc_order.specs.Loop.{IsFirstStuck}
-use Rattle.kc_order.specs.Rows.{in_row}
-use Rattle.kc_order.specs.RowLists.{needs_of, RowsBelow, AreMarks}
+use Rattle.kc_order.specs.Rows.{RowsBelow}
+use Rattle.kc_order.specs.Firsts.{AreStuck}
 use Rattle.kc_order.specs.Order.{IsOrderOf}
 use Rattle.kc_order.specs.declared.search.Search.{Search}
 use Rattle.kc_order.specs.Search.{IsSearch, IsSound, IsOver, Opens, Closes, GivesUp, KeepsMet, weight, work, mark_of, is_stuck}
-use Rattle.kc_order.proofs.Held.{needs_are, needs_below}
+use Rattle.kc_order.proofs.Held.{needs_below}
 use Rattle.kc_order.proofs.Stays.{stays_stuck}
 use Rattle.kc_order.specs.Solution.{IsUpdate}
 
@@ -343,25 +343,22 @@ is_given_up Done e = cc
 is_given_up Stuck e = refl
 
 -- after the last step
-module _ (rows : List (List ℕ)) (row_of : List ℕ) (search : Search) (over : IsOver rows row_of search) where
+module _ (rows : List (List ℕ)) (search : Search) (over : IsOver rows search) where
   -- a symbol is marked as stuck exactly where it is
-  pub stuck_iff : (s : ℕ) → s < length row_of → is_stuck (get_or search.marks.items s New) ≡ stuck_after (needs_of rows row_of) (length row_of) s
+  pub stuck_iff : (s : ℕ) → s < length rows → is_stuck (get_or search.marks.items s New) ≡ stuck_after (needs_in rows) (length rows) s
   stuck_iff s b =
       let keeps = over.sound.keeps in
       let closed_now : mark_of search s ≢ Open = λ e. omega (arith, over.idle, (keeps.open_is s b e).1) in
       elim (cases_Bool (is_stuck (get_or search.marks.items s New))) [
-        | inl given ↦ given ∙ sym (keeps.stuck_is s (length row_of) b (is_given_up (get_or search.marks.items s New) given))
+        | inl given ↦ given ∙ sym (keeps.stuck_is s (length rows) b (is_given_up (get_or search.marks.items s New) given))
         | inr free ↦ free ∙ sym (keeps.settled s b (is_settled (get_or search.marks.items s New) (over.met s b) closed_now free))
       ]
 
-  pub marks_are : AreMarks (length row_of) (stuck_after (needs_of rows row_of) (length row_of)) (map is_stuck search.marks.items)
-  marks_are = record {
-    length_is = length-map search.marks.items is_stuck ∙ over.sound.marks_len;
-    each = λ s b. get_or-map is_stuck search.marks.items s New false (omega (arith, b, over.sound.marks_len)) ∙ stuck_iff s b;
-  }
+  pub marks_are : AreStuck rows search.marks.items
+  marks_are = record { count = over.sound.marks_len; each = stuck_iff }
 
   pub first_is : (i : ℕ) → i < length search.marks.items → is_stuck (get_or search.marks.items i New) ≡ true → ((k : ℕ) → k < i → is_stuck (get_or search.marks.items k New) ≡ false) →
-      IsFirstStuck (length row_of) (needs_of rows row_of) i
+      IsFirstStuck (length rows) (needs_in rows) i
   first_is i l given before = record {
     below = omega (arith, l, over.sound.marks_len);
     stuck = sym (stuck_iff i (omega (arith, l, over.sound.marks_len))) ∙ given;
@@ -369,7 +366,7 @@ module _ (rows : List (List ℕ)) (row_of : List ℕ) (search : Search) (over : 
   }
 
   -- where none is stuck, all are in order
-  pub finishes : All (λ m. is_stuck m ≡ false) search.marks.items → IsOrderOf (length row_of) (needs_of rows row_of) search.order.items
+  pub finishes : All (λ m. is_stuck m ≡ false) search.marks.items → IsOrderOf (length rows) (needs_in rows) search.order.items
   finishes free =
       let keeps = over.sound.keeps in
       record {
@@ -381,43 +378,40 @@ module _ (rows : List (List ℕ)) (row_of : List ℕ) (search : Search) (over : 
       }
 
 -- the lengths of the rows are the numbers of needs
-pub counts_are : (rows : List (List ℕ)) (r : ℕ) → get_or (map length rows) r 0 ≡ length (in_row rows r)
+pub counts_are : (rows : List (List ℕ)) (r : ℕ) → get_or (map length rows) r 0 ≡ length (needs_in rows r)
 counts_are [] r = refl
 counts_are (row ∷ rows) zero = refl
 counts_are (row ∷ rows) (suc r) = counts_are rows r
 
 -- one need fewer is left in a row
-pub row_passes_one : (rows : List (List ℕ)) (row_of : List ℕ) (left : List ℕ) (s j : ℕ) → s < length row_of → get_or row_of s 0 < length left →
-    PassesOne (length row_of) (needs_of rows row_of) (λ t. get_or left (get_or row_of t 0) 0) (λ t. get_or (set left (get_or row_of s 0) j) (get_or row_of t 0) 0) s j
-row_passes_one rows row_of left s j b l t c =
-    elim (cases_eq (get_or row_of t 0) (get_or row_of s 0)) [
-      | inl same ↦ inl (
-        needs_are rows row_of t c ∙ ap (in_row rows) same ∙ sym (needs_are rows row_of s b),
-        ap (λ r. get_or (set left (get_or row_of s 0) j) r 0) same ∙ get_or-set_same left (get_or row_of s 0) j 0 l,
-      )
-      | inr other ↦ inr (get_or-set_other left (get_or row_of s 0) (get_or row_of t 0) j 0 other)
+pub row_passes_one : (rows : List (List ℕ)) (left : List ℕ) (s j : ℕ) → s < length left →
+    PassesOne (length rows) (needs_in rows) (λ t. get_or left t 0) (λ t. get_or (set left s j) t 0) s j
+row_passes_one rows left s j l t c =
+    elim (cases_eq t s) [
+      | inl same ↦ inl (ap (needs_in rows) same, ap (λ r. get_or (set left s j) r 0) same ∙ get_or-set_same left s j 0 l)
+      | inr other ↦ inr (get_or-set_other left s t j 0 other)
     ]
 
-module _ (rows : List (List ℕ)) (row_of : List ℕ) (before after : Search) (s : ℕ) (sound : IsSound rows row_of before) where
+module _ (rows : List (List ℕ)) (before after : Search) (s : ℕ) (sound : IsSound rows before) where
   -- a new symbol that the last open one needs is opened
-  pub opens_sound : s < length row_of → get_or before.marks.items s New ≡ New →
-      ((k : ℕ) → k + 1 ≡ length before.path.items → Contains (needs_of rows row_of (slice_index before.path.items k)) s) → Opens before after s → IsSound rows row_of after
+  pub opens_sound : s < length rows → get_or before.marks.items s New ≡ New →
+      ((k : ℕ) → k + 1 ≡ length before.path.items → Contains (needs_in rows (slice_index before.path.items k)) s) → Opens before after s → IsSound rows after
   opens_sound below new needed o = record {
     marks_len = ap length o.marks ∙ length-set before.marks.items s Open ∙ sound.marks_len;
     left_len = ap length o.left ∙ sound.left_len;
-    keeps = rw (o.marks, o.left, o.path, o.order) (opened _ (needs_of rows row_of) _ _ _ before.path.items before.order.items s sound.keeps below new needed
+    keeps = rw (o.marks, o.left, o.path, o.order) (opened _ (needs_in rows) _ _ _ before.path.items before.order.items s sound.keeps below new needed
         (list_set New before.marks.items s Open (omega (arith, sound.marks_len))));
   }
 
-  pub opens_less : s < length row_of → get_or before.marks.items s New ≡ New → Opens before after s → work after < work before
+  pub opens_less : s < length rows → get_or before.marks.items s New ≡ New → Opens before after s → work after < work before
   opens_less below new o =
       let less = sum_by-set weight before.marks.items s Open New (omega (arith, sound.marks_len)) in
       omega (arith, less, ap weight new, ap (sum_by weight) o.marks, ap sum o.left)
 
-  pub opens_there : s < length row_of → Opens before after s → get_or after.marks.items s New ≡ Open
+  pub opens_there : s < length rows → Opens before after s → get_or after.marks.items s New ≡ Open
   opens_there below o = ap (λ xs. get_or xs s New) o.marks ∙ get_or-set_same before.marks.items s Open New (omega (arith, sound.marks_len))
 
-  pub opens_met : s < length row_of → Opens before after s → KeepsMet before after
+  pub opens_met : s < length rows → Opens before after s → KeepsMet before after
   opens_met below o t met new =
       let u = list_set New before.marks.items s Open (omega (arith, sound.marks_len)) in
       let is = sym (ap (λ xs. get_or xs t New) o.marks) ∙ new in
@@ -427,36 +421,36 @@ module _ (rows : List (List ℕ)) (row_of : List ℕ) (before after : Search) (s
       ]
 
   -- the last open symbol, of which no need is left, is closed
-  pub closes_sound : RowsBelow (length row_of) rows → s < length row_of → get_or before.left.items (get_or row_of s 0) 0 ≡ 0 → Closes before after s → IsSound rows row_of after
+  pub closes_sound : RowsBelow (length rows) rows → s < length rows → get_or before.left.items s 0 ≡ 0 → Closes before after s → IsSound rows after
   closes_sound rows_below below none o =
-      let split = subst (λ p. IsSearch (length row_of) (needs_of rows row_of) (λ t. get_or before.marks.items t New)
-      (λ t. get_or before.left.items (get_or row_of t 0) 0) p before.order.items) o.path sound.keeps in
+      let split = subst (λ p. IsSearch (length rows) (needs_in rows) (λ t. get_or before.marks.items t New)
+      (λ t. get_or before.left.items t 0) p before.order.items) o.path sound.keeps in
       record {
         marks_len = ap length o.marks ∙ length-set before.marks.items s Done ∙ sound.marks_len;
         left_len = ap length o.left ∙ sound.left_len;
-        keeps = rw (o.marks, o.left, o.order) (closed _ (needs_of rows row_of) (needs_below rows row_of rows_below) _ _ _ after.path.items before.order.items s split none
+        keeps = rw (o.marks, o.left, o.order) (closed _ (needs_in rows) (needs_below rows rows_below) _ _ _ after.path.items before.order.items s split none
             (list_set New before.marks.items s Done (omega (arith, sound.marks_len))));
       }
 
-  pub closes_less : s < length row_of → Closes before after s → work after < work before
+  pub closes_less : s < length rows → Closes before after s → work after < work before
   closes_less below o =
       let was = ap weight (sound.keeps.path_is s (subst (λ p. Contains p s) (sym o.path) (Contains-push after.path.items s))).1 in
       let less = sum_by-set weight before.marks.items s Done New (omega (arith, sound.marks_len)) in
       omega (arith, less, was, ap (sum_by weight) o.marks, ap sum o.left)
 
   -- the last open symbol, which is stuck, is given up
-  pub gives_up_sound : s < length row_of → ((k : ℕ) → stuck_after (needs_of rows row_of) k s ≡ true) → GivesUp before after s → IsSound rows row_of after
+  pub gives_up_sound : s < length rows → ((k : ℕ) → stuck_after (needs_in rows) k s ≡ true) → GivesUp before after s → IsSound rows after
   gives_up_sound below stuck o =
-      let split = subst (λ p. IsSearch (length row_of) (needs_of rows row_of) (λ t. get_or before.marks.items t New)
-      (λ t. get_or before.left.items (get_or row_of t 0) 0) p before.order.items) o.path sound.keeps in
+      let split = subst (λ p. IsSearch (length rows) (needs_in rows) (λ t. get_or before.marks.items t New)
+      (λ t. get_or before.left.items t 0) p before.order.items) o.path sound.keeps in
       record {
         marks_len = ap length o.marks ∙ length-set before.marks.items s Stuck ∙ sound.marks_len;
         left_len = ap length o.left ∙ sound.left_len;
-        keeps = rw (o.marks, o.left, o.order) (given_up _ (needs_of rows row_of) _ _ _ after.path.items before.order.items s split stuck
+        keeps = rw (o.marks, o.left, o.order) (given_up _ (needs_in rows) _ _ _ after.path.items before.order.items s split stuck
             (list_set New before.marks.items s Stuck (omega (arith, sound.marks_len))));
       }
 
-  pub gives_up_less : s < length row_of → GivesUp before after s → work after < work before
+  pub gives_up_less : s < length rows → GivesUp before after s → work after < work before
   gives_up_less below o =
       let was = ap weight (sound.keeps.path_is s (subst (λ p. Contains p s) (sym o.path) (Contains-push after.path.items s))).1 in
       let less = sum_by-set weight before.marks.items s Stuck New (omega (arith, sound.marks_len)) in

@@ -13,7 +13,7 @@ use Rattle.std.specs.List.{Contains, list_any, IsDistinct}
 use Rattle.std.proofs.lemmas.Bool.{eqb-false, cases_eq, cases_Bool, ne_eqb, eqb-true, cases_lt}
 use Rattle.std.proofs.lemmas.List.Elements.{All-tail, Contains-get_or, All-contains, All-filter, filter_passes, All-contains_itself, All-push, Contains-push}
 use Rattle.kc_order.specs.Needs.{NeedsBelow, stuck_after}
-use Rattle.kc_order.specs.RowLists.{AreMarks}
+use Rattle.kc_order.specs.Rows.{AreMarks}
 use Rattle.kc_order.specs.Loop.{IsFirstStuck, IsNext, IsStuckWalk, IsNamedLoop}
 use Rattle.kc_order.proofs.Stays.{stays_stuck}
 

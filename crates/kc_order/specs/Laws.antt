@@ -1,6 +1,8 @@
 -- Trusted: What follows of needs, and of equations over them, whatever a value is.
 use Rattle.std.specs.Prelude.{All, ◌≡◌, ◌⊎◌, ℕ, ◌<◌, ◌+◌, ◌-◌, ◌++◌, take, List, length, slice_index, Option, Bool}
-use Rattle.kc_order.specs.Needs.{needs_in, AreWithin, IsAccepted, SomeStuck}
+use Rattle.std.specs.List.{Contains, flat_map}
+use Rattle.kc_order.specs.Graph.{Nodes, IsGraph, groups_of, needs_of, stands_for}
+use Rattle.kc_order.specs.Needs.{needs_in, AreAlike, AreWithin, IsAccepted, SomeStuck}
 use Rattle.kc_order.specs.Loop.{IsNamedLoop, IsWay}
 use Rattle.kc_order.specs.Order.{Orders}
 use Rattle.kc_order.specs.Solution.{Solves, IsOnlySolution, ReadsNeeds, HasOneSolution, IsUpdate, IsRound}
@@ -41,6 +43,25 @@ abbrev pub StuckHaveALoop : Type 0
 StuckHaveALoop =
     (needs : List (List ℕ)) → AreWithin needs → SomeStuck (length needs) (needs_in needs) →
     (loop : List ℕ) × IsNamedLoop (length needs) (needs_in needs) loop
+
+-- what is accepted, and which loop is named, is the same of needs that are alike
+abbrev pub AlikeAreAccepted : Type 0
+AlikeAreAccepted = (needs other : List (List ℕ)) → AreAlike needs other → IsAccepted needs → IsAccepted other
+
+abbrev pub AlikeHaveTheLoop : Type 0
+AlikeHaveTheLoop =
+    (needs other : List (List ℕ)) (loop : List ℕ) → AreAlike needs other →
+    IsNamedLoop (length needs) (needs_in needs) loop → IsNamedLoop (length other) (needs_in other) loop
+
+-- what a graph's symbols need are symbols
+abbrev pub GraphNeedsAreWithin : Type 0
+GraphNeedsAreWithin = (g : Nodes) → IsGraph g → AreWithin (needs_of g)
+
+-- in an order of a graph's nodes each symbol that a node needs stands before it, be it through groups
+abbrev pub SymbolsStandFirst : Type 0
+SymbolsStandFirst =
+    (g : Nodes) (nodes : List ℕ) → IsGraph g → Orders g.rows nodes →
+    (k v : ℕ) → k < length nodes → Contains (flat_map (stands_for g.symbols (groups_of g)) (needs_in g.rows (slice_index nodes k))) v → Contains (take k nodes) v
 
 -- equations that read only what is needed have one solution, where no symbol is stuck
 abbrev pub AcceptedHaveOneSolution : Type 0 → Type 0

@@ -1,8 +1,9 @@
 pub mod Needs
+pub mod Graph
 pub mod Rows
-pub mod RowLists
 pub mod Solution
 pub mod Loop
+pub mod Firsts
 pub mod Order
 pub mod Reason
 pub mod Search

@@ -30,3 +30,9 @@ SomeStuck n needs = (s : ℕ) × (s < n) × (stuck_after needs n s ≡ true)
 -- after as many rounds as there are symbols no symbol is stuck
 abbrev pub IsAccepted : List (List ℕ) → Type 0
 IsAccepted needs = NothingStuck (length needs) (needs_in needs)
+
+-- the same symbols are needed, in whatever order and however often
+pub record AreAlike (needs other : List (List ℕ)) : Type 0 where
+  pub count : length needs ≡ length other
+  pub onward : (s t : ℕ) → Contains (needs_in needs s) t → Contains (needs_in other s) t
+  pub back : (s t : ℕ) → Contains (needs_in other s) t → Contains (needs_in needs s) t

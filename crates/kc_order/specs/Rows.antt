@@ -1,20 +1,31 @@
--- Trusted: Needs as they are held: rows of symbols, and the row of each symbol. Symbols may share a row.
-use Rattle.std.specs.Prelude.{ℕ, ◌<◌, List, [], length, All, slice_index_or, map}
-use Rattle.std.specs.List.{Contains}
+-- For proofs: Rows one behind the other in one list, and what is asked of them.
+use Rattle.std.specs.Prelude.{◌≡◌, ℕ, ◌<◌, ◌≤◌, ◌-◌, zero, suc, Bool, false, List, [], ◌∷◌, length, All, slice_index, slice_index_or, take, drop}
+use Rattle.kc_order.specs.Needs.{needs_in}
 
--- what row r holds
-abbrev pub in_row : List (List ℕ) → ℕ → List ℕ
-in_row rows r = slice_index_or rows r []
+-- the rows of a list of numbers, given where each ends: the first begins at `from`, each further one where the one before it ends
+abbrev pub rows_of : List ℕ → ℕ → List ℕ → List (List ℕ)
+rows_of numbers from [] = []
+rows_of numbers from (end ∷ ends) = take (end - from) (drop from numbers) ∷ rows_of numbers end ends
 
--- the needs of each symbol
-abbrev pub held : List (List ℕ) → List ℕ → List (List ℕ)
-held rows row_of = map (in_row rows) row_of
+-- where row r begins
+abbrev pub begin : ℕ → List ℕ → ℕ → ℕ
+begin from ends zero = from
+begin from ends (suc r) = slice_index ends r
 
--- the row of each symbol is there
-abbrev pub RowsAreThere : List (List ℕ) → List ℕ → Type 0
-RowsAreThere rows row_of = All (λ r. r < length rows) row_of
+-- the ends go up from `from`, and the last is `to`
+abbrev pub GoUp : ℕ → ℕ → List ℕ → Type 0
+GoUp from to [] = from ≡ to
+GoUp from to (end ∷ ends) = (from ≤ end) × GoUp end to ends
 
--- the row of each symbol is there, and each row is some symbol's
-pub record AreTheirs (rows : List (List ℕ)) (row_of : List ℕ) : Type 0 where
-  pub there : RowsAreThere rows row_of
-  pub used : (r : ℕ) → r < length rows → Contains row_of r
+-- each row holds numbers below n
+abbrev pub RowsBelow : ℕ → List (List ℕ) → Type 0
+RowsBelow n rows = All (λ row. All (λ t. t < n) row) rows
+
+-- each row from row n on holds numbers below its own
+abbrev pub GoDown : ℕ → List (List ℕ) → Type 0
+GoDown n rows = (r : ℕ) → n ≤ r → r < length rows → All (λ t. t < r) (needs_in rows r)
+
+-- mark s, for each s below n, is the test of s
+pub record AreMarks (n : ℕ) (test : ℕ → Bool) (marks : List Bool) : Type 0 where
+  pub length_is : length marks ≡ n
+  pub each : (s : ℕ) → s < n → slice_index_or marks s false ≡ test s

@@ -4,8 +4,7 @@ use Rattle.std.specs.List.{Contains, IsDistinct}
 use Rattle.kc_order.specs.declared.search.Mark.{Mark}
 use Rattle.kc_order.specs.declared.search.Mark.TheVariants.{New, Open, Done, Stuck}
 use Rattle.kc_order.specs.declared.search.Search.{Search}
-use Rattle.kc_order.specs.Needs.{stuck_after}
-use Rattle.kc_order.specs.RowLists.{needs_of}
+use Rattle.kc_order.specs.Needs.{needs_in, stuck_after}
 use Rattle.kc_order.specs.Order.{NeedsFirst}
 
 -- the open symbols are a path along needs, the done ones are in order, what is given up is stuck for ever, and of each symbol the needs past its first `left` are done
@@ -27,16 +26,16 @@ pub record IsSearch (n : ℕ) (needs : ℕ → List ℕ) (mark : ℕ → Mark) (
 abbrev pub mark_of : Search → ℕ → Mark
 mark_of search s = slice_index_or search.marks.items s New
 
--- how many needs of symbol s are left, which are those of its row
-abbrev pub left_of : List ℕ → Search → ℕ → ℕ
-left_of row_of search s = slice_index_or search.left.items (slice_index row_of s) 0
+-- how many needs of symbol s are left
+abbrev pub left_of : Search → ℕ → ℕ
+left_of search s = slice_index_or search.left.items s 0
 
 -- a search over rows
-pub record IsSound (rows : List (List ℕ)) (row_of : List ℕ) (search : Search) : Type 0 where
-  pub marks_len : length search.marks.items ≡ length row_of
+pub record IsSound (rows : List (List ℕ)) (search : Search) : Type 0 where
+  pub marks_len : length search.marks.items ≡ length rows
   pub left_len : length search.left.items ≡ length rows
-  pub keeps : IsSearch (length row_of) (needs_of rows row_of) (λ s. slice_index_or search.marks.items s New)
-      (λ s. slice_index_or search.left.items (slice_index row_of s) 0) search.path.items search.order.items
+  pub keeps : IsSearch (length rows) (needs_in rows) (λ s. slice_index_or search.marks.items s New)
+      (λ s. slice_index_or search.left.items s 0) search.path.items search.order.items
 
 -- s is open now, at the end of the path
 pub record Opens (before after : Search) (s : ℕ) : Type 0 where
@@ -82,7 +81,7 @@ is_stuck Done = false
 is_stuck Stuck = true
 
 -- a search that has met each symbol, and has none open
-pub record IsOver (rows : List (List ℕ)) (row_of : List ℕ) (search : Search) : Type 0 where
-  pub sound : IsSound rows row_of search
+pub record IsOver (rows : List (List ℕ)) (search : Search) : Type 0 where
+  pub sound : IsSound rows search
   pub idle : length search.path.items ≡ 0
-  pub met : (s : ℕ) → s < length row_of → mark_of search s ≢ New
+  pub met : (s : ℕ) → s < length rows → mark_of search s ≢ New

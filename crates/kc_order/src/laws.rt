@@ -1,6 +1,6 @@
 //! What follows of needs, and of equations over them, whatever a value is.
 
-ghost use Rattle.kc_order.specs.Laws.{OrderedAreAccepted, AWayRoundIsStuck, NamedLoopGoesRound, NamedLoopIsWithin, OneNamedLoop, StuckHaveALoop, AcceptedOrStuck, AcceptedHaveOneSolution, SolutionsAgree, FillingSolves, RoundsSolve, MinimalRestores, MinimalHasNothingToSpare};
+ghost use Rattle.kc_order.specs.Laws.{AlikeAreAccepted, AlikeHaveTheLoop, GraphNeedsAreWithin, SymbolsStandFirst, OrderedAreAccepted, AWayRoundIsStuck, NamedLoopGoesRound, NamedLoopIsWithin, OneNamedLoop, StuckHaveALoop, AcceptedOrStuck, AcceptedHaveOneSolution, SolutionsAgree, FillingSolves, RoundsSolve, MinimalRestores, MinimalHasNothingToSpare};
 
 /// Needs that have an order are accepted.
 pub fn ordered_are_accepted()
@@ -31,6 +31,19 @@ pub fn one_named_loop()
 pub fn stuck_have_a_loop()
     ensures either { AcceptedOrStuck }
     ensures named { StuckHaveALoop }
+{}
+
+/// What is accepted, and which loop is named, is the same of needs that are alike: it does not count in which order a symbol
+/// needs others, nor how often.
+pub fn alike_needs()
+    ensures accepted { AlikeAreAccepted }
+    ensures named { AlikeHaveTheLoop }
+{}
+
+/// What a graph's symbols need are symbols, and in an order of its nodes each stands before what needs it, be it through groups.
+pub fn groups_stand_for_symbols()
+    ensures within { GraphNeedsAreWithin }
+    ensures first { SymbolsStandFirst }
 {}
 
 /// Equations that read only what is needed have one solution where no symbol is stuck.

@@ -1,34 +1,91 @@
 //! The loop that is named where some symbol is stuck.
 
-ghost use Rattle.std.specs.Prelude.{◌≡◌, ◌<◌, length, IfOk, MatchOption, slice_index_or, slice_index, All, filter, true, false, ◌≢◌, replicate};
-ghost use Rattle.kc_order.specs.Needs.{stuck_after};
-ghost use Rattle.kc_order.specs.Rows.{RowsAreThere};
-ghost use Rattle.kc_order.specs.RowLists.{needs_of, RowsBelow, AreMarks};
-ghost use Rattle.kc_order.specs.Loop.{IsLeast, IsFirstStuck, IsNext, IsNamedLoop};
+ghost use Rattle.std.specs.Prelude.{◌≡◌, ℕ, List, ◌<◌, ◌≤◌, ◌+◌, ◌≢◌, length, replicate, slice_index, slice_index_or, All, IfOk, MatchOption, false, true};
+ghost use Rattle.std.specs.List.{flat_map};
+ghost use Rattle.kc_order.specs.Firsts.{lesser_of, least_in, marked, AreFirsts, AreStuck};
+ghost use Rattle.kc_order.specs.Graph.{IsGraph, stands_for, groups_of, needs_of};
+ghost use Rattle.kc_order.specs.Loop.{IsFirstStuck, IsNext, IsNamedLoop};
+ghost use Rattle.kc_order.specs.Needs.{needs_in, stuck_after};
 
-use crate::rows::{Rows, row_of_symbol};
+use crate::rows::Rows;
+use crate::search::{Mark, is_stuck};
 use std::alloc::{AllocError, Global};
 
-// The first marked symbol among those in a row.
-fn first_marked(row: &[u32], marks: &[bool]) -> Option<u32>
-    requires { All (λ t. t < length marks.now) row.now }
-    ensures { MatchOption result (length (filter (λ t. slice_index_or marks.now t false) row.now) ≡ 0) (IsLeast (filter (λ t. slice_index_or marks.now t false) row.now)) }
+// The lesser of two symbols, if there are any.
+fn lesser(a: Option<u32>, b: Option<u32>) -> Option<u32>
+    ensures { result ≡ lesser_of a b }
 {
-    row.iter().copied().filter(|t| marks[*t as usize]).min()
+    match (a, b) {
+        (Some(s), Some(t)) => Some(s.min(t)),
+        (Some(s), None) => Some(s),
+        (None, other) => other,
+    }
+}
+
+// The first stuck symbol that a node stands for: a symbol for itself, a group for what it needs.
+fn stuck_at(node: u32, symbols: usize, marks: &[Mark], firsts: &[Option<u32>]) -> Option<u32>
+    requires there { node < symbols + length firsts.now }
+    requires symbols { symbols ≤ length marks.now }
+    ensures { (groups : List (List ℕ)) → AreFirsts marks.now groups firsts.now → result ≡ least_in (marked marks.now) (stands_for symbols groups node) }
+{
+    let place = node as usize;
+    if place < symbols {
+        is_stuck(marks[place]).then_some(node)
+    } else {
+        firsts[place - symbols]
+    }
+}
+
+// The first stuck symbol that a row leads to, itself or through groups.
+fn first_in_row(row: &[u32], symbols: usize, marks: &[Mark], firsts: &[Option<u32>]) -> Option<u32>
+    requires there { All (λ t. t < symbols + length firsts.now) row.now }
+    requires symbols { symbols ≤ length marks.now }
+    ensures { (groups : List (List ℕ)) → AreFirsts marks.now groups firsts.now → result ≡ least_in (marked marks.now) (flat_map (stands_for symbols groups) row.now) }
+{
+    let mut first = None;
+    for node in row {
+        first = lesser(first, stuck_at(*node, symbols, marks, firsts));
+    }
+    first
+}
+
+// The first stuck symbol that each group leads to.
+fn firsts_of_groups(
+    alloc: Global,
+    rows: &Rows,
+    symbols: usize,
+    marks: &[Mark],
+) -> Result<Vec<Option<u32>>, AllocError>
+    requires graph { IsGraph (record { symbols = symbols; rows = rows.now }) }
+    requires marks { length marks.now ≡ length rows.now }
+    ensures { IfOk result (λ v. AreFirsts marks.now (groups_of (record { symbols = symbols; rows = rows.now })) v.items) }
+{
+    let mut firsts = Vec::with_capacity(alloc, rows.count() - symbols)?;
+    for group in symbols..rows.count() {
+        let first = first_in_row(rows.row(group), symbols, marks, &firsts);
+        firsts.push(first)?;
+    }
+    Ok(firsts)
 }
 
 // The first stuck symbol that a stuck symbol needs.
-fn next_stuck(rows: &Rows, row_of: &[usize], stuck: &[bool], symbol: u32) -> u32
-    requires rows_below { RowsBelow (length row_of.now) rows.now }
-    requires there { RowsAreThere rows.now row_of.now }
-    requires marks { AreMarks (length row_of.now) (stuck_after (needs_of rows.now row_of.now) (length row_of.now)) stuck.now }
-    requires symbol { symbol < length row_of.now }
-    requires is_stuck { stuck_after (needs_of rows.now row_of.now) (length row_of.now) symbol ≡ true }
-    ensures next { IsNext (length row_of.now) (needs_of rows.now row_of.now) symbol result }
-    ensures below { result < length row_of.now }
-    ensures is_stuck { stuck_after (needs_of rows.now row_of.now) (length row_of.now) result ≡ true }
+fn next_stuck(
+    rows: &Rows,
+    symbols: usize,
+    marks: &[Mark],
+    firsts: &[Option<u32>],
+    symbol: u32,
+) -> u32
+    requires graph { IsGraph (record { symbols = symbols; rows = rows.now }) }
+    requires marks { AreStuck rows.now marks.now }
+    requires firsts { AreFirsts marks.now (groups_of (record { symbols = symbols; rows = rows.now })) firsts.now }
+    requires symbol { symbol < symbols }
+    requires is_stuck { stuck_after (needs_in (needs_of (record { symbols = symbols; rows = rows.now }))) symbols symbol ≡ true }
+    ensures next { IsNext symbols (needs_in (needs_of (record { symbols = symbols; rows = rows.now }))) symbol result }
+    ensures below { result < symbols }
+    ensures is_stuck { stuck_after (needs_in (needs_of (record { symbols = symbols; rows = rows.now }))) symbols result ≡ true }
 {
-    match first_marked(row_of_symbol(rows, row_of, symbol), stuck) {
+    match first_in_row(rows.row(symbol as usize), symbols, marks, firsts) {
         Some(next) => next,
         None => unreachable!(),
     }
@@ -53,23 +110,23 @@ fn no_marks(alloc: Global, count: usize) -> Result<Vec<bool>, AllocError>
 pub fn named_loop(
     alloc: Global,
     rows: &Rows,
-    row_of: &[usize],
-    stuck: &[bool],
+    symbols: usize,
+    marks: &[Mark],
     first: u32,
 ) -> Result<Vec<u32>, AllocError>
-    requires rows_below { RowsBelow (length row_of.now) rows.now }
-    requires there { RowsAreThere rows.now row_of.now }
-    requires marks { AreMarks (length row_of.now) (stuck_after (needs_of rows.now row_of.now) (length row_of.now)) stuck.now }
-    requires first { IsFirstStuck (length row_of.now) (needs_of rows.now row_of.now) first }
-    ensures { IfOk result (λ v. IsNamedLoop (length row_of.now) (needs_of rows.now row_of.now) v.items) }
+    requires graph { IsGraph (record { symbols = symbols; rows = rows.now }) }
+    requires marks { AreStuck rows.now marks.now }
+    requires first { IsFirstStuck symbols (needs_in (needs_of (record { symbols = symbols; rows = rows.now }))) first }
+    ensures { IfOk result (λ v. IsNamedLoop symbols (needs_in (needs_of (record { symbols = symbols; rows = rows.now }))) v.items) }
 {
-    let mut met = no_marks(alloc, row_of.len())?;
+    let firsts = firsts_of_groups(alloc, rows, symbols, marks)?;
+    let mut met = no_marks(alloc, symbols)?;
     let mut walk = Vec::new(alloc);
     let mut at = first;
     while !met[at as usize] {
         met[at as usize] = true;
         walk.push(at)?;
-        at = next_stuck(rows, row_of, stuck, at);
+        at = next_stuck(rows, symbols, marks, &firsts, at);
     }
     match place_of(&walk, at) {
         None => unreachable!(),

@@ -1,16 +1,14 @@
-//! Symbols in order, the needs of each before it, or the loop that is named.
+//! Nodes in order, what each needs before it, or the loop that is named.
 
 ghost use Rattle.std.specs.Prelude.{◌≡◌, ◌<◌, ◌^◌, length, IfOk, IfErr, OnOk};
-ghost use Rattle.kc_order.specs.Needs.{AreWithin, IsAccepted};
+ghost use Rattle.kc_order.specs.Graph.{IsGraph, needs_of};
+ghost use Rattle.kc_order.specs.Needs.{IsAccepted};
 ghost use Rattle.kc_order.specs.Order.{Orders};
 ghost use Rattle.kc_order.specs.Reason.{IsReason};
-ghost use Rattle.kc_order.specs.Rows.{held, RowsAreThere};
-ghost use Rattle.kc_order.specs.RowLists.{RowsBelow};
 
+use crate::graph::Graph;
 use crate::named_loop::named_loop;
-use crate::needs::Needs;
-use crate::rows::Rows;
-use crate::search::{Search, first_stuck, search_all, stuck_symbols};
+use crate::search::{Search, first_stuck, search_all};
 use std::alloc::{AllocError, Global};
 use std::marker::Model;
 
@@ -34,64 +32,63 @@ impl From<AllocError> for NoOrder {
     }
 }
 
-/// All symbols in an order in which what each needs stands before it, and the needs that it was made for.
+/// All nodes in an order in which what each needs stands before it, and the graph that it was made for.
 #[derive(Drop)]
 pub struct Order {
-    needs: Needs,
-    symbols: Vec<u32>,
+    graph: Graph,
+    nodes: Vec<u32>,
 }
 
 impl Model for Order {
-    ghost use Rattle.std.specs.Prelude.{ℕ, List};
+    ghost use Rattle.kc_order.specs.Graph.{Nodes};
     ghost use Rattle.kc_order.specs.Order.{Orders};
 
-    ghost Value = { List (List ℕ) };
+    ghost Value = { Nodes };
 
-    ghost view = { λ o. o.needs };
+    ghost view = { λ o. o.graph };
 
-    ghost invariant = { λ o. Orders o.needs o.symbols.items };
+    ghost invariant = { λ o. Orders o.graph.rows o.nodes.items };
 }
 
 impl Order {
-    /// The symbols in order, the needs of each before it.
-    pub fn symbols(&self) -> &[u32]
-        ensures { Orders self.now result.now }
+    /// The nodes in order, what each needs before it: symbols and groups.
+    pub fn nodes(&self) -> &[u32]
+        ensures { Orders self.now.rows result.now }
     {
-        &self.symbols
+        &self.nodes
     }
 }
 
-// The symbols in order, or the loop that is named.
-fn order_or_loop(alloc: Global, rows: &Rows, row_of: &[usize]) -> Result<Vec<u32>, NoOrder>
-    requires rows_below { RowsBelow (length row_of.now) rows.now }
-    requires there { RowsAreThere rows.now row_of.now }
-    requires few { length row_of.now < 2 ^ 32 }
-    ensures order { IfOk result (λ v. Orders (held rows.now row_of.now) v.items) }
-    ensures refused { IfErr result (IsReason (held rows.now row_of.now)) }
+// The nodes in order, or the loop that is named.
+fn order_or_loop(alloc: Global, graph: &Graph) -> Result<Vec<u32>, NoOrder>
+    requires graph { IsGraph graph.now }
+    requires few { length graph.now.rows < 2 ^ 32 }
+    ensures order { IfOk result (λ v. Orders graph.now.rows v.items) }
+    ensures refused { IfErr result (IsReason (needs_of graph.now)) }
 {
-    let Search { marks, order, .. } = search_all(alloc, rows, row_of)?;
-    match first_stuck(&marks) {
+    let Search { marks, order, .. } = search_all(alloc, &graph.rows)?;
+    match first_stuck(&marks[..graph.symbols]) {
         None => Ok(order),
         Some(first) => {
-            let stuck = stuck_symbols(alloc, &marks)?;
-            let found = named_loop(alloc, rows, row_of, &stuck, first as u32)?;
+            let found = named_loop(alloc, &graph.rows, graph.symbols, &marks, first as u32)?;
             Err(NoOrder::Loop(found))
         }
     }
 }
 
-/// An order for these needs, where no symbol is stuck. The time is linear in the rows as they are held, also where there is none.
+/// An order for this graph, where no symbol is stuck. The time is linear in the rows as they are held, also where there is none.
 ///
-/// Answers `Loop` exactly where some symbol is stuck, and `Memory` only when it is out of memory; then nothing is left of the needs.
-/// Which symbols are stuck, and which loop is named, is our own rule: a walk from the first stuck symbol always on to the first
-/// stuck symbol that the last one needs, and of it the part from the symbol that it meets twice.
-pub fn order_of(alloc: Global, needs: Needs) -> Result<Order, NoOrder>
-    requires within { AreWithin needs }
-    requires few { length needs < 2 ^ 32 }
-    ensures same { IfOk result (λ o. o ≡ needs) }
-    ensures accepted { OnOk result (IsAccepted needs) }
-    ensures refused { IfErr result (IsReason needs) }
+/// Answers `Loop` exactly where some symbol is stuck, and `Memory` only when it is out of memory; then nothing is left of the graph.
+/// Which symbols are stuck, and which loop is named, is our own rule, over what symbols need, be it through groups: a walk from the
+/// first stuck symbol always on to the first stuck symbol that the last one needs, and of it the part from the symbol that it meets
+/// twice.
+pub fn order_of(alloc: Global, graph: Graph) -> Result<Order, NoOrder>
+    requires graph { IsGraph graph }
+    requires few { length graph.rows < 2 ^ 32 }
+    ensures same { IfOk result (λ o. o ≡ graph) }
+    ensures accepted { OnOk result (IsAccepted (needs_of graph)) }
+    ensures refused { IfErr result (IsReason (needs_of graph)) }
 {
-    let symbols = order_or_loop(alloc, &needs.rows, &needs.row_of)?;
-    Ok(Order { needs, symbols })
+    let nodes = order_or_loop(alloc, &graph)?;
+    Ok(Order { graph, nodes })
 }

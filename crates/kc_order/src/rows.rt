@@ -1,8 +1,8 @@
-//! Rows of numbers in one list, and the row of a symbol.
+//! Rows of numbers in one list.
 
 ghost use Rattle.std.specs.Prelude.{◌≡◌, ◌<◌, ◌≤◌, [], ◌∷◌, ◌++◌, ◌↔◌, ◌-◌, length, IfOk, OnOk, OnErr, IsTrue, All, take, drop};
-ghost use Rattle.kc_order.specs.Rows.{in_row, RowsAreThere};
-ghost use Rattle.kc_order.specs.RowLists.{needs_of, RowsBelow, begin};
+ghost use Rattle.kc_order.specs.Needs.{needs_in};
+ghost use Rattle.kc_order.specs.Rows.{RowsBelow, GoDown, begin};
 
 use std::alloc::{AllocError, Global};
 use std::marker::Model;
@@ -16,7 +16,7 @@ pub struct Rows {
 
 impl Model for Rows {
     ghost use Rattle.std.specs.Prelude.{ℕ, List, length};
-    ghost use Rattle.kc_order.specs.RowLists.{rows_of, GoUp};
+    ghost use Rattle.kc_order.specs.Rows.{rows_of, GoUp};
 
     ghost Value = { List (List ℕ) };
 
@@ -50,16 +50,6 @@ fn all_below(numbers: &[u32], bound: usize) -> bool
 }
 
 impl Rows {
-    /// No rows yet.
-    pub fn new(alloc: Global) -> Rows
-        ensures { result ≡ [] }
-    {
-        Rows {
-            numbers: Vec::new(alloc),
-            ends: Vec::new(alloc),
-        }
-    }
-
     /// No rows yet, with room for so many of them. Fails only when it is out of memory.
     pub fn with_room(alloc: Global, count: usize) -> Result<Rows, AllocError>
         ensures { IfOk result (λ r. r ≡ []) }
@@ -81,7 +71,7 @@ impl Rows {
     /// What a row holds.
     pub fn row(&self, row: usize) -> &[u32]
         requires { row < length self.now }
-        ensures { result.now ≡ in_row self.now row }
+        ensures { result.now ≡ needs_in self.now row }
     {
         let begin = beginning(&self.ends, row);
         between(&self.numbers, begin, self.ends[row])
@@ -92,6 +82,21 @@ impl Rows {
         ensures { IsTrue result ↔ RowsBelow bound self.now }
     {
         all_below(&self.numbers, bound)
+    }
+
+    /// Whether each row from one on holds numbers below its own.
+    pub fn go_down(&self, first: usize) -> bool
+        ensures { IsTrue result ↔ GoDown first self.now }
+    {
+        let count = self.count();
+        let mut row = first;
+        while row < count {
+            if !all_below(self.row(row), row) {
+                return false;
+            }
+            row += 1;
+        }
+        true
     }
 
     /// Adds a row. Where it is out of memory, nothing changes.
@@ -107,13 +112,4 @@ impl Rows {
         }
         Ok(())
     }
-}
-
-/// What a symbol needs.
-pub fn row_of_symbol<'a>(rows: &'a Rows, row_of: &[usize], symbol: u32) -> &'a [u32]
-    requires there { RowsAreThere rows.now row_of.now }
-    requires symbol { symbol < length row_of.now }
-    ensures { result.now ≡ needs_of rows.now row_of.now symbol }
-{
-    rows.row(row_of[symbol as usize])
 }

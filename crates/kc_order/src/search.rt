@@ -1,14 +1,13 @@
 //! A depth-first search for an order, with a stack of its own. It goes on past what is stuck, so that it finds all of it.
 
 ghost use Rattle.std.specs.Prelude.{◌≡◌, ℕ, ◌<◌, length, IfOk, MatchOption, OnOk, All, slice_index_or, take, vec_len, replicate, map, ◌≢◌, ◌^◌, ◌++◌, ◌∷◌, [], ◌-◌, true, false};
-ghost use Rattle.kc_order.specs.Rows.{RowsAreThere};
-ghost use Rattle.kc_order.specs.RowLists.{RowsBelow};
+ghost use Rattle.kc_order.specs.Rows.{RowsBelow};
 ghost use Rattle.kc_order.specs.Search.{IsSound, IsOver, KeepsMet, Opens, Closes, GivesUp, work, mark_of, is_stuck};
 
-use crate::rows::{Rows, row_of_symbol};
+use crate::rows::Rows;
 use std::alloc::{AllocError, Global};
 
-/// How far a symbol is.
+/// How far a node is.
 #[derive(Clone, Copy, Debug, Drop)]
 pub enum Mark {
     /// Not met yet.
@@ -24,69 +23,67 @@ pub enum Mark {
 /// The search so far.
 #[derive(Drop)]
 pub struct Search {
-    /// How far each symbol is.
+    /// How far each node is.
     pub marks: Vec<Mark>,
-    // How many needs of each row are still to be looked at.
+    // How many needs of each node are still to be looked at.
     left: Vec<usize>,
-    // The open symbols, each needing the next.
+    // The open nodes, each needing the next.
     path: Vec<u32>,
-    /// The done symbols, in order.
+    /// The done nodes, in order.
     pub order: Vec<u32>,
 }
 
-// Opens a symbol.
-fn open(search: &mut Search, symbol: u32) -> Result<(), AllocError>
-    requires { symbol < length search.old.marks.items }
-    ensures { OnOk result (Opens search.old search.new symbol) }
+// Opens a node.
+fn open(search: &mut Search, node: u32) -> Result<(), AllocError>
+    requires { node < length search.old.marks.items }
+    ensures { OnOk result (Opens search.old search.new node) }
 {
-    search.marks[symbol as usize] = Mark::Open;
-    search.path.push(symbol)?;
+    search.marks[node as usize] = Mark::Open;
+    search.path.push(node)?;
     Ok(())
 }
 
-// Closes the last open symbol.
-fn close(search: &mut Search, symbol: u32) -> Result<(), AllocError>
-    requires there { symbol < length search.old.marks.items }
-    requires last { search.old.path.items ≡ take (vec_len search.old.path - 1) search.old.path.items ++ symbol ∷ [] }
-    ensures { OnOk result (Closes search.old search.new symbol) }
+// Closes the last open node.
+fn close(search: &mut Search, node: u32) -> Result<(), AllocError>
+    requires there { node < length search.old.marks.items }
+    requires last { search.old.path.items ≡ take (vec_len search.old.path - 1) search.old.path.items ++ node ∷ [] }
+    ensures { OnOk result (Closes search.old search.new node) }
 {
     search.path.pop();
-    search.marks[symbol as usize] = Mark::Done;
-    search.order.push(symbol)?;
+    search.marks[node as usize] = Mark::Done;
+    search.order.push(node)?;
     Ok(())
 }
 
-// Gives up the last open symbol, which is stuck.
-fn give_up(search: &mut Search, symbol: u32)
-    requires there { symbol < length search.old.marks.items }
-    requires last { search.old.path.items ≡ take (vec_len search.old.path - 1) search.old.path.items ++ symbol ∷ [] }
-    ensures { GivesUp search.old search.new symbol }
+// Gives up the last open node, which is stuck.
+fn give_up(search: &mut Search, node: u32)
+    requires there { node < length search.old.marks.items }
+    requires last { search.old.path.items ≡ take (vec_len search.old.path - 1) search.old.path.items ++ node ∷ [] }
+    ensures { GivesUp search.old search.new node }
 {
     search.path.pop();
-    search.marks[symbol as usize] = Mark::Stuck;
+    search.marks[node as usize] = Mark::Stuck;
 }
 
-// Looks at one more need of the last open symbol, or closes that symbol. It is stuck where that need is open itself, so that the
+// Looks at one more need of the last open node, or closes that node. It is stuck where that need is open itself, so that the
 // path comes back to it, or stuck.
-fn advance(rows: &Rows, row_of: &[usize], search: &mut Search, top: u32) -> Result<(), AllocError>
-    requires rows_below { RowsBelow (length row_of.now) rows.now }
-    requires there { RowsAreThere rows.now row_of.now }
-    requires sound { IsSound rows.now row_of.now search.old }
-    requires below { top < length row_of.now }
+fn advance(rows: &Rows, search: &mut Search, top: u32) -> Result<(), AllocError>
+    requires rows_below { RowsBelow (length rows.now) rows.now }
+    requires sound { IsSound rows.now search.old }
+    requires below { top < length rows.now }
     requires last { search.old.path.items ≡ take (vec_len search.old.path - 1) search.old.path.items ++ top ∷ [] }
-    ensures sound { OnOk result (IsSound rows.now row_of.now search.new) }
+    ensures sound { OnOk result (IsSound rows.now search.new) }
     ensures less { OnOk result (work search.new < work search.old) }
     ensures met { OnOk result (KeepsMet search.old search.new) }
 {
-    let row = row_of[top as usize];
-    let left = search.left[row];
+    let left = search.left[top as usize];
     if left == 0 {
         close(search, top)?;
         return Ok(());
     }
-    let need = row_of_symbol(rows, row_of, top)[left - 1];
+    let need = rows.row(top as usize)[left - 1];
     match search.marks[need as usize] {
-        Mark::Done => search.left[row] = left - 1,
+        Mark::Done => search.left[top as usize] = left - 1,
         Mark::New => open(search, need)?,
         Mark::Open => give_up(search, top),
         Mark::Stuck => give_up(search, top),
@@ -94,14 +91,13 @@ fn advance(rows: &Rows, row_of: &[usize], search: &mut Search, top: u32) -> Resu
     Ok(())
 }
 
-// Goes through all that a symbol needs, unless it was met.
-fn visit(rows: &Rows, row_of: &[usize], search: &mut Search, root: u32) -> Result<(), AllocError>
-    requires rows_below { RowsBelow (length row_of.now) rows.now }
-    requires there { RowsAreThere rows.now row_of.now }
-    requires sound { IsSound rows.now row_of.now search.old }
-    requires below { root < length row_of.now }
+// Goes through all that a node needs, unless it was met.
+fn visit(rows: &Rows, search: &mut Search, root: u32) -> Result<(), AllocError>
+    requires rows_below { RowsBelow (length rows.now) rows.now }
+    requires sound { IsSound rows.now search.old }
+    requires below { root < length rows.now }
     requires idle { length search.old.path.items ≡ 0 }
-    ensures sound { OnOk result (IsSound rows.now row_of.now search.new) }
+    ensures sound { OnOk result (IsSound rows.now search.new) }
     ensures idle { OnOk result (length search.new.path.items ≡ 0) }
     ensures met { OnOk result (KeepsMet search.old search.new) }
     ensures root_met { OnOk result (mark_of search.new root ≢ Mark.New) }
@@ -113,12 +109,12 @@ fn visit(rows: &Rows, row_of: &[usize], search: &mut Search, root: u32) -> Resul
     open(search, root)?;
     while let Some(top) = search.path.last() {
         let top = *top;
-        advance(rows, row_of, search, top)?;
+        advance(rows, search, top)?;
     }
     Ok(())
 }
 
-// A mark for each symbol, none of them met.
+// A mark for each node, none of them met.
 fn new_marks(alloc: Global, count: usize) -> Result<Vec<Mark>, AllocError>
     ensures { IfOk result (λ v. v.items ≡ replicate count Mark.New) }
 {
@@ -126,7 +122,7 @@ fn new_marks(alloc: Global, count: usize) -> Result<Vec<Mark>, AllocError>
     Ok(marks)
 }
 
-// How many needs each row has.
+// How many needs each node has.
 fn need_counts(alloc: Global, rows: &Rows) -> Result<Vec<usize>, AllocError>
     ensures { IfOk result (λ v. v.items ≡ map length rows.now) }
 {
@@ -137,45 +133,35 @@ fn need_counts(alloc: Global, rows: &Rows) -> Result<Vec<usize>, AllocError>
     Ok(counts)
 }
 
-/// A search over all symbols: which are stuck, and an order of the others.
-pub fn search_all(alloc: Global, rows: &Rows, row_of: &[usize]) -> Result<Search, AllocError>
-    requires rows_below { RowsBelow (length row_of.now) rows.now }
-    requires there { RowsAreThere rows.now row_of.now }
-    requires few { length row_of.now < 2 ^ 32 }
-    ensures { IfOk result (IsOver rows.now row_of.now) }
+/// A search over all nodes: which are stuck, and an order of the others.
+pub fn search_all(alloc: Global, rows: &Rows) -> Result<Search, AllocError>
+    requires rows_below { RowsBelow (length rows.now) rows.now }
+    requires few { length rows.now < 2 ^ 32 }
+    ensures { IfOk result (IsOver rows.now) }
 {
+    let count = rows.count();
     let mut search = Search {
-        marks: new_marks(alloc, row_of.len())?,
+        marks: new_marks(alloc, count)?,
         left: need_counts(alloc, rows)?,
         path: Vec::new(alloc),
-        order: Vec::with_capacity(alloc, row_of.len())?,
+        order: Vec::with_capacity(alloc, count)?,
     };
-    for root in 0..row_of.len() {
-        visit(rows, row_of, &mut search, root as u32)?;
+    for root in 0..count {
+        visit(rows, &mut search, root as u32)?;
     }
     Ok(search)
 }
 
-// Whether a symbol is stuck.
-fn is_mark_of_stuck(mark: Mark) -> bool
+/// Whether a node is stuck.
+pub fn is_stuck(mark: Mark) -> bool
     ensures { result ≡ is_stuck mark }
 {
     matches!(mark, Mark::Stuck)
 }
 
-/// The first symbol that is stuck.
+/// The first of these nodes that is stuck.
 pub fn first_stuck(marks: &[Mark]) -> Option<usize>
     ensures { MatchOption result (All (λ m. is_stuck m ≡ false) marks.now) (λ i. (i < length marks.now) × (is_stuck (slice_index_or marks.now i Mark.New) ≡ true) × ((k : ℕ) → k < i → is_stuck (slice_index_or marks.now k Mark.New) ≡ false)) }
 {
-    marks.iter().position(|mark| is_mark_of_stuck(*mark))
-}
-
-/// For each symbol whether it is stuck.
-pub fn stuck_symbols(alloc: Global, marks: &[Mark]) -> Result<Vec<bool>, AllocError>
-    ensures { IfOk result (λ v. v.items ≡ map is_stuck marks.now) }
-{
-    marks
-        .iter()
-        .map(|mark| is_mark_of_stuck(*mark))
-        .collect(alloc)
+    marks.iter().position(|mark| is_stuck(*mark))
 }

@@ -1,7 +1,8 @@
 -- Trusted: The expanded list: the statements of a file, with those of a sourced file in place of its `source` line.
 use Rattle.std.specs.Prelude.{◌≡◌, ◌≢◌, ℕ, ◌+◌, ◌-◌, List, [], ◌∷◌, ◌++◌, length, map, Bool, true, false, ◌||◌, nat_le, nat_lt, codes, Option, Some, None, Result, Ok, Err, if◌then◌else◌, MatchOption}
 use Rattle.std.specs.List.{list_any}
-use Rattle.kc_read.specs.Limits.{most_blocks, most_files, most_lines, most_symbols}
+use Rattle.kc_expr.specs.Limits.{most_symbols}
+use Rattle.kc_read.specs.Limits.{most_blocks, most_files, most_lines}
 use Rattle.kc_text.specs.declared.faults.TextFault.{TextFault}
 use Rattle.kc_text.specs.declared.faults.TextFault.TheVariants as fault
 use Rattle.kc_text.specs.Help.{after_help}

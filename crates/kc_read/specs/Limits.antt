@@ -12,7 +12,3 @@ most_files = 64
 -- the most blocks that are open at once
 abbrev pub most_blocks : ℕ
 most_blocks = 64
-
--- the most symbols that are defined
-abbrev pub most_symbols : ℕ
-most_symbols = 65535

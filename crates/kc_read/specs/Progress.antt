@@ -5,7 +5,8 @@ use Rattle.std.specs.Option.{option_or}
 use Rattle.std.specs.declared.alloc.Global.{Global}
 use Rattle.std.specs.declared.vec.Vec.{Vec}
 use Rattle.std.specs.declared.rc.Rc.{Rc}
-use Rattle.kc_read.specs.Limits.{most_blocks, most_files, most_lines, most_symbols}
+use Rattle.kc_expr.specs.Limits.{most_symbols}
+use Rattle.kc_read.specs.Limits.{most_blocks, most_files, most_lines}
 use Rattle.kc_text.specs.Lines.{Left}
 use Rattle.kc_expr.specs.declared.expression.SymId.{SymId}
 use Rattle.kc_expr.specs.Names.{all_mentioned, mention}

@@ -4,6 +4,7 @@ use Rattle.std.specs.declared.rc.Rc.{Rc}
 use Rattle.std.specs.declared.alloc.Global.{Global}
 use Rattle.kc_expr.specs.declared.expression.Expr.{Expr}
 use Rattle.kc_expr.specs.Form.{Form, form_of, leaf_of}
+use Rattle.kc_expr.specs.When.{when_view}
 use Rattle.kc_expr.specs.Names.{number_of, Extends}
 use Rattle.kc_read.specs.declared.line.Line.{Line}
 use Rattle.kc_read.specs.declared.statement.Prompt.{Prompt}
@@ -11,10 +12,7 @@ use Rattle.kc_read.specs.declared.statement.Statement.{Statement}
 use Rattle.kc_read.specs.declared.statement.Statement.TheVariants as made
 use Rattle.kc_read.specs.Statements.{Numbered, Asked, Placed, ConfigLine, IfLine, EndIfLine, CommentLine, SourceLine, MenuLine, EndMenuLine, ChoiceLine, EndChoiceLine, MainMenuLine, TypeLine, PromptLine, DefaultLine, DefLine, DependsLine, VisibleLine, SelectLine, ImplyLine, RangeLine, HelpLine, ModulesLine, IgnoredLine}
 
--- a condition, a prompt and a statement without where they lie in memory
-abbrev pub when_view : Option (Rc Expr Global) → Option Form
-when_view = option_map (λ e. form_of e.value)
-
+-- a prompt and a statement without where they lie in memory
 abbrev pub asked_view : Prompt → Asked Form
 asked_view p = record { text = []; when = when_view p.when }
 

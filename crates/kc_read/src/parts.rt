@@ -10,7 +10,7 @@ ghost use Rattle.kc_read.specs.Lines as spec;
 ghost use Rattle.kc_read.specs.Lines.{syntax_cause, IsMore, ExpressionFault, WholeFault, ConditionFault};
 ghost use Rattle.std.specs.Prelude.{List, Option};
 ghost use Rattle.kc_expr.specs.declared.expression.SymId.{SymId};
-ghost use Rattle.kc_read.specs.Reads.{when_view};
+ghost use Rattle.kc_expr.specs.When.{when_view};
 ghost use Rattle.kc_read.specs.LineReads.{IsToken, IsFault, IsPart, IsFront, IsWholeForm, IsConditionForm, IsOperand, cause_of, text_said};
 
 use crate::refusal::Code;

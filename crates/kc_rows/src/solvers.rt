@@ -1,10 +1,12 @@
 //! The solver against the plain slow one.
 ghost use Rattle.std.specs.Prelude.{◌≡◌, None, ⊤, IfOk};
 ghost use Rattle.kc_user.specs.Places.{IsUserOf};
-ghost use Rattle.kc_values.specs.Needs.{needs};
+ghost use Rattle.kc_solve.specs.Graphs.{IsGraphOf};
+ghost use Rattle.kc_tree.specs.Layouts.{IsLayoutOf};
 
 use crate::row::Accepted;
 use crate::rows::tables;
+use kc_build::build_tree;
 use kc_dot::prefix::Prefix;
 use kc_dot::reader::DotReader;
 use kc_dot::{Fault, Sink};
@@ -15,6 +17,7 @@ use kc_solve::order::Order;
 use kc_solve::solve::solve;
 use kc_solve::solved::Solved;
 use kc_solve_rows::slow::slow_table;
+use kc_tree::layout::Layout;
 use kc_tree::tree::Tree;
 use kc_user::user::User;
 use std::alloc::Global;
@@ -80,10 +83,11 @@ fn has_one_value<V: Values, W: Values>(
 }
 
 // The order of a tree without a loop.
-fn order_of(alloc: Global, tree: &Tree) -> Result<Order, Fail>
-    ensures { IfOk result (λ order. order ≡ needs tree.now) }
+fn order_of(alloc: Global, tree: &Tree, layout: &Layout) -> Result<Order, Fail>
+    requires { IsLayoutOf tree.now layout.now }
+    ensures { IfOk result (IsGraphOf tree.now layout.now) }
 {
-    match Order::of(alloc, tree) {
+    match Order::of(alloc, tree, layout) {
         Ok(order) => Ok(order),
         Err(_refusal) => Err(Fail::from("a loop")),
     }
@@ -93,16 +97,18 @@ fn order_of(alloc: Global, tree: &Tree) -> Result<Order, Fail>
 fn agrees(
     rt: &impl Abort,
     alloc: Global,
+    layout: &Layout,
     order: &Order,
     user: &User,
     solved: &Solved<'_>,
     name: &str,
 ) -> Result<(), Fail>
-    requires order { order.now ≡ needs solved.now.tree }
+    requires laid { IsLayoutOf solved.now.tree layout.now }
+    requires order { IsGraphOf solved.now.tree layout.now order.now }
     requires user { IsUserOf solved.now.tree user.now }
 {
     let tree = solved.tree();
-    let slow = slow_table(alloc, tree, order, user)?;
+    let slow = slow_table(alloc, tree, layout, order, user)?;
     for number in 0..tree.symbol_count() {
         has_one_value(rt, solved, &slow, tree.symbol(number), name);
     }
@@ -113,15 +119,16 @@ fn agrees(
 fn agree(rt: &impl Abort, alloc: Global, tree: &Tree, user: &User, name: &str) -> Result<(), Fail>
     requires { IsUserOf tree.now user.now }
 {
-    let order = order_of(alloc, tree)?;
-    let solved = solve(alloc, tree, &order, user)?;
-    agrees(rt, alloc, &order, user, &solved, name)
+    let layout = tree.layout();
+    let order = order_of(alloc, tree, layout)?;
+    let solved = solve(alloc, tree, layout, &order, user)?;
+    agrees(rt, alloc, layout, &order, user, &solved, name)
 }
 
 // The row's tree.
 fn tree_of(alloc: Global, row: &Accepted) -> Result<Tree, Fail> {
     let files = files(alloc, "Kconfig", row.kconfig, row.others)?;
-    match Tree::build(alloc, &files, b"Kconfig") {
+    match build_tree(alloc, &files, b"Kconfig") {
         Ok(tree) => Ok(tree),
         Err(_refusal) => Err(Fail::from("a refusal")),
     }

@@ -1,202 +1,318 @@
--- One more place of the table filled.
-use Rattle.std.proofs.Common.{◌≡◌, ℕ, ◌<◌, ◌≤◌, ◌+◌, List, [], ◌∷◌, length, Option, Some, None, cond, sym, ◌∙◌, ap, inl, inr, refl, subst, arith, get_or, get_or-set_same, get_or-set_other}
-use Rattle.std.specs.Prelude.{slice_index_or, slice_set, slice_get, IfSome}
-use Rattle.std.specs.Option.{option_map}
+-- One more node of the table filled, along an order of the nodes of a tree.
+use Rattle.std.proofs.Common.{◌≡◌, ◌≢◌, ◌⊎◌, ℕ, ◌<◌, ◌≤◌, ◌+◌, List, [], ◌∷◌, length, Option, Some, None, sym, ◌∙◌, ap, inl, inr, subst, arith, get_or, take, eqb, flat_map}
+use Rattle.std.specs.Prelude.{slice_index_or, replicate}
 use Rattle.std.specs.List.{AllByRecursion, Contains}
-use Rattle.std.proofs.lemmas.Bool.{cases_Bool, ltb-false}
-use Rattle.std.proofs.lemmas.List.{get_or_past, length-set}
-use Rattle.std.proofs.lemmas.Option.{slice_get_past, slice_get_within}
+use Rattle.std.proofs.lemmas.Bool.{cases_eq, cases_lt, eqb-false}
+use Rattle.std.proofs.lemmas.List.{get_or_past, get_or-take, length-take-le, get_or_default, take_more, get_or-replicate, length-replicate, length-map}
+use Rattle.std.proofs.lemmas.List.Elements.{Contains-get_or, Contains-append_right, Contains-push_cases}
+use Rattle.std.proofs.lemmas.Map.Keys.{apart_from_distinct}
 use Rattle.kc_expr.specs.Names.{symbol}
-use Rattle.kc_expr.specs.Value.{Known, Truth, Written, known_of, DependsOnSymbols}
+use Rattle.kc_expr.specs.Value.{Known}
 use Rattle.kc_expr.specs.declared.expression.SymId.{SymId}
 use Rattle.kc_expr.specs.declared.expression.Tri.{Tri}
-use Rattle.kc_expr.specs.declared.expression.Kind.{Kind}
-use Rattle.kc_expr.specs.declared.expression.Kind.TheVariants.{Undefined, Bool as IsBool, Tristate, Str, Int, Hex}
+use Rattle.kc_expr.proofs.AgreeLemmas.{depends_on_symbols}
+use Rattle.kc_order.specs.Graph.{Nodes, groups_of, stands_for}
 use Rattle.kc_order.specs.Needs.{needs_in}
-use Rattle.kc_order.specs.Order.{Orders}
-use Rattle.kc_order.specs.Solution.{IsUpdate, Solves}
-use Rattle.kc_order.proofs.ByOrder.{IsFilled, fill_one, all_filled, symbol_below, stays_right}
-use Rattle.kc_tree.specs.TreeFacts.{SymbolFacts, TreeFacts, IsWellFormed}
-use Rattle.kc_tree.specs.declared.parts.ChoiceId.{ChoiceId}
-use Rattle.kc_values.specs.Lookups.{is_defined, facts, name, choice_at}
-use Rattle.kc_user.specs.Given.{Given, At, In}
-use Rattle.kc_values.specs.Values.{selected, equation, by_choice, by_kind}
-use Rattle.kc_values.specs.Needs.{needs, names_of, names_of_choice, defined_numbers}
-use Rattle.kc_values.specs.Solution.{slot_by, slot_of_facts, symbol_count, seen, slot, equations}
-use Rattle.kc_values.specs.Selections.{AreSettled, OnlySettles, member_given, given_for}
-use Rattle.kc_values.specs.Laws.{MembersAreBools}
-use Rattle.kc_values.specs.Table.{kind_in, value_in, tri_in, text_in, known_value}
-use Rattle.kc_values.specs.declared.table.Value.{Value}
-use Rattle.kc_values.specs.declared.table.Value.TheVariants as value
+use Rattle.kc_order.specs.Solution.{Solves}
+use Rattle.kc_order.proofs.Alike.{symbols_first}
+use Rattle.kc_order.proofs.Groups.{group_stands, needs_stand}
+use Rattle.kc_tree.specs.Contexts.{condition_in}
+use Rattle.kc_tree.specs.Layouts.{IsLayoutOf, choice_facts}
+use Rattle.kc_tree.specs.TreeFacts.{TreeFacts}
+use Rattle.kc_tree.specs.declared.layout.Layout.{Layout}
+use Rattle.kc_tree.proofs.TreeLemmas.{symbols-length}
+use Rattle.kc_user.specs.Given.{Given, Slot}
+use Rattle.kc_user.specs.Places.{member_place}
 use Rattle.kc_user.specs.declared.value.UserValue.{UserValue}
-use Rattle.kc_values.proofs.OnlyNamed.{same_equation, same_selected, same_seen}
-use Rattle.kc_values.proofs.TreeNeeds.{needs_at, needs_length, reads_rows}
-use Rattle.kc_solve.specs.Places.{places, known_in, valuation}
+use Rattle.kc_values.specs.Lookups.{choice_at}
+use Rattle.kc_values.specs.Needs.{condition_names, names_of_choice, needs}
+use Rattle.kc_values.specs.Nodes.{choice_number, context_number}
+use Rattle.kc_values.specs.Settled.{AreContextsSettled, rank}
+use Rattle.kc_values.specs.Solution.{symbol_count, equations}
+use Rattle.kc_values.specs.Table.{known_in}
+use Rattle.kc_values.specs.declared.table.Table.{Table}
+use Rattle.kc_values.specs.declared.table.Value.{Value}
+use Rattle.kc_values.proofs.OnlyNamed.{same_condition, same_selected}
+use Rattle.kc_values.proofs.TreeNeeds.{reads_rows}
+use Rattle.kc_solve.specs.Places.{places, valuation}
+use Rattle.kc_solve.specs.Filling.{IsNodeOrder, IsUnreadIn, AreFilledValues, OnlyAt, IsSelection, IsFilledTo, IsFilledTable, IsFilledSymbol, IsSettledContext, IsSettledChoice}
 
-pub each : {X : Type 0} (P : X → Type 0) → ((x : X) → P x) → (xs : List X) → AllByRecursion P xs
-each P h [] = tt
-each P h (x ∷ xs) = (h x, each P h xs)
+-- a front of a list
+in_front : (xs : List ℕ) (k t : ℕ) → k ≤ length xs → Contains (take k xs) t → (i : ℕ) × (i < k) × (get_or xs i 0 ≡ t)
+in_front xs k t l c =
+    let i_lt : c.0 < k = omega (arith, c.1, length-take-le k xs l) in
+    (c.0, i_lt, get_or_default xs c.0 0 t (omega arith) ∙ sym (get_or-take k xs c.0 t i_lt) ∙ c.2)
 
--- what is found of a symbol in a table is what is seen of it
-pub known_seen : (tree : TreeFacts) (values : List (Option Value)) → length values ≡ symbol_count tree → (s : SymId) → known_in tree values s ≡ seen tree (valuation tree values) s
-known_seen tree values l s =
-    elim (cases_Bool (is_defined tree s)) [
-      | inl t ↦ sym (ap (λ b. cond b (known_in tree values s) (Written Undefined (name tree s))) t)
-      | inr f ↦
-          let past : symbol_count tree ≤ s.0 = ltb-false s.0 (symbol_count tree) f in
-          let no_facts = slice_get_past tree.symbols s.0 past in
-          let no_value = get_or_past values s.0 None (omega arith) in
-          ap (λ o. known_of (kind_in o) (tri_in (value_in values s)) (text_in (value_in values s) (name tree s))) no_facts
-          ∙ ap (λ o. Written Undefined (text_in o (name tree s))) no_value
-          ∙ sym (ap (λ b. cond b (known_in tree values s) (Written Undefined (name tree s))) f)
+front_has : (xs : List ℕ) (k i : ℕ) → i < k → k ≤ length xs → Contains (take k xs) (get_or xs i 0)
+front_has xs k i l b =
+    let len = length-take-le k xs b in
+    let c = Contains-get_or (take k xs) i 0 (omega (arith, len)) in
+    subst (Contains (take k xs)) (get_or-take k xs i 0 l) c
+
+front_longer : (xs : List ℕ) (j k t : ℕ) → j ≤ k → k ≤ length xs → Contains (take j xs) t → Contains (take k xs) t
+front_longer xs j k t l b c =
+    let w = in_front xs j t (omega arith) c in
+    subst (Contains (take k xs)) w.2 (front_has xs k w.0 (omega (arith, w.1)) b)
+
+front_cases : (xs : List ℕ) (k t : ℕ) → k < length xs → Contains (take (k + 1) xs) t → Contains (take k xs) t ⊎ (get_or xs k 0 ≡ t)
+front_cases xs k t l c = Contains-push_cases (take k xs) (get_or xs k 0) t (subst (λ ys. Contains ys t) (take_more xs k 0 l) c)
+
+-- what is known stays but for one symbol
+known_but : (k m : SymId → Known) (id : SymId) → ((s : SymId) → (s.0 ≡ id.0 → ⊥) → m s ≡ k s) → (names : List SymId) → (Contains names id → ⊥) → AllByRecursion (λ s. k s ≡ m s) names
+known_but k m id others [] without = tt
+known_but k m id others (s ∷ names) without =
+    let numbered : ℕ → SymId = λ n. record { 0 = n } in
+    let here : k s ≡ m s =
+    elim (cases_eq s.0 id.0) [
+      | inl same ↦ absurd (without (0, omega arith, ap numbered same))
+      | inr other ↦ sym (others s other)
+    ] in (here, known_but k m id others names (λ c. without (Contains-append_right (s ∷ []) names id c)))
+
+-- a place that is filled is there
+there : {A : Type 0} (xs : List (Option A)) (i : ℕ) (x : A) → slice_index_or xs i None ≡ Some x → i < length xs
+there xs i x e =
+    elim (cases_lt i (length xs)) [
+      | inl l ↦ l
+      | inr past ↦ let n = get_or_past xs i None past in cc
     ]
 
--- a value that an equation gives has the shape of its kind
-shaped_by_kind : (tree : TreeFacts) (known : SymId → Known) (s : SymId) (f : SymbolFacts) (user : Option Given) (n : List ℕ) (kind : Kind) (x : Value) →
-    known_value kind x ≡ by_kind tree known s f kind user → known_of kind (tri_in (Some x)) (text_in (Some x) n) ≡ known_value kind x
-shaped_by_kind tree known s f user n Undefined (value.Truth t) e = cc
-shaped_by_kind tree known s f user n Undefined (value.Text v) e = refl
-shaped_by_kind tree known s f user n IsBool (value.Truth t) e = refl
-shaped_by_kind tree known s f user n IsBool (value.Text v) e = cc
-shaped_by_kind tree known s f user n Tristate (value.Truth t) e = refl
-shaped_by_kind tree known s f user n Tristate (value.Text v) e = cc
-shaped_by_kind tree known s f user n Str (value.Truth t) e = cc
-shaped_by_kind tree known s f user n Str (value.Text v) e = refl
-shaped_by_kind tree known s f user n Int (value.Truth t) e = cc
-shaped_by_kind tree known s f user n Int (value.Text v) e = refl
-shaped_by_kind tree known s f user n Hex (value.Truth t) e = cc
-shaped_by_kind tree known s f user n Hex (value.Text v) e = refl
+-- as many choices as a tree has
+pub choices_length : (tree : TreeFacts) (l : Layout) → IsLayoutOf tree l → length tree.choices ≡ length l.tables.choices.items
+choices_length tree l laid = ap length laid.choices ∙ length-map l.tables.choices.items (choice_facts l.tables)
 
-shaped_bool : (n : List ℕ) (kind : Kind) (x : Value) (t : Tri) → kind ≡ IsBool → known_value kind x ≡ Truth t → known_of kind (tri_in (Some x)) (text_in (Some x) n) ≡ known_value kind x
-shaped_bool n IsBool (value.Truth u) t b e = refl
-shaped_bool n IsBool (value.Text v) t b e = cc
-shaped_bool n Undefined x t b e = cc
-shaped_bool n Tristate x t b e = cc
-shaped_bool n Str x t b e = cc
-shaped_bool n Int x t b e = cc
-shaped_bool n Hex x t b e = cc
+-- what the contexts and choices of a tree name, their nodes stand for
+pub record AreNamesThere (tree : TreeFacts) (l : Layout) (g : Nodes) : Type 0 where
+  pub contexts : (i s : ℕ) → i < length l.tables.contexts → s < length l.symbols.items → Contains (condition_names tree (condition_in l.tables.contexts i)) (symbol s) →
+      Contains (stands_for g.symbols (groups_of g) (context_number l i)) s
+  pub choices : (c s : ℕ) → c < length l.tables.choices.items → s < length l.symbols.items → Contains (names_of_choice tree (choice_at tree c)) (symbol s) →
+      Contains (stands_for g.symbols (groups_of g) (choice_number l c)) s
 
-pub shaped : (tree : TreeFacts) (known : SymId → Known) (s : SymId) (f : SymbolFacts) (c : Option ℕ) (user : Option Given) (n : List ℕ) (x : Value) →
-    ((d : ℕ) → c ≡ Some d → f.kind ≡ IsBool) → known_value f.kind x ≡ by_choice tree known s f c user → known_of f.kind (tri_in (Some x)) (text_in (Some x) n) ≡ known_value f.kind x
-shaped tree known s f None user n x bools e = shaped_by_kind tree known s f user n f.kind x e
-shaped tree known s f (Some c) user n x bools e = shaped_bool n f.kind x _ (bools c refl) e
+module _ (tree : TreeFacts) (l : Layout) (nodes : List ℕ) (order : IsNodeOrder tree l nodes) where
+  node_below : (k : ℕ) → k < length nodes → get_or nodes k 0 < length order.graph.rows
+  node_below k b = order.orders.all_below (get_or nodes k 0) (Contains-get_or nodes k 0 b)
 
--- one place written
-pub written_at : (tree : TreeFacts) (values : List (Option Value)) (i : ℕ) (f : SymbolFacts) (x : Value) → i < length values → facts tree (symbol i) ≡ Some f →
-    known_of f.kind (tri_in (Some x)) (text_in (Some x) (name tree (symbol i))) ≡ known_value f.kind x →
-    IsUpdate (valuation tree values) (valuation tree (slice_set values i (Some x))) i (known_value f.kind x)
-written_at tree values i f x l e shape = record {
-  here =
-      ap (λ o. known_of (kind_in o) (tri_in (value_in (slice_set values i (Some x)) (symbol i))) (text_in (value_in (slice_set values i (Some x)) (symbol i)) (name tree (symbol i)))) e
-      ∙ ap (λ o. known_of f.kind (tri_in o) (text_in o (name tree (symbol i)))) (get_or-set_same values i (Some x) None l)
-      ∙ shape;
-  others = λ t ne. ap (λ o. known_of (kind_in (facts tree (symbol t))) (tri_in o) (text_in o (name tree (symbol t)))) (get_or-set_other values i t (Some x) None ne);
-}
+  -- two places hold two nodes
+  differ : (i j : ℕ) → i < j → j < length nodes → get_or nodes i 0 ≢ get_or nodes j 0
+  differ i j b c = eqb-false (get_or nodes i 0) (get_or nodes j 0) (apart_from_distinct eqb nodes i j 0 order.orders.apart b c)
 
-pub place_of : (given : List (Option UserValue)) (chosen : List (Option SymId)) (i : ℕ) (choice : Option ChoiceId) (c : Option ℕ) → c ≡ option_map (λ (k : ChoiceId). k.0) choice →
-    given_for choice (places given chosen (At i)) chosen ≡ places given chosen (slot_by i c)
-place_of given chosen i None c e = ap (λ o. places given chosen (slot_by i o)) (sym e)
-place_of given chosen i (Some k) c e = ap (λ o. places given chosen (slot_by i o)) (sym e)
+  not_before : (k t : ℕ) → k < length nodes → Contains (take k nodes) t → get_or nodes k 0 ≡ t → ⊥
+  not_before k t b c e =
+      let w = in_front nodes k t (omega arith) c in
+      differ w.0 k w.1 b (w.2 ∙ sym e)
 
--- a member names what its choice names
-names_in_choice : (tree : TreeFacts) (i c : ℕ) (o : Option ℕ) (f : SymbolFacts) → slot_by i o ≡ In c → (names_of tree (Some (record f { choice = o }))) ≡ names_of_choice tree (choice_at tree c)
-names_in_choice tree i c None f e = cc
-names_in_choice tree i c (Some d) f e = let h : d ≡ c = cc in ap (λ n. names_of_choice tree (choice_at tree n)) h
+  -- what a group stands for stands before it
+  stands_before : (k t v : ℕ) → k < length nodes → get_or nodes k 0 ≡ t → order.graph.symbols ≤ t → Contains (stands_for order.graph.symbols (groups_of order.graph) t) v → Contains (take k nodes) v
+  stands_before k t v b at group c =
+      let below : t < length order.graph.rows = subst (λ n. n < length order.graph.rows) at (node_below k b) in
+      let row = subst (λ ns. Contains ns v) (group_stands order.graph order.is t group below) c in
+      symbols_first order.graph nodes order.is order.orders k v b
+      (subst (λ n. Contains (flat_map (stands_for order.graph.symbols (groups_of order.graph)) (needs_in order.graph.rows n)) v) (sym at) row)
 
-names_in : (tree : TreeFacts) (i c : ℕ) (f : Option SymbolFacts) → slot_of_facts i f ≡ In c → names_of tree f ≡ names_of_choice tree (choice_at tree c)
-names_in tree i c None e = cc
-names_in tree i c (Some f) e = names_in_choice tree i c f.choice f e
+  -- what a symbol needs stands before it
+  needs_before : (k s v : ℕ) → k < length nodes → get_or nodes k 0 ≡ s → s < order.graph.symbols → Contains (needs_in (needs tree) s) v → Contains (take k nodes) v
+  needs_before k s v b at below c =
+      let row = subst (λ ns. Contains ns v) (needs_stand order.graph order.is s below) (order.alike.back s v c) in
+      symbols_first order.graph nodes order.is order.orders k v b
+      (subst (λ n. Contains (flat_map (stands_for order.graph.symbols (groups_of order.graph)) (needs_in order.graph.rows n)) v) (sym at) row)
 
-module _ (tree : TreeFacts) (given : List (Option UserValue)) (chosen : List (Option SymId)) (order : List ℕ) where
-  -- after i symbols of the order
-  pub record IsFilling (i : ℕ) (values : List (Option Value)) (settled : List (Option (Option SymId))) : Type 0 where
-    pub count : length values ≡ symbol_count tree
-    pub filled : IsFilled order (equations tree (places given chosen)) i (valuation tree values)
-    pub right : AreSettled tree (known_in tree values) chosen settled
-    pub since : (c : ℕ) (x : Option SymId) → slice_index_or settled c None ≡ Some x → (j : ℕ) × (j < i) × (slot tree (get_or order j 0) ≡ In c)
+module _ (tree : TreeFacts) (l : Layout) (given : List (Option UserValue)) (chosen : List (Option SymId)) (nodes : List ℕ) (k : ℕ) (values : List (Option Value)) (contexts : List (Option Tri))
+    (selections : List (Option (Option SymId))) (now : IsFilledTo tree l given chosen nodes k values contexts selections) (b : k < length nodes) where
+  abbrev P : Slot → Option Given
+  P = places given chosen
 
-  module _ (law : DependsOnSymbols) (bools : MembersAreBools tree) (is : Orders (needs tree) order) where
-    equation_seen : (values : List (Option Value)) → length values ≡ symbol_count tree → (s : SymId) (f : Option SymbolFacts) (user : Option Given) →
-        equation tree (known_in tree values) s f user ≡ equation tree (seen tree (valuation tree values)) s f user
-    equation_seen values l s f user =
-        same_equation law tree (known_in tree values) (seen tree (valuation tree values)) s f user
-        (each (λ (t : SymId). known_in tree values t ≡ seen tree (valuation tree values) t) (known_seen tree values l) (names_of tree f))
+  longer : (t : ℕ) → Contains (take k nodes) t → Contains (take (k + 1) nodes) t
+  longer t c = front_longer nodes k (k + 1) t (omega arith) (omega arith) c
 
-    selected_seen : (values : List (Option Value)) → length values ≡ symbol_count tree → (c : ℕ) (user : Option Given) →
-        selected tree (known_in tree values) (choice_at tree c) user ≡ selected tree (seen tree (valuation tree values)) (choice_at tree c) user
-    selected_seen values l c user =
-        same_selected law tree (known_in tree values) (seen tree (valuation tree values)) (choice_at tree c) user
-        (each (λ (t : SymId). known_in tree values t ≡ seen tree (valuation tree values) t) (known_seen tree values l) (names_of_choice tree (choice_at tree c)))
+  -- nothing that is settled reads the next symbol
+  pub unread : AreNamesThere tree l now.order.graph → (s : ℕ) → get_or nodes k 0 ≡ s → s < length l.symbols.items → IsUnreadIn tree l contexts selections s
+  unread names s at below =
+      let symbols = now.order.rows.symbols_are in
+      record {
+        contexts = λ i x e c.
+            let w = in_front nodes k (context_number l i) (omega arith) (now.contexts_among i x e) in
+            let v = names.contexts i s (omega (arith, there contexts i x e, now.context_count)) below c in
+            let before = stands_before tree l nodes now.order w.0 (context_number l i) s (omega (arith, w.1)) w.2 (omega arith) v in
+            not_before tree l nodes now.order k s b (front_longer nodes w.0 k s (omega (arith, w.1)) (omega arith) before) at;
+        selections = λ c x e m.
+            let w = in_front nodes k (choice_number l c) (omega arith) (now.choices_among c x e) in
+            let v = names.choices c s (omega (arith, there selections c x e, now.choice_count)) below m in
+            let before = stands_before tree l nodes now.order w.0 (choice_number l c) s (omega (arith, w.1)) w.2 (omega arith) v in
+            not_before tree l nodes now.order k s b (front_longer nodes w.0 k s (omega (arith, w.1)) (omega arith) before) at;
+      }
 
-    -- a selection reads what each member of its choice needs
-    selection_reads : (i c : ℕ) (user : Option Given) → slot tree i ≡ In c → (V W : ℕ → Known) → ((t : ℕ) → Contains (needs_in (needs tree) i) t → V t ≡ W t) →
-        selected tree (seen tree V) (choice_at tree c) user ≡ selected tree (seen tree W) (choice_at tree c) user
-    selection_reads i c user e V W h =
-        let row = needs_at tree i ∙ ap (defined_numbers tree) (names_in tree i c (facts tree (symbol i)) e) in
-        same_selected law tree (seen tree V) (seen tree W) (choice_at tree c) user
-        (same_seen tree V W (names_of_choice tree (choice_at tree c)) (λ t m. h t (subst (λ ns. Contains ns t) (sym row) m)))
+  -- a symbol is filled
+  pub filled : (id : SymId) (values' : List (Option Value)) → get_or nodes k 0 ≡ id.0 → id.0 < length l.symbols.items → IsUnreadIn tree l contexts selections id.0 →
+      AreFilledValues tree given chosen id values values' → IsFilledTo tree l given chosen nodes (k + 1) values' contexts selections
+  filled id values' at below free f =
+      let symbols = now.order.rows.symbols_are in
+      let same : (j s : ℕ) → j ≤ k → get_or nodes j 0 ≡ s → s < length l.symbols.items → equations tree P s (valuation tree values) ≡ equations tree P s (valuation tree values') =
+      λ j s up is lt. reads_rows depends_on_symbols tree P s (valuation tree values) (valuation tree values') (λ t c.
+      let before = needs_before tree l nodes now.order j s t (omega arith) is (omega arith) c in
+      sym (f.others (symbol t) (λ e.
+      not_before tree l nodes now.order k t b (front_longer nodes j k t up (omega arith) before) (at ∙ sym e))))
+      in
+      record {
+        laid = now.laid;
+        order = now.order;
+        value_count = f.count ∙ now.value_count;
+        context_count = now.context_count;
+        choice_count = now.choice_count;
+        symbols_are = λ s lt c.
+            let count = f.count in
+            elim (front_cases nodes k s b c) [
+              | inl before ↦
+                  let w = in_front nodes k s (omega arith) before in
+                  let other : s ≡ id.0 → ⊥ = λ e. not_before tree l nodes now.order k s b before (at ∙ sym e) in
+                  f.others (symbol s) other ∙ now.symbols_are s (omega arith) before ∙ same w.0 s (omega (arith, w.1)) w.2 (omega (arith, now.value_count))
+              | inr here ↦
+                  let is : id.0 ≡ s = sym at ∙ here in
+                  ap (λ n. known_in tree values' (symbol n)) (sym is) ∙ f.here
+                  ∙ ap (λ n. equations tree P n (valuation tree values)) is ∙ same k s (omega arith) here (omega (arith, now.value_count))
+            ];
+        contexts_among = λ i x e. longer (context_number l i) (now.contexts_among i x e);
+        choices_among = λ c x e. longer (choice_number l c) (now.choices_among c x e);
+        selected_are = λ c x e.
+            now.selected_are c x e
+            ∙ same_selected depends_on_symbols tree (known_in tree values) (known_in tree values') (choice_at tree c) (member_place (slice_index_or chosen c None))
+            (known_but (known_in tree values) (known_in tree values') id f.others (names_of_choice tree (choice_at tree c)) (free.selections c x e));
+      }
 
-    pub id_below : (i : ℕ) → i < length order → get_or order i 0 < symbol_count tree
-    id_below i l = let b = symbol_below (length (needs tree)) (needs_in (needs tree)) order is i l in omega (arith, b, needs_length tree)
+  -- a context is settled
+  pub settled : (i : ℕ) (contexts' : List (Option Tri)) → get_or nodes k 0 ≡ context_number l i → OnlyAt i contexts contexts' → IsFilledTo tree l given chosen nodes (k + 1) values contexts' selections
+  settled i contexts' at only = record {
+    laid = now.laid;
+    order = now.order;
+    value_count = now.value_count;
+    context_count = only.count ∙ now.context_count;
+    choice_count = now.choice_count;
+    symbols_are = λ s lt c.
+        elim (front_cases nodes k s b c) [
+          | inl before ↦ now.symbols_are s lt before
+          | inr here ↦ absurd (omega (arith, at, here, lt, now.value_count))
+        ];
+    contexts_among = λ j x e.
+        elim (cases_eq j i) [
+          | inl same ↦
+              let here : get_or nodes k 0 ≡ context_number l j = at ∙ ap (context_number l) (sym same) in
+              subst (Contains (take (k + 1) nodes)) here (front_has nodes (k + 1) k (omega arith) (omega arith))
+          | inr other ↦ longer (context_number l j) (now.contexts_among j x (sym (only.others j other) ∙ e))
+        ];
+    choices_among = λ c x e. longer (choice_number l c) (now.choices_among c x e);
+    selected_are = now.selected_are;
+  }
 
-    module _ (i : ℕ) (values : List (Option Value)) (settled : List (Option (Option SymId))) (now : IsFilling i values settled) (l : i < length order) (f : SymbolFacts)
-        (at : facts tree (symbol (get_or order i 0)) ≡ Some f) where
-      abbrev Id : ℕ
-      Id = get_or order i 0
+  -- a choice is settled
+  pub chosen_one : (c : ℕ) (selections' : List (Option (Option SymId))) → get_or nodes k 0 ≡ choice_number l c → IsSelection tree values selections' c (slice_index_or chosen c None) →
+      OnlyAt c selections selections' → IsFilledTo tree l given chosen nodes (k + 1) values contexts selections'
+  chosen_one c selections' at right only = record {
+    laid = now.laid;
+    order = now.order;
+    value_count = now.value_count;
+    context_count = now.context_count;
+    choice_count = only.count ∙ now.choice_count;
+    symbols_are = λ s lt m.
+        elim (front_cases nodes k s b m) [
+          | inl before ↦ now.symbols_are s lt before
+          | inr here ↦ absurd (omega (arith, at, here, lt, now.value_count))
+        ];
+    contexts_among = λ i x e. longer (context_number l i) (now.contexts_among i x e);
+    choices_among = λ d x e.
+        elim (cases_eq d c) [
+          | inl same ↦
+              let here : get_or nodes k 0 ≡ choice_number l d = at ∙ ap (choice_number l) (sym same) in
+              subst (Contains (take (k + 1) nodes)) here (front_has nodes (k + 1) k (omega arith) (omega arith))
+          | inr other ↦ longer (choice_number l d) (now.choices_among d x (sym (only.others d other) ∙ e))
+        ];
+    selected_are = λ d.
+        elim (cases_eq d c) [
+          | inl same ↦ subst (λ n. IsSelection tree values selections' n (slice_index_or chosen n None)) (sym same) right
+          | inr other ↦ λ x e. now.selected_are d x (sym (only.others d other) ∙ e)
+        ];
+  }
 
-      value_is : (x : Value) (choice : Option ChoiceId) → f.choice ≡ option_map (λ (k : ChoiceId). k.0) choice →
-          known_value f.kind x ≡ by_choice tree (known_in tree values) (symbol Id) f f.choice (given_for choice (places given chosen (At Id)) chosen) →
-          known_value f.kind x ≡ equations tree (places given chosen) Id (valuation tree values)
-      value_is x choice c e =
-          let place : slot tree Id ≡ slot_by Id f.choice = ap (slot_of_facts Id) at in
-          e
-          ∙ ap (by_choice tree (known_in tree values) (symbol Id) f f.choice) (place_of given chosen Id choice f.choice c ∙ ap (places given chosen) (sym place))
-          ∙ ap (λ o. equation tree (known_in tree values) (symbol Id) o (places given chosen (slot tree Id))) (sym at)
-          ∙ equation_seen values now.count (symbol Id) (facts tree (symbol Id)) (places given chosen (slot tree Id))
+  -- the node of a choice is that of one that there is
+  pub choice_there : (c : ℕ) → get_or nodes k 0 ≡ choice_number l c → c < length selections
+  choice_there c at =
+      let n = node_below tree l nodes now.order k b in
+      omega (arith, n, at, now.order.rows.count, now.choice_count)
 
-      pub step : (x : Value) (settled' : List (Option (Option SymId))) (choice : Option ChoiceId) → f.choice ≡ option_map (λ (k : ChoiceId). k.0) choice →
-          AreSettled tree (known_in tree values) chosen settled' → OnlySettles f.choice settled settled' →
-          known_value f.kind x ≡ by_choice tree (known_in tree values) (symbol Id) f f.choice (given_for choice (places given chosen (At Id)) chosen) →
-          IsFilling (i + 1) (slice_set values Id (Some x)) settled'
-      step x settled' choice c right only e =
-          let values' = slice_set values Id (Some x) in
-          let below : Id < length values = let b = id_below i l in let n = now.count in omega (arith, b, n) in
-          let shape = shaped tree (known_in tree values) (symbol Id) f f.choice _ (name tree (symbol Id)) x (λ d h. bools (symbol Id) f d at h) e in
-          let u = written_at tree values Id f x below at shape in
-          let P = places given chosen in
-          let eqn = value_is x choice c e in
-          let update : IsUpdate (valuation tree values) (valuation tree values') Id (equations tree P Id (valuation tree values)) = record { here = u.here ∙ eqn; others = u.others } in
-          let count : length values' ≡ symbol_count tree = length-set values Id (Some x) ∙ now.count in
-          let since : (d : ℕ) (y : Option SymId) → slice_index_or settled' d None ≡ Some y → (j : ℕ) × (j < i + 1) × (slot tree (get_or order j 0) ≡ In d) =
-          λ d y h.
-          elim (only d y h) [
-            | inl old ↦ let o = now.since d y old in (o.0, omega (arith, o.1), o.2)
-            | inr mine ↦ (i, omega arith, ap (slot_of_facts Id) at ∙ ap (slot_by Id) mine)
-          ]
-          in
-          record {
-            count = count;
-            filled = fill_one (length (needs tree)) (needs_in (needs tree)) order is (equations tree P) (reads_rows law tree P) i (valuation tree values) (valuation tree values') now.filled l update;
-            right = λ d y h.
-                let s = since d y h in
-                right d y h ∙ selected_seen values now.count d (member_given chosen d)
-                ∙ sym (stays_right (length (needs tree)) (needs_in (needs tree)) order is (λ V. selected tree (seen tree V) (choice_at tree d) (member_given chosen d)) i s.0
-                (selection_reads (get_or order s.0 0) d (member_given chosen d) s.2) (valuation tree values) (valuation tree values') _ (omega (arith, s.1)) l update)
-                ∙ sym (selected_seen values' count d (member_given chosen d));
-            since = since;
-          }
+-- an empty list of places holds nothing
+pub empty_at : {A : Type 0} (n i : ℕ) (x : A) → get_or (replicate n None) i None ≡ Some x → ⊥
+empty_at {A} n i x e =
+    let len : length (replicate {A = Option A} n None) ≡ n = length-replicate n None in
+    let l = there (replicate n None) i x e in
+    let none = get_or-replicate {A = Option A} n i None None (omega (arith, l, len)) in
+    cc
 
-    pub done : (values : List (Option Value)) (settled : List (Option (Option SymId))) → IsFilling (length order) values settled →
-        Solves (symbol_count tree) (equations tree (places given chosen)) (valuation tree values)
-    done values settled h =
-        let all = all_filled (length (needs tree)) (needs_in (needs tree)) order is (equations tree (places given chosen)) (valuation tree values) h.filled in
-        subst (λ n. Solves n (equations tree (places given chosen)) (valuation tree values)) (needs_length tree) all
+-- nothing is filled yet
+pub begins : (tree : TreeFacts) (l : Layout) (given : List (Option UserValue)) (chosen : List (Option SymId)) (nodes : List ℕ) (t : Table) → t.tree.now ≡ tree → t.layout.now ≡ l →
+    IsLayoutOf tree l → IsNodeOrder tree l nodes → t.values.items ≡ replicate (symbol_count tree) None → t.contexts.items ≡ replicate (length l.tables.contexts) None →
+    t.selections.items ≡ replicate (length l.tables.choices.items) None → IsFilledTable tree given chosen nodes 0 t
+begins tree l given chosen nodes t same at laid order v c s =
+    let to : IsFilledTo tree l given chosen nodes 0 t.values.items t.contexts.items t.selections.items =
+    record {
+      laid = laid;
+      order = order;
+      value_count = ap length v ∙ length-replicate _ None ∙ ap length laid.symbols ∙ symbols-length l;
+      context_count = ap length c ∙ length-replicate _ None;
+      choice_count = ap length s ∙ length-replicate _ None;
+      symbols_are = λ n lt m. absurd (omega (arith, m.1));
+      contexts_among = λ i x e. absurd (empty_at (length l.tables.contexts) i x (sym (ap (λ xs. get_or xs i None) c) ∙ e));
+      choices_among = λ i x e. absurd (empty_at (length l.tables.choices.items) i x (sym (ap (λ xs. get_or xs i None) s) ∙ e));
+      selected_are = λ i x e. absurd (empty_at (length l.tables.choices.items) i x (sym (ap (λ xs. get_or xs i None) s) ∙ e));
+    }
+    in (same, subst (λ m. IsFilledTo tree m given chosen nodes 0 t.values.items t.contexts.items t.selections.items) (sym at) to)
 
--- the choice of a symbol is one of the tree's
-pub choice_at_most : (tree : TreeFacts) → IsWellFormed tree → (i : ℕ) (f : SymbolFacts) (c : ℕ) → slice_get tree.symbols i ≡ Some f → f.choice ≡ Some c → c < length tree.choices
-choice_at_most tree formed i f c e h = let listed = formed.members_listed i f e c h in slice_get_within tree.choices c listed.0 listed.1
+-- after all nodes the equations hold
+pub solves : (tree : TreeFacts) (l : Layout) (given : List (Option UserValue)) (chosen : List (Option SymId)) (nodes : List ℕ) (values : List (Option Value)) (contexts : List (Option Tri))
+    (selections : List (Option (Option SymId))) → length values ≡ symbol_count tree → IsFilledTo tree l given chosen nodes (length nodes) values contexts selections →
+    Solves (symbol_count tree) (equations tree (places given chosen)) (valuation tree values)
+solves tree l given chosen nodes values contexts selections count done s lt =
+    let n = done.order.is.symbols_there in
+    let c = done.order.orders.all_there s (omega (arith, n, done.order.rows.symbols_are, done.value_count)) in
+    let w = front_has nodes (length nodes) c.0 c.1 (omega arith) in
+    let is : get_or nodes c.0 0 ≡ s = get_or_default nodes c.0 0 s c.1 ∙ c.2 in
+    done.symbols_are s (omega arith) (subst (Contains (take (length nodes) nodes)) is w)
 
-pub choice_below : (tree : TreeFacts) → IsWellFormed tree → (i : ℕ) (f : SymbolFacts) (choice : Option ChoiceId) → slice_get tree.symbols i ≡ Some f →
-    f.choice ≡ option_map (λ (k : ChoiceId). k.0) choice → IfSome choice (λ k. k.0 < length tree.choices)
-choice_below tree formed i f None e h = tt
-choice_below tree formed i f (Some k) e h = choice_at_most tree formed i f k.0 e h
+-- what is settled stays right as a symbol that it does not read is filled
+pub settled_stays : (tree : TreeFacts) (l : Layout) (values values' : List (Option Value)) (contexts : List (Option Tri)) (selections : List (Option (Option SymId))) (id : SymId) →
+    IsUnreadIn tree l contexts selections id.0 → ((s : SymId) → (s.0 ≡ id.0 → ⊥) → known_in tree values' s ≡ known_in tree values s) →
+    AreContextsSettled tree l values contexts → AreContextsSettled tree l values' contexts
+settled_stays tree l values values' contexts selections id free others right i t e =
+    right i t e
+    ∙ ap rank (same_condition depends_on_symbols tree (known_in tree values) (known_in tree values') (condition_in l.tables.contexts i)
+    (known_but (known_in tree values) (known_in tree values') id others (condition_names tree (condition_in l.tables.contexts i)) (free.contexts i t e)))
+
+-- one more node of a table
+module _ (tree : TreeFacts) (given : List (Option UserValue)) (chosen : List (Option SymId)) (nodes : List ℕ) (k : ℕ) (old new : Table) (now : IsFilledTable tree given chosen nodes k old)
+    (b : k < length nodes) where
+  abbrev At : Layout → List (Option Value) → List (Option Tri) → List (Option (Option SymId)) → Type 0
+  At l values contexts selections = IsFilledTo tree l given chosen nodes (k + 1) values contexts selections
+
+  pub symbol_next : AreNamesThere tree old.layout.now now.1.order.graph → (id : SymId) → get_or nodes k 0 ≡ id.0 → id.0 < length old.layout.now.symbols.items →
+      IsFilledSymbol given chosen id old new → IsFilledTable tree given chosen nodes (k + 1) new
+  symbol_next names id at below f =
+      let l = old.layout.now in
+      let free = unread tree l given chosen nodes k old.values.items old.contexts.items old.selections.items now.1 b names id.0 at below in
+      let values = subst (λ u. AreFilledValues u given chosen id old.values.items new.values.items) now.0 f.values in
+      let next = filled tree l given chosen nodes k old.values.items old.contexts.items old.selections.items now.1 b id new.values.items at below free values in
+      let a = subst (λ v. At l new.values.items v.items old.selections.items) (sym f.contexts) next in
+      let c = subst (λ v. At l new.values.items new.contexts.items v.items) (sym f.selections) a in
+      (ap (λ t. t.now) f.keeps.tree ∙ now.0, subst (λ r. At r.now new.values.items new.contexts.items new.selections.items) (sym f.keeps.layout) c)
+
+  pub context_next : (i : ℕ) → get_or nodes k 0 ≡ context_number old.layout.now i → IsSettledContext i old new → IsFilledTable tree given chosen nodes (k + 1) new
+  context_next i at f =
+      let l = old.layout.now in
+      let next = settled tree l given chosen nodes k old.values.items old.contexts.items old.selections.items now.1 b i new.contexts.items at f.contexts in
+      let a = subst (λ v. At l v.items new.contexts.items old.selections.items) (sym f.values) next in
+      let c = subst (λ v. At l new.values.items new.contexts.items v.items) (sym f.selections) a in
+      (ap (λ t. t.now) f.keeps.tree ∙ now.0, subst (λ r. At r.now new.values.items new.contexts.items new.selections.items) (sym f.keeps.layout) c)
+
+  pub choice_next : (i : ℕ) → get_or nodes k 0 ≡ choice_number old.layout.now i → IsSettledChoice chosen i old new → IsFilledTable tree given chosen nodes (k + 1) new
+  choice_next i at f =
+      let l = old.layout.now in
+      let here = subst (λ u. IsSelection u old.values.items new.selections.items i (slice_index_or chosen i None)) now.0 f.here in
+      let next = chosen_one tree l given chosen nodes k old.values.items old.contexts.items old.selections.items now.1 b i new.selections.items at here f.selections in
+      let a = subst (λ v. At l v.items old.contexts.items new.selections.items) (sym f.values) next in
+      let c = subst (λ v. At l new.values.items v.items new.selections.items) (sym f.contexts) a in
+      (ap (λ t. t.now) f.keeps.tree ∙ now.0, subst (λ r. At r.now new.values.items new.contexts.items new.selections.items) (sym f.keeps.layout) c)

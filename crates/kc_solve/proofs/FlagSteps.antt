@@ -17,12 +17,13 @@ use Rattle.kc_values.specs.Solution.{symbol_count, slot, slot_by, slot_of_facts,
 use Rattle.kc_values.proofs.SameValue.{same_value_itself}
 use Rattle.kc_values.proofs.Uncounted.{uncounted}
 use Rattle.kc_values.specs.Differs.{same_value, selection, default_selection, differs, differs_at}
-use Rattle.kc_tree.specs.Facts.{is_symbol_of}
+use Rattle.kc_tree.specs.Words.{is_symbol_of}
 use Rattle.kc_values.specs.Values.{selected, equation, by_choice, by_kind, is_n, visibility}
 use Rattle.kc_values.specs.Written.{written}
 use Rattle.kc_values.specs.declared.table.Value.{Value}
 use Rattle.kc_solve.specs.Flags.{differs_by, is_written, IsSolvedOwn}
-use Rattle.kc_solve.specs.Places.{known_in, valuation}
+use Rattle.kc_solve.specs.Places.{valuation}
+use Rattle.kc_values.specs.Table.{known_in}
 use Rattle.kc_solve.proofs.WarningSteps.{tables_seen}
 
 one_more : {X : Type 0} (f : ℕ → X) (i : ℕ) (x : X) (old new : List X) → old ≡ map f (range_with_len 0 i) → new ≡ old ++ x ∷ [] → x ≡ f i → new ≡ map f (range_with_len 0 (i + 1))

@@ -1,6 +1,9 @@
+pub mod TableSteps
 pub mod FillSteps
+pub mod GroupNames
 pub mod UserSteps
 pub mod WarningSteps
-pub mod ShownSteps
 pub mod FlagSteps
+pub mod OrderSteps
 pub mod SolvedSteps
+pub mod ShownSteps

@@ -1,94 +1,92 @@
--- The visibility of one more symbol, found at its turn.
-use Rattle.std.proofs.Common.{◌≡◌, ◌≢◌, ℕ, ◌<◌, ◌+◌, List, length, Option, Some, None, sym, ◌∙◌, ap, inl, inr, refl, subst, arith, eqb, get_or, get_or-set_same, get_or-set_other}
-use Rattle.std.specs.Prelude.{slice_set}
-use Rattle.std.proofs.lemmas.Bool.{cases_lt, eqb-false}
-use Rattle.std.proofs.lemmas.List.{get_or_default, length-set}
-use Rattle.std.proofs.lemmas.Map.Keys.{apart_from_distinct}
-use Rattle.std.proofs.lemmas.Option.{slice_get_within}
-use Rattle.kc_expr.specs.Names.{symbol}
-use Rattle.kc_expr.specs.Value.{known_of}
+-- When the entry at a place is shown.
+use Rattle.std.proofs.Common.{◌≡◌, ℕ, Option, Some, None, refl, sym, ◌∙◌, ap, subst, arith, length, List}
+use Rattle.std.proofs.Math.Logic.{∥∥₁_elim}
+use Rattle.std.specs.Prelude.{slice_get}
+use Rattle.std.specs.Borrow.{Bor}
+use Rattle.std.specs.Option.{option_map}
+use Rattle.std.proofs.lemmas.Option.{slice_get-map}
+use base.Stored.{Coded-set}
+use Rattle.kc_expr.specs.contracts.expression.Tri as tri_row
 use Rattle.kc_expr.specs.declared.expression.Tri.{Tri}
-use Rattle.kc_expr.specs.declared.expression.Tri.TheVariants.{N}
-use Rattle.kc_expr.specs.declared.expression.Kind.TheVariants.{Undefined}
-use Rattle.kc_order.specs.Needs.{needs_in}
-use Rattle.kc_order.specs.Order.{Orders}
-use Rattle.kc_order.specs.Solution.{IsUpdate}
-use Rattle.kc_order.proofs.ByOrder.{symbol_below, stays_right}
-use Rattle.kc_tree.specs.TreeFacts.{SymbolFacts, TreeFacts, IsWellFormed}
-use Rattle.kc_values.specs.Laws.{VisibilityReadsNeeds}
-use Rattle.kc_values.specs.Lookups.{facts, name}
-use Rattle.kc_values.specs.Needs.{needs}
-use Rattle.kc_values.specs.Solution.{symbol_count, seen}
-use Rattle.kc_values.specs.Table.{kind_in, tri_in, text_in}
-use Rattle.kc_values.specs.Values.{visibility}
-use Rattle.kc_values.specs.declared.table.Value.{Value}
-use Rattle.kc_values.proofs.TreeNeeds.{needs_length}
-use Rattle.kc_solve.specs.Places.{known_in, valuation}
-use Rattle.kc_solve.specs.Shown.{AreShown}
-use Rattle.kc_solve.proofs.WarningSteps.{tables_seen}
+use Rattle.kc_expr.specs.declared.expression.Tri.TheVariants.{Y}
+use Rattle.kc_tree.specs.Contexts.{IsContext, IsPlain, condition_in, top}
+use Rattle.kc_tree.specs.Layouts.{shown_of, shown_when, title_condition}
+use Rattle.kc_tree.specs.TreeFacts.{Condition, TreeFacts}
+use Rattle.kc_tree.specs.declared.layout.Layout.{Layout}
+use Rattle.kc_tree.specs.declared.parts.Context.{Context}
+use Rattle.kc_tree.specs.declared.parts.Entry.{Entry}
+use Rattle.kc_tree.specs.declared.parts.Entry.TheVariants as entry
+use Rattle.kc_tree.specs.declared.parts.Title.{Title}
+use Rattle.kc_expr.specs.Value.{Known}
+use Rattle.kc_expr.specs.declared.expression.SymId.{SymId}
+use Rattle.kc_user.specs.Places.{Places}
+use Rattle.kc_values.specs.Known.{known_at}
+use Rattle.kc_values.specs.Solution.{symbol_count}
+use Rattle.kc_values.specs.Values.{condition}
+use Rattle.kc_values.specs.declared.table.Table.{Table}
+use Rattle.kc_solve.specs.Solved.{Solution, known, shown, solution_in}
+use Rattle.kc_solve.specs.Titles.{entry_title}
+use Rattle.kc_solve.proofs.SolvedSteps.{table_tells}
 
-some_same : {X : Type 0} (a b : X) → Some a ≡ Some b → a ≡ b
-some_same a b e = cc
+never : {X : Type 0} (x : X) → None ≡ Some x → ⊥
+never x h = cc
 
--- one place written, and no other
-only_there : (tree : TreeFacts) (values : List (Option Value)) (i : ℕ) (x : Value) →
-    IsUpdate (valuation tree values) (valuation tree (slice_set values i (Some x))) i (valuation tree (slice_set values i (Some x)) i)
-only_there tree values i x = record {
-  here = refl;
-  others = λ t ne. ap (λ o. known_of (kind_in (facts tree (symbol t))) (tri_in o) (text_in o (name tree (symbol t)))) (get_or-set_other values i t (Some x) None ne);
-}
+none_some : {X Z : Type 0} (x : X) → None ≡ Some x → Z
+none_some x e = absurd (never x e)
 
-module _ (tree : TreeFacts) (order : List ℕ) where
-  -- after i symbols of the order, the visibility of each that has a type
-  pub record IsSeen (i : ℕ) (values : List (Option Value)) (shown : List Tri) : Type 0 where
-    pub count : length shown ≡ symbol_count tree
-    pub each : (j : ℕ) (f : SymbolFacts) → j < i → j < length order → facts tree (symbol (get_or order j 0)) ≡ Some f → f.kind ≢ Undefined →
-        get_or shown (get_or order j 0) N ≡ visibility tree (known_in tree values) f
+module _ (l : Layout) where
+  -- no mode counts in what the menus round a title ask of what is visible
+  pub title_plain : (o : Option Entry) (title : Title) → entry_title l o ≡ Some title → IsPlain l.tables.contexts title.visible.0
+  title_plain None title e = none_some title e
+  title_plain (Some (entry.Symbol s)) title e = none_some title e
+  title_plain (Some (entry.Menu id)) title e = l.tables.titles_plain id.0 title e
+  title_plain (Some (entry.End menu)) title e = none_some title e
+  title_plain (Some (entry.Comment id)) title e = l.tables.titles_plain id.0 title e
 
-  module _ (law : VisibilityReadsNeeds) (formed : IsWellFormed tree) (is : Orders (needs tree) order) where
-    differ : (j i : ℕ) → j < i → i < length order → get_or order j 0 ≢ get_or order i 0
-    differ j i l b = eqb-false (get_or order j 0) (get_or order i 0) (apart_from_distinct eqb order j i 0 is.apart l b)
+  module _ (s : Solution) where
+    pub shown_title : (o : Option Entry) (title : Title) (t : Tri) → entry_title l o ≡ Some title → t ≡ condition s.tree (known s) (title_condition l.tables title) →
+        t ≡ shown s (option_map (shown_of l.tables) o)
+    shown_title None title t e h = none_some title e
+    shown_title (Some (entry.Symbol x)) title t e h = none_some title e
+    shown_title (Some (entry.Menu id)) title t e h = h ∙ ap (λ w. condition s.tree (known s) (shown_when l.tables w)) (sym e)
+    shown_title (Some (entry.End menu)) title t e h = none_some title e
+    shown_title (Some (entry.Comment id)) title t e h = h ∙ ap (λ w. condition s.tree (known s) (shown_when l.tables w)) (sym e)
 
-    -- the visibility of a symbol that stands up to i stays when the value at i is written
-    stays : (i j : ℕ) (values : List (Option Value)) (x : Value) (f : SymbolFacts) → length values ≡ symbol_count tree → j < i + 1 → i < length order →
-        facts tree (symbol (get_or order j 0)) ≡ Some f → f.kind ≢ Undefined →
-        visibility tree (known_in tree values) f ≡ visibility tree (known_in tree (slice_set values (get_or order i 0) (Some x))) f
-    stays i j values x f count b l at typed =
-        let id = get_or order i 0 in
-        let values' = slice_set values id (Some x) in
-        ap (λ k. visibility tree k f) (tables_seen tree values count)
-        ∙ sym (stays_right (length (needs tree)) (needs_in (needs tree)) order is (λ V. visibility tree (seen tree V) f) i j
-        (λ V W h. law tree (get_or order j 0) f V W formed at typed h) (valuation tree values) (valuation tree values') _ (omega arith) l (only_there tree values id x))
-        ∙ sym (ap (λ k. visibility tree k f) (tables_seen tree values' (length-set values id (Some x) ∙ count)))
+    always : (w : Option Title) → w ≡ None → condition_in l.tables.contexts 0 ≡ top → Y ≡ condition s.tree (known s) (shown_when l.tables w)
+    always w e h = sym (ap (λ x. condition s.tree (known s) (shown_when l.tables x)) e ∙ ap (condition s.tree (known s)) h)
 
-    pub one_more_seen : (i : ℕ) (values : List (Option Value)) (shown : List Tri) (x : Value) (v : Tri) (f : SymbolFacts) → length values ≡ symbol_count tree → i < length order →
-        facts tree (symbol (get_or order i 0)) ≡ Some f → v ≡ visibility tree (known_in tree values) f → IsSeen i values shown →
-        IsSeen (i + 1) (slice_set values (get_or order i 0) (Some x)) (slice_set shown (get_or order i 0) v)
-    one_more_seen i values shown x v f count l at is_v before =
-        let id = get_or order i 0 in
-        let below : id < length shown =
-        let b = symbol_below (length (needs tree)) (needs_in (needs tree)) order is i l in omega (arith, b, needs_length tree, before.count)
-        in
-        record {
-          count = length-set shown id v ∙ before.count;
-          each = λ j g b b' there typed.
-              elim (cases_lt j i) [
-                | inl earlier ↦
-                    get_or-set_other shown id (get_or order j 0) v N (differ j i earlier l) ∙ before.each j g earlier b' there typed ∙ stays i j values x g count b l there typed
-                | inr last ↦
-                    let same : j ≡ i = omega arith in
-                    let mine : f ≡ g = some_same f g (sym at ∙ ap (λ m. facts tree (symbol (get_or order m 0))) (sym same) ∙ there) in
-                    ap (λ m. get_or (slice_set shown id v) (get_or order m 0) N) same ∙ get_or-set_same shown id v N below ∙ is_v ∙ ap (visibility tree (known_in tree values)) mine
-                    ∙ stays i j values x g count b l there typed
-              ];
-        }
+    pub shown_always : (o : Option Entry) → entry_title l o ≡ None → condition_in l.tables.contexts 0 ≡ top → Y ≡ shown s (option_map (shown_of l.tables) o)
+    shown_always None e h = refl
+    shown_always (Some (entry.Symbol x)) e h = refl
+    shown_always (Some (entry.Menu id)) e h = always _ e h
+    shown_always (Some (entry.End menu)) e h = refl
+    shown_always (Some (entry.Comment id)) e h = always _ e h
 
-    pub all_seen : (values : List (Option Value)) (shown : List Tri) → IsSeen (length order) values shown → AreShown tree (known_in tree values) shown
-    all_seen values shown h = record {
-      count = h.count;
-      each = λ s f at typed.
-          let l = slice_get_within tree.symbols s f at in
-          let c = is.all_there s (omega (arith, l, needs_length tree)) in
-          let e : get_or order c.0 0 ≡ s = get_or_default order c.0 0 s c.1 ∙ c.2 in
-          subst (λ n. facts tree (symbol n) ≡ Some f → get_or shown n N ≡ visibility tree (known_in tree values) f) e (λ there. h.each c.0 f c.1 c.1 there typed) at;
-    }
+-- the entry at a place of a table's tree, by the rows
+pub shown_at : (t : Table) (s : Solution) (place : ℕ) (x : Tri) → s.tree ≡ t.tree.now → x ≡ shown s (option_map (shown_of t.layout.now.tables) (slice_get t.layout.now.tables.entries.items place)) →
+    x ≡ shown s (slice_get s.tree.entries place)
+shown_at t s place x same h =
+    ∥∥₁_elim t.laid (Coded-set tri_row.the_row.coded _ _) (λ laid.
+    h ∙ ap (shown s) (sym (ap (λ (u : TreeFacts). slice_get u.entries place) same ∙ ap (λ es. slice_get es place) laid.entries
+    ∙ slice_get-map (shown_of t.layout.now.tables) t.layout.now.tables.entries.items place)))
+
+-- nothing is asked for at the top
+pub top_is : (conditions : List Condition) (o : Option (Bor Context)) → IsContext conditions 0 o → condition_in conditions 0 ≡ top
+top_is conditions None e = e
+top_is conditions (Some c) step = absurd (omega (arith, step.smaller))
+
+module _ (t : Table) (u : Places) (s : Solution) (e : solution_in t.tree.now u t.values.items ≡ s) (place : ℕ) where
+  abbrev Row : Option Entry
+  Row = slice_get t.layout.now.tables.entries.items place
+
+  pub shown_here : length t.values.items ≡ symbol_count t.tree.now → (title : Title) (x : Tri) → entry_title t.layout.now Row ≡ Some title →
+      x ≡ condition t.tree.now (known_at t) (title_condition t.layout.now.tables title) → x ≡ shown s (slice_get s.tree.entries place)
+  shown_here full title x at h =
+      let mine = solution_in t.tree.now u t.values.items in
+      let told = h ∙ ap (λ (k : SymId → Known). condition t.tree.now k (title_condition t.layout.now.tables title)) (table_tells t.tree.now u t.values.items full) in
+      subst (λ (y : Solution). x ≡ shown y (slice_get y.tree.entries place)) e (shown_at t mine place x refl (shown_title t.layout.now mine Row title x at told))
+
+  pub shown_nothing : entry_title t.layout.now Row ≡ None → condition_in t.layout.now.tables.contexts 0 ≡ top → Y ≡ shown s (slice_get s.tree.entries place)
+  shown_nothing at h =
+      let mine = solution_in t.tree.now u t.values.items in
+      subst (λ (y : Solution). Y ≡ shown y (slice_get y.tree.entries place)) e (shown_at t mine place Y refl (shown_always t.layout.now mine Row at h))

@@ -10,6 +10,7 @@ use Rattle.kc_expr.specs.Names.{symbol}
 use Rattle.kc_expr.specs.Value.{Known, Written, known_of, truth_of_known, text_of_known}
 use Rattle.kc_expr.specs.declared.expression.SymId.{SymId}
 use Rattle.kc_expr.specs.declared.expression.Tri.{Tri}
+use Rattle.kc_expr.specs.declared.expression.Tri.TheVariants.{N}
 use Rattle.kc_expr.specs.declared.expression.Kind.{Kind}
 use Rattle.kc_expr.specs.declared.expression.Kind.TheVariants.{Undefined, Bool as IsBool, Tristate, Str, Int, Hex}
 use Rattle.kc_order.specs.Solution.{Solves, IsOnlySolution}
@@ -21,14 +22,15 @@ use Rattle.kc_values.specs.Laws.{MinimalRestores, MinimalHasNothingToSpare, Sett
 use Rattle.kc_values.specs.Lookups.{choice_at, is_defined, facts, name}
 use Rattle.kc_values.specs.Solution.{equations, rhs, seen, slot, symbol_count}
 use Rattle.kc_values.specs.Table.{kind_in, value_in, tri_in, text_in}
-use Rattle.kc_tree.specs.Facts.{is_symbol_of}
+use Rattle.kc_tree.specs.Words.{is_symbol_of}
 use Rattle.kc_values.specs.Values.{equation, selected, visibility}
 use Rattle.kc_values.specs.Warnings.{warnings_of}
 use Rattle.kc_values.specs.Written as writing
 use Rattle.kc_values.specs.declared.table.Value.{Value}
 use Rattle.kc_solve.proofs.WarningSteps.{tables_seen}
 use Rattle.kc_solve.specs.Flags.{is_written}
-use Rattle.kc_solve.specs.Places.{known_in, valuation}
+use Rattle.kc_solve.specs.Places.{valuation}
+use Rattle.kc_values.specs.Table.{known_in}
 use Rattle.kc_solve.specs.Solved as solved
 use Rattle.kc_solve.specs.Solved.{IsMinimal, IsSolution, IsSolved, SettledWhere, Solution, TellsKnown, known, solution_in, value_of}
 
@@ -100,6 +102,10 @@ module _ (tree : TreeFacts) (places : Places) (values : List (Option Value)) whe
   visible_is full s e id f t at h =
       subst (λ (y : Solution). t ≡ solved.visibility y id) e
       (h ∙ ap (λ (k : SymId → Known). visibility tree k f) (table_tells full) ∙ ap (solved.visibility_by (solution_in tree places values)) at)
+
+  pub not_visible : (s : Solution) (e : solution_in tree places values ≡ s) (id : SymId) → facts tree id ≡ None → N ≡ solved.visibility s id
+  not_visible s e id none =
+      subst (λ (y : Solution). N ≡ solved.visibility y id) e (sym (ap (solved.visibility_by (solution_in tree places values)) none))
 
   module _ (chosen defaults : List (Option SymId)) (differing written : List Bool) (lines : List (List ℕ)) (is : IsSolved tree places values chosen defaults differing written lines) where
     pub is_solution : IsSolution (solution_in tree places values)

@@ -8,9 +8,10 @@ use Rattle.kc_user.specs.Given.{At, Given}
 use Rattle.kc_values.specs.Solution.{symbol_count, seen}
 use Rattle.kc_values.specs.Warnings.{warnings_of, warnings_at}
 use Rattle.kc_values.specs.declared.table.Value.{Value}
-use Rattle.kc_solve.specs.Places.{known_in, valuation}
+use Rattle.kc_solve.specs.Places.{valuation}
+use Rattle.kc_values.specs.Table.{known_in}
 use Rattle.kc_user.specs.Places.{Places, place_at}
-use Rattle.kc_solve.proofs.FillSteps.{known_seen}
+use Rattle.kc_solve.proofs.TableSteps.{known_seen}
 
 -- what a full table tells of each symbol and name is what its valuation says
 pub tables_seen : (tree : TreeFacts) (values : List (Option Value)) → length values ≡ symbol_count tree → known_in tree values ≡ seen tree (valuation tree values)

@@ -1,7 +1,9 @@
 pub mod Places
 pub mod LoopText
 pub mod Refused
-pub mod Shown
 pub mod Flags
 pub mod Solved
 pub mod SolutionCode
+pub mod Filling
+pub mod Graphs
+pub mod Titles

@@ -1,14 +1,13 @@
 -- Trusted: A user's places as lists, and the valuation that a table holds.
 use Rattle.std.specs.Prelude.{ℕ, List, Option, Some, None, slice_index_or}
 use Rattle.kc_expr.specs.Names.{symbol}
-use Rattle.kc_expr.specs.Value.{Known, known_of}
+use Rattle.kc_expr.specs.Value.{Known}
 use Rattle.kc_expr.specs.declared.expression.SymId.{SymId}
 use Rattle.kc_tree.specs.TreeFacts.{TreeFacts}
-use Rattle.kc_values.specs.Lookups.{facts, name}
 use Rattle.kc_user.specs.Given.{Given, Slot, At, In}
 use Rattle.kc_user.specs.ValueView.{given_of_value}
 use Rattle.kc_values.specs.Selections.{member_given}
-use Rattle.kc_values.specs.Table.{kind_in, value_in, tri_in, text_in}
+use Rattle.kc_values.specs.Table.{known_in}
 use Rattle.kc_values.specs.declared.table.Value.{Value}
 use Rattle.kc_user.specs.declared.value.UserValue.{UserValue}
 
@@ -20,10 +19,6 @@ given_at (Some u) = Some (given_of_value u)
 abbrev pub places : List (Option UserValue) → List (Option SymId) → Slot → Option Given
 places given chosen (At i) = given_at (slice_index_or given i None)
 places given chosen (In c) = member_given chosen c
-
--- what a table tells of each symbol
-abbrev pub known_in : TreeFacts → List (Option Value) → SymId → Known
-known_in tree values s = known_of (kind_in (facts tree s)) (tri_in (value_in values s)) (text_in (value_in values s) (name tree s))
 
 -- the valuation by number
 abbrev pub valuation : TreeFacts → List (Option Value) → ℕ → Known

@@ -5,12 +5,12 @@ use Rattle.kc_expr.specs.Names.{symbol}
 use Rattle.kc_expr.specs.Value.{Known, Written, known_by, truth_of_known, text_of_known}
 use Rattle.kc_expr.specs.declared.expression.SymId.{SymId}
 use Rattle.kc_expr.specs.declared.expression.Tri.{Tri}
-use Rattle.kc_expr.specs.declared.expression.Tri.TheVariants.{N}
+use Rattle.kc_expr.specs.declared.expression.Tri.TheVariants.{N, Y}
 use Rattle.kc_expr.specs.declared.expression.Kind.{Kind}
 use Rattle.kc_expr.specs.declared.expression.Kind.TheVariants.{Undefined}
 use Rattle.kc_order.specs.Minimal.{Restores, NothingCanGo}
 use Rattle.kc_order.specs.Solution.{Solves, IsOnlySolution}
-use Rattle.kc_tree.specs.TreeFacts.{Condition, SymbolFacts, TreeFacts}
+use Rattle.kc_tree.specs.TreeFacts.{Condition, SymbolFacts, TreeFacts, Shown, SymbolShown, MenuShown, EndShown, CommentShown}
 use Rattle.kc_user.specs.Given.{Slot}
 use Rattle.kc_user.specs.Places.{IsUserOf, Places, place_at}
 use Rattle.kc_values.specs.Differs as values
@@ -71,6 +71,14 @@ visibility s id = visibility_by s (facts s.tree id)
 -- what a condition is worth
 abbrev pub truth : Solution → Condition → Tri
 truth s when = value.condition s.tree (known s) when
+
+-- when an entry is shown: a menu or comment under its condition
+abbrev pub shown : Solution → Option Shown → Tri
+shown s None = Y
+shown s (Some (SymbolShown id)) = Y
+shown s (Some (MenuShown text when)) = truth s when
+shown s (Some (EndShown menu)) = Y
+shown s (Some (CommentShown text when)) = truth s when
 
 -- whether a symbol has a line in the .config
 abbrev pub written : Solution → SymId → Bool

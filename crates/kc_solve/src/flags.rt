@@ -1,28 +1,28 @@
 //! What each choice selects, and what is said of each symbol, under the values of a full table.
 
-ghost use Rattle.std.specs.Prelude.{◌≡◌, ◌<◌, false, length, map, slice_get, slice_index_or, Some, None, IfOk, IfSome};
+ghost use Rattle.std.specs.Prelude.{◌≡◌, ◌<◌, false, length, map, slice_index_or, None, IfOk, IfSome};
 ghost use Rattle.std.specs.List.{range_with_len};
 ghost use Rattle.kc_order.specs.Solution.{Solves};
 ghost use Rattle.kc_solve.specs.Flags as flag;
 ghost use Rattle.kc_solve.specs.Flags.{IsSolvedOwn};
-ghost use Rattle.kc_solve.specs.Places.{known_in, valuation};
-ghost use Rattle.kc_solve.specs.Shown.{AreShown};
+ghost use Rattle.kc_solve.specs.Places.{valuation};
 ghost use Rattle.kc_user.specs.Places.{IsUserOf, place_at};
-ghost use Rattle.kc_tree.specs.Views.{facts_of};
+ghost use Rattle.kc_tree.specs.Layouts.{facts_of};
 ghost use Rattle.kc_values.specs.Differs as spec;
 ghost use Rattle.kc_values.specs.Solution.{symbol_count, equations};
+ghost use Rattle.kc_values.specs.Known.{known_at, IsRowOf};
 ghost use Rattle.kc_values.specs.User.{place};
 ghost use Rattle.kc_values.specs.Values as value;
 ghost use Rattle.kc_values.specs.Warnings.{value_warnings};
 
-use crate::fill::symbol_facts;
-use kc_expr::expression::{Kind, SymId, Tri};
+use crate::fill::symbol_row;
+use kc_expr::expression::{SymId, Tri};
 use kc_tree::parts::{ChoiceId, Symbol};
 use kc_tree::tree::Tree;
 use kc_user::user::User;
 use kc_user::value::UserValue;
+use kc_values::choices::selected_in;
 use kc_values::differs::{can_count, member_differs, own_differs};
-use kc_values::members::selected_in;
 use kc_values::table::Table;
 use kc_values::truths::visibility;
 use kc_values::warnings::warnings_into;
@@ -50,7 +50,7 @@ pub fn selections(
     let mut selected = Vec::with_capacity(alloc, count)?;
     for c in 0..count {
         let choice = ChoiceId(c);
-        selected.push(selected_in(table.tree, choice, user.selected(choice), table))?;
+        selected.push(selected_in(table, choice, user.selected(choice)))?;
     }
     Ok(selected)
 }
@@ -63,7 +63,7 @@ pub fn default_selections(alloc: Global, table: &Table) -> Result<Vec<Option<Sym
     let count = choice_count(table.tree);
     let mut selected = Vec::with_capacity(alloc, count)?;
     for c in 0..count {
-        selected.push(selected_in(table.tree, ChoiceId(c), None, table))?;
+        selected.push(selected_in(table, ChoiceId(c), None))?;
     }
     Ok(selected)
 }
@@ -83,19 +83,6 @@ pub(crate) fn at_symbol(flags: &[bool], id: SymId) -> bool
     id.0 < flags.len() && flags[id.0]
 }
 
-// The visibility of a symbol under a full table. That of one without a type is looked at here: such a symbol needs nothing, so
-// that what its prompts read may have had no value at its turn.
-fn shown_now(table: &Table, id: SymId, symbol: &Symbol, visibilities: &[Tri]) -> Tri
-    requires facts { slice_get table.now.tree.now.symbols id.0 ≡ Some (facts_of symbol.now) }
-    requires visibilities { AreShown table.now.tree.now (known_in table.now.tree.now table.now.values.items) visibilities.now }
-    ensures { result ≡ value.visibility table.now.tree.now (known_in table.now.tree.now table.now.values.items) (facts_of symbol.now) }
-{
-    match symbol.kind {
-        Kind::Undefined => visibility(table.tree, symbol, table),
-        _ => visibilities[id.0],
-    }
-}
-
 // Whether a symbol differs. One for which nothing counts that was given does not: its value is what its equation gives
 // without it.
 fn symbol_differs(
@@ -108,12 +95,12 @@ fn symbol_differs(
     selections: &[Option<SymId>],
     defaults: &[Option<SymId>],
 ) -> Result<bool, AllocError>
-    requires facts { slice_get table.now.tree.now.symbols id.0 ≡ Some (facts_of symbol.now) }
+    requires row { IsRowOf table.now id symbol.now }
     requires selections { IfSome symbol.now.choice (λ c. c.0 < length selections.now) }
     requires defaults { IfSome symbol.now.choice (λ c. c.0 < length defaults.now) }
-    requires shown { shown ≡ value.visibility table.now.tree.now (known_in table.now.tree.now table.now.values.items) (facts_of symbol.now) }
-    requires solved { IsSolvedOwn table.now.tree.now (known_in table.now.tree.now table.now.values.items) id (facts_of symbol.now) (facts_of symbol.now).choice (place user) }
-    ensures { IfOk result (λ b. b ≡ flag.differs_by table.now.tree.now (known_in table.now.tree.now table.now.values.items) id (facts_of symbol.now) (facts_of symbol.now).choice selections.now defaults.now) }
+    requires shown { shown ≡ value.visibility table.now.tree.now (known_at table.now) (facts_of table.now.layout.now id.0 symbol.now) }
+    requires solved { IsSolvedOwn table.now.tree.now (known_at table.now) id (facts_of table.now.layout.now id.0 symbol.now) (facts_of table.now.layout.now id.0 symbol.now).choice (place user) }
+    ensures { IfOk result (λ b. b ≡ flag.differs_by table.now.tree.now (known_at table.now) id (facts_of table.now.layout.now id.0 symbol.now) (facts_of table.now.layout.now id.0 symbol.now).choice selections.now defaults.now) }
 {
     match symbol.choice {
         Some(choice) => Ok(member_differs(
@@ -123,7 +110,7 @@ fn symbol_differs(
         )),
         None => {
             if can_count(user, shown) {
-                own_differs(alloc, table.tree, id, symbol, shown, table)
+                own_differs(alloc, table, id, symbol)
             } else {
                 Ok(false)
             }
@@ -143,20 +130,18 @@ pub struct Flags {
     pub warnings: Vec<Vec<u8>>,
 }
 
-/// What the values of a full table that solves say of the symbols under a user's places of that tree, with the visibilities
-/// and the selections under them. Each symbol is looked at once.
+/// What the values of a full table that solves say of the symbols under a user's places of that tree, with the selections
+/// under them. Each symbol is looked at once, and its visibility serves all that asks for it.
 pub fn flags_of(
     alloc: Global,
     table: &Table,
     user: &User,
-    visibilities: &[Tri],
     selections: &[Option<SymId>],
     defaults: &[Option<SymId>],
 ) -> Result<Flags, AllocError>
     requires full { length table.now.values.items ≡ symbol_count table.now.tree.now }
     requires user { IsUserOf table.now.tree.now user.now }
     requires solves { Solves (symbol_count table.now.tree.now) (equations table.now.tree.now (place_at user.now)) (valuation table.now.tree.now table.now.values.items) }
-    requires visibilities { AreShown table.now.tree.now (known_in table.now.tree.now table.now.values.items) visibilities.now }
     requires selections { selections.now ≡ map (spec.selection table.now.tree.now (place_at user.now) (valuation table.now.tree.now table.now.values.items)) (range_with_len 0 (length table.now.tree.now.choices)) }
     requires defaults { defaults.now ≡ map (spec.default_selection table.now.tree.now (valuation table.now.tree.now table.now.values.items)) (range_with_len 0 (length table.now.tree.now.choices)) }
     ensures differing { IfOk result (λ f. f.differing.items ≡ map (spec.differs table.now.tree.now (place_at user.now) (valuation table.now.tree.now table.now.values.items)) (range_with_len 0 (symbol_count table.now.tree.now))) }
@@ -169,22 +154,13 @@ pub fn flags_of(
     let mut warnings = Vec::new(alloc);
     for i in 0..count {
         let id = SymId(i);
-        let symbol = symbol_facts(table.tree, id);
+        let symbol = symbol_row(table.layout, id);
         let own = user.get(id);
-        let shown = shown_now(table, id, symbol, visibilities);
+        let shown = visibility(table, symbol);
         let differs = symbol_differs(alloc, table, id, symbol, own, shown, selections, defaults)?;
         differing.push(differs)?;
-        written.push(is_written(table.tree, symbol, shown, table))?;
-        warnings_into(
-            alloc,
-            table.tree,
-            id,
-            symbol,
-            shown,
-            own,
-            table,
-            &mut warnings,
-        )?;
+        written.push(is_written(table, id, symbol, shown))?;
+        warnings_into(alloc, table, id, symbol, shown, own, &mut warnings)?;
     }
     Ok(Flags {
         differing,

@@ -6,14 +6,17 @@ ghost use Rattle.kc_order.specs.Order.{Orders};
 ghost use Rattle.kc_read.specs.Steps.{IsMemory, out_of_memory, refusal_view};
 ghost use Rattle.kc_read.specs.declared.refusal.Code.TheVariants.{Memory};
 ghost use Rattle.kc_solve.specs.LoopText.{arrows, loop_text};
+ghost use Rattle.kc_solve.specs.Graphs.{IsGraphOf};
 ghost use Rattle.kc_solve.specs.Refused as refused;
 ghost use Rattle.kc_solve.specs.Refused.{IsNamed, NamesLoop};
+ghost use Rattle.kc_tree.specs.Layouts.{IsLayoutOf};
 ghost use Rattle.kc_values.specs.Laws.{IsAccepted};
 ghost use Rattle.kc_values.specs.Needs.{needs};
 
 use kc_expr::expression::SymId;
-use kc_order::{NoOrder, order_of};
+use kc_order::{NoOrder, alike_needs, order_of};
 use kc_read::refusal::{Code, Refusal};
+use kc_tree::layout::Layout;
 use kc_tree::tree::Tree;
 use kc_values::laws::needs_are_defined;
 use kc_values::lookups::name;
@@ -21,23 +24,23 @@ use kc_values::needs::tree_needs;
 use std::alloc::{AllocError, Global};
 use std::marker::Model;
 
-/// All symbols of a tree in an order in which what each needs stands before it. What it shows is the needs that it was
-/// made for (our own; the kernel's kconfig-language document asks of a tree that its dependencies don't recur).
+/// All symbols of a tree in an order in which what each needs stands before it, with the contexts and choices between them. What
+/// it shows is the graph of needs that it was made for (our own; the kernel's kconfig-language document asks of a tree that its dependencies don't recur).
 #[derive(Drop)]
 pub struct Order {
     inner: kc_order::Order,
 }
 
 impl Model for Order {
-    ghost use Rattle.std.specs.Prelude.{ℕ, List};
+    ghost use Rattle.kc_order.specs.Graph.{Nodes};
 
-    ghost Value = { List (List ℕ) };
+    ghost Value = { Nodes };
 
     ghost view = { λ o. o.inner };
 }
 
 impl Order {
-    /// An order of the tree's symbols.
+    /// An order of the tree's symbols. The caller owes the layout of that tree.
     ///
     /// # Errors
     ///
@@ -45,25 +48,26 @@ impl Order {
     /// detail is the loop that is named: the names of its symbols and its first again, joined by ` -> `, where the walk
     /// goes from the first stuck symbol always on to the first stuck symbol that is needed (our own rule). `Memory`
     /// where no memory was to be had.
-    pub fn of(alloc: Global, tree: &Tree) -> Result<Order, Refusal>
-        ensures same { IfOk result (λ o. o ≡ needs tree.now) }
+    pub fn of(alloc: Global, tree: &Tree, layout: &Layout) -> Result<Order, Refusal>
+        requires { IsLayoutOf tree.now layout.now }
+        ensures same { IfOk result (IsGraphOf tree.now layout.now) }
         ensures accepted { OnOk result (IsAccepted tree.now) }
         ensures stuck { IfErr result (λ r. r.code ≢ Memory → SomeStuck (length (needs tree.now)) (needs_in (needs tree.now))) }
         ensures refused { IfErr result (NamesLoop tree.now) }
         ensures memory { IfErr result IsMemory }
     {
-        match tree_order(alloc, tree) {
+        match tree_order(alloc, tree, layout) {
             Ok(inner) => Ok(Order { inner }),
             Err(LoopFault::Loop(text)) => Err(loop_refusal(text)),
             Err(LoopFault::Memory) => Err(memory(alloc)),
         }
     }
 
-    /// The symbols in order, by number.
-    pub fn symbols(&self) -> &[u32]
-        ensures { Orders self.now result.now }
+    /// The nodes of the graph of needs in order, by number: the symbols, and the contexts and choices between them.
+    pub fn nodes(&self) -> &[u32]
+        ensures { Orders self.now.rows result.now }
     {
-        self.inner.symbols()
+        self.inner.nodes()
     }
 }
 
@@ -136,14 +140,16 @@ fn loop_text(alloc: Global, tree: &Tree, symbols: &[u32]) -> Result<Vec<u8>, All
 
 // An order of the symbols of a tree in which what each needs stands before it. Fails where some symbol is stuck, with
 // the text of the loop that is named, and for being out of memory.
-fn tree_order(alloc: Global, tree: &Tree) -> Result<kc_order::Order, LoopFault>
-    ensures same { IfOk result (λ o. o ≡ needs tree.now) }
+fn tree_order(alloc: Global, tree: &Tree, layout: &Layout) -> Result<kc_order::Order, LoopFault>
+    requires { IsLayoutOf tree.now layout.now }
+    ensures same { IfOk result (IsGraphOf tree.now layout.now) }
     ensures accepted { OnOk result (IsAccepted tree.now) }
     ensures refused { IfErr result (IsNamed tree.now) }
 {
     needs_are_defined();
+    alike_needs();
     let _count = tree.symbol_count();
-    let all = tree_needs(alloc, tree)?;
+    let all = tree_needs(alloc, tree, layout)?;
     match order_of(alloc, all) {
         Ok(order) => Ok(order),
         Err(NoOrder::Loop(symbols)) => {

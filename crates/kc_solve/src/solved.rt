@@ -1,23 +1,23 @@
 //! The solution of a tree's equations under a user's places, and what follows from it.
 
-ghost use Rattle.std.specs.Prelude.{◌≡◌, ◌<◌, length, map};
+ghost use Rattle.std.specs.Prelude.{◌≡◌, ◌<◌, length, map, slice_get};
 ghost use Rattle.kc_expr.specs.Value.{text_of_known};
-ghost use Rattle.kc_solve.specs.Places.{known_in};
+ghost use Rattle.kc_values.specs.Known.{known_at};
 ghost use Rattle.kc_solve.specs.Solved as spec;
 ghost use Rattle.kc_solve.specs.Solved.{IsMinimal, IsSolution, SettledWhere, TellsKnown};
-ghost use Rattle.kc_tree.specs.Views.{condition_of};
+ghost use Rattle.kc_solve.specs.Titles.{IsTitleAt};
 ghost use Rattle.kc_values.specs.Laws.{IsAccepted};
 ghost use Rattle.kc_values.specs.Solution.{symbol_count};
 
 use crate::flags::{at_choice, at_symbol};
 use kc_expr::expression::{Kind, SymId, Tri};
 use kc_expr::values::{Values, tri_text};
-use kc_tree::parts::{ChoiceId, Cond};
+use kc_tree::layout::Layout;
+use kc_tree::parts::{ChoiceId, ContextId, Entry, Title};
 use kc_tree::tree::Tree;
 use kc_user::user::User;
-use kc_values::conditions::condition;
+use kc_values::conditions::title_condition;
 use kc_values::laws::{choices_stand_alone, minimal_restores, settled_where};
-use kc_values::lookups::facts;
 use kc_values::table::Table;
 use kc_values::truths::{truth_of, visibility};
 use std::marker::Model;
@@ -106,12 +106,18 @@ impl<'a> Solved<'a> {
         let _count = self.table.tree.symbol_count();
     }
 
-    /// What a condition is worth: the least of its parts and of the mode of the choice around it (the kernel's
-    /// kconfig-language document).
-    pub fn truth(&self, when: &Cond) -> Tri
-        ensures { result ≡ spec.truth self.now (condition_of when.now) }
+    /// When the entry at a place is shown, a menu or comment: the least of what the blocks round it and its own lines ask for, and
+    /// of the mode of the choice round it (the kernel's kconfig-language document). Another entry is y.
+    pub fn shown(&self, place: usize) -> Tri
+        ensures { result ≡ spec.shown self.now (slice_get self.now.tree.entries place) }
     {
-        condition(self.table.tree, when, &self.table)
+        match title_at(self.table.layout, place) {
+            Some(title) => title_condition(&self.table, title),
+            None => {
+                let _top = self.table.layout.context(ContextId(0));
+                Tri::Y
+            }
+        }
     }
 
     /// The visibility of a symbol: the greatest condition of its prompts, m being y where the symbol can't be m
@@ -119,8 +125,8 @@ impl<'a> Solved<'a> {
     pub fn visibility(&self, id: SymId) -> Tri
         ensures { result ≡ spec.visibility self.now id }
     {
-        match facts(self.table.tree, id) {
-            Some(symbol) => visibility(self.table.tree, symbol, &self.table),
+        match self.table.layout.symbol(id) {
+            Some(symbol) => visibility(&self.table, symbol),
             None => Tri::N,
         }
     }
@@ -172,9 +178,20 @@ impl<'a> Solved<'a> {
     }
 }
 
+// The title of the entry at a place, if it is a menu or comment.
+fn title_at(layout: &Layout, place: usize) -> Option<&Title>
+    ensures { IsTitleAt layout.now place result }
+{
+    match layout.entries().get(place) {
+        Some(Entry::Menu(id) | Entry::Comment(id)) => layout.title(*id),
+        Some(Entry::Symbol(_) | Entry::End(_)) => None,
+        None => None,
+    }
+}
+
 // The text of what is known of a symbol: `n`, `m` or `y` of a bool or tristate.
 fn known_text<'t>(table: &'t Table, id: SymId) -> &'t [u8]
-    ensures { result.now ≡ text_of_known (known_in table.now.tree.now table.now.values.items id) }
+    ensures { result.now ≡ text_of_known (known_at table.now id) }
 {
     match table.kind(id) {
         Kind::Bool | Kind::Tristate => tri_text(table.tri(id)),

@@ -1,6 +1,7 @@
 //! Reading with a sink that fails: the lines before the one whose warning broke off count, and no other.
 ghost use Rattle.std.specs.Prelude.{None, ⊤};
 
+use kc_build::build_tree;
 use kc_dot::fault::DotFault;
 use kc_dot::prefix::Prefix;
 use kc_dot::reader::DotReader;
@@ -72,7 +73,7 @@ fn files_of(alloc: Global) -> Result<FileMap, AllocError> {
 
 fn tree_of(alloc: Global) -> Result<Tree, Fail> {
     let files = files_of(alloc)?;
-    match Tree::build(alloc, &files, b"Kconfig") {
+    match build_tree(alloc, &files, b"Kconfig") {
         Ok(tree) => Ok(tree),
         Err(_refusal) => Err(Fail::from("a refusal")),
     }

@@ -4,15 +4,20 @@
 ghost use Rattle.std.specs.Prelude.{[]};
 ghost use Rattle.kc_expr.specs.declared.expression.Kind.TheVariants as kind;
 
+use kc_build::build_tree;
 use kc_expr::expression::{Expr, Kind, Operand, SymId, Tri};
 use kc_expr::values::Values;
-use kc_tree::parts::{Choice, Cond};
-use kc_values::conditions::{all_hold, mode_of};
+use kc_read::file_map::FileMap;
+use kc_tree::parts::{ChoiceId, ContextId};
+use kc_tree::tree::Tree;
+use kc_values::conditions::{context, mode_of};
 use kc_values::differs::member_differs;
+use kc_values::nodes::{Node, choice_number, context_number, node_count, node_of};
 use kc_values::numbers::{Interval, clamped, if_inside, is_inside, number_text};
+use kc_values::table::{Table, Value};
 use kc_values::texts::single_text;
 use std::alloc::{AllocError, Global};
-use std::rc::Rc;
+use std::test::Fail;
 
 // Every symbol is a bool of one value.
 struct Alike(Tri);
@@ -37,10 +42,16 @@ impl Values for Alike {
     }
 }
 
-fn named(alloc: Global, symbol: usize) -> Result<Vec<Rc<Expr>>, AllocError> {
-    let part = Rc::new(alloc, Expr::One(Operand::Sym(SymId(symbol)))).map_err(|_| AllocError)?;
-    let parts = vec![in alloc; part]?;
-    Ok(parts)
+// The tree of a file.
+fn tree_of(alloc: Global, text: &str) -> Result<Tree, Fail> {
+    let name = Vec::from_slice(alloc, b"Kconfig")?;
+    let bytes = Vec::from_slice(alloc, text.as_bytes())?;
+    let mut files = FileMap::new(alloc);
+    files.insert(name, bytes)?;
+    match build_tree(alloc, &files, b"Kconfig") {
+        Ok(tree) => Ok(tree),
+        Err(_refusal) => Err(Fail::from("a refusal")),
+    }
 }
 
 #[test]
@@ -90,17 +101,56 @@ fn what_is_inside_counts(rt: HostRuntime) {
     assert!(rt; if_inside(Kind::Int, range, Some(b"3".as_slice())).is_none());
 }
 
+// The mode of the first choice of a tree where its first symbol is worth this, and what the context of its first prompt is.
+fn mode_where(alloc: Global, tree: &Tree, value: Tri) -> Result<(Tri, Tri), AllocError> {
+    let mut table = Table::empty(alloc, tree, tree.layout())?;
+    table.values[0] = Some(Value::Truth(value));
+    let choice = &tree.choices()[0];
+    Ok((mode_of(&table, ChoiceId(0)), context(&table, choice.within)))
+}
+
 #[test]
-fn a_prompt_that_is_m_gives_the_mode_y(rt: HostRuntime) {
-    let parts = named(rt.alloc(), 3).expect(&rt, "memory");
-    assert_eq!(rt; all_hold(&parts, &Alike(Tri::M)), Tri::M);
-    let choice = Choice {
-        prompt: Some(Cond { parts, mode: None }),
-        defaults: Vec::new(rt.alloc()),
-        members: Vec::new(rt.alloc()),
-    };
-    assert_eq!(rt; mode_of(&choice, &Alike(Tri::M)), Tri::Y);
-    assert_eq!(rt; mode_of(&choice, &Alike(Tri::N)), Tri::N);
+fn a_prompt_that_is_m_gives_the_mode_y(rt: HostRuntime) -> Result<(), Fail> {
+    let text =
+        "config A\ntristate\nchoice\nprompt \"c\"\ndepends on A\nconfig B\nbool \"b\"\nendchoice\n";
+    let tree = tree_of(rt.alloc(), text)?;
+    assert!(rt; mode_where(rt.alloc(), &tree, Tri::M)? == (Tri::Y, Tri::M));
+    assert!(rt; mode_where(rt.alloc(), &tree, Tri::N)? == (Tri::N, Tri::N));
+    drop(tree);
+    Ok(())
+}
+
+// What the contexts of a tree are worth where its first symbol is y: the first, and then the second, which is inside it.
+fn contexts_of(alloc: Global, tree: &Tree) -> Result<(Tri, Tri), AllocError> {
+    let mut table = Table::empty(alloc, tree, tree.layout())?;
+    table.values[0] = Some(Value::Truth(Tri::Y));
+    Ok((context(&table, ContextId(1)), context(&table, ContextId(2))))
+}
+
+#[test]
+fn contexts_ask_for_what_is_round_them(rt: HostRuntime) -> Result<(), Fail> {
+    let text = "config A\nbool\nif A\nconfig B\nbool \"b\"\ndepends on !A\nendif\n";
+    let tree = tree_of(rt.alloc(), text)?;
+    assert!(rt; contexts_of(rt.alloc(), &tree)? == (Tri::Y, Tri::N));
+    drop(tree);
+    Ok(())
+}
+
+#[test]
+fn nodes_have_numbers(rt: HostRuntime) -> Result<(), Fail> {
+    let text =
+        "config A\nbool\nif A\nchoice\nprompt \"c\"\nconfig B\nbool \"b\"\nendchoice\nendif\n";
+    let tree = tree_of(rt.alloc(), text)?;
+    let layout = tree.layout();
+    // two symbols, the top, the `if`, the members of the choice, and the choice
+    assert!(rt; node_count(layout) == 6);
+    let number = context_number(layout, ContextId(1));
+    assert!(rt; node_of(layout, number) == Node::Context(ContextId(1)));
+    let number = choice_number(layout, ChoiceId(0));
+    assert!(rt; node_of(layout, number) == Node::Choice(ChoiceId(0)));
+    assert!(rt; node_of(layout, 1) == Node::Symbol(SymId(1)));
+    drop(tree);
+    Ok(())
 }
 
 #[test]

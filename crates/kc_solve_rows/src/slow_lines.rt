@@ -6,10 +6,10 @@ use kc_expr::values::{Values, tri_text};
 use kc_tree::parts::{ChoiceId, Symbol};
 use kc_user::user::User;
 use kc_user::value::UserValue;
+use kc_values::choices::selected_in;
 use kc_values::differs::member_differs;
 use kc_values::equation::own_equation;
 use kc_values::lookups::name;
-use kc_values::members::selected_in;
 use kc_values::table::{Table, Value, found};
 use kc_values::truths::visibility;
 use kc_values::warnings;
@@ -50,12 +50,11 @@ fn differs(
     symbol: &Symbol,
 ) -> Result<bool, AllocError> {
     if let Some(choice) = symbol.choice {
-        let selection = selected_in(table.tree, choice, chosen(user, choice), table);
-        let default = selected_in(table.tree, choice, None, table);
+        let selection = selected_in(table, choice, chosen(user, choice));
+        let default = selected_in(table, choice, None);
         return Ok(member_differs(selection, default, id));
     }
-    let shown = visibility(table.tree, symbol, table);
-    let without = own_equation(alloc, table.tree, id, symbol, None, shown, table)?;
+    let without = own_equation(alloc, table, id, symbol, None)?;
     Ok(!holds(found(&table.values, id), &without))
 }
 
@@ -79,17 +78,17 @@ fn symbol_line(
     let Some(symbol) = table.tree.facts(id) else {
         return Ok(());
     };
-    let shown = visibility(table.tree, symbol, table);
+    let shown = visibility(table, symbol);
     let told = Told {
         name: name(table.tree, id),
         value: text_of(table, id),
         visibility: shown,
-        is_written: written(table.tree, symbol, shown, table),
+        is_written: written(table, id, symbol, shown),
         differs: differs(alloc, table, user, id, symbol)?,
     };
     symbol_into(&told, out)?;
     let own = given(user, id);
-    warnings::warnings_into(alloc, table.tree, id, symbol, shown, own, table, lines)
+    warnings::warnings_into(alloc, table, id, symbol, shown, own, lines)
 }
 
 /// What the values in a table tell.
@@ -105,8 +104,8 @@ pub(crate) fn lines_of(
     }
     for c in 0..choice_count(table.tree) {
         let choice = ChoiceId(c);
-        let selection = selected_in(table.tree, choice, chosen(user, choice), table);
-        let default = selected_in(table.tree, choice, None, table);
+        let selection = selected_in(table, choice, chosen(user, choice));
+        let default = selected_in(table, choice, None);
         choice_into(table.tree, selection, default, &mut out)?;
     }
     warnings_into(&lines, &mut out)?;

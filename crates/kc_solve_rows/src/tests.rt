@@ -1,8 +1,9 @@
 //! Each row on both solvers, and a long chain.
 
 ghost use Rattle.std.specs.Prelude.{◌≡◌, ◌<◌, IfOk};
+ghost use Rattle.kc_solve.specs.Graphs.{IsGraphOf};
+ghost use Rattle.kc_tree.specs.Layouts.{IsLayoutOf};
 ghost use Rattle.kc_user.specs.Places.{IsUserOf};
-ghost use Rattle.kc_values.specs.Needs.{needs};
 
 use crate::row::Row;
 use crate::rows::{choices, numbers, truths};
@@ -14,6 +15,7 @@ use kc_expr::values::Values;
 use kc_solve::order::Order;
 use kc_solve::solve::solve;
 use kc_solve::solved::Solved;
+use kc_tree::layout::Layout;
 use kc_tree::tree::Tree;
 use kc_user::user::User;
 use std::alloc::Global;
@@ -25,14 +27,16 @@ fn solver_tells(
     rt: &impl Abort,
     alloc: Global,
     tree: &Tree,
+    layout: &Layout,
     order: &Order,
     user: &User,
     told: &[u8],
 ) -> Result<(), Fail>
-    requires order { order.now ≡ needs tree.now }
+    requires laid { IsLayoutOf tree.now layout.now }
+    requires order { IsGraphOf tree.now layout.now order.now }
     requires user { IsUserOf tree.now user.now }
 {
-    let solution = solve(alloc, tree, order, user)?;
+    let solution = solve(alloc, tree, layout, order, user)?;
     is_told(rt, &solved::lines_of(alloc, &solution)?, told);
     Ok(())
 }
@@ -42,14 +46,16 @@ fn slow_tells(
     rt: &impl Abort,
     alloc: Global,
     tree: &Tree,
+    layout: &Layout,
     order: &Order,
     user: &User,
     told: &[u8],
 ) -> Result<(), Fail>
-    requires order { order.now ≡ needs tree.now }
+    requires laid { IsLayoutOf tree.now layout.now }
+    requires order { IsGraphOf tree.now layout.now order.now }
     requires user { IsUserOf tree.now user.now }
 {
-    let table = slow_table(alloc, tree, order, user)?;
+    let table = slow_table(alloc, tree, layout, order, user)?;
     is_told(rt, &slow_lines::lines_of(alloc, &table, user)?, told);
     Ok(())
 }
@@ -60,10 +66,11 @@ fn is_told(rt: &impl Abort, found: &[u8], told: &[u8]) {
 }
 
 // The order of a tree without a loop.
-fn order_of(alloc: Global, tree: &Tree) -> Result<Order, Fail>
-    ensures { IfOk result (λ order. order ≡ needs tree.now) }
+fn order_of(alloc: Global, tree: &Tree, layout: &Layout) -> Result<Order, Fail>
+    requires { IsLayoutOf tree.now layout.now }
+    ensures { IfOk result (IsGraphOf tree.now layout.now) }
 {
-    match Order::of(alloc, tree) {
+    match Order::of(alloc, tree, layout) {
         Ok(order) => Ok(order),
         Err(_refusal) => Err(Fail::from("a loop")),
     }
@@ -79,9 +86,10 @@ fn told_alike(
 ) -> Result<(), Fail>
     requires { IsUserOf tree.now user.now }
 {
-    let order = order_of(alloc, tree)?;
-    solver_tells(rt, alloc, tree, &order, user, told)?;
-    slow_tells(rt, alloc, tree, &order, user, told)
+    let layout = tree.layout();
+    let order = order_of(alloc, tree, layout)?;
+    solver_tells(rt, alloc, tree, layout, &order, user, told)?;
+    slow_tells(rt, alloc, tree, layout, &order, user, told)
 }
 
 // The row is told by both.
@@ -138,9 +146,10 @@ fn is_yes(rt: &impl Abort, solved: &Solved<'_>, id: SymId) {
 
 // Each symbol is so without a user's values.
 fn each_is_yes(rt: &impl Abort, alloc: Global, tree: &Tree) -> Result<(), Fail> {
-    let order = order_of(alloc, tree)?;
+    let layout = tree.layout();
+    let order = order_of(alloc, tree, layout)?;
     let user = user_of(alloc, tree, &[])?;
-    let solved = solve(alloc, tree, &order, &user)?;
+    let solved = solve(alloc, tree, layout, &order, &user)?;
     for i in 0..tree.symbol_count() {
         is_yes(rt, &solved, SymId(i));
     }

@@ -4,6 +4,7 @@ ghost use Rattle.std.specs.Prelude.{◌≡◌, ◌<◌, length, IfOk, OnOk};
 ghost use Rattle.kc_user.specs.Places.{IsUserOf};
 
 use crate::row::Given;
+use kc_build::build_tree;
 use kc_expr::expression::{SymId, Tri};
 use kc_expr::values::tri_text;
 use kc_read::file_map::FileMap;
@@ -27,7 +28,7 @@ fn files_of(alloc: Global, kconfig: &[u8]) -> Result<FileMap, Fail> {
 /// The tree of this file.
 pub(crate) fn tree_of(alloc: Global, kconfig: &[u8]) -> Result<Tree, Fail> {
     let files = files_of(alloc, kconfig)?;
-    match Tree::build(alloc, &files, b"Kconfig") {
+    match build_tree(alloc, &files, b"Kconfig") {
         Ok(tree) => Ok(tree),
         Err(_refusal) => Err(Fail::from("a refusal")),
     }

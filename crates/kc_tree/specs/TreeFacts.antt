@@ -8,7 +8,7 @@ use Rattle.kc_expr.specs.Form.{Form, Leaf, Text, Symbol, Single, Related, Negate
 use Rattle.kc_text.specs.Limits.{longest_line}
 use Rattle.kc_expr.specs.Limits.{longest_name}
 use Rattle.kc_expr.specs.Names.{is_name_byte}
-use Rattle.kc_read.specs.Limits.{most_symbols}
+use Rattle.kc_expr.specs.Limits.{most_symbols}
 
 -- the `&&` of its parts, and of that choice's mode
 pub record Condition : Type 0 where

@@ -1,31 +1,8 @@
-//! From the statements of a Kconfig tree to its symbols, choices, entries and warnings.
+//! What a Kconfig tree says: its symbols, choices, entries and warnings, and the tables that they are laid out in.
 #![tactic(auto)]
 
-mod assembly;
-mod attributes;
-mod build;
-mod choices;
-mod collect;
-mod conditions;
-mod copies;
-mod diagnoses;
-mod entries;
-mod firsts;
-mod known;
-mod late;
-pub mod laws;
-mod lines;
-mod lists;
-mod marks;
-mod members;
-mod numbering;
-mod owners;
+pub mod contexts;
+pub mod layout;
 pub mod parts;
-mod raises;
-mod renaming;
-mod scope;
-mod symbols;
-mod taken;
+pub mod reverses;
 pub mod tree;
-mod warning;
-mod warnings;

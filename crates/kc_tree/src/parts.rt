@@ -1,5 +1,5 @@
-//! What a tree is made of: conditions, symbols, choices and entries. What the lines of a Kconfig file say of them is
-//! the kernel's kconfig-language document's; where it is silent, kconfiglib's documentation decides.
+//! What a tree is made of: contexts, definitions, symbols, choices and entries, each in one table. What the lines of a Kconfig
+//! file say of them is the kernel's kconfig-language document's; where it is silent, kconfiglib's documentation decides.
 
 use kc_expr::expression::{Expr, Kind, Operand, SymId};
 use std::rc::Rc;
@@ -9,49 +9,126 @@ use std::rc::Rc;
 #[derive(Clone, Copy, PartialEq, Eq, Debug)]
 pub struct ChoiceId(pub usize);
 
-/// A condition: the least of what its parts are worth, and of that choice's mode where one is named. The parts are
-/// shared: what an enclosing block asks for is kept once, however many conditions hold it. A line's condition is what
-/// the blocks round it ask for, what its entry depends on, and its own `if`, all joined by `&&`, as the kernel's
-/// kconfig-language document has it; in a choice that choice's mode counts besides.
+/// The number of a context: 0 is the top of the tree, where nothing is asked for. The numbers are our own.
+#[derive(Clone, Copy, PartialEq, Eq, Debug)]
+pub struct ContextId(pub u32);
+
+/// The number of a definition: its place among the `config` entries of the tree (our own).
+#[derive(Clone, Copy, PartialEq, Eq, Debug)]
+pub struct DefinitionId(pub u32);
+
+/// The number of a reverse dependency: its place among those of the tree (our own).
+#[derive(Clone, Copy, PartialEq, Eq, Debug)]
+pub struct ReverseId(pub u32);
+
+/// The number of a title: its place among those of the menus and comments of the tree (our own).
+#[derive(Clone, Copy, PartialEq, Eq, Debug)]
+pub struct TitleId(pub u32);
+
+/// What is asked for at one place besides what the context outside it asks for: one expression, which an `if`, a menu's
+/// or an entry's `depends on` or a menu's `visible if` gives; or no expression, and then the mode of a choice, which the
+/// members of it depend on. `mode` is the choice whose mode counts, which is carried along from the outer context.
 #[derive(Debug, Drop)]
-pub struct Cond {
-    pub parts: Vec<Rc<Expr>>,
+pub struct Context {
+    pub outer: ContextId,
+    pub asks: Option<Rc<Expr>>,
     pub mode: Option<ChoiceId>,
 }
 
-/// What a tree says of one symbol. A list has one element for each line that counts, in the order of the lines:
-/// `deps` one for each definition, `prompts` one for each definition with a prompt; `selectors` and `impliers` name
-/// the symbols whose definitions select or imply this one. `kind` is the first type that a line gives, and bool for a
-/// choice's member without one; `choice` is the choice that the symbol is a member of. The properties are those of the
-/// kernel's kconfig-language document.
+/// A prompt: the context of what the menus round it ask of what is visible, and its own `if` (the kernel's
+/// kconfig-language document, "Menu attributes": input prompt).
+#[derive(Debug, Drop)]
+pub struct Prompt {
+    pub visible: ContextId,
+    pub when: Option<Rc<Expr>>,
+}
+
+/// A default: its value and its own `if` (the kernel's kconfig-language document, "Menu attributes": default value).
+#[derive(Debug, Drop)]
+pub struct SymbolDefault {
+    pub value: Rc<Expr>,
+    pub when: Option<Rc<Expr>>,
+}
+
+/// A range: its bounds and its own `if` (the kernel's kconfig-language document, "Menu attributes": numerical ranges).
+#[derive(Debug, Drop)]
+pub struct SymbolRange {
+    pub low: Operand,
+    pub high: Operand,
+    pub when: Option<Rc<Expr>>,
+}
+
+/// Consecutive places of a table, from `start` up to `end`.
+#[derive(Clone, Copy, PartialEq, Eq, Debug)]
+pub struct Span {
+    pub start: u32,
+    pub end: u32,
+}
+
+/// One `config` entry: the symbol that it defines, what it depends on, the prompt that counts, and its defaults and ranges,
+/// which all depend on the same besides their own `if` (the kernel's kconfig-language document, "Menu entries").
+#[derive(Debug, Drop)]
+pub struct Definition {
+    pub symbol: SymId,
+    pub within: ContextId,
+    pub prompt: Option<Prompt>,
+    pub defaults: Span,
+    pub ranges: Span,
+}
+
+/// A `select` or `imply` line that has an effect: the definition that it stands in, and its own `if` (the kernel's
+/// kconfig-language document, "Menu attributes": reverse dependencies, weak reverse dependencies). `next` is the line of the
+/// same kind before it that names the same symbol.
+#[derive(Debug, Drop)]
+pub struct Reverse {
+    pub source: DefinitionId,
+    pub when: Option<Rc<Expr>>,
+    pub next: Option<ReverseId>,
+}
+
+/// What a tree says of one symbol: the first type that a line gives it, and bool for a choice's member without one; the
+/// choice that it is a member of; and its definitions in the order of the lines, the first apart, since few have more.
 #[derive(Debug, Drop)]
 pub struct Symbol {
     pub kind: Kind,
     pub choice: Option<ChoiceId>,
-    pub deps: Vec<Cond>,
-    pub prompts: Vec<Cond>,
-    pub defaults: Vec<(Expr, Cond)>,
-    pub ranges: Vec<(Operand, Operand, Cond)>,
-    pub selectors: Vec<(SymId, Cond)>,
-    pub impliers: Vec<(SymId, Cond)>,
+    pub first: Option<DefinitionId>,
+    pub more: Vec<DefinitionId>,
 }
 
-/// What a tree says of one choice: its prompt's condition, its defaults that name a member, and its members in
-/// order, by the kernel's kconfig-language document.
+/// A choice's default that names a member, and its own `if`.
+#[derive(Debug, Drop)]
+pub struct ChoiceDefault {
+    pub member: SymId,
+    pub when: Option<Rc<Expr>>,
+}
+
+/// What a tree says of one choice: what it depends on, the prompt that counts, its defaults that name a member, and its
+/// members in order, by the kernel's kconfig-language document.
 #[derive(Debug, Drop)]
 pub struct Choice {
-    pub prompt: Option<Cond>,
-    pub defaults: Vec<(SymId, Cond)>,
+    pub within: ContextId,
+    pub prompt: Option<Prompt>,
+    pub defaults: Vec<ChoiceDefault>,
     pub members: Vec<SymId>,
 }
 
-/// What a configuration file shows, in order: a symbol at its first definition, the heads of menus and their ends,
-/// and comments. `menu` is the place of the menu among the entries; `when` is the condition under which a menu or a
-/// comment is shown. The order is that of the lines, as the kernel's kconfig-language document has it for menus.
+/// The title of a menu or comment, and when it is shown: under what it depends on, and of a menu under what is asked of what
+/// is visible.
 #[derive(Debug, Drop)]
+pub struct Title {
+    pub text: Vec<u8>,
+    pub within: ContextId,
+    pub visible: ContextId,
+}
+
+/// What a configuration file shows, in order: a symbol at its first definition, the heads of menus and their ends,
+/// and comments. An end holds the place of its menu among the entries. The order is that of the lines, as the kernel's
+/// kconfig-language document has it for menus.
+#[derive(Clone, Copy, PartialEq, Eq, Debug)]
 pub enum Entry {
     Symbol(SymId),
-    Menu { text: Vec<u8>, when: Cond },
-    End { menu: usize },
-    Comment { text: Vec<u8>, when: Cond },
+    Menu(TitleId),
+    End(u32),
+    Comment(TitleId),
 }

@@ -1,13 +1,14 @@
 //! The tree of a Kconfig file.
 
-ghost use Rattle.std.specs.Prelude.{◌≡◌, ◌<◌, length, map, Some, None, slice_get, position, MatchOption};
+ghost use Rattle.std.specs.Prelude.{◌≡◌, ◌<◌, length, map, Some, slice_get, position};
 ghost use Rattle.std.specs.Option.{option_map};
 ghost use Rattle.kc_expr.specs.Names.{symbol, same_name};
-ghost use Rattle.kc_tree.specs.Assemblies.{tree_of};
+ghost use Rattle.kc_tree.specs.Wholes.{tree_of};
+ghost use Rattle.kc_tree.specs.Heads.{IsHeadOf, AreChoicesOf, AreEntriesOf};
+ghost use Rattle.kc_tree.specs.Layouts.{IsLayoutOf};
 ghost use Rattle.kc_tree.specs.TreeFacts.{IsWellFormed};
-ghost use Rattle.kc_tree.specs.Views.{facts_of, choice_facts_of, shown_of};
 
-use crate::assembly::TreeParts;
+use crate::layout::{Layout, TreeParts};
 use crate::parts::{Choice, Entry, Symbol};
 use kc_expr::expression::SymId;
 use kc_expr::names::Names;
@@ -20,9 +21,7 @@ use std::marker::Model;
 #[derive(Drop)]
 pub struct Tree {
     names: Names,
-    symbols: Vec<Symbol>,
-    choices: Vec<Choice>,
-    entries: Vec<Entry>,
+    layout: Layout,
     warnings: Vec<Vec<u8>>,
     main_menu: Vec<u8>,
     modules: Option<SymId>,
@@ -44,24 +43,20 @@ impl Model for Tree {
 }
 
 impl Tree {
-    /// The tree with these names and parts.
-    pub(crate) fn of(names: Names, parts: TreeParts) -> Tree
+    /// The tree with these names and parts. The caller owes that they are well formed.
+    pub fn of(names: Names, parts: TreeParts) -> Tree
         requires { IsWellFormed (tree_of names parts) }
         ensures { result ≡ tree_of names parts }
     {
         let TreeParts {
-            symbols,
-            choices,
-            entries,
+            layout,
             warnings,
             main_menu,
             modules,
         } = parts;
         Tree {
             names,
-            symbols,
-            choices,
-            entries,
+            layout,
             warnings,
             main_menu,
             modules,
@@ -74,7 +69,7 @@ impl Tree {
         ensures count { result ≡ length self.now.symbols }
         ensures formed { IsWellFormed self.now }
     {
-        self.symbols.len()
+        self.layout.symbols().len()
     }
 
     /// The symbol of a number, by which the symbols stand in the order of their first definition, as in kconfiglib's
@@ -111,29 +106,36 @@ impl Tree {
         self.names.name(id)
     }
 
-    /// What the tree says of a symbol: the menu attributes of all its definitions, by the kernel's kconfig-language
-    /// document; `None` where the name is not defined.
+    /// The row of a symbol, with its type and its choice; `None` where the name is not defined (our own).
     pub fn facts(&self, id: SymId) -> Option<&Symbol>
-        ensures { MatchOption result (slice_get self.now.symbols id.0 ≡ None) (λ s. slice_get self.now.symbols id.0 ≡ Some (facts_of s.now)) }
+        ensures { IsHeadOf (slice_get self.now.symbols id.0) result }
     {
-        self.symbols.get(id.0)
+        self.layout.symbol(id)
+    }
+
+    /// How the tree is laid out: what the facts of its symbols are made of (our own).
+    pub fn layout(&self) -> &Layout
+        ensures laid { IsLayoutOf self.now result.now }
+        ensures formed { IsWellFormed self.now }
+    {
+        &self.layout
     }
 
     /// What a configuration file shows, in order: the symbols, menus and comments among the menu entries of the kernel's
     /// kconfig-language document (kconfiglib's `node_iter` walks the same ones).
     pub fn entries(&self) -> &[Entry]
-        ensures shown { map shown_of result.now ≡ self.now.entries }
+        ensures shown { AreEntriesOf self.now.entries result.now }
         ensures formed { IsWellFormed self.now }
     {
-        &self.entries
+        self.layout.entries()
     }
 
     /// The choices, in the order in which they open: choice k has number k (the choices are the kernel's kconfig-language
     /// document's, the numbers our own).
     pub fn choices(&self) -> &[Choice]
-        ensures { map choice_facts_of result.now ≡ self.now.choices }
+        ensures { AreChoicesOf self.now.choices result.now }
     {
-        &self.choices
+        self.layout.choices()
     }
 
     /// The warnings about the tree, in the order of the lines that they are about, without a line's end (their texts are

@@ -1,13 +1,16 @@
 //! Worked trees from the bytes of their files on: what a tree says of its symbols, choices and entries, its warnings,
 //! and the refusals that come after the last line.
 
-use kc_expr::expression::{Expr, Operand, SymId};
+use kc_build::build_tree;
+use kc_expr::expression::{Expr, SymId};
 use kc_read::file_map::FileMap;
 use kc_read::refusal::{Code, Refusal};
-use kc_tree::parts::{Choice, Cond, Entry, Symbol};
+use kc_tree::layout::Layout;
+use kc_tree::parts::{Choice, ContextId, Definition, Entry, Prompt, ReverseId, Symbol, TitleId};
 use kc_tree::tree::Tree;
 use std::alloc::{AllocError, Global};
 use std::process::Abort;
+use std::rc::Rc;
 use std::test::Fail;
 
 // Puts a copy of a file's text under its name.
@@ -32,114 +35,214 @@ fn files_of(alloc: Global, files: &[(&str, &str)]) -> Result<FileMap, AllocError
 // The tree of `Kconfig`, one of these files. What is owned is dropped by a call, as in all that follows.
 fn build(alloc: Global, files: &[(&str, &str)]) -> Result<Result<Tree, Refusal>, AllocError> {
     let map = files_of(alloc, files)?;
-    let built = Tree::build(alloc, &map, b"Kconfig");
+    let built = build_tree(alloc, &map, b"Kconfig");
     drop(map);
     Ok(built)
 }
 
-// A condition and the line's end: its parts, and the number of the choice whose mode counts.
-fn condition(out: &mut String, cond: &Cond) -> Result<(), AllocError> {
-    match cond.mode {
-        Some(choice) => write!(out, "{:?} in {}\n", cond.parts, choice.0),
-        None => write!(out, "{:?}\n", cond.parts),
+// How a tree is laid out, and memory for what is made of it.
+#[derive(Clone, Copy)]
+struct View<'l> {
+    alloc: Global,
+    layout: &'l Layout,
+}
+
+// What the contexts from this one outwards ask for, the outermost first, but for their modes.
+fn asked<'l>(view: View<'l>, id: ContextId) -> Result<Vec<&'l Expr>, AllocError> {
+    let mut asked = Vec::new(view.alloc);
+    let mut at = id;
+    while let Some(context) = view.layout.context(at) {
+        if let Some(e) = &context.asks {
+            asked.push(&**e)?;
+        }
+        at = context.outer;
+    }
+    asked.reverse();
+    Ok(asked)
+}
+
+// A condition and the line's end: its parts, which are what a context asks for, what another one asks for besides, and an `if`;
+// and the number of the choice whose mode counts.
+fn condition(
+    out: &mut String,
+    view: View<'_>,
+    within: ContextId,
+    visible: ContextId,
+    when: &Option<Rc<Expr>>,
+) -> Result<(), AllocError> {
+    let mut parts = asked(view, within)?;
+    for e in &asked(view, visible)? {
+        parts.push(*e)?;
+    }
+    if let Some(e) = when {
+        parts.push(&**e)?;
+    }
+    match view.layout.mode(within) {
+        Some(choice) => write!(out, "{parts:?} in {}\n", choice.0),
+        None => write!(out, "{parts:?}\n"),
     }
 }
 
-// Conditions, each after the word.
-fn conditions(out: &mut String, word: &str, conds: &[Cond]) -> Result<(), AllocError> {
-    for cond in conds {
-        write!(out, "{word} ")?;
-        condition(out, cond)?;
+const TOP: ContextId = ContextId(0);
+
+// The definitions of a symbol.
+fn definitions<'l>(view: View<'l>, symbol: &Symbol) -> Result<Vec<&'l Definition>, AllocError> {
+    let mut all = Vec::new(view.alloc);
+    for i in 0..symbol.definition_count() {
+        if let Some(id) = symbol.definition(i) {
+            if let Some(definition) = view.layout.definition(id) {
+                all.push(definition)?;
+            }
+        }
+    }
+    Ok(all)
+}
+
+fn dependencies(out: &mut String, view: View<'_>, all: &[&Definition]) -> Result<(), AllocError> {
+    for definition in all {
+        write!(out, "dep ")?;
+        condition(out, view, definition.within, TOP, &None)?;
     }
     Ok(())
 }
 
-fn defaults(out: &mut String, values: &[(Expr, Cond)]) -> Result<(), AllocError> {
-    for (value, cond) in values {
-        write!(out, "default {value:?} ")?;
-        condition(out, cond)?;
+fn prompt(
+    out: &mut String,
+    view: View<'_>,
+    within: ContextId,
+    prompt: &Option<Prompt>,
+) -> Result<(), AllocError> {
+    match prompt {
+        Some(prompt) => {
+            write!(out, "prompt ")?;
+            condition(out, view, within, prompt.visible, &prompt.when)
+        }
+        None => Ok(()),
+    }
+}
+
+fn defaults(out: &mut String, view: View<'_>, definition: &Definition) -> Result<(), AllocError> {
+    for default in view.layout.defaults(definition) {
+        write!(out, "default {:?} ", default.value)?;
+        condition(out, view, definition.within, TOP, &default.when)?;
     }
     Ok(())
 }
 
-fn ranges(out: &mut String, bounds: &[(Operand, Operand, Cond)]) -> Result<(), AllocError> {
-    for (low, high, cond) in bounds {
-        write!(out, "range {low:?} {high:?} ")?;
-        condition(out, cond)?;
+fn ranges(out: &mut String, view: View<'_>, definition: &Definition) -> Result<(), AllocError> {
+    for range in view.layout.ranges(definition) {
+        write!(out, "range {:?} {:?} ", range.low, range.high)?;
+        condition(out, view, definition.within, TOP, &range.when)?;
     }
     Ok(())
 }
 
-// The numbers of symbols, each after the word and with its condition.
-fn numbers(out: &mut String, word: &str, symbols: &[(SymId, Cond)]) -> Result<(), AllocError> {
-    for (symbol, cond) in symbols {
-        write!(out, "{word} {} ", symbol.0)?;
-        condition(out, cond)?;
+// The symbols that select or imply, each after the word and with its condition, the last line given.
+fn reverses(
+    out: &mut String,
+    view: View<'_>,
+    word: &str,
+    last: Option<ReverseId>,
+) -> Result<(), AllocError> {
+    let mut lines = Vec::new(view.alloc);
+    let mut at = last;
+    while let Some(id) = at {
+        let Some(line) = view.layout.reverse(id) else {
+            return Ok(());
+        };
+        lines.push(line)?;
+        at = line.next;
+    }
+    lines.reverse();
+    for line in &lines {
+        if let Some(source) = view.layout.definition(line.source) {
+            write!(out, "{word} {} ", source.symbol.0)?;
+            condition(out, view, source.within, TOP, &line.when)?;
+        }
     }
     Ok(())
 }
 
 // What a tree says of a symbol.
-fn symbol(out: &mut String, symbol: &Symbol) -> Result<(), AllocError> {
+fn symbol(out: &mut String, view: View<'_>, id: SymId, symbol: &Symbol) -> Result<(), AllocError> {
     write!(out, "{:?} {:?}\n", symbol.kind, symbol.choice)?;
-    conditions(out, "dep", &symbol.deps)?;
-    conditions(out, "prompt", &symbol.prompts)?;
-    defaults(out, &symbol.defaults)?;
-    ranges(out, &symbol.ranges)?;
-    numbers(out, "selected by", &symbol.selectors)?;
-    numbers(out, "implied by", &symbol.impliers)
+    let all = definitions(view, symbol)?;
+    dependencies(out, view, &all)?;
+    for definition in &all {
+        prompt(out, view, definition.within, &definition.prompt)?;
+    }
+    for definition in &all {
+        defaults(out, view, definition)?;
+    }
+    for definition in &all {
+        ranges(out, view, definition)?;
+    }
+    reverses(out, view, "selected by", view.layout.last_select(id))?;
+    reverses(out, view, "implied by", view.layout.last_imply(id))
 }
 
 // What a tree says of a choice.
-fn choice(out: &mut String, choice: &Choice) -> Result<(), AllocError> {
+fn choice(out: &mut String, view: View<'_>, choice: &Choice) -> Result<(), AllocError> {
     write!(out, "choice of {:?}\n", choice.members)?;
-    if let Some(cond) = &choice.prompt {
-        write!(out, "prompt ")?;
-        condition(out, cond)?;
+    prompt(out, view, choice.within, &choice.prompt)?;
+    for default in &choice.defaults {
+        write!(out, "default {} ", default.member.0)?;
+        condition(out, view, choice.within, TOP, &default.when)?;
     }
-    numbers(out, "default", &choice.defaults)
+    Ok(())
 }
 
 // What is shown under a condition; its text by the length.
-fn shown(out: &mut String, word: &str, text: &[u8], when: &Cond) -> Result<(), AllocError> {
-    write!(out, "[{word} of {}] ", text.len())?;
-    condition(out, when)
-}
-
-fn entry(out: &mut String, entry: &Entry) -> Result<(), AllocError> {
-    match entry {
-        Entry::Symbol(id) => write!(out, "[{}]\n", id.0),
-        Entry::Menu { text, when } => shown(out, "menu", text, when),
-        Entry::End { menu } => write!(out, "[end of {menu}]\n"),
-        Entry::Comment { text, when } => shown(out, "comment", text, when),
+fn shown(out: &mut String, view: View<'_>, word: &str, title: TitleId) -> Result<(), AllocError> {
+    match view.layout.title(title) {
+        Some(title) => {
+            write!(out, "[{word} of {}] ", title.text.len())?;
+            condition(out, view, title.within, title.visible, &None)
+        }
+        None => Ok(()),
     }
 }
 
-fn symbols(out: &mut String, tree: &Tree) -> Result<(), AllocError> {
+fn entry(out: &mut String, view: View<'_>, entry: &Entry) -> Result<(), AllocError> {
+    match entry {
+        Entry::Symbol(id) => write!(out, "[{}]\n", id.0),
+        Entry::Menu(title) => shown(out, view, "menu", *title),
+        Entry::End(menu) => write!(out, "[end of {menu}]\n"),
+        Entry::Comment(title) => shown(out, view, "comment", *title),
+    }
+}
+
+fn symbols(out: &mut String, view: View<'_>, tree: &Tree) -> Result<(), AllocError> {
     for i in 0..tree.symbol_count() {
         if let Some(facts) = tree.facts(tree.symbol(i)) {
-            symbol(out, facts)?;
+            symbol(out, view, tree.symbol(i), facts)?;
         }
     }
     Ok(())
 }
 
 // All that a tree says, but for its names and warnings.
-fn picture(out: &mut String, tree: &Tree) -> Result<(), AllocError> {
-    symbols(out, tree)?;
+fn picture(alloc: Global, out: &mut String, tree: &Tree) -> Result<(), AllocError> {
+    let layout = tree.layout();
+    let view = View { alloc, layout };
+    symbols(out, view, tree)?;
     for facts in tree.choices() {
-        choice(out, facts)?;
+        choice(out, view, facts)?;
     }
     for part in tree.entries() {
-        entry(out, part)?;
+        entry(out, view, part)?;
     }
     Ok(())
 }
 
 // The picture of a tree, or its refusal.
-fn picture_of(out: &mut String, built: &Result<Tree, Refusal>) -> Result<(), AllocError> {
+fn picture_of(
+    alloc: Global,
+    out: &mut String,
+    built: &Result<Tree, Refusal>,
+) -> Result<(), AllocError> {
     match built {
-        Ok(tree) => picture(out, tree),
+        Ok(tree) => picture(alloc, out, tree),
         Err(refusal) => write!(out, "{refusal:?}"),
     }
 }
@@ -234,7 +337,7 @@ const PICTURES: &[(&str, &str, &str)] = &[
     (
         "menu \"o\"\nvisible if A\nvisible if B\ndepends on C\nmenu \"i\"\nvisible if D\ncomment \"text\"\ndepends on E\nif F\nconfig X\nbool \"x\" if G\ndefault y if H\nendif\nendmenu\nendmenu\nif X\nconfig X\nprompt \"again\"\ndepends on I\ndepends on J\nendif\n",
         "",
-        "Bool None\ndep [One(Sym(SymId(4))), One(Sym(SymId(7)))]\ndep [One(Sym(SymId(0))), All([One(Sym(SymId(10))), One(Sym(SymId(11)))])]\nprompt [One(Sym(SymId(4))), One(Sym(SymId(7))), All([One(Sym(SymId(2))), One(Sym(SymId(3)))]), One(Sym(SymId(5))), One(Sym(SymId(8)))]\nprompt [One(Sym(SymId(0))), All([One(Sym(SymId(10))), One(Sym(SymId(11)))])]\ndefault One(Letter(Y)) [One(Sym(SymId(4))), One(Sym(SymId(7))), One(Sym(SymId(9)))]\n[menu of 1] [One(Sym(SymId(4))), All([One(Sym(SymId(2))), One(Sym(SymId(3)))])]\n[menu of 1] [One(Sym(SymId(4))), All([One(Sym(SymId(2))), One(Sym(SymId(3)))]), One(Sym(SymId(5)))]\n[comment of 4] [One(Sym(SymId(4))), One(Sym(SymId(6)))]\n[0]\n[end of 1]\n[end of 0]\n",
+        "Bool None\ndep [One(Sym(SymId(4))), One(Sym(SymId(7)))]\ndep [One(Sym(SymId(0))), One(Sym(SymId(10))), One(Sym(SymId(11)))]\nprompt [One(Sym(SymId(4))), One(Sym(SymId(7))), One(Sym(SymId(2))), One(Sym(SymId(3))), One(Sym(SymId(5))), One(Sym(SymId(8)))]\nprompt [One(Sym(SymId(0))), One(Sym(SymId(10))), One(Sym(SymId(11)))]\ndefault One(Letter(Y)) [One(Sym(SymId(4))), One(Sym(SymId(7))), One(Sym(SymId(9)))]\n[menu of 1] [One(Sym(SymId(4))), One(Sym(SymId(2))), One(Sym(SymId(3)))]\n[menu of 1] [One(Sym(SymId(4))), One(Sym(SymId(2))), One(Sym(SymId(3))), One(Sym(SymId(5)))]\n[comment of 4] [One(Sym(SymId(4))), One(Sym(SymId(6)))]\n[0]\n[end of 1]\n[end of 0]\n",
     ),
     // choices with conditions, and a member that selects
     (
@@ -258,7 +361,7 @@ const PICTURES: &[(&str, &str, &str)] = &[
     (
         "config A\nbool\ndepends on B\ndepends on C || D\nconfig B\nbool\n",
         "",
-        "Bool None\ndep [All([One(Sym(SymId(1))), Any([One(Sym(SymId(3))), One(Sym(SymId(4)))])])]\nBool None\ndep []\n[0]\n[1]\n",
+        "Bool None\ndep [One(Sym(SymId(1))), Any([One(Sym(SymId(3))), One(Sym(SymId(4)))])]\nBool None\ndep []\n[0]\n[1]\n",
     ),
 ];
 
@@ -275,7 +378,7 @@ fn picture_is(
 ) -> Result<(), Fail> {
     let built = build(alloc, &[("Kconfig", root), ("a", other)])?;
     let mut text = String::new(alloc);
-    let done = picture_of(&mut text, &built);
+    let done = picture_of(alloc, &mut text, &built);
     drop(built);
     text_is(rt, root, &text, want);
     drop(text);

@@ -1,40 +1,39 @@
 -- Steps of the code, over plain values.
-use Rattle.std.proofs.Common.{◌≡◌, ℕ, ◌<◌, suc, List, ◌∷◌, ◌++◌, append_assoc, map, drop, get_or, length, drop-cons, Option, Some, not, cond, false, sym, ◌∙◌, ap}
+use Rattle.std.proofs.Common.{◌≡◌, ℕ, List, [], ◌∷◌, ◌++◌, append_assoc, Bool, true, false, cond, is_some, Option, None, Some, refl, sym, ◌∙◌, ap}
+use Rattle.std.specs.Prelude.{codes}
 use Rattle.kc_expr.specs.declared.expression.SymId.{SymId}
 use Rattle.kc_expr.specs.declared.expression.Tri.{Tri}
-use Rattle.kc_expr.specs.declared.expression.Expr.{Expr}
-use Rattle.kc_expr.specs.Form.{Form, form_of}
-use Rattle.kc_expr.specs.Value.{Known, value, lesser, greater}
-use Rattle.kc_tree.specs.declared.parts.Cond.{Cond}
-use Rattle.kc_tree.specs.TreeFacts.{Guarded, SymbolFacts, TreeFacts}
-use Rattle.kc_tree.specs.Views.{condition_of, default_view}
-use Rattle.kc_values.specs.declared.numbers.Interval.{Interval}
-use Rattle.std.specs.Prelude.{codes}
 use Rattle.kc_expr.specs.declared.expression.Kind.{Kind}
+use Rattle.kc_expr.specs.Value.{Known}
+use Rattle.kc_tree.specs.declared.parts.ChoiceId.{ChoiceId}
+use Rattle.kc_tree.specs.Contexts.{mode_view}
+use Rattle.kc_tree.specs.TreeFacts.{SymbolFacts, TreeFacts}
+use Rattle.kc_user.specs.Given.{Given}
+use Rattle.kc_values.specs.declared.numbers.Interval.{Interval}
 use Rattle.kc_values.specs.Numbers.{if_inside, number_text}
 use Rattle.kc_values.specs.Values as v
 use Rattle.kc_values.specs.Warnings as w
-use Rattle.kc_user.specs.Given.{Given}
-use Rattle.kc_values.specs.Values.{is_n}
+use Rattle.kc_values.specs.Written.{above}
+
+pub no_choice : (o : Option ChoiceId) → is_some o ≡ false → mode_view o ≡ None
+no_choice None e = refl
+no_choice (Some c) e = absurd cc
 
 module _ (tree : TreeFacts) (k : SymId → Known) where
-  pub default_here : (xs : List (Expr × Cond)) (i : ℕ) (x : Expr × Cond) → i < length xs → x ≡ get_or xs i x → is_n (v.condition tree k (condition_of x.1)) ≡ false →
-      v.default_value tree k (v.first_open tree k (map default_view (drop i xs))) ≡ lesser (value k (form_of x.0)) (v.condition tree k (condition_of x.1))
-  default_here xs i x l at here =
-      let F : Expr × Cond → Guarded Form = λ d. record { what = form_of d.0; when = condition_of d.1 } in
-      let D = λ (ys : List (Expr × Cond)). v.default_value tree k (v.first_open tree k (map F ys)) in
-      ap D (drop-cons xs i x l)
-      ∙ ap (λ y. D (y ∷ drop (suc i) xs)) (sym at)
-      ∙ ap (λ b. v.default_value tree k (cond (not b) (Some (F x)) (v.first_open tree k (map F (drop (suc i) xs))))) here
+  pub select_joined : (name : List ℕ) (f : SymbolFacts) (rev direct : Tri) (over : Bool) (line : List ℕ) (old new : List (List ℕ)) → rev ≡ v.rev tree k f → direct ≡ v.direct tree k f →
+      over ≡ above rev direct → over ≡ true → line ≡ w.selected_line name rev direct → new ≡ old ++ line ∷ [] → new ≡ old ++ w.select_warnings tree k name f
+  select_joined name f rev direct over line old new e1 e2 e3 e4 e5 e6 =
+      let R = v.rev tree k f in
+      let D = v.direct tree k f in
+      let yes : above R D ≡ true = sym (e3 ∙ ap (λ x. above x direct) e1 ∙ ap (above R) e2) ∙ e4 in
+      let text : line ≡ w.selected_line name R D = e5 ∙ ap (λ x. w.selected_line name x direct) e1 ∙ ap (w.selected_line name R) e2 in
+      e6 ∙ ap (λ x. old ++ x ∷ []) text ∙ ap (λ b. old ++ cond b (w.selected_line name R D ∷ []) []) (sym yes)
 
-  abbrev without_user : SymbolFacts → Tri
-  without_user f = v.implied (v.default_value tree k (v.first_open tree k f.defaults)) (v.weak tree k f) (v.direct tree k f)
-
-  pub truth_joined : (f : SymbolFacts) (user : Option Given) (vis base sel all r : Tri) → vis ≡ v.visibility tree k f → base ≡ v.based user vis (without_user f) → sel ≡ v.rev tree k f →
-      all ≡ greater base sel → r ≡ v.raised tree k f.kind all → r ≡ v.truth_equation tree k f user
-  truth_joined f user vis base sel all r e0 e1 e2 e3 e4 =
-      let based_is : base ≡ v.based user (v.visibility tree k f) (without_user f) = e1 ∙ ap (λ x. v.based user x (without_user f)) e0 in
-      e4 ∙ ap (v.raised tree k f.kind) (e3 ∙ ap (λ x. greater x sel) based_is ∙ ap (greater (v.based user (v.visibility tree k f) (without_user f))) e2)
+  -- a bool or tristate outside a choice
+  pub truth_warned : (name told : List ℕ) (f : SymbolFacts) (choice : Option ℕ) (user : Option Given) (kind : Kind) → w.warnings_by_kind tree k told f kind user ≡ w.select_warnings tree k told f → f.kind ≡ kind →
+      choice ≡ None → name ≡ told → w.select_warnings tree k name f ≡ w.warnings_by_choice tree k told f choice user
+  truth_warned name told f choice user kind by_kind e1 e2 e3 =
+      ap (λ n. w.select_warnings tree k n f) e3 ∙ sym by_kind ∙ ap (λ x. w.warnings_by_kind tree k told f x user) (sym e1) ∙ ap (λ c. w.warnings_by_choice tree k told f c user) (sym e2)
 
   pub range_joined : (name : List ℕ) (f : SymbolFacts) (user : Option Given) (range : Option Interval) (vis : Tri) (given used default : Option (List ℕ))
       (old mid new : List (List ℕ)) → range ≡ v.active_range tree k f → vis ≡ v.visibility tree k f → given ≡ v.typed user vis → used ≡ if_inside f.kind range given →

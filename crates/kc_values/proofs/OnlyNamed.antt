@@ -1,5 +1,5 @@
 -- An equation reads only what it names.
-use Rattle.std.proofs.Common.{◌≡◌, ◌≢◌, ℕ, Bool, true, false, List, [], ◌∷◌, ◌++◌, refl, sym, ◌∙◌, ap, map, not, Option, None, Some, ◌&&◌, cond, ◌||◌, inl, inr, arith, zero, suc, subst}
+use Rattle.std.proofs.Common.{◌≡◌, ℕ, Bool, true, false, List, [], ◌∷◌, ◌++◌, refl, sym, ◌∙◌, ap, map, not, Option, None, Some, ◌&&◌, cond, ◌||◌, inl, inr, arith, suc}
 use Rattle.std.specs.List.{AllByRecursion, flat_map, list_any, filter, Contains}
 use Rattle.std.proofs.lemmas.Bool.{cases_Bool, true≢false}
 use Rattle.std.proofs.lemmas.List.Elements.{All-from_recursion}
@@ -17,7 +17,7 @@ use Rattle.kc_values.specs.Lookups.{facts, name, choice_at, is_defined}
 use Rattle.kc_values.specs.Numbers.{counted}
 use Rattle.kc_values.specs.Values as v
 use Rattle.kc_user.specs.Given.{Given, Chosen, Typed, Member, Slot}
-use Rattle.kc_tree.specs.Facts.{same_symbol, is_symbol_of}
+use Rattle.kc_tree.specs.Words.{same_symbol, is_symbol_of}
 use Rattle.kc_values.specs.Values.{is_n, up}
 use Rattle.kc_values.specs.Needs as n
 use Rattle.kc_values.specs.Needs.{needs_of}
@@ -61,7 +61,7 @@ module _ (law : DependsOnSymbols) (tree : TreeFacts) (k l : SymId → Known) whe
   same_mode_value None h = refl
   same_mode_value (Some c) h = same_mode (choice_at tree c) h
 
-  same_condition : (c : Condition) → Sames (n.condition_names tree c) → v.condition tree k c ≡ v.condition tree l c
+  pub same_condition : (c : Condition) → Sames (n.condition_names tree c) → v.condition tree k c ≡ v.condition tree l c
   same_condition c h =
       let a = same_all_hold c.parts (front (flat_map symbols c.parts) (n.mode_names tree c.mode) h) in
       let b = same_mode_value c.mode (back (flat_map symbols c.parts) (n.mode_names tree c.mode) h) in
@@ -280,45 +280,6 @@ module _ (law : DependsOnSymbols) (tree : TreeFacts) (k l : SymId → Known) whe
       let un = same_unselected c shown (back Own Defaults more1) in
       let ch = same_chosen_member c shown user in
       cc
-
-  -- a symbol that has a type names what its prompts do, and what its type does
-  prompts_named : (f : SymbolFacts) (kind : Kind) → kind ≢ Undefined → Sames (n.names_by_kind tree f kind) → Sames (Prompts f)
-  prompts_named f Undefined typed h = absurd (typed refl)
-  prompts_named f IsBool typed h = front (Prompts f) (Defaults f) (front (Prompts f ++ Defaults f) (Deps f ++ (Selectors f ++ (Impliers f ++ Own f))) h)
-  prompts_named f Tristate typed h = front (Prompts f) (Defaults f) (front (Prompts f ++ Defaults f) (Deps f ++ (Selectors f ++ (Impliers f ++ Own f))) h)
-  prompts_named f Str typed h = front (Prompts f) (Defaults f) h
-  prompts_named f Int typed h = front (Prompts f) (Defaults f) (front (Prompts f ++ Defaults f) (Ranges f) h)
-  prompts_named f Hex typed h = front (Prompts f) (Defaults f) (front (Prompts f ++ Defaults f) (Ranges f) h)
-
-  type_named : (f : SymbolFacts) (kind : Kind) → f.kind ≡ kind → Sames (n.names_by_kind tree f kind) → Sames (Own f)
-  type_named f Undefined e h = subst (λ x. Sames (n.kind_names tree x)) (sym e) tt
-  type_named f IsBool e h = subst (λ x. Sames (n.kind_names tree x)) (sym e) tt
-  type_named f Tristate e h =
-      back (Impliers f) (Own f)
-      (back (Selectors f) (Impliers f ++ Own f)
-      (back (Deps f) (Selectors f ++ (Impliers f ++ Own f)) (back (Prompts f ++ Defaults f) (Deps f ++ (Selectors f ++ (Impliers f ++ Own f))) h)))
-  type_named f Str e h = subst (λ x. Sames (n.kind_names tree x)) (sym e) tt
-  type_named f Int e h = subst (λ x. Sames (n.kind_names tree x)) (sym e) tt
-  type_named f Hex e h = subst (λ x. Sames (n.kind_names tree x)) (sym e) tt
-
-  -- the visibility of a symbol outside a choice
-  pub same_visibility : (f : SymbolFacts) → f.kind ≢ Undefined → Sames (n.names_by_kind tree f f.kind) → v.visibility tree k f ≡ v.visibility tree l f
-  same_visibility f typed h = same_raised f.kind (type_named f f.kind refl h) _ _ (same_conditions f.prompts (prompts_named f f.kind typed h))
-
-  member_shown : (ms : List SymId) (m : SymId) → Contains ms m → Sames (flat_map (λ m. n.prompts_names tree (facts tree m)) ms) → Sames (n.prompts_names tree (facts tree m))
-  member_shown [] m c h = absurd (omega (arith, c.1))
-  member_shown (x ∷ ms) m (zero, l, e) h =
-      subst (λ s. Sames (n.prompts_names tree (facts tree s))) e (front (n.prompts_names tree (facts tree x)) (flat_map (λ m. n.prompts_names tree (facts tree m)) ms) h)
-  member_shown (x ∷ ms) m (suc i, l, e) h =
-      member_shown ms m (i, omega arith, e) (back (n.prompts_names tree (facts tree x)) (flat_map (λ m. n.prompts_names tree (facts tree m)) ms) h)
-
-  -- the visibility of a member, which is a bool
-  pub same_member_visibility : (m : SymId) (f : SymbolFacts) (c : ChoiceFacts) → facts tree m ≡ Some f → f.kind ≡ IsBool → Contains c.members m → Sames (n.names_of_choice tree (Some c)) →
-      v.visibility tree k f ≡ v.visibility tree l f
-  same_member_visibility m f c at bool among h =
-      let shown = front (Shown c) (n.parts_names c.prompt ++ n.guarded_names tree (n.no_name) c.defaults) h in
-      let mine = subst (λ o. Sames (n.prompts_names tree o)) at (member_shown c.members m among shown) in
-      same_raised f.kind (subst (λ x. Sames (n.kind_names tree x)) (sym bool) tt) _ _ (same_conditions f.prompts mine)
 
   same_by_kind : (s : SymId) (f : SymbolFacts) (kind : Kind) (user : Option Given) → Sames (n.names_by_kind tree f kind) → v.by_kind tree k s f kind user ≡ v.by_kind tree l s f kind user
   same_by_kind s f Undefined user h = refl

@@ -1,66 +1,86 @@
--- One more symbol's needs.
-use Rattle.std.proofs.Common.{◌≡◌, ℕ, ◌<◌, ◌+◌, List, [], ◌∷◌, ◌++◌, length, Option, Some, None, sym, ◌∙◌, ap, inl, inr, arith, get_or-set_same, get_or-set_other, length-set}
-use Rattle.std.specs.Prelude.{slice_get, slice_index_or, slice_set}
-use Rattle.std.specs.Option.{option_map}
-use Rattle.std.proofs.lemmas.Bool.{cases_eq, cases_lt}
-use Rattle.std.proofs.lemmas.List.{get_or_past}
-use Rattle.std.proofs.lemmas.List.FromFn.{length-map-range_with_len, get_or-map-range_with_len, map-range_with_len_more}
-use Rattle.kc_order.specs.Needs.{needs_in}
-use Rattle.kc_tree.specs.declared.parts.ChoiceId.{ChoiceId}
-use Rattle.kc_tree.specs.TreeFacts.{SymbolFacts, TreeFacts}
-use Rattle.kc_values.specs.Needs.{needs_of, names_of, names_by_choice, defined_numbers}
-use Rattle.kc_values.specs.NeedRows.{needs_before, first_of, noted, AreFirst}
+-- Steps of the loops over the definitions of a symbol and over the lines that select it.
+use Rattle.std.proofs.Common.{◌≡◌, ℕ, ◌<◌, ◌+◌, List, [], ◌∷◌, ◌++◌, zero, suc, length, take, Option, Some, None, refl, sym, ap, ◌∙◌, arith, append-nil, append_assoc, add-one}
+use Rattle.std.specs.Prelude.{slice_get, is_some, false}
+use Rattle.std.specs.Option.{option_and_then}
+use Rattle.std.specs.List.{filter_map, flat_map, cons_option}
+use Rattle.std.proofs.lemmas.Grind.{flat_map-append}
+use Rattle.kc_expr.specs.declared.expression.SymId.{SymId}
+use Rattle.kc_tree.specs.Words.{listed}
+use Rattle.kc_values.specs.declared.needs.Row.{Row}
+use Rattle.kc_values.specs.NeedRows.{Adds}
 
--- what is found of a choice's first member
-pub record IsFound (tree : TreeFacts) (i : ℕ) (choice : Option ChoiceId) (member : ℕ) : Type 0 where
-  pub before : member < i
-  pub same : needs_of tree i ≡ needs_of tree member
+cons_some : {Y : Type 0} (o : Option Y) → cons_option o [] ≡ listed o
+cons_some None = refl
+cons_some (Some y) = refl
 
-row_in_choice : (tree : TreeFacts) (i c : ℕ) (f : SymbolFacts) → slice_get tree.symbols i ≡ Some f → f.choice ≡ Some c → needs_of tree i ≡ defined_numbers tree (names_by_choice tree f (Some c))
-row_in_choice tree i c f e h =
-    ap (λ o. defined_numbers tree (names_of tree o)) e ∙ ap (λ o. defined_numbers tree (names_by_choice tree f o)) h
+cons_before : {Y : Type 0} (o : Option Y) (xs ys : List Y) → cons_option o (xs ++ ys) ≡ cons_option o xs ++ ys
+cons_before None xs ys = refl
+cons_before (Some y) xs ys = refl
 
-pub found_first : (tree : TreeFacts) (i : ℕ) (first : List (Option ℕ)) (choice : Option ChoiceId) (member : ℕ) (f : SymbolFacts) → slice_get tree.symbols i ≡ Some f →
-    f.choice ≡ option_map (λ (k : ChoiceId). k.0) choice → AreFirst tree i first → first_of first choice ≡ Some member → IsFound tree i choice member
-found_first tree i first None member f e h old is = cc
-found_first tree i first (Some c) member f e h old is =
-    let o = old c.0 member is in
-    let g = o.1.0 in
-    record { before = o.0; same = row_in_choice tree i c.0 f e h ∙ sym (row_in_choice tree member c.0 g o.1.1 o.1.2) }
+-- what is found of one place more
+filter_map_next : {X Y : Type 0} (h : X → Option Y) (xs : List X) (i : ℕ) → i < length xs →
+    filter_map h (take (suc i) xs) ≡ filter_map h (take i xs) ++ listed (option_and_then h (slice_get xs i))
+filter_map_next h [] i l = absurd (omega arith)
+filter_map_next h (x ∷ xs) zero l = cons_some (h x)
+filter_map_next h (x ∷ xs) (suc i) l =
+    ap (cons_option (h x)) (filter_map_next h xs i (omega arith))
+    ∙ cons_before (h x) (filter_map h (take i xs)) (listed (option_and_then h (slice_get xs i)))
 
-pub before_length : (tree : TreeFacts) (i : ℕ) (needs : List (List ℕ)) → needs ≡ needs_before tree i → length needs ≡ i
-before_length tree i needs e = ap length e ∙ length-map-range_with_len (needs_of tree) 0 i
+module _ {X Y Z : Type 0} (f : Y → List Z) (h : X → Option Y) (xs : List X) (i : ℕ) (l : i < length xs) where
+  one_more : flat_map f (filter_map h (take (i + 1) xs)) ≡ flat_map f (filter_map h (take i xs)) ++ flat_map f (listed (option_and_then h (slice_get xs i)))
+  one_more =
+      ap (λ k. flat_map f (filter_map h (take k xs))) (add-one i)
+      ∙ ap (flat_map f) (filter_map_next h xs i l)
+      ∙ flat_map-append f (filter_map h (take i xs)) (listed (option_and_then h (slice_get xs i)))
 
-pub one_more : (tree : TreeFacts) (i : ℕ) (old new : List (List ℕ)) (row : List ℕ) → old ≡ needs_before tree i → new ≡ old ++ row ∷ [] → row ≡ needs_of tree i → new ≡ needs_before tree (i + 1)
-one_more tree i old new row e n r =
-    n ∙ ap (λ x. x ++ row ∷ []) e ∙ ap (λ x. needs_before tree i ++ x ∷ []) r
-    ∙ sym (map-range_with_len_more (needs_of tree) 0 i i (omega arith))
+  pub found_more : (y : Y) → option_and_then h (slice_get xs i) ≡ Some y →
+      flat_map f (filter_map h (take (i + 1) xs)) ≡ flat_map f (filter_map h (take i xs)) ++ f y
+  found_more y e =
+      one_more ∙ ap (λ o. flat_map f (filter_map h (take i xs)) ++ flat_map f (listed o)) e
+      ∙ ap (λ ys. flat_map f (filter_map h (take i xs)) ++ ys) (append-nil (f y))
 
-pub same_more : (tree : TreeFacts) (i : ℕ) (old new : List (List ℕ)) (member : ℕ) (choice : Option ChoiceId) → old ≡ needs_before tree i → new ≡ old ++ needs_in old member ∷ [] →
-    IsFound tree i choice member → new ≡ needs_before tree (i + 1)
-same_more tree i old new member choice e n found =
-    let row : needs_in old member ≡ needs_of tree i =
-    ap (λ x. needs_in x member) e ∙ get_or-map-range_with_len (needs_of tree) 0 i member member [] found.before (omega arith) ∙ sym found.same
-    in
-    one_more tree i old new (needs_in old member) e n row
+  pub none_more : option_and_then h (slice_get xs i) ≡ None → flat_map f (filter_map h (take (i + 1) xs)) ≡ flat_map f (filter_map h (take i xs)) ++ []
+  none_more e = one_more ∙ ap (λ o. flat_map f (filter_map h (take i xs)) ++ flat_map f (listed o)) e
 
-pub weaker : (tree : TreeFacts) (i : ℕ) (first : List (Option ℕ)) → AreFirst tree i first → AreFirst tree (i + 1) first
-weaker tree i first old c j e = let o = old c j e in (omega (arith, o.0), o.1)
+-- a list that grew by parts
+module _ {X : Type 0} (now mid next a b : List X) (e : mid ≡ now ++ a) where
+  joined : next ≡ mid ++ b → next ≡ now ++ (a ++ b)
+  joined f = f ∙ ap (λ x. x ++ b) e ∙ append_assoc now a b
 
-pub noted_first : (tree : TreeFacts) (i : ℕ) (first : List (Option ℕ)) (choice : Option ChoiceId) (f : SymbolFacts) → slice_get tree.symbols i ≡ Some f →
-    f.choice ≡ option_map (λ (k : ChoiceId). k.0) choice → AreFirst tree i first → AreFirst tree (i + 1) (noted first choice i)
-noted_first tree i first None f e h old d j is = weaker tree i first old d j is
-noted_first tree i first (Some c) f e h old d j is =
-    elim (cases_eq d c.0) [
-      | inl at ↦
-          elim (cases_lt c.0 (length first)) [
-            | inl l ↦
-                let new : Some i ≡ Some j = sym (get_or-set_same first c.0 (Some i) None l) ∙ ap (λ n. slice_index_or (slice_set first c.0 (Some i)) n None) (sym at) ∙ is in
-                let same : i ≡ j = cc in
-                (omega arith, (f, ap (slice_get tree.symbols) (sym same) ∙ e, h ∙ ap Some (sym at)))
-            | inr l ↦
-                let none : None ≡ Some j = sym (get_or_past (slice_set first c.0 (Some i)) d None (omega (arith, length-set {A = Option ℕ} first c.0 (Some i)))) ∙ is in
-                cc
-          ]
-      | inr other ↦ weaker tree i first old d j (sym (get_or-set_other first c.0 d (Some i) None other) ∙ is)
-    ]
+module _ {X : Type 0} (start now next xs a all : List X) (e : now ≡ start ++ xs) where
+  grown : next ≡ now ++ a → all ≡ xs ++ a → next ≡ start ++ all
+  grown f g = f ∙ ap (λ x. x ++ a) e ∙ append_assoc start xs a ∙ ap (λ x. start ++ x) (sym g)
+
+-- what is left beside what is there
+module _ {X : Type 0} (old new s r all total : List X) (e : new ≡ old ++ s) where
+  handed : all ≡ s ++ r → old ++ all ≡ total → new ++ r ≡ total
+  handed f g = ap (λ x. x ++ r) e ∙ append_assoc old s r ∙ ap (λ x. old ++ x) (sym f) ∙ g
+
+pub no_prompt : {X : Type 0} (o : Option X) → is_some o ≡ false → o ≡ None
+no_prompt None e = refl
+no_prompt (Some x) e = cc
+
+-- one addition after another
+pub adds_both : (a b c : Row) (n o : List ℕ) (s t : List SymId) → Adds a b n s → Adds b c o t → Adds a c (n ++ o) (s ++ t)
+adds_both a b c n o s t x y = record {
+  nodes_are = joined a.nodes.items b.nodes.items c.nodes.items n o x.nodes_are y.nodes_are;
+  names_are = joined a.names.items b.names.items c.names.items s t x.names_are y.names_are;
+}
+
+-- beside what is left
+pub adds_of_left : (a b : Row) (n o all : List ℕ) (s t every : List SymId) (nodes : List ℕ) (names : List SymId) → Adds a b n s → all ≡ n ++ o → every ≡ s ++ t →
+    (a.nodes.items ++ all ≡ nodes) × (a.names.items ++ every ≡ names) → (b.nodes.items ++ o ≡ nodes) × (b.names.items ++ t ≡ names)
+adds_of_left a b n o all s t every nodes names x e f h =
+    (handed a.nodes.items b.nodes.items n o all nodes x.nodes_are e h.0, handed a.names.items b.names.items s t every names x.names_are f h.1)
+
+-- behind what was added before
+pub adds_more : (start a b : Row) (n o all : List ℕ) (s t every : List SymId) → (a.nodes.items ≡ start.nodes.items ++ n) × (a.names.items ≡ start.names.items ++ s) →
+    Adds a b o t → all ≡ n ++ o → every ≡ s ++ t → (b.nodes.items ≡ start.nodes.items ++ all) × (b.names.items ≡ start.names.items ++ every)
+adds_more start a b n o all s t every h x e f = (
+  grown start.nodes.items a.nodes.items b.nodes.items n o all h.0 x.nodes_are e,
+  grown start.names.items a.names.items b.names.items s t every h.1 x.names_are f,
+)
+
+-- nothing was added
+pub adds_nothing : (a : Row) → Adds a a [] []
+adds_nothing a = record { nodes_are = sym (append-nil a.nodes.items); names_are = sym (append-nil a.names.items) }

@@ -13,7 +13,7 @@ use Rattle.kc_tree.specs.TreeFacts.{TreeFacts}
 use Rattle.kc_values.specs.Lookups.{facts, choice_at}
 use Rattle.kc_user.specs.Given.{Given, Chosen, Typed, Member, Slot, At, In}
 use Rattle.kc_user.specs.Places.{allowed, members_of}
-use Rattle.kc_tree.specs.Facts.{is_symbol_of}
+use Rattle.kc_tree.specs.Words.{is_symbol_of}
 use Rattle.kc_values.specs.Values.{selected}
 use Rattle.kc_values.specs.Solution.{symbol_count, seen, slot, rhs}
 use Rattle.kc_values.specs.Written.{written, unsettled_facts}

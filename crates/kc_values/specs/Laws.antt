@@ -1,10 +1,10 @@
 -- Trusted: What holds of the equations of a tree.
-use Rattle.std.specs.Prelude.{◌≡◌, ◌≢◌, ℕ, ◌<◌, ◌↔◌, Option, Some, None, Bool, true, false}
+use Rattle.std.specs.Prelude.{◌≡◌, ℕ, ◌<◌, ◌↔◌, Option, Some, None, Bool, true, false}
 use Rattle.std.specs.List.{Contains}
 use Rattle.kc_expr.specs.Value.{Known}
 use Rattle.kc_expr.specs.Names.{symbol}
 use Rattle.kc_expr.specs.declared.expression.SymId.{SymId}
-use Rattle.kc_expr.specs.declared.expression.Kind.TheVariants.{Undefined, Bool as IsBool}
+use Rattle.kc_expr.specs.declared.expression.Kind.TheVariants.{Bool as IsBool}
 use Rattle.kc_tree.specs.TreeFacts.{Condition, SymbolFacts, ChoiceFacts, TreeFacts, IsWellFormed}
 use Rattle.kc_order.specs.Needs.{needs_in, AreWithin, IsAccepted as AreAccepted}
 use Rattle.kc_order.specs.Solution.{Solves, IsOnlySolution, HasOneSolution, ReadsNeeds}
@@ -12,9 +12,9 @@ use Rattle.kc_order.specs.Minimal.{Restores, NothingCanGo}
 use Rattle.kc_values.specs.Lookups.{facts, choice_at}
 use Rattle.kc_user.specs.Given.{Given, Slot}
 use Rattle.kc_user.specs.Places.{allowed}
-use Rattle.kc_values.specs.Values.{prompt_value, condition, visibility}
+use Rattle.kc_values.specs.Values.{prompt_value, condition}
 use Rattle.kc_values.specs.Needs.{needs}
-use Rattle.kc_values.specs.Solution.{symbol_count, seen, equations, rhs, slot}
+use Rattle.kc_values.specs.Solution.{symbol_count, equations, rhs, slot}
 use Rattle.kc_values.specs.Differs.{TellsDiffering, differs, line_of, given_of, again, is_unsettled, AllowedPlaces}
 
 -- no symbol is stuck
@@ -34,12 +34,6 @@ MembersAreBools tree = (s : SymId) (g : SymbolFacts) (c : ℕ) → facts tree s 
 -- An equation reads only what its symbol needs, whatever the places.
 abbrev pub EquationsReadNeeds : Type 0
 EquationsReadNeeds = (tree : TreeFacts) (user : Slot → Option Given) → ReadsNeeds (needs_in (needs tree)) (equations tree user)
-
--- The visibility of a symbol that has a type reads only what the symbol needs, in a well-formed tree.
-abbrev pub VisibilityReadsNeeds : Type 0
-VisibilityReadsNeeds =
-    (tree : TreeFacts) (s : ℕ) (f : SymbolFacts) (V W : ℕ → Known) → IsWellFormed tree → facts tree (symbol s) ≡ Some f → f.kind ≢ Undefined →
-    ((t : ℕ) → Contains (needs_in (needs tree) s) t → V t ≡ W t) → visibility tree (seen tree V) f ≡ visibility tree (seen tree W) f
 
 -- Each need is the number of a defined symbol.
 abbrev pub NeedsAreDefined : Type 0

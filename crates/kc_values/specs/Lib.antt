@@ -12,3 +12,6 @@ pub mod Small
 pub mod Selections
 pub mod Table
 pub mod NeedRows
+pub mod Settled
+pub mod Known
+pub mod Nodes

@@ -1,45 +1,293 @@
--- For proofs: The rows of needs as they are made, one symbol after another.
-use Rattle.std.specs.Prelude.{◌≡◌, ℕ, ◌<◌, ◌≤◌, ◌==◌, ◌^◌, ◌&&◌, not, if◌then◌else◌, Bool, false, List, [], ◌∷◌, ◌++◌, map, length, All, Option, Some, None, nat_lt, slice_get, slice_index_or, slice_set}
-use Rattle.std.specs.List.{list_any, range_with_len}
+-- Trusted: The rows of the graph of needs as they are made: for each node the contexts and choices that it needs, and the names.
+use Rattle.std.specs.Prelude.{◌≡◌, ℕ, ◌<◌, ◌==◌, ◌&&◌, ◌||◌, if◌then◌else◌, Bool, true, false, List, [], ◌∷◌, ◌++◌, filter, map, length, nat_lt, is_some, Option, Some, None, slice_get, slice_index_or}
+use Rattle.std.specs.Option.{option_and_then}
+use Rattle.std.specs.List.{filter_map, flat_map, range_with_len}
+use Rattle.kc_expr.specs.Form.{Form, form_of, leaf_of, leaf_symbols, symbols}
+use Rattle.kc_expr.specs.declared.expression.Kind.{Kind}
+use Rattle.kc_expr.specs.declared.expression.Kind.TheVariants.{Undefined, Bool as IsBool, Tristate, Str, Int, Hex}
 use Rattle.kc_expr.specs.declared.expression.SymId.{SymId}
+use Rattle.kc_order.specs.Graph.{Nodes}
+use Rattle.kc_expr.specs.When.{when_view}
+use Rattle.kc_tree.specs.declared.layout.Layout.{Layout}
+use Rattle.kc_tree.specs.declared.parts.Choice.{Choice}
+use Rattle.kc_tree.specs.declared.parts.ChoiceDefault.{ChoiceDefault}
 use Rattle.kc_tree.specs.declared.parts.ChoiceId.{ChoiceId}
-use Rattle.kc_tree.specs.TreeFacts.{SymbolFacts, TreeFacts}
-use Rattle.kc_values.specs.Needs.{needs_of}
+use Rattle.kc_tree.specs.declared.parts.Context.{Context}
+use Rattle.kc_tree.specs.declared.parts.Definition.{Definition}
+use Rattle.kc_tree.specs.declared.parts.DefinitionId.{DefinitionId}
+use Rattle.kc_tree.specs.declared.parts.Prompt.{Prompt}
+use Rattle.kc_tree.specs.declared.parts.Reverse.{Reverse}
+use Rattle.kc_tree.specs.declared.parts.ReverseId.{ReverseId}
+use Rattle.kc_tree.specs.declared.parts.Symbol.{Symbol}
+use Rattle.kc_tree.specs.declared.parts.SymbolDefault.{SymbolDefault}
+use Rattle.kc_tree.specs.declared.parts.SymbolRange.{SymbolRange}
+use Rattle.kc_tree.specs.Chains.{chain_of, chains_of}
+use Rattle.kc_tree.specs.Contexts.{IsStep, condition_in, top}
+use Rattle.kc_tree.specs.Parts.{definition_ids, part_of}
+use Rattle.kc_tree.specs.TreeFacts.{TreeFacts}
+use Rattle.kc_values.specs.declared.needs.Row.{Row}
+use Rattle.kc_values.specs.Needs.{kind_names}
+use Rattle.kc_values.specs.Nodes.{choice_number, context_number, node_count}
 
--- the needs of the symbols before one
-abbrev pub needs_before : TreeFacts → ℕ → List (List ℕ)
-needs_before tree i = map (needs_of tree) (range_with_len 0 i)
+-- a row in the making holds these nodes and names
+pub record IsRow (nodes : List ℕ) (names : List SymId) (row : Row) : Type 0 where
+  pub nodes_are : row.nodes.items ≡ nodes
+  pub names_are : row.names.items ≡ names
 
-abbrev pub first_of : List (Option ℕ) → Option ChoiceId → Option ℕ
-first_of first None = None
-first_of first (Some c) = slice_index_or first c.0 None
+-- it holds these besides
+abbrev pub Adds : Row → Row → List ℕ → List SymId → Type 0
+Adds old new nodes names = IsRow (old.nodes.items ++ nodes) (old.names.items ++ names) new
 
-abbrev pub noted : List (Option ℕ) → Option ChoiceId → ℕ → List (Option ℕ)
-noted first None s = first
-noted first (Some c) s = slice_set first c.0 (Some s)
+-- a row as it stands in the graph: the nodes, and of the names the symbols that are defined
+abbrev pub row_of : ℕ → Row → List ℕ
+row_of defined row = row.nodes.items ++ map (λ (s : SymId). s.0) (filter (λ (s : SymId). nat_lt s.0 defined) row.names.items)
 
--- for each choice a member of it before symbol i, or none
-abbrev pub AreFirst : TreeFacts → ℕ → List (Option ℕ) → Type 0
-AreFirst tree i first =
-    (c j : ℕ) → slice_index_or first c None ≡ Some j →
-    (j < i) × ((f : SymbolFacts) × (slice_get tree.symbols j ≡ Some f) × (f.choice ≡ Some c))
+-- names
+abbrev pub when_names : Option Form → List SymId
+when_names None = []
+when_names (Some f) = symbols f
 
--- a row: the symbols below its first part are defined, and the numbers of those that were met are its second, once a name is met
-abbrev pub with_name : ℕ × List ℕ → SymId → ℕ × List ℕ
-with_name row s = if nat_lt s.0 row.0 && not (list_any (λ n. n == s.0) row.1) then (row.0, row.1 ++ s.0 ∷ []) else row
+abbrev pub prompt_names : Option Prompt → List SymId
+prompt_names None = []
+prompt_names (Some p) = when_names (when_view p.when)
 
--- once names are met, one after another
-abbrev pub with_names : ℕ × List ℕ → List SymId → ℕ × List ℕ
-with_names row [] = row
-with_names row (s ∷ ss) = with_names (with_name row s) ss
+abbrev pub default_names : SymbolDefault → List SymId
+default_names d = symbols (form_of d.value.value) ++ when_names (when_view d.when)
 
--- a mark for each defined symbol says whether it stands in the row
-pub record IsMarked (numbers : List ℕ) (marks : List Bool) : Type 0 where
-  pub few : length marks ≤ 2 ^ 32
-  pub below : All (λ n. n < length marks) numbers
-  pub each : (n : ℕ) → n < length marks → slice_index_or marks n false ≡ list_any (λ m. m == n) numbers
+abbrev pub range_names : SymbolRange → List SymId
+range_names r = leaf_symbols (leaf_of r.low) ++ leaf_symbols (leaf_of r.high) ++ when_names (when_view r.when)
 
--- the marks without those of these numbers
-abbrev pub unmarked : List Bool → List ℕ → List Bool
-unmarked marks [] = marks
-unmarked marks (n ∷ ns) = unmarked (slice_set marks n false) ns
+abbrev pub choice_default_names : ChoiceDefault → List SymId
+choice_default_names d = when_names (when_view d.when)
+
+abbrev pub is_number : Kind → Bool
+is_number Undefined = false
+is_number IsBool = false
+is_number Tristate = false
+is_number Str = false
+is_number Int = true
+is_number Hex = true
+
+abbrev pub is_truth : Kind → Bool
+is_truth Undefined = false
+is_truth IsBool = true
+is_truth Tristate = true
+is_truth Str = false
+is_truth Int = false
+is_truth Hex = false
+
+-- something, where a list has an element
+abbrev pub where_some : {X : Type 0} → List X → List ℕ → List ℕ
+where_some [] nodes = []
+where_some (x ∷ xs) nodes = nodes
+
+module _ (l : Layout) where
+  -- a context, but for the top
+  abbrev pub context_nodes : ℕ → List ℕ
+  context_nodes c = if c == 0 then [] else context_number l c ∷ []
+
+  abbrev pub prompt_nodes : Option Prompt → List ℕ
+  prompt_nodes None = []
+  prompt_nodes (Some p) = context_nodes p.visible.0
+
+  abbrev pub choice_prompt_nodes : Choice → List ℕ
+  choice_prompt_nodes c = (if is_some c.prompt then context_nodes c.within.0 else []) ++ prompt_nodes c.prompt
+
+  abbrev pub choice_row : Option ChoiceId → Option Choice
+  choice_row o = option_and_then (λ (k : ChoiceId). slice_get l.tables.choices.items k.0) o
+
+  abbrev pub nodes_of_choice : Option Choice → List ℕ
+  nodes_of_choice None = []
+  nodes_of_choice (Some c) = choice_prompt_nodes c
+
+  abbrev pub names_of_choice : Option Choice → List SymId
+  names_of_choice None = []
+  names_of_choice (Some c) = prompt_names c.prompt
+
+  abbrev pub mode_nodes : Option ChoiceId → List ℕ
+  mode_nodes o = nodes_of_choice (choice_row o)
+
+  abbrev pub mode_names : Option ChoiceId → List SymId
+  mode_names o = names_of_choice (choice_row o)
+
+  -- what a context asks for besides the one outside it
+  abbrev pub asked_nodes : Context → List ℕ
+  asked_nodes c = context_nodes c.outer.0 ++ (if is_some c.asks then [] else mode_nodes c.mode)
+
+  abbrev pub asked_names : Context → List SymId
+  asked_names c = if is_some c.asks then when_names (when_view c.asks) else mode_names c.mode
+
+  -- the definitions of a symbol
+  abbrev pub definition_at : DefinitionId → Option Definition
+  definition_at id = slice_get l.tables.definitions.items id.0
+
+  abbrev pub definition_row : Symbol → ℕ → Option Definition
+  definition_row s i = option_and_then definition_at (slice_get (definition_ids s) i)
+
+  abbrev pub definitions_of : List DefinitionId → List Definition
+  definitions_of ids = filter_map definition_at ids
+
+  abbrev pub defaults_of : Definition → List SymbolDefault
+  defaults_of d = part_of l.tables.defaults.items d.defaults
+
+  abbrev pub ranges_of : Definition → List SymbolRange
+  ranges_of d = part_of l.tables.ranges.items d.ranges
+
+  -- of their prompts alone
+  abbrev pub entry_nodes : Definition → List ℕ
+  entry_nodes d = (if is_some d.prompt then context_nodes d.within.0 else []) ++ prompt_nodes d.prompt
+
+  abbrev pub entry_names : Definition → List SymId
+  entry_names d = prompt_names d.prompt
+
+  abbrev pub prompts_nodes_of : List DefinitionId → List ℕ
+  prompts_nodes_of ids = flat_map entry_nodes (definitions_of ids)
+
+  abbrev pub prompts_names_of : List DefinitionId → List SymId
+  prompts_names_of ids = flat_map entry_names (definitions_of ids)
+
+  abbrev pub prompts_nodes : Symbol → List ℕ
+  prompts_nodes s = prompts_nodes_of (definition_ids s)
+
+  abbrev pub prompts_names : Symbol → List SymId
+  prompts_names s = prompts_names_of (definition_ids s)
+
+  -- the equation of a symbol of this type reads what a definition of it depends on
+  abbrev pub is_read : Kind → Definition → Bool
+  is_read kind d = is_truth kind || (is_some d.prompt || (nat_lt 0 (length (defaults_of d)) || (is_number kind && nat_lt 0 (length (ranges_of d)))))
+
+  abbrev pub definition_nodes : Kind → Definition → List ℕ
+  definition_nodes kind d = (if is_read kind d then context_nodes d.within.0 else []) ++ prompt_nodes d.prompt
+
+  abbrev pub definition_names : Kind → Definition → List SymId
+  definition_names kind d =
+      prompt_names d.prompt ++ flat_map default_names (defaults_of d) ++ (if is_number kind then flat_map range_names (ranges_of d) else [])
+
+  abbrev pub definitions_nodes_of : Kind → List DefinitionId → List ℕ
+  definitions_nodes_of kind ids = flat_map (definition_nodes kind) (definitions_of ids)
+
+  abbrev pub definitions_names_of : Kind → List DefinitionId → List SymId
+  definitions_names_of kind ids = flat_map (definition_names kind) (definitions_of ids)
+
+  abbrev pub definitions_nodes : Symbol → List ℕ
+  definitions_nodes s = definitions_nodes_of s.kind (definition_ids s)
+
+  abbrev pub definitions_names : Symbol → List SymId
+  definitions_names s = definitions_names_of s.kind (definition_ids s)
+
+  -- lines that select or imply, from one on
+  abbrev pub reverse_row : ℕ → Option Reverse
+  reverse_row i = slice_get l.tables.reverses.lines.items i
+
+  abbrev pub lines_from : Option ReverseId → List Reverse
+  lines_from last = filter_map reverse_row (chain_of (chains_of l.tables.reverses.lines.items) last)
+
+  abbrev pub source_nodes : Option Definition → List ℕ
+  source_nodes None = []
+  source_nodes (Some d) = context_nodes d.within.0
+
+  abbrev pub source_names : Reverse → Option Definition → List SymId
+  source_names r None = []
+  source_names r (Some d) = d.symbol ∷ when_names (when_view r.when)
+
+  abbrev pub reverses_nodes : Option ReverseId → List ℕ
+  reverses_nodes last = flat_map (λ (r : Reverse). source_nodes (definition_at r.source)) (lines_from last)
+
+  abbrev pub reverses_names : Option ReverseId → List SymId
+  reverses_names last = flat_map (λ (r : Reverse). source_names r (definition_at r.source)) (lines_from last)
+
+  abbrev pub last_select : ℕ → Option ReverseId
+  last_select s = slice_index_or l.tables.reverses.selects.items s None
+
+  abbrev pub last_imply : ℕ → Option ReverseId
+  last_imply s = slice_index_or l.tables.reverses.implies.items s None
+
+  abbrev pub truth_nodes : ℕ → Symbol → List ℕ
+  truth_nodes i s = definitions_nodes s ++ reverses_nodes (last_select i) ++ reverses_nodes (last_imply i)
+
+  abbrev pub nodes_by_kind : ℕ → Symbol → Kind → List ℕ
+  nodes_by_kind i s Undefined = []
+  nodes_by_kind i s IsBool = truth_nodes i s
+  nodes_by_kind i s Tristate = truth_nodes i s
+  nodes_by_kind i s Str = definitions_nodes s
+  nodes_by_kind i s Int = definitions_nodes s
+  nodes_by_kind i s Hex = definitions_nodes s
+
+  abbrev pub nodes_by_choice : ℕ → Symbol → Option ChoiceId → List ℕ
+  nodes_by_choice i s (Some k) = choice_number l k.0 ∷ []
+  nodes_by_choice i s None = nodes_by_kind i s s.kind
+
+  abbrev pub symbol_nodes : ℕ → Symbol → List ℕ
+  symbol_nodes i s = nodes_by_choice i s s.choice
+
+  -- the selection of a choice
+  abbrev pub choice_defaults_nodes : Choice → List ℕ
+  choice_defaults_nodes c = where_some c.defaults.items (context_nodes c.within.0)
+
+  abbrev pub member_row : SymId → Option Symbol
+  member_row s = slice_get l.symbols.items s.0
+
+  abbrev pub members_nodes : List SymId → List ℕ
+  members_nodes ms = flat_map prompts_nodes (filter_map member_row ms)
+
+  abbrev pub members_names : List SymId → List SymId
+  members_names ms = flat_map prompts_names (filter_map member_row ms)
+
+  abbrev pub choice_nodes : Choice → List ℕ
+  choice_nodes c = members_nodes c.members.items ++ choice_prompt_nodes c ++ choice_defaults_nodes c
+
+  abbrev pub choice_names : Choice → List SymId
+  choice_names c = members_names c.members.items ++ prompt_names c.prompt ++ flat_map choice_default_names c.defaults.items
+
+  -- the rows of contexts and choices
+  abbrev pub defined : List SymId → List ℕ
+  defined names = map (λ (s : SymId). s.0) (filter (λ (s : SymId). nat_lt s.0 (length l.symbols.items)) names)
+
+  abbrev pub choice_row_of : Choice → List ℕ
+  choice_row_of c = choice_nodes c ++ defined (choice_names c)
+
+  abbrev pub choice_rows : List (List ℕ)
+  choice_rows = map choice_row_of l.tables.choices.items
+
+module _ (tree : TreeFacts) (l : Layout) where
+  abbrev pub truth_names : ℕ → Symbol → List SymId
+  truth_names i s = definitions_names l s ++ reverses_names l (last_select l i) ++ reverses_names l (last_imply l i) ++ kind_names tree s.kind
+
+  abbrev pub names_by_kind : ℕ → Symbol → Kind → List SymId
+  names_by_kind i s Undefined = []
+  names_by_kind i s IsBool = truth_names i s
+  names_by_kind i s Tristate = truth_names i s
+  names_by_kind i s Str = definitions_names l s
+  names_by_kind i s Int = definitions_names l s
+  names_by_kind i s Hex = definitions_names l s
+
+  abbrev pub symbol_names : ℕ → Symbol → List SymId
+  symbol_names i s = if is_some s.choice then [] else names_by_kind i s s.kind
+
+  abbrev pub symbol_row : ℕ → Option Symbol → List ℕ
+  symbol_row i None = []
+  symbol_row i (Some s) = symbol_nodes l i s ++ defined l (symbol_names i s)
+
+  abbrev pub symbol_rows : List (List ℕ)
+  symbol_rows = map (λ i. symbol_row i (slice_get l.symbols.items i)) (range_with_len 0 (length l.symbols.items))
+
+-- the choices of members are there
+abbrev pub AreChoicesThere : Layout → Type 0
+AreChoicesThere l = (i : ℕ) (s : Symbol) (k : ChoiceId) → slice_get l.symbols.items i ≡ Some s → s.choice ≡ Some k → k.0 < length l.tables.choices.items
+
+-- a row of a context: of one that asks for nothing, as the top, none; else there is a context of that number that asks for what the row has
+pub data IsContextRow (l : Layout) (i : ℕ) (row : List ℕ) : Type 0 where
+  asks_nothing : condition_in l.tables.contexts i ≡ top → row ≡ [] → IsContextRow l i row
+  asks_this : (c : Context) → IsStep l.tables.contexts i c → row ≡ asked_nodes l c ++ defined l (asked_names l c) → IsContextRow l i row
+
+-- the rows of the contexts: of each what a context of that number asks for
+abbrev pub AreContextRows : Layout → List (List ℕ) → Type 0
+AreContextRows l rows = (length rows ≡ length l.tables.contexts) × ((i : ℕ) → i < length rows → IsContextRow l i (slice_index_or rows i []))
+
+-- the graph of a tree's needs: the symbols, the contexts, the choices
+pub record AreNodeRows (tree : TreeFacts) (l : Layout) (g : Nodes) : Type 0 where
+  pub symbols_are : g.symbols ≡ length l.symbols.items
+  pub count : length g.rows ≡ node_count l
+  pub contexts : List (List ℕ)
+  pub contexts_are : AreContextRows l contexts
+  pub rows_are : g.rows ≡ symbol_rows tree l ++ contexts ++ choice_rows l

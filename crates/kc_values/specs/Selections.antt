@@ -1,10 +1,10 @@
--- Trusted: Selections that are settled once for all members of a choice, and what an equation depends on.
-use Rattle.std.specs.Prelude.{◌≡◌, ◌⊎◌, ℕ, List, Option, Some, None, slice_index_or, All}
+-- Trusted: The places that members read, and what an equation depends on.
+use Rattle.std.specs.Prelude.{◌≡◌, ℕ, List, Option, Some, None, slice_index_or, All}
 use Rattle.kc_expr.specs.Value.{Known}
 use Rattle.kc_expr.specs.declared.expression.SymId.{SymId}
 use Rattle.kc_tree.specs.declared.parts.ChoiceId.{ChoiceId}
 use Rattle.kc_tree.specs.TreeFacts.{TreeFacts, ChoiceFacts}
-use Rattle.kc_values.specs.Lookups.{facts, choice_at}
+use Rattle.kc_values.specs.Lookups.{facts}
 use Rattle.kc_user.specs.Given.{Given}
 use Rattle.kc_user.specs.Places.{member_place}
 use Rattle.kc_values.specs.Values.{selected, equation}
@@ -18,16 +18,6 @@ member_given users c = member_place (slice_index_or users c None)
 abbrev pub given_for : Option ChoiceId → Option Given → List (Option SymId) → Option Given
 given_for None own users = own
 given_for (Some c) own users = member_given users c.0
-
--- each settled selection is the selection under these values
-abbrev pub AreSettled : TreeFacts → (SymId → Known) → List (Option SymId) → List (Option (Option SymId)) → Type 0
-AreSettled tree known users settled =
-    (c : ℕ) (x : Option SymId) → slice_index_or settled c None ≡ Some x → x ≡ selected tree known (choice_at tree c) (member_given users c)
-
--- what is settled now was settled before, or is the selection of one choice
-abbrev pub OnlySettles : Option ℕ → List (Option (Option SymId)) → List (Option (Option SymId)) → Type 0
-OnlySettles choice old new =
-    (c : ℕ) (x : Option SymId) → slice_index_or new c None ≡ Some x → (slice_index_or old c None ≡ Some x) ⊎ (choice ≡ Some c)
 
 -- An equation, and a selection, depend on the names in them alone.
 abbrev pub DependsOnNames : Type 0

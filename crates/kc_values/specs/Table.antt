@@ -1,13 +1,14 @@
 -- Trusted: A table of values by the numbers of the symbols, of which some places may be empty.
 use Rattle.std.specs.Prelude.{ℕ, List, Option, Some, None, slice_index_or}
 use Rattle.std.specs.Borrow.{Bor}
-use Rattle.kc_expr.specs.Value.{Known, Truth, Written}
+use Rattle.kc_expr.specs.Value.{Known, Truth, Written, known_of}
 use Rattle.kc_expr.specs.declared.expression.SymId.{SymId}
 use Rattle.kc_expr.specs.declared.expression.Tri.TheVariants.{N}
 use Rattle.kc_expr.specs.declared.expression.Tri as tri
 use Rattle.kc_expr.specs.declared.expression.Kind.{Kind}
 use Rattle.kc_expr.specs.declared.expression.Kind.TheVariants.{Undefined}
-use Rattle.kc_tree.specs.TreeFacts.{SymbolFacts}
+use Rattle.kc_tree.specs.TreeFacts.{SymbolFacts, TreeFacts}
+use Rattle.kc_values.specs.Lookups.{facts, name}
 use Rattle.kc_values.specs.declared.table.Value.{Value}
 use Rattle.kc_values.specs.declared.table.Value.TheVariants as value
 
@@ -37,3 +38,7 @@ text_in (Some (value.Text v)) name = v.items
 abbrev pub known_value : Kind → Value → Known
 known_value kind (value.Truth t) = Truth t
 known_value kind (value.Text v) = Written kind v.items
+
+-- what values tell of each symbol
+abbrev pub known_in : TreeFacts → List (Option Value) → SymId → Known
+known_in tree values s = known_of (kind_in (facts tree s)) (tri_in (value_in values s)) (text_in (value_in values s) (name tree s))

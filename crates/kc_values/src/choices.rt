@@ -1,36 +1,37 @@
 //! What a choice selects.
 
-ghost use Rattle.std.specs.Prelude.{◌≡◌};
+ghost use Rattle.std.specs.Prelude.{◌≡◌, Some};
 ghost use Rattle.std.specs.List.{list_any};
-ghost use Rattle.kc_tree.specs.Facts.{same_symbol};
-ghost use Rattle.kc_tree.specs.Views.{choice_facts_of};
-ghost use Rattle.kc_values.specs.Values as spec;
+ghost use Rattle.kc_tree.specs.Words.{same_symbol};
+ghost use Rattle.kc_tree.specs.Layouts.{choice_facts};
 ghost use Rattle.kc_user.specs.Places.{member_place};
-ghost use Rattle.kc_expr.specs.Value.{known_by};
+ghost use Rattle.kc_values.specs.Known.{known_at};
+ghost use Rattle.kc_values.specs.Lookups.{choice_at};
+ghost use Rattle.kc_values.specs.Known.{IsSelected};
+ghost use Rattle.kc_values.specs.Values as spec;
 
-use crate::conditions::{condition, conditions, is_n, mode_of};
-use crate::lookups::facts;
+use crate::conditions::{condition, is_n, mode_of};
+use crate::table::Table;
+use crate::truths::prompts_condition;
 use kc_expr::expression::{SymId, Tri};
-use kc_expr::values::Values;
-use kc_tree::parts::Choice;
-use kc_tree::tree::Tree;
+use kc_tree::parts::{Choice, ChoiceId};
 
 /// Whether a prompt of the symbol has a condition that is not n; a name that is not defined has none (kconfiglib's
 /// `visibility`).
-pub fn visible<V: Values>(tree: &Tree, id: SymId, values: &V) -> bool
-    ensures { result ≡ spec.visible tree.now (known_by (V.kind_of values.now) (V.tri_of values.now) (V.text_of values.now)) id }
+pub fn visible(table: &Table<'_>, id: SymId) -> bool
+    ensures { result ≡ spec.visible table.now.tree.now (known_at table.now) id }
 {
-    match facts(tree, id) {
-        Some(symbol) => conditions(tree, &symbol.prompts, values) != Tri::N,
+    match table.layout.symbol(id) {
+        Some(symbol) => !is_n(prompts_condition(table, symbol)),
         None => false,
     }
 }
 
 // Whether it is a member of the choice with a visible prompt.
-fn visible_member<V: Values>(tree: &Tree, choice: &Choice, id: SymId, values: &V) -> bool
-    ensures { result ≡ spec.visible_member tree.now (known_by (V.kind_of values.now) (V.tri_of values.now) (V.text_of values.now)) (choice_facts_of choice.now) id }
+fn visible_member(table: &Table<'_>, choice: &Choice, id: SymId) -> bool
+    ensures { result ≡ spec.visible_member table.now.tree.now (known_at table.now) (choice_facts table.now.layout.now.tables choice.now) id }
 {
-    visible(tree, id, values) && is_among(id, &choice.members)
+    visible(table, id) && is_among(id, &choice.members)
 }
 
 fn is_among(id: SymId, members: &[SymId]) -> bool
@@ -40,56 +41,79 @@ fn is_among(id: SymId, members: &[SymId]) -> bool
 }
 
 // The first default whose condition is not n and that names a visible member.
-fn first_default<V: Values>(tree: &Tree, choice: &Choice, values: &V) -> Option<SymId>
-    ensures { result ≡ spec.first_default tree.now (known_by (V.kind_of values.now) (V.tri_of values.now) (V.text_of values.now)) (choice_facts_of choice.now) (choice_facts_of choice.now).defaults }
+fn first_default(table: &Table<'_>, choice: &Choice) -> Option<SymId>
+    ensures { result ≡ spec.first_default table.now.tree.now (known_at table.now) (choice_facts table.now.layout.now.tables choice.now) (choice_facts table.now.layout.now.tables choice.now).defaults }
 {
     for default in &choice.defaults {
-        if condition(tree, &default.1, values) != Tri::N
-            && visible_member(tree, choice, default.0, values)
+        if !is_n(condition(table, choice.within, &default.when))
+            && visible_member(table, choice, default.member)
         {
-            return Some(default.0);
+            return Some(default.member);
         }
     }
     None
 }
 
-// The default selection: that default, else the first visible member.
-fn unselected<V: Values>(tree: &Tree, choice: &Choice, values: &V) -> Option<SymId>
-    ensures { result ≡ spec.unselected tree.now (known_by (V.kind_of values.now) (V.tri_of values.now) (V.text_of values.now)) (choice_facts_of choice.now) }
-{
-    match first_default(tree, choice, values) {
-        Some(id) => Some(id),
-        None => first_visible(tree, &choice.members, values),
-    }
-}
-
-fn first_visible<V: Values>(tree: &Tree, members: &[SymId], values: &V) -> Option<SymId>
-    ensures { result ≡ spec.first_visible tree.now (known_by (V.kind_of values.now) (V.tri_of values.now) (V.text_of values.now)) members.now }
+fn first_visible(table: &Table<'_>, members: &[SymId]) -> Option<SymId>
+    ensures { result ≡ spec.first_visible table.now.tree.now (known_at table.now) members.now }
 {
     for member in members {
-        if visible(tree, *member, values) {
+        if visible(table, *member) {
             return Some(*member);
         }
     }
     None
 }
 
-/// The selection of a choice: none where its mode is n; else the user's member where it is a visible member of that choice,
-/// else the first default whose condition is not n and that names a visible member, else the first visible member
-/// (kconfiglib's `selection`; the kernel's kconfig-language document on choices).
-pub fn selected<V: Values>(
-    tree: &Tree,
-    choice: &Choice,
-    user: Option<SymId>,
-    values: &V,
-) -> Option<SymId>
-    ensures { result ≡ spec.selected tree.now (known_by (V.kind_of values.now) (V.tri_of values.now) (V.text_of values.now)) (Some (choice_facts_of choice.now)) (member_place user) }
+// The default selection: that default, else the first visible member.
+fn unselected(table: &Table<'_>, choice: &Choice) -> Option<SymId>
+    ensures { result ≡ spec.unselected table.now.tree.now (known_at table.now) (choice_facts table.now.layout.now.tables choice.now) }
 {
-    if is_n(mode_of(choice, values)) {
+    match first_default(table, choice) {
+        Some(id) => Some(id),
+        None => first_visible(table, &choice.members),
+    }
+}
+
+// The selection of a choice: none where its mode is n; else the user's member where it is a visible member of that choice,
+// else the first default whose condition is not n and that names a visible member, else the first visible member.
+fn selected(table: &Table<'_>, id: ChoiceId, choice: &Choice, user: Option<SymId>) -> Option<SymId>
+    requires { choice_at table.now.tree.now id.0 ≡ Some (choice_facts table.now.layout.now.tables choice.now) }
+    ensures { result ≡ spec.selected table.now.tree.now (known_at table.now) (Some (choice_facts table.now.layout.now.tables choice.now)) (member_place user) }
+{
+    if is_n(mode_of(table, id)) {
         return None;
     }
     match user {
-        Some(id) if visible_member(tree, choice, id, values) => Some(id),
-        _ => unselected(tree, choice, values),
+        Some(member) if visible_member(table, choice, member) => Some(member),
+        _ => unselected(table, choice),
+    }
+}
+
+/// The selection of a choice under the user's member: none where its mode is n or there is no such choice; else the user's
+/// member where it is a visible member of that choice, else the first default whose condition is not n and that names a visible
+/// member, else the first visible member (kconfiglib's `selection`; the kernel's kconfig-language document on choices).
+pub fn selected_in(table: &Table<'_>, choice: ChoiceId, user: Option<SymId>) -> Option<SymId>
+    ensures { result ≡ spec.selected table.now.tree.now (known_at table.now) (choice_at table.now.tree.now choice.0) (member_place user) }
+{
+    match table.layout.choice(choice) {
+        Some(found) => selected(table, choice, found, user),
+        None => None,
+    }
+}
+
+/// The value of a member: y where it is selected, else n; its own defaults count for nothing (the kernel's kconfig-language
+/// document on choices). A selection that is settled is not found again; `user` is the member that was given for the choice.
+pub fn member_equation(table: &Table<'_>, id: SymId, choice: ChoiceId, user: Option<SymId>) -> Tri
+    requires { IsSelected table.now choice.0 user }
+    ensures { result ≡ spec.member_equation table.now.tree.now (known_at table.now) id choice.0 (member_place user) }
+{
+    let selection = match table.settled_selection(choice) {
+        Some(settled) => settled,
+        None => selected_in(table, choice, user),
+    };
+    match selection {
+        Some(member) if member.0 == id.0 => Tri::Y,
+        _ => Tri::N,
     }
 }

@@ -1,16 +1,20 @@
 //! Conditions under the values so far.
 
-ghost use Rattle.std.specs.Prelude.{◌≡◌, map, Option, Some, None};
-ghost use Rattle.kc_expr.specs.Form.{form_of};
-ghost use Rattle.kc_tree.specs.Views.{condition_of, choice_facts_of};
+ghost use Rattle.std.specs.Prelude.{◌≡◌};
+ghost use Rattle.kc_expr.specs.Value.{lesser};
+ghost use Rattle.kc_expr.specs.When.{when_view};
+ghost use Rattle.kc_tree.specs.Contexts.{IsPlain, mode_view};
+ghost use Rattle.kc_tree.specs.Layouts.{choice_facts, prompt_view, title_condition, with_when};
+ghost use Rattle.kc_tree.specs.Soundness.{IsChoiceThere};
+ghost use Rattle.kc_values.specs.Known.{known_at, condition_at};
+ghost use Rattle.kc_values.specs.Lookups.{choice_at};
+ghost use Rattle.kc_values.specs.Settled.{when_value};
 ghost use Rattle.kc_values.specs.Values as spec;
-ghost use Rattle.kc_expr.specs.Value.{known_by};
 
-use crate::lookups::choice;
+use crate::table::Table;
 use kc_expr::expression::{Expr, Tri};
-use kc_expr::values::{Values, eval};
-use kc_tree::parts::{Choice, Cond};
-use kc_tree::tree::Tree;
+use kc_expr::values::{eval, lesser};
+use kc_tree::parts::{Choice, ChoiceId, ContextId, Prompt, Title};
 use std::rc::Rc;
 
 /// m as y: what counts where m can't be (kconfiglib, of symbols that are not tristate).
@@ -33,53 +37,110 @@ pub fn is_n(value: Tri) -> bool
     }
 }
 
-/// The least value of the parts, y where there is none: their `&&` (the kernel's kconfig-language document, "Menu
-/// dependencies").
-pub fn all_hold<V: Values>(parts: &[Rc<Expr>], values: &V) -> Tri
-    ensures { result ≡ spec.all_hold (known_by (V.kind_of values.now) (V.tri_of values.now) (V.text_of values.now)) (map (λ p. form_of p.value) parts.now) }
+/// The value of an `if`, y where there is none.
+pub fn own(when: &Option<Rc<Expr>>, table: &Table<'_>) -> Tri
+    ensures { result ≡ when_value (known_at table.now) (when_view when.now) }
 {
-    let mut least = Tri::Y;
-    for part in parts {
-        least = least.min(eval(part, values));
+    match when {
+        Some(e) => eval(e, table),
+        None => Tri::Y,
+    }
+}
+
+// The least of a value and of what the contexts from this one outwards ask for, up to one that is settled.
+fn asked(table: &Table<'_>, within: ContextId, first: Tri) -> Tri
+    requires { lesser first (spec.mode_value table.now.tree.now (known_at table.now) (condition_at table.now within.0).mode) ≡ first }
+    ensures { result ≡ lesser first (spec.all_hold (known_at table.now) (condition_at table.now within.0).parts) }
+{
+    let mut least = first;
+    let mut at = within;
+    'contexts: while let Some(context) = table.layout.context(at) {
+        if let Some(value) = table.settled_context(at) {
+            return lesser(least, value);
+        }
+        least = lesser(least, own(&context.asks, table));
+        at = context.outer;
     }
     least
 }
 
-/// The mode of a choice: y where its prompt's condition is not n, else n; n without a prompt (kconfiglib's `tri_value` of a
-/// choice; that its members are bools and that m counts as y is our own).
-pub fn mode_of<V: Values>(choice: &Choice, values: &V) -> Tri
-    ensures { result ≡ spec.mode_of (known_by (V.kind_of values.now) (V.tri_of values.now) (V.text_of values.now)) (Some (choice_facts_of choice.now)) }
+// The condition of the prompt of a choice, n without one.
+fn choice_prompt(table: &Table<'_>, choice: &Choice) -> Tri
+    requires { IsChoiceThere table.now.layout.now.tables.contexts choice.now }
+    ensures { result ≡ spec.prompt_value (known_at table.now) (choice_facts table.now.layout.now.tables choice.now).prompt }
 {
     match &choice.prompt {
-        Some(prompt) => up(all_hold(&prompt.parts, values)),
+        Some(prompt) => {
+            let shown = asked(table, prompt.visible, own(&prompt.when, table));
+            asked(table, choice.within, shown)
+        }
         None => Tri::N,
     }
 }
 
-/// The `&&` of the parts and of the mode of the choice that the condition names, if it names one (the kernel's
-/// kconfig-language document, "Menu dependencies").
-pub fn condition<V: Values>(tree: &Tree, when: &Cond, values: &V) -> Tri
-    ensures { result ≡ spec.condition tree.now (known_by (V.kind_of values.now) (V.tri_of values.now) (V.text_of values.now)) (condition_of when.now) }
+/// The mode of a choice: y where its prompt's condition is not n, else n; n without a prompt, and where there is no such choice
+/// (kconfiglib's `tri_value` of a choice; that its members are bools and that m counts as y is our own).
+pub fn mode_of(table: &Table<'_>, id: ChoiceId) -> Tri
+    ensures { result ≡ spec.mode_of (known_at table.now) (choice_at table.now.tree.now id.0) }
 {
-    let parts = all_hold(&when.parts, values);
-    let mode = match when.mode {
-        None => Tri::Y,
-        Some(id) => match choice(tree, id) {
-            Some(found) => mode_of(found, values),
-            None => Tri::N,
-        },
-    };
-    parts.min(mode)
+    match table.layout.choice(id) {
+        Some(choice) => up(choice_prompt(table, choice)),
+        None => Tri::N,
+    }
 }
 
-/// The greatest of the conditions, n where there is none: the `||` over several definitions of one symbol (kconfiglib's
-/// `visibility` and `direct_dep`).
-pub fn conditions<V: Values>(tree: &Tree, all: &[Cond], values: &V) -> Tri
-    ensures { result ≡ spec.conditions tree.now (known_by (V.kind_of values.now) (V.tri_of values.now) (V.text_of values.now)) (map condition_of all.now) }
+// The value of the mode that counts in a context.
+fn mode_value(table: &Table<'_>, mode: Option<ChoiceId>) -> Tri
+    ensures { result ≡ spec.mode_value table.now.tree.now (known_at table.now) (mode_view mode) }
 {
-    let mut greatest = Tri::N;
-    for when in all {
-        greatest = greatest.max(condition(tree, when, values));
+    match mode {
+        None => Tri::Y,
+        Some(id) => mode_of(table, id),
     }
-    greatest
+}
+
+/// What a context is worth: the `&&` of what it and those outside ask for, and of the mode of the choice round it (the
+/// kernel's kconfig-language document, "Menu dependencies").
+pub fn context(table: &Table<'_>, within: ContextId) -> Tri
+    ensures { result ≡ spec.condition table.now.tree.now (known_at table.now) (condition_at table.now within.0) }
+{
+    match table.settled_context(within) {
+        Some(value) => value,
+        None => asked(table, within, mode_value(table, table.layout.mode(within))),
+    }
+}
+
+// A value up to an `if`, which is looked at only where the value is not n.
+fn guarded(first: Tri, when: &Option<Rc<Expr>>, table: &Table<'_>) -> Tri
+    ensures { result ≡ lesser first (when_value (known_at table.now) (when_view when.now)) }
+{
+    if is_n(first) {
+        Tri::N
+    } else {
+        lesser(first, own(when, table))
+    }
+}
+
+/// What a line is worth that depends on a context and on its own `if`.
+pub fn condition(table: &Table<'_>, within: ContextId, when: &Option<Rc<Expr>>) -> Tri
+    ensures { result ≡ spec.condition table.now.tree.now (known_at table.now) (with_when (condition_at table.now within.0) (when_view when.now)) }
+{
+    guarded(context(table, within), when, table)
+}
+
+/// The condition of a prompt, whose entry depends on a context.
+pub fn prompt_condition(table: &Table<'_>, within: ContextId, prompt: &Prompt) -> Tri
+    requires { IsPlain table.now.layout.now.tables.contexts prompt.now.visible.0 }
+    ensures { result ≡ spec.condition table.now.tree.now (known_at table.now) (prompt_view table.now.layout.now.tables.contexts (condition_at table.now within.0) prompt.now) }
+{
+    let first = lesser(context(table, within), context(table, prompt.visible));
+    guarded(first, &prompt.when, table)
+}
+
+/// When a menu or comment is shown.
+pub fn title_condition(table: &Table<'_>, title: &Title) -> Tri
+    requires { IsPlain table.now.layout.now.tables.contexts title.now.visible.0 }
+    ensures { result ≡ spec.condition table.now.tree.now (known_at table.now) (title_condition table.now.layout.now.tables title.now) }
+{
+    lesser(context(table, title.within), context(table, title.visible))
 }

@@ -1,56 +1,53 @@
 //! Which symbols differ from what they would be without the user.
 
-ghost use Rattle.std.specs.Prelude.{◌≡◌, ◌&&◌, not, IfOk};
+ghost use Rattle.std.specs.Prelude.{◌≡◌, ◌&&◌, None, not, IfOk};
 ghost use Rattle.std.specs.Option.{is_some};
-ghost use Rattle.kc_tree.specs.Facts.{is_symbol_of};
-ghost use Rattle.kc_tree.specs.Views.{facts_of};
+ghost use Rattle.kc_tree.specs.Words.{is_symbol_of};
+ghost use Rattle.kc_tree.specs.Layouts.{facts_of};
 ghost use Rattle.kc_values.specs.Differs.{same_value};
-ghost use Rattle.kc_expr.specs.Value.{known_by};
+ghost use Rattle.kc_values.specs.Known.{known_at, IsRowOf};
 ghost use Rattle.kc_values.specs.User.{place};
 ghost use Rattle.kc_values.specs.Values as value;
 
 use crate::conditions::is_n;
 use crate::lookups::name;
 use crate::numbers::number_equation;
+use crate::table::Table;
 use crate::texts::text_equation;
 use crate::truths::truth_equation;
 use kc_expr::expression::{Kind, SymId, Tri};
 use kc_expr::values::Values;
 use kc_tree::parts::Symbol;
-use kc_tree::tree::Tree;
 use kc_user::value::UserValue;
 use std::alloc::{AllocError, Global};
 
-/// Whether the value of a symbol of this visibility outside a choice is not what its equation gives, under the same values of
-/// all others, without what the user gave for it (our own rule of the minimal file). Fails only when it is out of memory.
-pub fn own_differs<V: Values>(
+/// Whether the value of a symbol outside a choice is not what its equation gives, under the same values of all others,
+/// without what the user gave for it (our own rule of the minimal file). Fails only when it is out of memory.
+pub fn own_differs(
     alloc: Global,
-    tree: &Tree,
+    table: &Table<'_>,
     id: SymId,
     symbol: &Symbol,
-    shown: Tri,
-    values: &V,
 ) -> Result<bool, AllocError>
-    requires shown { shown ≡ value.visibility tree.now (known_by (V.kind_of values.now) (V.tri_of values.now) (V.text_of values.now)) (facts_of symbol.now) }
-    requires kind { V.kind_of values.now id ≡ symbol.now.kind }
-    ensures { IfOk result (λ b. b ≡ not (same_value (known_by (V.kind_of values.now) (V.tri_of values.now) (V.text_of values.now) id) (value.by_kind tree.now (known_by (V.kind_of values.now) (V.tri_of values.now) (V.text_of values.now)) id (facts_of symbol.now) symbol.now.kind None))) }
+    requires { IsRowOf table.now id symbol.now }
+    ensures { IfOk result (λ b. b ≡ not (same_value (known_at table.now id) (value.by_kind table.now.tree.now (known_at table.now) id (facts_of table.now.layout.now id.0 symbol.now) symbol.now.kind None))) }
 {
     match symbol.kind {
-        Kind::Bool => Ok(values.tri(id) != truth_equation(tree, symbol, None, shown, values)),
-        Kind::Tristate => Ok(values.tri(id) != truth_equation(tree, symbol, None, shown, values)),
+        Kind::Bool => Ok(table.tri(id) != truth_equation(table, id, symbol, None)),
+        Kind::Tristate => Ok(table.tri(id) != truth_equation(table, id, symbol, None)),
         Kind::Str => {
-            let without = text_equation(alloc, tree, symbol, None, shown, values)?;
-            Ok(values.text(id) != without.as_slice())
+            let without = text_equation(alloc, table, symbol, None)?;
+            Ok(table.text(id) != without.as_slice())
         }
         Kind::Int => {
-            let without = number_equation(alloc, tree, symbol, None, shown, values)?;
-            Ok(values.text(id) != without.as_slice())
+            let without = number_equation(alloc, table, symbol, None)?;
+            Ok(table.text(id) != without.as_slice())
         }
         Kind::Hex => {
-            let without = number_equation(alloc, tree, symbol, None, shown, values)?;
-            Ok(values.text(id) != without.as_slice())
+            let without = number_equation(alloc, table, symbol, None)?;
+            Ok(table.text(id) != without.as_slice())
         }
-        Kind::Undefined => Ok(values.text(id) != name(tree, id)),
+        Kind::Undefined => Ok(table.text(id) != name(table.tree, id)),
     }
 }
 

@@ -1,6 +1,6 @@
 //! What holds of the equations of every tree.
 
-ghost use Rattle.kc_values.specs.Laws.{EquationsReadNeeds, VisibilityReadsNeeds, NeedsAreDefined, AcceptedHaveOneSolution, SolutionsAgree, LinesAreFixed, MinimalRestores, MinimalHasNothingToSpare, SettledWhere, DifferingAreAllowed, ModeIsPromptCondition, WellFormedHaveMembers};
+ghost use Rattle.kc_values.specs.Laws.{EquationsReadNeeds, NeedsAreDefined, AcceptedHaveOneSolution, SolutionsAgree, LinesAreFixed, MinimalRestores, MinimalHasNothingToSpare, SettledWhere, DifferingAreAllowed, ModeIsPromptCondition, WellFormedHaveMembers};
 
 use kc_expr::values::value_depends_on_symbols;
 
@@ -8,14 +8,6 @@ use kc_expr::values::value_depends_on_symbols;
 /// needs (our own).
 pub fn equations_read_needs()
     ensures { EquationsReadNeeds }
-{
-    value_depends_on_symbols();
-}
-
-/// The visibility of a symbol that has a type reads only the values of what the symbol needs, so that it is known at the
-/// symbol's turn. Without a type a symbol needs nothing (our own).
-pub fn visibility_reads_needs()
-    ensures { VisibilityReadsNeeds }
 {
     value_depends_on_symbols();
 }

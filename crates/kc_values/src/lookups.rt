@@ -1,25 +1,18 @@
-//! What a tree says of a symbol or a choice.
+//! What a tree says of a symbol.
 
 ghost use Rattle.std.specs.Prelude.{◌≡◌};
+ghost use Rattle.kc_tree.specs.Heads.{IsHeadOf};
 ghost use Rattle.kc_values.specs.Lookups as spec;
-ghost use Rattle.kc_values.specs.User.{facts_at, choice_facts_at};
 
 use kc_expr::expression::SymId;
-use kc_tree::parts::{Choice, ChoiceId, Symbol};
+use kc_tree::parts::Symbol;
 use kc_tree::tree::Tree;
 
-/// What the lines of a defined symbol say; nothing of a name that is not defined (our own).
+/// The row of a defined symbol, with its type and its choice; nothing of a name that is not defined (our own).
 pub fn facts(tree: &Tree, id: SymId) -> Option<&Symbol>
-    ensures { facts_at result ≡ spec.facts tree.now id }
+    ensures { IsHeadOf (spec.facts tree.now id) result }
 {
     tree.facts(id)
-}
-
-/// What the lines of a choice say, where there is one of that number (our own).
-pub fn choice(tree: &Tree, id: ChoiceId) -> Option<&Choice>
-    ensures { choice_facts_at result ≡ spec.choice_at tree.now id.0 }
-{
-    tree.choices().get(id.0)
 }
 
 /// The name of a number, or no byte where the tree has no such name (our own).

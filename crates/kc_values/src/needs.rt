@@ -1,348 +1,419 @@
-//! What the equation of each symbol names: its needs.
+//! What the equation of each symbol names: its needs, be it through contexts and choices.
 
-ghost use Rattle.std.specs.Prelude.{◌≡◌, ◌+◌, ◌++◌, length, map, slice_get, Some, IfOk, OnOk};
+ghost use Rattle.std.specs.Prelude.{◌≡◌, ℕ, List, ◌<◌, ◌^◌, ◌++◌, ◌∷◌, [], length, option_map, IfOk, IfSome, OnOk};
 ghost use Rattle.std.specs.List.{flat_map};
-ghost use Rattle.kc_expr.specs.Form.{form_of, leaf_of, leaf_symbols, symbols};
-ghost use Rattle.kc_tree.specs.Views.{condition_of, facts_of, choice_facts_of, default_view, range_view, named_view};
-ghost use Rattle.kc_values.specs.Lookups as lookup;
+ghost use Rattle.kc_expr.specs.Form.{leaf_of, leaf_symbols};
+ghost use Rattle.kc_order.specs.Graph.{IsGraph, needs_of};
+ghost use Rattle.kc_order.specs.Needs.{AreAlike};
+ghost use Rattle.kc_expr.specs.When.{when_view};
+ghost use Rattle.kc_tree.specs.Layouts.{IsLayoutOf};
+ghost use Rattle.kc_tree.specs.TreeFacts.{IsWellFormed};
+ghost use Rattle.kc_tree.specs.Soundness.{IsChoiceThere, IsDefinitionThere, IsPromptThere};
 ghost use Rattle.kc_values.specs.Needs as spec;
 ghost use Rattle.kc_values.specs.NeedRows as rows;
-ghost use Rattle.kc_values.specs.NeedRows.{AreFirst};
+ghost use Rattle.kc_values.specs.NeedRows.{Adds, IsRow};
 
-use crate::lookups::{choice, facts};
-use crate::row::Row;
+use crate::nodes::{choice_number, context_number, node_count};
 use kc_expr::expression::{Expr, Kind, Operand, SymId};
 use kc_expr::values::names_into;
-use kc_order::Needs;
-use kc_tree::parts::{Choice, ChoiceId, Cond, Symbol};
+use kc_order::Graph;
+use kc_tree::layout::Layout;
+use kc_tree::parts::{
+    Choice, ChoiceId, Context, ContextId, Definition, Prompt, ReverseId, Symbol, SymbolDefault,
+    SymbolRange,
+};
 use kc_tree::tree::Tree;
 use std::alloc::{AllocError, Global};
 use std::rc::Rc;
 
-// The row of one symbol, and room for the names of one expression, so that it is made once for all symbols.
+// The row of one node in the making: the nodes of contexts and choices, and the names. Its room serves all nodes.
 #[derive(Drop)]
-struct Scratch {
+struct Row {
+    nodes: Vec<u32>,
     names: Vec<SymId>,
-    row: Row,
 }
 
-// The names in an expression.
-fn expression_into(expression: &Expr, out: &mut Scratch) -> Result<(), AllocError>
-    ensures { OnOk result (out.new.row ≡ rows.with_names out.old.row (symbols (form_of expression.now))) }
+// Adds the names in an `if`.
+fn own_into(when: &Option<Rc<Expr>>, out: &mut Row) -> Result<(), AllocError>
+    ensures { OnOk result (Adds out.old out.new [] (rows.when_names (when_view when.now))) }
 {
-    out.names.clear();
-    names_into(expression, &mut out.names)?;
-    out.row.meet_all(&out.names)
-}
-
-// The name in a bound of a range.
-fn bound_into(bound: &Operand, out: &mut Scratch) -> Result<(), AllocError>
-    ensures { OnOk result (out.new.row ≡ rows.with_names out.old.row (leaf_symbols (leaf_of bound.now))) }
-{
-    match bound {
-        Operand::Sym(id) => out.row.meet(*id),
-        _ => Ok(()),
-    }
-}
-
-// The names in the parts of a condition.
-#[tactic(auto, using(crate::proofs::NameRows::name_steps))]
-fn parts_into(parts: &[Rc<Expr>], out: &mut Scratch) -> Result<(), AllocError>
-    ensures { OnOk result (out.new.row ≡ rows.with_names out.old.row (flat_map symbols (map (λ p. form_of p.value) parts.now))) }
-{
-    for part in parts {
-        expression_into(part, out)?;
-    }
-    Ok(())
-}
-
-// The names in the prompt's condition of a choice.
-fn prompt_into(choice: &Choice, out: &mut Scratch) -> Result<(), AllocError>
-    ensures { OnOk result (out.new.row ≡ rows.with_names out.old.row (spec.parts_names (choice_facts_of choice.now).prompt)) }
-{
-    match &choice.prompt {
-        Some(prompt) => parts_into(&prompt.parts, out),
+    match when {
+        Some(e) => names_into(e, &mut out.names),
         None => Ok(()),
     }
 }
 
-// The names in the mode that a condition asks for.
-fn mode_into(tree: &Tree, when: &Cond, out: &mut Scratch) -> Result<(), AllocError>
-    ensures { OnOk result (out.new.row ≡ rows.with_names out.old.row (spec.mode_names tree.now (condition_of when.now).mode)) }
+// Adds a context, but for the top, which names nothing.
+fn context_into(layout: &Layout, id: ContextId, out: &mut Row) -> Result<(), AllocError>
+    requires there { id.0 < length layout.now.tables.contexts }
+    ensures { OnOk result (Adds out.old out.new (rows.context_nodes layout.now id.0) []) }
 {
-    let Some(id) = when.mode else {
+    if id.0 != 0 {
+        out.nodes.push(context_number(layout, id))?;
+    }
+    Ok(())
+}
+
+// Adds a prompt, where there is one, but for what its entry depends on.
+fn prompt_into(layout: &Layout, prompt: &Option<Prompt>, out: &mut Row) -> Result<(), AllocError>
+    requires there { IsPromptThere layout.now.tables.contexts prompt.now }
+    ensures { OnOk result (Adds out.old out.new (rows.prompt_nodes layout.now prompt.now) (rows.prompt_names prompt.now)) }
+{
+    match prompt {
+        Some(prompt) => {
+            context_into(layout, prompt.visible, out)?;
+            own_into(&prompt.when, out)
+        }
+        None => Ok(()),
+    }
+}
+
+// Adds the prompt of a choice, where there is one.
+fn choice_prompt_into(layout: &Layout, choice: &Choice, out: &mut Row) -> Result<(), AllocError>
+    requires there { IsChoiceThere layout.now.tables.contexts choice.now }
+    ensures { OnOk result (Adds out.old out.new (rows.choice_prompt_nodes layout.now choice.now) (rows.prompt_names choice.now.prompt)) }
+{
+    if choice.prompt.is_some() {
+        context_into(layout, choice.within, out)?;
+    }
+    prompt_into(layout, &choice.prompt, out)
+}
+
+// Adds what the mode of a choice names.
+fn mode_into(layout: &Layout, mode: Option<ChoiceId>, out: &mut Row) -> Result<(), AllocError>
+    ensures { OnOk result (Adds out.old out.new (rows.mode_nodes layout.now mode) (rows.mode_names layout.now mode)) }
+{
+    let Some(id) = mode else {
         return Ok(());
     };
-    match choice(tree, id) {
-        Some(found) => prompt_into(found, out),
+    match layout.choice(id) {
+        Some(choice) => choice_prompt_into(layout, choice, out),
         None => Ok(()),
     }
 }
 
-// The names in a condition: those of its parts, and of the mode.
-#[tactic(auto, using(crate::proofs::NameRows::name_steps))]
-fn condition_into(tree: &Tree, when: &Cond, out: &mut Scratch) -> Result<(), AllocError>
-    ensures { OnOk result (out.new.row ≡ rows.with_names out.old.row (spec.condition_names tree.now (condition_of when.now))) }
+// Adds what a context asks for besides the one outside it, and that one: a context that asks for nothing of its own is that of
+// a choice's members, which asks for its mode.
+fn asked_into(layout: &Layout, context: &Context, out: &mut Row) -> Result<(), AllocError>
+    requires there { context.now.outer.0 < length layout.now.tables.contexts }
+    ensures { OnOk result (Adds out.old out.new (rows.asked_nodes layout.now context.now) (rows.asked_names layout.now context.now)) }
 {
-    parts_into(&when.parts, out)?;
-    mode_into(tree, when, out)
-}
-
-// The names in conditions.
-#[tactic(auto, using(crate::proofs::NameRows::name_steps))]
-fn conditions_into(tree: &Tree, all: &[Cond], out: &mut Scratch) -> Result<(), AllocError>
-    ensures { OnOk result (out.new.row ≡ rows.with_names out.old.row (flat_map (spec.condition_names tree.now) (map condition_of all.now))) }
-{
-    for when in all {
-        condition_into(tree, when, out)?;
+    context_into(layout, context.outer, out)?;
+    match &context.asks {
+        Some(e) => names_into(e, &mut out.names),
+        None => mode_into(layout, context.mode, out),
     }
-    Ok(())
 }
 
-// The names in the values and conditions of defaults.
-#[tactic(auto, using(crate::proofs::NameRows::name_steps))]
-fn defaults_into(
-    tree: &Tree,
-    defaults: &[(Expr, Cond)],
-    out: &mut Scratch,
-) -> Result<(), AllocError>
-    ensures { OnOk result (out.new.row ≡ rows.with_names out.old.row (spec.guarded_names tree.now symbols (map default_view defaults.now))) }
+// The definition of a symbol with a number, if there is one.
+fn definition<'l>(layout: &'l Layout, symbol: &Symbol, i: usize) -> Option<&'l Definition>
+    ensures { option_map (λ d. d.now) result ≡ rows.definition_row layout.now symbol.now i }
 {
-    for default in defaults {
-        expression_into(&default.0, out)?;
-        condition_into(tree, &default.1, out)?;
+    match symbol.definition(i) {
+        Some(id) => layout.definition(id),
+        None => None,
     }
-    Ok(())
 }
 
-// The names in the bounds and conditions of ranges.
-#[tactic(auto, using(crate::proofs::NameRows::name_steps))]
-fn ranges_into(
-    tree: &Tree,
-    ranges: &[(Operand, Operand, Cond)],
-    out: &mut Scratch,
-) -> Result<(), AllocError>
-    ensures { OnOk result (out.new.row ≡ rows.with_names out.old.row (spec.guarded_names tree.now spec.bounds_names (map range_view ranges.now))) }
+// Adds the prompts of a symbol.
+fn prompts_into(layout: &Layout, symbol: &Symbol, out: &mut Row) -> Result<(), AllocError>
+    ensures { OnOk result (Adds out.old out.new (rows.prompts_nodes layout.now symbol.now) (rows.prompts_names layout.now symbol.now)) }
 {
-    for range in ranges {
-        bound_into(&range.0, out)?;
-        bound_into(&range.1, out)?;
-        condition_into(tree, &range.2, out)?;
-    }
-    Ok(())
-}
-
-// The symbols that select or imply, and the names in the conditions of those lines.
-#[tactic(auto, using(crate::proofs::NameRows::name_steps))]
-fn lines_into(tree: &Tree, lines: &[(SymId, Cond)], out: &mut Scratch) -> Result<(), AllocError>
-    ensures { OnOk result (out.new.row ≡ rows.with_names out.old.row (spec.guarded_names tree.now spec.one_name (map named_view lines.now))) }
-{
-    for line in lines {
-        out.row.meet(line.0)?;
-        condition_into(tree, &line.1, out)?;
-    }
-    Ok(())
-}
-
-// The names in the conditions of a choice's defaults.
-#[tactic(auto, using(crate::proofs::NameRows::name_steps))]
-fn choice_defaults_into(
-    tree: &Tree,
-    defaults: &[(SymId, Cond)],
-    out: &mut Scratch,
-) -> Result<(), AllocError>
-    ensures { OnOk result (out.new.row ≡ rows.with_names out.old.row (spec.guarded_names tree.now spec.no_name (map named_view defaults.now))) }
-{
-    for default in defaults {
-        condition_into(tree, &default.1, out)?;
-    }
-    Ok(())
-}
-
-// The names in the prompts of the members of a choice.
-#[tactic(auto, using(crate::proofs::NameRows::name_steps))]
-fn members_into(tree: &Tree, members: &[SymId], out: &mut Scratch) -> Result<(), AllocError>
-    ensures { OnOk result (out.new.row ≡ rows.with_names out.old.row (flat_map (λ m. spec.prompts_names tree.now (lookup.facts tree.now m)) members.now)) }
-{
-    for member in members {
-        if let Some(symbol) = facts(tree, *member) {
-            conditions_into(tree, &symbol.prompts, out)?;
+    for i in 0..symbol.definition_count() {
+        if let Some(definition) = definition(layout, symbol, i) {
+            if definition.prompt.is_some() {
+                context_into(layout, definition.within, out)?;
+                prompt_into(layout, &definition.prompt, out)?;
+            }
         }
     }
     Ok(())
 }
 
-// What the selection of a choice names.
-#[tactic(auto, using(crate::proofs::NameRows::name_steps))]
-fn choice_into(tree: &Tree, choice: &Choice, out: &mut Scratch) -> Result<(), AllocError>
-    ensures { OnOk result (out.new.row ≡ rows.with_names out.old.row (spec.names_of_choice tree.now (Some (choice_facts_of choice.now)))) }
+// Adds the defaults of a definition, but for what it depends on.
+fn defaults_into(defaults: &[SymbolDefault], out: &mut Row) -> Result<(), AllocError>
+    ensures { OnOk result (Adds out.old out.new [] (flat_map rows.default_names defaults.now)) }
 {
-    members_into(tree, &choice.members, out)?;
-    prompt_into(choice, out)?;
-    choice_defaults_into(tree, &choice.defaults, out)
+    for default in defaults {
+        names_into(&default.value, &mut out.names)?;
+        own_into(&default.when, out)?;
+    }
+    Ok(())
 }
 
-// What every equation names: the conditions of the prompts, the values and conditions of the defaults.
-#[tactic(auto, using(crate::proofs::NameRows::name_steps))]
-fn common_into(tree: &Tree, symbol: &Symbol, out: &mut Scratch) -> Result<(), AllocError>
-    ensures { OnOk result (out.new.row ≡ rows.with_names out.old.row (spec.names_of_all tree.now (facts_of symbol.now))) }
+// Adds the name in a bound of a range.
+fn bound_into(bound: &Operand, out: &mut Row) -> Result<(), AllocError>
+    ensures { OnOk result (Adds out.old out.new [] (leaf_symbols (leaf_of bound.now))) }
 {
-    conditions_into(tree, &symbol.prompts, out)?;
-    defaults_into(tree, &symbol.defaults, out)
+    match bound {
+        Operand::Sym(id) => {
+            out.names.push(*id)?;
+            Ok(())
+        }
+        _ => Ok(()),
+    }
 }
 
-// The modules symbol, which a tristate names.
-fn modules_into(tree: &Tree, kind: Kind, out: &mut Scratch) -> Result<(), AllocError>
-    ensures { OnOk result (out.new.row ≡ rows.with_names out.old.row (spec.kind_names tree.now kind)) }
+// Adds the names in a range.
+fn range_into(range: &SymbolRange, out: &mut Row) -> Result<(), AllocError>
+    ensures { OnOk result (Adds out.old out.new [] (rows.range_names range.now)) }
+{
+    bound_into(&range.low, out)?;
+    bound_into(&range.high, out)?;
+    own_into(&range.when, out)
+}
+
+// Adds the ranges of a definition, but for what it depends on.
+fn ranges_into(ranges: &[SymbolRange], out: &mut Row) -> Result<(), AllocError>
+    ensures { OnOk result (Adds out.old out.new [] (flat_map rows.range_names ranges.now)) }
+{
+    for range in ranges {
+        range_into(range, out)?;
+    }
+    Ok(())
+}
+
+// The value of a symbol of this type is a number.
+fn is_number(kind: Kind) -> bool
+    ensures { result ≡ rows.is_number kind }
+{
+    matches!(kind, Kind::Int | Kind::Hex)
+}
+
+// Whether the equation of a symbol of this type reads what one of its definitions depends on: of a bool or tristate it does, of
+// the others where a line counts that depends on it.
+fn is_read(layout: &Layout, kind: Kind, definition: &Definition) -> bool
+    ensures { result ≡ rows.is_read layout.now kind definition.now }
+{
+    matches!(kind, Kind::Bool | Kind::Tristate)
+        || definition.prompt.is_some()
+        || !layout.defaults(definition).is_empty()
+        || (is_number(kind) && !layout.ranges(definition).is_empty())
+}
+
+// Adds a definition of a symbol of this type: what it depends on once, whatever its lines are.
+fn definition_into(
+    layout: &Layout,
+    kind: Kind,
+    definition: &Definition,
+    out: &mut Row,
+) -> Result<(), AllocError>
+    requires there { IsDefinitionThere layout.now.tables.contexts definition.now }
+    ensures { OnOk result (Adds out.old out.new (rows.definition_nodes layout.now kind definition.now) (rows.definition_names layout.now kind definition.now)) }
+{
+    if is_read(layout, kind, definition) {
+        context_into(layout, definition.within, out)?;
+    }
+    prompt_into(layout, &definition.prompt, out)?;
+    defaults_into(layout.defaults(definition), out)?;
+    if is_number(kind) {
+        ranges_into(layout.ranges(definition), out)?;
+    }
+    Ok(())
+}
+
+// Adds the definitions of a symbol.
+fn definitions_into(layout: &Layout, symbol: &Symbol, out: &mut Row) -> Result<(), AllocError>
+    ensures { OnOk result (Adds out.old out.new (rows.definitions_nodes layout.now symbol.now) (rows.definitions_names layout.now symbol.now)) }
+{
+    for i in 0..symbol.definition_count() {
+        if let Some(definition) = definition(layout, symbol, i) {
+            definition_into(layout, symbol.kind, definition, out)?;
+        }
+    }
+    Ok(())
+}
+
+// Adds the symbols that select or imply, and what those lines depend on, from the last line on.
+fn reverses_into(layout: &Layout, last: Option<ReverseId>, out: &mut Row) -> Result<(), AllocError>
+    ensures { OnOk result (Adds out.old out.new (rows.reverses_nodes layout.now last) (rows.reverses_names layout.now last)) }
+{
+    let mut at = last;
+    'lines: while let Some(id) = at {
+        let Some(line) = layout.reverse(id) else {
+            return Ok(());
+        };
+        if let Some(source) = layout.definition(line.source) {
+            out.names.push(source.symbol)?;
+            context_into(layout, source.within, out)?;
+            own_into(&line.when, out)?;
+        }
+        at = line.next;
+    }
+    Ok(())
+}
+
+// Adds the modules symbol, which a tristate names.
+fn modules_into(tree: &Tree, kind: Kind, out: &mut Row) -> Result<(), AllocError>
+    ensures { OnOk result (Adds out.old out.new [] (spec.kind_names tree.now kind)) }
 {
     if kind != Kind::Tristate {
         return Ok(());
     }
     match tree.modules_symbol() {
-        Some(id) => out.row.meet(id),
+        Some(id) => {
+            out.names.push(id)?;
+            Ok(())
+        }
         None => Ok(()),
     }
 }
 
-// The symbols that select and imply a symbol, with the conditions of those lines, and the modules symbol of a tristate.
-#[tactic(auto, using(crate::proofs::NameRows::name_steps))]
-fn pulls_into(tree: &Tree, symbol: &Symbol, out: &mut Scratch) -> Result<(), AllocError>
-    ensures { OnOk result (out.new.row ≡ rows.with_names out.old.row (spec.guarded_names tree.now spec.one_name (facts_of symbol.now).selectors ++ (spec.guarded_names tree.now spec.one_name (facts_of symbol.now).impliers ++ spec.kind_names tree.now (facts_of symbol.now).kind))) }
+// Adds what the equation of a bool or tristate symbol outside a choice names.
+fn truth_into(
+    tree: &Tree,
+    layout: &Layout,
+    id: SymId,
+    symbol: &Symbol,
+    out: &mut Row,
+) -> Result<(), AllocError>
+    ensures { OnOk result (Adds out.old out.new (rows.truth_nodes layout.now id.0 symbol.now) (rows.truth_names tree.now layout.now id.0 symbol.now)) }
 {
-    lines_into(tree, &symbol.selectors, out)?;
-    lines_into(tree, &symbol.impliers, out)?;
+    definitions_into(layout, symbol, out)?;
+    reverses_into(layout, layout.last_select(id), out)?;
+    reverses_into(layout, layout.last_imply(id), out)?;
     modules_into(tree, symbol.kind, out)
 }
 
-// What the equation of a bool or tristate symbol outside a choice names.
-#[tactic(auto, using(crate::proofs::NameRows::name_steps))]
-fn truth_into(tree: &Tree, symbol: &Symbol, out: &mut Scratch) -> Result<(), AllocError>
-    ensures { OnOk result (out.new.row ≡ rows.with_names out.old.row (spec.names_of_truth tree.now (facts_of symbol.now))) }
+// Adds what the equation of a symbol names: of a member of a choice what its selection does.
+fn symbol_into(
+    tree: &Tree,
+    layout: &Layout,
+    id: SymId,
+    symbol: &Symbol,
+    out: &mut Row,
+) -> Result<(), AllocError>
+    requires choice { IfSome symbol.now.choice (λ c. c.0 < length layout.now.tables.choices.items) }
+    ensures { OnOk result (Adds out.old out.new (rows.symbol_nodes layout.now id.0 symbol.now) (rows.symbol_names tree.now layout.now id.0 symbol.now)) }
 {
-    common_into(tree, symbol, out)?;
-    conditions_into(tree, &symbol.deps, out)?;
-    pulls_into(tree, symbol, out)
-}
-
-// What the equation of an int or hex symbol names.
-#[tactic(auto, using(crate::proofs::NameRows::name_steps))]
-fn number_into(tree: &Tree, symbol: &Symbol, out: &mut Scratch) -> Result<(), AllocError>
-    ensures { OnOk result (out.new.row ≡ rows.with_names out.old.row (spec.names_of_number tree.now (facts_of symbol.now))) }
-{
-    common_into(tree, symbol, out)?;
-    ranges_into(tree, &symbol.ranges, out)
-}
-
-// What the equation of a symbol names.
-fn symbol_into(tree: &Tree, symbol: &Symbol, out: &mut Scratch) -> Result<(), AllocError>
-    ensures { OnOk result (out.new.row ≡ rows.with_names out.old.row (spec.names_by_choice tree.now (facts_of symbol.now) (facts_of symbol.now).choice)) }
-{
-    if let Some(id) = symbol.choice {
-        return match choice(tree, id) {
-            Some(found) => choice_into(tree, found, out),
-            None => Ok(()),
-        };
+    if let Some(choice) = symbol.choice {
+        out.nodes.push(choice_number(layout, choice))?;
+        return Ok(());
     }
     match symbol.kind {
         Kind::Undefined => Ok(()),
-        Kind::Bool => truth_into(tree, symbol, out),
-        Kind::Tristate => truth_into(tree, symbol, out),
-        Kind::Str => common_into(tree, symbol, out),
-        Kind::Int => number_into(tree, symbol, out),
-        Kind::Hex => number_into(tree, symbol, out),
+        Kind::Bool => truth_into(tree, layout, id, symbol, out),
+        Kind::Tristate => truth_into(tree, layout, id, symbol, out),
+        Kind::Str => definitions_into(layout, symbol, out),
+        Kind::Int => definitions_into(layout, symbol, out),
+        Kind::Hex => definitions_into(layout, symbol, out),
     }
 }
 
-// What the symbol of a number needs, as the row of the scratch: the defined symbols that its equation names, each once, in the
-// order in which it names them first (our own; the kernel's kconfig-language document forbids recursive dependencies and does
-// not say which count).
-#[tactic(auto, using(crate::proofs::NameRows::row_of_names))]
-fn needs_of(tree: &Tree, id: SymId, out: &mut Scratch) -> Result<(), AllocError>
-    requires { out.old.row.0 ≡ length tree.now.symbols }
-    ensures { OnOk result (out.new.row ≡ (length tree.now.symbols, spec.needs_of tree.now id.0)) }
+// Adds the conditions of the defaults of a choice.
+fn choice_defaults_into(layout: &Layout, choice: &Choice, out: &mut Row) -> Result<(), AllocError>
+    requires there { IsChoiceThere layout.now.tables.contexts choice.now }
+    ensures { OnOk result (Adds out.old out.new (rows.choice_defaults_nodes layout.now choice.now) (flat_map rows.choice_default_names choice.now.defaults.items)) }
 {
-    out.row.clear();
-    match facts(tree, id) {
-        Some(symbol) => symbol_into(tree, symbol, out),
-        None => Ok(()),
+    if !choice.defaults.is_empty() {
+        context_into(layout, choice.within, out)?;
     }
-}
-
-// The first member of a choice among the symbols so far.
-fn first_of(first: &[Option<u32>], choice: Option<ChoiceId>) -> Option<u32>
-    ensures { result ≡ rows.first_of first.now choice }
-{
-    match choice {
-        Some(id) => match first.get(id.0) {
-            Some(Some(member)) => Some(*member),
-            _ => None,
-        },
-        None => None,
+    for default in &choice.defaults {
+        own_into(&default.when, out)?;
     }
-}
-
-// The symbol is the first member of its choice, if it is in one.
-fn note_first(first: &mut Vec<Option<u32>>, choice: Option<ChoiceId>, symbol: u32)
-    ensures { first.new.items ≡ rows.noted first.old.items choice symbol }
-{
-    if let Some(id) = choice {
-        if id.0 < first.len() {
-            first[id.0] = Some(symbol);
-        }
-    }
-}
-
-// The needs of the next symbol: a choice's members share the row of the first.
-fn add_needs(
-    tree: &Tree,
-    symbol: u32,
-    facts: &Symbol,
-    needs: &mut Needs,
-    first: &mut Vec<Option<u32>>,
-    scratch: &mut Scratch,
-) -> Result<(), AllocError>
-    requires facts { slice_get tree.now.symbols symbol ≡ Some (facts_of facts.now) }
-    requires needs { needs.old ≡ rows.needs_before tree.now symbol }
-    requires first { AreFirst tree.now symbol first.old.items }
-    requires room { scratch.old.row.0 ≡ length tree.now.symbols }
-    ensures needs { OnOk result (needs.new ≡ rows.needs_before tree.now (symbol + 1)) }
-    ensures first { OnOk result (AreFirst tree.now (symbol + 1) first.new.items) }
-    ensures room { OnOk result (scratch.new.row.0 ≡ length tree.now.symbols) }
-{
-    if let Some(member) = first_of(first, facts.choice) {
-        needs.add_same(member)?;
-        return Ok(());
-    }
-    needs_of(tree, SymId(symbol as usize), scratch)?;
-    needs.add(scratch.row.numbers())?;
-    note_first(first, facts.choice, symbol);
     Ok(())
 }
 
-/// What each symbol of a tree needs, by number: each need once. The members of a choice share one row, so that nothing grows
-/// with the square of them (our own). Fails only when it is out of memory.
-pub fn tree_needs(alloc: Global, tree: &Tree) -> Result<Needs, AllocError>
-    ensures { IfOk result (λ n. n ≡ spec.needs tree.now) }
+// Adds what the selection of a choice names: the prompts of its members, its own, and its defaults.
+fn choice_into(layout: &Layout, choice: &Choice, out: &mut Row) -> Result<(), AllocError>
+    requires there { IsChoiceThere layout.now.tables.contexts choice.now }
+    ensures { OnOk result (Adds out.old out.new (rows.choice_nodes layout.now choice.now) (rows.choice_names layout.now choice.now)) }
 {
-    let count = tree.symbol_count();
-    let mut needs = Needs::with_room(alloc, count)?;
-    let mut first = vec![in alloc; None; tree.choices().len()]?;
-    let mut scratch = Scratch {
-        names: Vec::new(alloc),
-        row: Row::new(alloc, count)?,
-    };
-    for i in 0..count {
-        match tree.facts(tree.symbol(i)) {
-            Some(symbol) => add_needs(
-                tree,
-                i as u32,
-                symbol,
-                &mut needs,
-                &mut first,
-                &mut scratch,
-            )?,
-            None => unreachable!(),
+    for member in &choice.members {
+        if let Some(symbol) = layout.symbol(*member) {
+            prompts_into(layout, symbol, out)?;
         }
     }
-    Ok(needs)
+    choice_prompt_into(layout, choice, out)?;
+    choice_defaults_into(layout, choice, out)
+}
+
+// Adds the row as it stands to the graph, and makes it empty: the nodes, and of the names the symbols that are defined.
+fn close_row(defined: usize, row: &mut Row, graph: &mut Graph) -> Result<(), AllocError>
+    requires few { defined < 2 ^ 32 }
+    ensures graph { OnOk result (graph.new ≡ record graph.old { rows = graph.old.rows ++ rows.row_of defined row.old ∷ [] }) }
+    ensures empty { OnOk result (IsRow [] [] row.new) }
+{
+    for name in &row.names {
+        if name.0 < defined {
+            row.nodes.push(name.0 as u32)?;
+        }
+    }
+    graph.add(&row.nodes)?;
+    row.nodes.clear();
+    row.names.clear();
+    Ok(())
+}
+
+// Adds the nodes of the symbols.
+fn add_symbols(
+    tree: &Tree,
+    layout: &Layout,
+    row: &mut Row,
+    graph: &mut Graph,
+) -> Result<(), AllocError>
+    requires choices { rows.AreChoicesThere layout.now }
+    requires row { IsRow [] [] row.old }
+    ensures graph { OnOk result (graph.new ≡ record graph.old { rows = graph.old.rows ++ rows.symbol_rows tree.now layout.now }) }
+    ensures row { OnOk result (IsRow [] [] row.new) }
+{
+    let defined = layout.symbols().len();
+    for (i, symbol) in layout.symbols().iter().enumerate() {
+        symbol_into(tree, layout, SymId(i), symbol, row)?;
+        close_row(defined, row, graph)?;
+    }
+    Ok(())
+}
+
+// Adds the nodes of the contexts, the top first.
+fn add_contexts(layout: &Layout, row: &mut Row, graph: &mut Graph) -> Result<(), AllocError>
+    requires row { IsRow [] [] row.old }
+    ensures graph { OnOk result ((contexts : List (List ℕ)) × rows.AreContextRows layout.now contexts × (graph.new ≡ record graph.old { rows = graph.old.rows ++ contexts })) }
+    ensures row { OnOk result (IsRow [] [] row.new) }
+{
+    let defined = layout.symbols().len();
+    for i in 0..layout.context_count() {
+        if let Some(context) = layout.context(ContextId(i as u32)) {
+            asked_into(layout, context, row)?;
+        }
+        close_row(defined, row, graph)?;
+    }
+    Ok(())
+}
+
+// Adds the nodes of the choices.
+fn add_choices(layout: &Layout, row: &mut Row, graph: &mut Graph) -> Result<(), AllocError>
+    requires row { IsRow [] [] row.old }
+    ensures graph { OnOk result (graph.new ≡ record graph.old { rows = graph.old.rows ++ rows.choice_rows layout.now }) }
+    ensures row { OnOk result (IsRow [] [] row.new) }
+{
+    let defined = layout.symbols().len();
+    for choice in layout.choices() {
+        choice_into(layout, choice, row)?;
+        close_row(defined, row, graph)?;
+    }
+    Ok(())
+}
+
+/// What each symbol of a tree needs: the defined symbols that its equation names (the kernel's kconfig-language document
+/// forbids recursive dependencies and does not say which count). What contexts and choices name stands once, in their own nodes,
+/// so that nothing grows with the square of the symbols in a block or of a choice's members (our own). The caller owes the layout
+/// of that tree. Fails only when it is out of memory.
+pub fn tree_needs(alloc: Global, tree: &Tree, layout: &Layout) -> Result<Graph, AllocError>
+    requires laid { IsLayoutOf tree.now layout.now }
+    requires formed { IsWellFormed tree.now }
+    ensures graph { IfOk result IsGraph }
+    ensures few { IfOk result (λ g. length g.rows < 2 ^ 32) }
+    ensures alike { IfOk result (λ g. AreAlike (needs_of g) (spec.needs tree.now)) }
+    ensures nodes { IfOk result (rows.AreNodeRows tree.now layout.now) }
+{
+    let mut graph = Graph::with_room(alloc, layout.symbols().len(), node_count(layout))?;
+    let mut row = Row {
+        nodes: Vec::new(alloc),
+        names: Vec::new(alloc),
+    };
+    add_symbols(tree, layout, &mut row, &mut graph)?;
+    add_contexts(layout, &mut row, &mut graph)?;
+    add_choices(layout, &mut row, &mut graph)?;
+    Ok(graph)
 }

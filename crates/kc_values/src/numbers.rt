@@ -1,20 +1,22 @@
 //! Ranges of numbers, and the equation of an int or hex symbol.
 
-ghost use Rattle.std.specs.Prelude.{◌≡◌, ◌<◌, ◌^◌, map, unsigned_abs, Option, Some, None, IfOk, IfSome, unwrap_or};
-ghost use Rattle.kc_tree.specs.Views.{facts_of, range_view};
+ghost use Rattle.std.specs.Prelude.{◌≡◌, ◌<◌, ◌^◌, Some, IfOk, IfSome, unsigned_abs};
+ghost use Rattle.kc_tree.specs.Layouts.{definition_facts, facts_of, range_view};
+ghost use Rattle.kc_tree.specs.Contexts.{condition_in};
+ghost use Rattle.kc_values.specs.Known.{known_at, IsOpenRange};
 ghost use Rattle.kc_values.specs.Numbers as digits;
 ghost use Rattle.kc_values.specs.Small.{IsSmall};
-ghost use Rattle.kc_values.specs.Values as spec;
-ghost use Rattle.kc_expr.specs.Value.{known_by};
 ghost use Rattle.kc_values.specs.User.{place, text_at};
+ghost use Rattle.kc_values.specs.Values as spec;
 
 use crate::conditions::{condition, is_n};
-use crate::texts::{default_text, typed};
-use kc_expr::expression::{Kind, Operand, Tri};
-use kc_expr::values::{Values, text};
+use crate::table::Table;
+use crate::texts::{default_text, typed_in};
+use crate::truths::definition;
+use kc_expr::expression::Kind;
+use kc_expr::values::text;
 use kc_text::{read_hex, read_int};
-use kc_tree::parts::{Cond, Symbol};
-use kc_tree::tree::Tree;
+use kc_tree::parts::{Definition, Symbol, SymbolRange};
 use kc_user::value::UserValue;
 use std::alloc::{AllocError, Global};
 
@@ -49,22 +51,24 @@ fn counted(kind: Kind, text: &[u8]) -> i128
     number_as(kind, text).unwrap_or(0)
 }
 
-// The bounds of the first range whose condition is not n.
-fn first_range<V: Values>(
-    tree: &Tree,
-    kind: Kind,
-    ranges: &[(Operand, Operand, Cond)],
-    values: &V,
-) -> Option<Interval>
-    ensures range { result ≡ spec.interval (known_by (V.kind_of values.now) (V.tri_of values.now) (V.text_of values.now)) kind (spec.first_open tree.now (known_by (V.kind_of values.now) (V.tri_of values.now) (V.text_of values.now)) (map range_view ranges.now)) }
-    ensures small { IfSome result IsSmall }
+// The bounds of a range.
+fn bounds_of(table: &Table<'_>, kind: Kind, range: &SymbolRange) -> Interval
+    ensures range { Some result ≡ spec.interval (known_at table.now) kind (Some (range_view table.now.layout.now.tables.contexts (condition_in table.now.layout.now.tables.contexts 0) range.now)) }
+    ensures small { IsSmall result }
 {
-    for range in ranges {
-        if !is_n(condition(tree, &range.2, values)) {
-            return Some(Interval {
-                low: counted(kind, text(&range.0, values)),
-                high: counted(kind, text(&range.1, values)),
-            });
+    Interval {
+        low: counted(kind, text(&range.low, table)),
+        high: counted(kind, text(&range.high, table)),
+    }
+}
+
+// The first range of a definition whose condition is not n.
+fn first_open<'t>(table: &Table<'t>, definition: &Definition) -> Option<&'t SymbolRange>
+    ensures { IsOpenRange table.now (spec.first_open table.now.tree.now (known_at table.now) (definition_facts table.now.layout.now.tables definition.now).ranges) result }
+{
+    for range in table.layout.ranges(definition) {
+        if !is_n(condition(table, definition.within, &range.when)) {
+            return Some(range);
         }
     }
     None
@@ -72,11 +76,18 @@ fn first_range<V: Values>(
 
 /// The active range of a symbol: the first whose condition is not n (the kernel's kconfig-language document, "Menu
 /// attributes": numerical ranges). A bound that is no number counts as 0 (our own).
-pub fn active_range<V: Values>(tree: &Tree, symbol: &Symbol, values: &V) -> Option<Interval>
-    ensures range { result ≡ spec.active_range tree.now (known_by (V.kind_of values.now) (V.tri_of values.now) (V.text_of values.now)) (facts_of symbol.now) }
+pub fn active_range(table: &Table<'_>, symbol: &Symbol) -> Option<Interval>
+    ensures range { result ≡ spec.active_range table.now.tree.now (known_at table.now) (facts_of table.now.layout.now 0 symbol.now) }
     ensures small { IfSome result IsSmall }
 {
-    first_range(tree, symbol.kind, &symbol.ranges, values)
+    for i in 0..symbol.definition_count() {
+        if let Some(definition) = definition(table, symbol, i) {
+            if let Some(range) = first_open(table, definition) {
+                return Some(bounds_of(table, symbol.kind, range));
+            }
+        }
+    }
+    None
 }
 
 /// Whether the number of a text is inside the range, both bounds included; where there is no range it is (kconfiglib's
@@ -145,27 +156,24 @@ pub fn clamped(
     Ok(copy)
 }
 
-/// The value of an int or hex symbol of this visibility outside a choice: the visible user text that is inside the active
-/// range, in exactly its text, else the first default's text, clamped (kconfiglib's `str_value`); without both it is empty (our
-/// own). Fails only when it is out of memory.
-pub fn number_equation<V: Values>(
+/// The value of an int or hex symbol outside a choice: the visible user text that is inside the active range, in exactly its
+/// text, else the first default's text, clamped (kconfiglib's `str_value`); without both it is empty (our own). Fails only when
+/// it is out of memory.
+pub fn number_equation(
     alloc: Global,
-    tree: &Tree,
+    table: &Table<'_>,
     symbol: &Symbol,
     user: Option<&UserValue>,
-    shown: Tri,
-    values: &V,
 ) -> Result<Vec<u8>, AllocError>
-    requires { shown ≡ spec.visibility tree.now (known_by (V.kind_of values.now) (V.tri_of values.now) (V.text_of values.now)) (facts_of symbol.now) }
-    ensures { IfOk result (λ v. v.items ≡ spec.number_equation tree.now (known_by (V.kind_of values.now) (V.tri_of values.now) (V.text_of values.now)) (facts_of symbol.now) (place user.entry)) }
+    ensures { IfOk result (λ v. v.items ≡ spec.number_equation table.now.tree.now (known_at table.now) (facts_of table.now.layout.now 0 symbol.now) (place user.entry)) }
 {
-    let range = active_range(tree, symbol, values);
-    let given = typed(user, shown);
+    let range = active_range(table, symbol);
+    let given = typed_in(table, symbol, user);
     if let Some(bytes) = if_inside(symbol.kind, range, given) {
         let copy = Vec::from_slice(alloc, bytes)?;
         return Ok(copy);
     }
-    let default = default_text(tree, &symbol.defaults, values);
+    let default = default_text(table, symbol);
     let value = clamped(alloc, symbol.kind, range, default)?;
     Ok(value)
 }

@@ -1,13 +1,19 @@
-//! The values found so far, by the numbers of the symbols.
+//! The values found so far: those of the symbols, of the contexts and of the choices, by their numbers.
 
-ghost use Rattle.std.specs.Prelude.{◌≡◌};
+ghost use Rattle.std.specs.Prelude.{◌≡◌, None, length, replicate, slice_index_or, IfOk};
+ghost use Rattle.kc_tree.specs.Layouts.{IsLayoutOf};
+ghost use Rattle.kc_tree.specs.TreeFacts.{IsWellFormed};
 ghost use Rattle.kc_values.specs.Lookups as lookup;
+ghost use Rattle.kc_values.specs.Settled.{AreContextsSettled};
 ghost use Rattle.kc_values.specs.Table.{kind_in, value_at, value_in, tri_in, text_in};
 
-use crate::lookups::{facts, name};
+use crate::lookups::name;
 use kc_expr::expression::{Kind, SymId, Tri};
 use kc_expr::values::Values;
+use kc_tree::layout::Layout;
+use kc_tree::parts::{ChoiceId, ContextId};
 use kc_tree::tree::Tree;
+use std::alloc::{AllocError, Global};
 
 /// The value of a symbol: a truth of a bool or tristate, a text of the others (kconfiglib's `tri_value` and `str_value`).
 #[derive(Debug, Drop)]
@@ -19,13 +25,79 @@ pub enum Value {
 }
 
 /// The values of the symbols of a tree, of which some places may still be empty. As `Values` an empty place is n, and
-/// as a text the symbol's name, which is also what a name that is not defined is worth (kconfiglib).
+/// as a text the symbol's name, which is also what a name that is not defined is worth (kconfiglib). Beside them stand the
+/// values of its contexts and the selections of its choices that are settled, so that each is found once, whoever asks for it;
+/// one that is not settled is found anew.
 #[derive(Drop)]
 pub struct Table<'t> {
     /// The tree that the symbols are of.
     pub tree: &'t Tree,
+    /// How it is laid out.
+    pub layout: &'t Layout,
     /// A place for each symbol, by number.
     pub values: Vec<Option<Value>>,
+    /// What each context is worth, if that is settled.
+    pub contexts: Vec<Option<Tri>>,
+    /// What each choice selects, if that is settled; no member can be selected too.
+    pub selections: Vec<Option<Option<SymId>>>,
+    ghost laid: { ∥ IsLayoutOf tree.now layout.now ∥₁ },
+    ghost formed: { ∥ IsWellFormed tree.now ∥₁ },
+    ghost settled: { AreContextsSettled tree.now layout.now values.items contexts.items },
+}
+
+// So many empty places.
+fn empty_places(alloc: Global, count: usize) -> Result<Vec<Option<Value>>, AllocError>
+    ensures { IfOk result (λ v. v.items ≡ replicate count None) }
+{
+    let mut places = Vec::with_capacity(alloc, count)?;
+    for _place in 0..count {
+        places.push(None)?;
+    }
+    Ok(places)
+}
+
+impl<'t> Table<'t> {
+    /// A table of empty places, where nothing is settled. The caller owes the layout of that tree. Fails only when it is out of
+    /// memory.
+    pub fn empty(alloc: Global, tree: &'t Tree, layout: &'t Layout) -> Result<Table<'t>, AllocError>
+        requires { IsLayoutOf tree.now layout.now }
+        ensures tree { IfOk result (λ t. t.tree.now ≡ tree.now) }
+        ensures layout { IfOk result (λ t. t.layout.now ≡ layout.now) }
+        ensures values { IfOk result (λ t. t.values.items ≡ replicate (length tree.now.symbols) None) }
+        ensures contexts { IfOk result (λ t. t.contexts.items ≡ replicate (length layout.now.tables.contexts) None) }
+        ensures selections { IfOk result (λ t. t.selections.items ≡ replicate (length layout.now.tables.choices.items) None) }
+    {
+        let values = empty_places(alloc, tree.symbol_count())?;
+        let contexts = vec![in alloc; None; layout.context_count()]?;
+        let selections = vec![in alloc; None; layout.choices().len()]?;
+        Ok(Table {
+            tree,
+            layout,
+            values,
+            contexts,
+            selections,
+        })
+    }
+
+    /// What a context is worth, if that is settled.
+    pub fn settled_context(&self, id: ContextId) -> Option<Tri>
+        ensures { result ≡ slice_index_or self.now.contexts.items id.0 None }
+    {
+        match self.contexts.get(id.0 as usize) {
+            Some(settled) => *settled,
+            None => None,
+        }
+    }
+
+    /// What a choice selects, if that is settled.
+    pub fn settled_selection(&self, id: ChoiceId) -> Option<Option<SymId>>
+        ensures { result ≡ slice_index_or self.now.selections.items id.0 None }
+    {
+        match self.selections.get(id.0) {
+            Some(settled) => *settled,
+            None => None,
+        }
+    }
 }
 
 /// The value in a place, if it is there and filled (our own).
@@ -60,7 +132,7 @@ impl<'t> Values for Table<'t> {
     }
 
     fn kind(&self, id: SymId) -> Kind {
-        match facts(self.tree, id) {
+        match self.layout.symbol(id) {
             Some(symbol) => symbol.kind,
             None => Kind::Undefined,
         }

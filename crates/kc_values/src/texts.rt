@@ -1,17 +1,20 @@
 //! The equation of a string symbol.
 
-ghost use Rattle.std.specs.Prelude.{◌≡◌, map, Option, Some, None, IfOk, unwrap_or};
+ghost use Rattle.std.specs.Prelude.{◌≡◌, IfOk};
 ghost use Rattle.kc_expr.specs.Form.{form_of};
-ghost use Rattle.kc_tree.specs.Views.{facts_of, default_view};
-ghost use Rattle.kc_values.specs.Values as spec;
 ghost use Rattle.kc_expr.specs.Value.{known_by};
+ghost use Rattle.kc_tree.specs.Layouts.{facts_of};
+ghost use Rattle.kc_values.specs.Known.{known_at};
 ghost use Rattle.kc_values.specs.User.{place, text_at};
+ghost use Rattle.kc_values.specs.Values as spec;
+ghost use Rattle.kc_values.specs.Warnings.{open_text};
 
-use crate::conditions::{condition, is_n};
+use crate::conditions::is_n;
+use crate::table::Table;
+use crate::truths::{open_default, visibility};
 use kc_expr::expression::{Expr, Tri};
 use kc_expr::values::{Values, text};
-use kc_tree::parts::{Cond, Symbol};
-use kc_tree::tree::Tree;
+use kc_tree::parts::Symbol;
 use kc_user::value::UserValue;
 use std::alloc::{AllocError, Global};
 
@@ -26,21 +29,22 @@ pub fn single_text<'a, V: Values>(expr: &'a Expr, values: &'a V) -> &'a [u8]
     }
 }
 
+/// The text of the first default whose condition is not n, if there is one.
+pub fn open_text<'a>(table: &'a Table<'_>, symbol: &Symbol) -> Option<&'a [u8]>
+    ensures { text_at result ≡ open_text (known_at table.now) (spec.first_open table.now.tree.now (known_at table.now) (facts_of table.now.layout.now 0 symbol.now).defaults) }
+{
+    match open_default(table, symbol) {
+        Some((default, _)) => Some(single_text(&default.value, table)),
+        None => None,
+    }
+}
+
 /// The text of the first default whose condition is not n, or nothing (the kernel's kconfig-language document, "Menu
 /// attributes": default value).
-pub fn default_text<'a, V: Values>(
-    tree: &Tree,
-    defaults: &'a [(Expr, Cond)],
-    values: &'a V,
-) -> &'a [u8]
-    ensures { result.now ≡ spec.default_text (known_by (V.kind_of values.now) (V.tri_of values.now) (V.text_of values.now)) (spec.first_open tree.now (known_by (V.kind_of values.now) (V.tri_of values.now) (V.text_of values.now)) (map default_view defaults.now)) }
+pub fn default_text<'a>(table: &'a Table<'_>, symbol: &Symbol) -> &'a [u8]
+    ensures { result.now ≡ spec.default_text (known_at table.now) (spec.first_open table.now.tree.now (known_at table.now) (facts_of table.now.layout.now 0 symbol.now).defaults) }
 {
-    for default in defaults {
-        if !is_n(condition(tree, &default.1, values)) {
-            return single_text(&default.0, values);
-        }
-    }
-    b""
+    open_text(table, symbol).unwrap_or(b"")
 }
 
 /// The user's text where the symbol is visible (kconfiglib's `str_value`).
@@ -56,24 +60,35 @@ pub fn typed(user: Option<&UserValue>, visibility: Tri) -> Option<&[u8]>
     }
 }
 
-/// The value of a string symbol of this visibility outside a choice: the user's text where it is visible, else the text of the
-/// first default whose condition is not n, else nothing (kconfiglib's `str_value`). Fails only when it is out of memory.
-pub fn text_equation<V: Values>(
+/// The same of a symbol, whose visibility is looked at only where the user gave a text (kconfiglib's `str_value`).
+pub fn typed_in<'a>(
+    table: &Table<'_>,
+    symbol: &Symbol,
+    user: Option<&'a UserValue>,
+) -> Option<&'a [u8]>
+    ensures { text_at result ≡ spec.typed (place user.entry) (spec.visibility table.now.tree.now (known_at table.now) (facts_of table.now.layout.now 0 symbol.now)) }
+{
+    match user {
+        Some(UserValue::Text(_)) => typed(user, visibility(table, symbol)),
+        _ => None,
+    }
+}
+
+/// The value of a string symbol outside a choice: the user's text where it is visible, else the text of the first default
+/// whose condition is not n, else nothing (kconfiglib's `str_value`). Fails only when it is out of memory.
+pub fn text_equation(
     alloc: Global,
-    tree: &Tree,
+    table: &Table<'_>,
     symbol: &Symbol,
     user: Option<&UserValue>,
-    shown: Tri,
-    values: &V,
 ) -> Result<Vec<u8>, AllocError>
-    requires { shown ≡ spec.visibility tree.now (known_by (V.kind_of values.now) (V.tri_of values.now) (V.text_of values.now)) (facts_of symbol.now) }
-    ensures { IfOk result (λ v. v.items ≡ spec.text_equation tree.now (known_by (V.kind_of values.now) (V.tri_of values.now) (V.text_of values.now)) (facts_of symbol.now) (place user.entry)) }
+    ensures { IfOk result (λ v. v.items ≡ spec.text_equation table.now.tree.now (known_at table.now) (facts_of table.now.layout.now 0 symbol.now) (place user.entry)) }
 {
-    if let Some(bytes) = typed(user, shown) {
+    if let Some(bytes) = typed_in(table, symbol, user) {
         let copy = Vec::from_slice(alloc, bytes)?;
         return Ok(copy);
     }
-    let default = default_text(tree, &symbol.defaults, values);
+    let default = default_text(table, symbol);
     let copy = Vec::from_slice(alloc, default)?;
     Ok(copy)
 }

@@ -1,17 +1,18 @@
 //! The equation of a bool or tristate symbol outside a choice.
 
-ghost use Rattle.std.specs.Prelude.{◌≡◌, map, Option, Some, None};
-ghost use Rattle.kc_expr.specs.Value.{truth_of_known};
-ghost use Rattle.kc_tree.specs.Views.{facts_of, default_view, named_view};
-ghost use Rattle.kc_values.specs.Values as spec;
-ghost use Rattle.kc_expr.specs.Value.{known_by};
+ghost use Rattle.std.specs.Prelude.{◌≡◌};
+ghost use Rattle.kc_expr.specs.Value.{known_by, truth_of_known};
+ghost use Rattle.kc_tree.specs.Words.{listed};
+ghost use Rattle.kc_tree.specs.Layouts.{definition_facts, facts_of, reverse_facts, reverses_from};
+ghost use Rattle.kc_values.specs.Known.{known_at, IsDefinitionAt, IsDefinitionOf, IsOpenDefault};
 ghost use Rattle.kc_values.specs.User.{place};
+ghost use Rattle.kc_values.specs.Values as spec;
 
-use crate::conditions::{condition, conditions, is_n, up};
-use kc_expr::expression::{Expr, Kind, SymId, Tri};
+use crate::conditions::{condition, context, is_n, prompt_condition, up};
+use crate::table::Table;
+use kc_expr::expression::{Kind, SymId, Tri};
 use kc_expr::values::{Values, eval, greater, lesser};
-use kc_tree::parts::{Cond, Symbol};
-use kc_tree::tree::Tree;
+use kc_tree::parts::{Definition, Reverse, ReverseId, Symbol, SymbolDefault};
 use kc_user::value::UserValue;
 
 /// The value of a symbol as a truth: n where it is no bool or tristate (the kernel's kconfig-language document, "Menu
@@ -27,14 +28,14 @@ pub fn truth_of<V: Values>(id: SymId, values: &V) -> Tri
 
 /// m as y where the type is not tristate under the values: where it is written as another one, or where the modules symbol
 /// is n, or is no bool or tristate, or is not there (kconfiglib's `tri_value`).
-pub fn raised<V: Values>(tree: &Tree, kind: Kind, value: Tri, values: &V) -> Tri
-    ensures { result ≡ spec.raised tree.now (known_by (V.kind_of values.now) (V.tri_of values.now) (V.text_of values.now)) kind value }
+pub fn upgraded(table: &Table<'_>, kind: Kind, value: Tri) -> Tri
+    ensures { result ≡ spec.raised table.now.tree.now (known_at table.now) kind value }
 {
     if kind != Kind::Tristate {
         return up(value);
     }
-    let modules = match tree.modules_symbol() {
-        Some(id) => truth_of(id, values),
+    let modules = match table.tree.modules_symbol() {
+        Some(id) => truth_of(id, table),
         None => Tri::N,
     };
     match modules {
@@ -43,114 +44,186 @@ pub fn raised<V: Values>(tree: &Tree, kind: Kind, value: Tri, values: &V) -> Tri
     }
 }
 
-/// The visibility of a symbol: the greatest condition of its prompts, raised; n without a prompt (kconfiglib's
-/// `visibility`).
-pub fn visibility<V: Values>(tree: &Tree, symbol: &Symbol, values: &V) -> Tri
-    ensures { result ≡ spec.visibility tree.now (known_by (V.kind_of values.now) (V.tri_of values.now) (V.text_of values.now)) (facts_of symbol.now) }
+/// The definition of a symbol by its number among those of the symbol, if there is one.
+pub fn definition<'t>(table: &Table<'t>, symbol: &Symbol, i: usize) -> Option<&'t Definition>
+    ensures { IsDefinitionOf table.now symbol.now i result }
 {
-    let shown = conditions(tree, &symbol.prompts, values);
-    raised(tree, symbol.kind, shown, values)
-}
-
-/// min(value, condition) of the first default whose condition is not n, or n (the kernel's kconfig-language document, "Menu
-/// attributes": default value).
-pub fn default_truth<V: Values>(tree: &Tree, defaults: &[(Expr, Cond)], values: &V) -> Tri
-    ensures { result ≡ spec.default_value tree.now (known_by (V.kind_of values.now) (V.tri_of values.now) (V.text_of values.now)) (spec.first_open tree.now (known_by (V.kind_of values.now) (V.tri_of values.now) (V.text_of values.now)) (map default_view defaults.now)) }
-{
-    for default in defaults {
-        let when = condition(tree, &default.1, values);
-        if !is_n(when) {
-            return lesser(eval(&default.0, values), when);
-        }
+    match symbol.definition(i) {
+        Some(id) => table.layout.definition(id),
+        None => None,
     }
-    Tri::N
 }
 
-// The greatest min(value of the other symbol, condition).
-fn pulled<V: Values>(tree: &Tree, lines: &[(SymId, Cond)], values: &V) -> Tri
-    ensures { result ≡ spec.pulled tree.now (known_by (V.kind_of values.now) (V.tri_of values.now) (V.text_of values.now)) (map named_view lines.now) }
+// The condition of the prompt of a definition; n without one.
+fn shown_by(table: &Table<'_>, definition: &Definition) -> Tri
+    requires { IsDefinitionAt table.now definition.now }
+    ensures { result ≡ spec.conditions table.now.tree.now (known_at table.now) (listed (definition_facts table.now.layout.now.tables definition.now).prompt) }
+{
+    match &definition.prompt {
+        Some(prompt) => prompt_condition(table, definition.within, prompt),
+        None => Tri::N,
+    }
+}
+
+/// The greatest condition of the prompts of a symbol; n without a prompt.
+pub fn prompts_condition(table: &Table<'_>, symbol: &Symbol) -> Tri
+    ensures { result ≡ spec.conditions table.now.tree.now (known_at table.now) (facts_of table.now.layout.now 0 symbol.now).prompts }
 {
     let mut greatest = Tri::N;
-    for line in lines {
-        let value = truth_of(line.0, values);
-        let when = condition(tree, &line.1, values);
-        greatest = greater(greatest, lesser(value, when));
+    for i in 0..symbol.definition_count() {
+        if let Some(definition) = definition(table, symbol, i) {
+            greatest = greater(greatest, shown_by(table, definition));
+        }
     }
     greatest
 }
 
-/// The direct dependency of a symbol: the greatest that its definitions depend on, raised (kconfiglib's `direct_dep`).
-pub fn direct<V: Values>(tree: &Tree, symbol: &Symbol, values: &V) -> Tri
-    ensures { result ≡ spec.direct tree.now (known_by (V.kind_of values.now) (V.tri_of values.now) (V.text_of values.now)) (facts_of symbol.now) }
+/// The visibility of a symbol: the greatest condition of its prompts, m being y where the symbol can't be m; n without a prompt
+/// (kconfiglib's `visibility`).
+pub fn visibility(table: &Table<'_>, symbol: &Symbol) -> Tri
+    ensures { result ≡ spec.visibility table.now.tree.now (known_at table.now) (facts_of table.now.layout.now 0 symbol.now) }
 {
-    let deps = conditions(tree, &symbol.deps, values);
-    raised(tree, symbol.kind, deps, values)
+    upgraded(table, symbol.kind, prompts_condition(table, symbol))
 }
 
-/// The reverse dependency of a symbol: the greatest min(value of the selecting symbol, condition), raised (the kernel's
-/// kconfig-language document, "Menu attributes": reverse dependencies).
-pub fn reverse<V: Values>(tree: &Tree, symbol: &Symbol, values: &V) -> Tri
-    ensures { result ≡ spec.rev tree.now (known_by (V.kind_of values.now) (V.tri_of values.now) (V.text_of values.now)) (facts_of symbol.now) }
+// The first default of a definition whose condition is not n, and that condition.
+fn first_open<'t>(table: &Table<'t>, definition: &Definition) -> Option<(&'t SymbolDefault, Tri)>
+    ensures { IsOpenDefault table.now (spec.first_open table.now.tree.now (known_at table.now) (definition_facts table.now.layout.now.tables definition.now).defaults) result }
 {
-    let selected = pulled(tree, &symbol.selectors, values);
-    raised(tree, symbol.kind, selected, values)
+    for default in table.layout.defaults(definition) {
+        let when = condition(table, definition.within, &default.when);
+        if !is_n(when) {
+            return Some((default, when));
+        }
+    }
+    None
+}
+
+/// The first default of a symbol whose condition is not n, and that condition.
+pub fn open_default<'t>(table: &Table<'t>, symbol: &Symbol) -> Option<(&'t SymbolDefault, Tri)>
+    ensures { IsOpenDefault table.now (spec.first_open table.now.tree.now (known_at table.now) (facts_of table.now.layout.now 0 symbol.now).defaults) result }
+{
+    for i in 0..symbol.definition_count() {
+        if let Some(definition) = definition(table, symbol, i) {
+            if let Some(found) = first_open(table, definition) {
+                return Some(found);
+            }
+        }
+    }
+    None
+}
+
+/// min(value, condition) of the first default whose condition is not n, or n (the kernel's kconfig-language document, "Menu
+/// attributes": default value).
+pub fn default_truth(table: &Table<'_>, symbol: &Symbol) -> Tri
+    ensures { result ≡ spec.default_value table.now.tree.now (known_at table.now) (spec.first_open table.now.tree.now (known_at table.now) (facts_of table.now.layout.now 0 symbol.now).defaults) }
+{
+    match open_default(table, symbol) {
+        Some((default, when)) => lesser(eval(&default.value, table), when),
+        None => Tri::N,
+    }
+}
+
+// min(value of the other symbol, condition) of a line that selects or implies.
+fn reverse_value(table: &Table<'_>, line: &Reverse) -> Tri
+    ensures { result ≡ spec.pulled table.now.tree.now (known_at table.now) (listed (reverse_facts table.now.layout.now.tables line.now)) }
+{
+    let Some(source) = table.layout.definition(line.source) else {
+        return Tri::N;
+    };
+    let value = truth_of(source.symbol, table);
+    if is_n(value) {
+        return Tri::N;
+    }
+    lesser(value, condition(table, source.within, &line.when))
+}
+
+// The greatest of them, from the last line on.
+fn reverse_values(table: &Table<'_>, last: Option<ReverseId>) -> Tri
+    ensures { result ≡ spec.pulled table.now.tree.now (known_at table.now) (reverses_from table.now.layout.now.tables last) }
+{
+    let mut greatest = Tri::N;
+    let mut at = last;
+    'lines: while let Some(id) = at {
+        let Some(line) = table.layout.reverse(id) else {
+            return greatest;
+        };
+        greatest = greater(greatest, reverse_value(table, line));
+        at = line.next;
+    }
+    greatest
+}
+
+/// The direct dependency of a symbol: the greatest that its definitions depend on, m being y where the symbol can't be m
+/// (kconfiglib's `direct_dep`).
+pub fn direct(table: &Table<'_>, symbol: &Symbol) -> Tri
+    ensures { result ≡ spec.direct table.now.tree.now (known_at table.now) (facts_of table.now.layout.now 0 symbol.now) }
+{
+    let mut greatest = Tri::N;
+    for i in 0..symbol.definition_count() {
+        if let Some(definition) = definition(table, symbol, i) {
+            greatest = greater(greatest, context(table, definition.within));
+        }
+    }
+    upgraded(table, symbol.kind, greatest)
+}
+
+/// The reverse dependency of a symbol: the greatest min(value of the selecting symbol, condition), m being y where the symbol
+/// can't be m (the kernel's kconfig-language document, "Menu attributes": reverse dependencies).
+pub fn reverse(table: &Table<'_>, id: SymId, symbol: &Symbol) -> Tri
+    ensures { result ≡ spec.rev table.now.tree.now (known_at table.now) (facts_of table.now.layout.now id.0 symbol.now) }
+{
+    let selected = reverse_values(table, table.layout.last_select(id));
+    upgraded(table, symbol.kind, selected)
 }
 
 /// The weak reverse dependency of a symbol: the same over what implies it (the kernel's kconfig-language document, "Menu
 /// attributes": weak reverse dependencies).
-pub fn weak<V: Values>(tree: &Tree, symbol: &Symbol, values: &V) -> Tri
-    ensures { result ≡ spec.weak tree.now (known_by (V.kind_of values.now) (V.tri_of values.now) (V.text_of values.now)) (facts_of symbol.now) }
+pub fn weak(table: &Table<'_>, id: SymId, symbol: &Symbol) -> Tri
+    ensures { result ≡ spec.weak table.now.tree.now (known_at table.now) (facts_of table.now.layout.now id.0 symbol.now) }
 {
-    let wanted = pulled(tree, &symbol.impliers, values);
-    raised(tree, symbol.kind, wanted, values)
+    let implied = reverse_values(table, table.layout.last_imply(id));
+    upgraded(table, symbol.kind, implied)
 }
 
 // The default, which an imply raises up to the direct dependency. That is looked at only where something implies the symbol.
-fn implied<V: Values>(tree: &Tree, symbol: &Symbol, values: &V) -> Tri
-    ensures { result ≡ spec.implied (spec.default_value tree.now (known_by (V.kind_of values.now) (V.tri_of values.now) (V.text_of values.now)) (spec.first_open tree.now (known_by (V.kind_of values.now) (V.tri_of values.now) (V.text_of values.now)) (facts_of symbol.now).defaults)) (spec.weak tree.now (known_by (V.kind_of values.now) (V.tri_of values.now) (V.text_of values.now)) (facts_of symbol.now)) (spec.direct tree.now (known_by (V.kind_of values.now) (V.tri_of values.now) (V.text_of values.now)) (facts_of symbol.now)) }
+fn implied(table: &Table<'_>, id: SymId, symbol: &Symbol) -> Tri
+    ensures { result ≡ spec.implied (spec.default_value table.now.tree.now (known_at table.now) (spec.first_open table.now.tree.now (known_at table.now) (facts_of table.now.layout.now id.0 symbol.now).defaults)) (spec.weak table.now.tree.now (known_at table.now) (facts_of table.now.layout.now id.0 symbol.now)) (spec.direct table.now.tree.now (known_at table.now) (facts_of table.now.layout.now id.0 symbol.now)) }
 {
-    let default = default_truth(tree, &symbol.defaults, values);
-    let weak = weak(tree, symbol, values);
+    let default = default_truth(table, symbol);
+    let weak = weak(table, id, symbol);
     match weak {
         Tri::N => default,
-        _ => lesser(greater(default, weak), direct(tree, symbol, values)),
+        _ => lesser(greater(default, weak), direct(table, symbol)),
     }
 }
 
-// The user's truth up to the visibility, where the symbol is visible, and else its default.
-fn based<V: Values>(
-    tree: &Tree,
-    symbol: &Symbol,
-    user: Option<&UserValue>,
-    shown: Tri,
-    values: &V,
-) -> Tri
-    ensures { result ≡ spec.based (place user.entry) shown (spec.implied (spec.default_value tree.now (known_by (V.kind_of values.now) (V.tri_of values.now) (V.text_of values.now)) (spec.first_open tree.now (known_by (V.kind_of values.now) (V.tri_of values.now) (V.text_of values.now)) (facts_of symbol.now).defaults)) (spec.weak tree.now (known_by (V.kind_of values.now) (V.tri_of values.now) (V.text_of values.now)) (facts_of symbol.now)) (spec.direct tree.now (known_by (V.kind_of values.now) (V.tri_of values.now) (V.text_of values.now)) (facts_of symbol.now))) }
+// The user's truth up to the visibility, where the symbol is visible, and else its default. Only what counts is looked at.
+fn given_or_implied(table: &Table<'_>, id: SymId, symbol: &Symbol, user: Option<&UserValue>) -> Tri
+    ensures { result ≡ spec.based (place user.entry) (spec.visibility table.now.tree.now (known_at table.now) (facts_of table.now.layout.now id.0 symbol.now)) (spec.implied (spec.default_value table.now.tree.now (known_at table.now) (spec.first_open table.now.tree.now (known_at table.now) (facts_of table.now.layout.now id.0 symbol.now).defaults)) (spec.weak table.now.tree.now (known_at table.now) (facts_of table.now.layout.now id.0 symbol.now)) (spec.direct table.now.tree.now (known_at table.now) (facts_of table.now.layout.now id.0 symbol.now))) }
 {
     match user {
-        Some(UserValue::Tri(given)) => match shown {
-            Tri::N => implied(tree, symbol, values),
-            _ => lesser(*given, shown),
+        Some(UserValue::Tri(given)) => match visibility(table, symbol) {
+            Tri::N => implied(table, id, symbol),
+            shown => lesser(*given, shown),
         },
-        _ => implied(tree, symbol, values),
+        _ => implied(table, id, symbol),
     }
 }
 
-/// The value of a bool or tristate symbol of this visibility outside a choice: the user's up to the visibility where it is
-/// visible, else its default, which an imply raises up to the direct dependency (that order is our own); at least the
-/// reverse dependency, even against the direct one; raised (the kernel's kconfig-language document, "Menu attributes";
-/// kconfiglib's `tri_value`).
-pub fn truth_equation<V: Values>(
-    tree: &Tree,
+/// The value of a bool or tristate symbol outside a choice: the user's up to the visibility where it is visible, else its
+/// default, which an imply raises up to the direct dependency (that order is our own); at least the reverse dependency,
+/// even against the direct one; m being y where the symbol can't be m (the kernel's kconfig-language document, "Menu
+/// attributes"; kconfiglib's `tri_value`).
+pub fn truth_equation(
+    table: &Table<'_>,
+    id: SymId,
     symbol: &Symbol,
     user: Option<&UserValue>,
-    shown: Tri,
-    values: &V,
 ) -> Tri
-    requires { shown ≡ spec.visibility tree.now (known_by (V.kind_of values.now) (V.tri_of values.now) (V.text_of values.now)) (facts_of symbol.now) }
-    ensures { result ≡ spec.truth_equation tree.now (known_by (V.kind_of values.now) (V.tri_of values.now) (V.text_of values.now)) (facts_of symbol.now) (place user.entry) }
+    ensures { result ≡ spec.truth_equation table.now.tree.now (known_at table.now) (facts_of table.now.layout.now id.0 symbol.now) (place user.entry) }
 {
-    let base = based(tree, symbol, user, shown, values);
-    let selected = reverse(tree, symbol, values);
-    raised(tree, symbol.kind, greater(base, selected), values)
+    let value = given_or_implied(table, id, symbol, user);
+    let selected = reverse(table, id, symbol);
+    upgraded(table, symbol.kind, greater(value, selected))
 }

@@ -1,25 +1,24 @@
 //! What the values of a tree are warned of.
 
 ghost use Rattle.std.specs.Prelude.{◌≡◌, ◌++◌, codes, Some, map, IfOk, IfSome, OnOk};
-ghost use Rattle.kc_tree.specs.Views.{facts_of, default_view};
+ghost use Rattle.kc_tree.specs.Layouts.{facts_of};
+ghost use Rattle.kc_values.specs.Known.{known_at};
 ghost use Rattle.kc_values.specs.Lookups as lookup;
 ghost use Rattle.kc_values.specs.Numbers.{number_text};
 ghost use Rattle.kc_values.specs.Small.{IsSmall};
-ghost use Rattle.kc_expr.specs.Value.{known_by};
 ghost use Rattle.kc_values.specs.User.{place, text_at};
 ghost use Rattle.kc_values.specs.Values as value;
 ghost use Rattle.kc_values.specs.Warnings as spec;
 ghost use Rattle.kc_values.specs.Written.{above};
 
-use crate::conditions::{condition, is_n};
 use crate::lookups::name;
 use crate::numbers::{Interval, active_range, clamped, if_inside, is_inside, number_text};
-use crate::texts::{single_text, typed};
+use crate::table::Table;
+use crate::texts::{open_text, typed};
 use crate::truths::{direct, reverse};
-use kc_expr::expression::{Expr, Kind, SymId, Tri};
-use kc_expr::values::{Values, tri_text};
-use kc_tree::parts::{Cond, Symbol};
-use kc_tree::tree::Tree;
+use kc_expr::expression::{Kind, SymId, Tri};
+use kc_expr::values::tri_text;
+use kc_tree::parts::Symbol;
 use kc_user::value::UserValue;
 use std::alloc::{AllocError, Global};
 
@@ -196,62 +195,45 @@ fn default_warning(
     Ok(())
 }
 
-// The text of the first default whose condition is not n.
-fn open_text<'a, V: Values>(
-    tree: &Tree,
-    defaults: &'a [(Expr, Cond)],
-    values: &'a V,
-) -> Option<&'a [u8]>
-    ensures { text_at result ≡ spec.open_text (known_by (V.kind_of values.now) (V.tri_of values.now) (V.text_of values.now)) (value.first_open tree.now (known_by (V.kind_of values.now) (V.tri_of values.now) (V.text_of values.now)) (map default_view defaults.now)) }
-{
-    for default in defaults {
-        if !is_n(condition(tree, &default.1, values)) {
-            return Some(single_text(&default.0, values));
-        }
-    }
-    None
-}
-
 // The warnings of an int or hex symbol.
-fn range_warnings<V: Values>(
+fn range_warnings(
     alloc: Global,
-    tree: &Tree,
+    table: &Table<'_>,
     name: &[u8],
     symbol: &Symbol,
     shown: Tri,
     user: Option<&UserValue>,
-    values: &V,
     out: &mut Vec<Vec<u8>>,
 ) -> Result<(), AllocError>
-    requires { shown ≡ value.visibility tree.now (known_by (V.kind_of values.now) (V.tri_of values.now) (V.text_of values.now)) (facts_of symbol.now) }
-    ensures { OnOk result (map (λ w. w.items) out.new.items ≡ map (λ w. w.items) out.old.items ++ spec.range_warnings tree.now (known_by (V.kind_of values.now) (V.tri_of values.now) (V.text_of values.now)) name.now (facts_of symbol.now) (place user.entry)) }
+    requires { shown ≡ value.visibility table.now.tree.now (known_at table.now) (facts_of table.now.layout.now 0 symbol.now) }
+    ensures { OnOk result (map (λ w. w.items) out.new.items ≡ map (λ w. w.items) out.old.items ++ spec.range_warnings table.now.tree.now (known_at table.now) name.now (facts_of table.now.layout.now 0 symbol.now) (place user.entry)) }
 {
-    let range = active_range(tree, symbol, values);
+    let range = active_range(table, symbol);
     let given = typed(user, shown);
     let used = if_inside(symbol.kind, range, given);
-    let default = open_text(tree, &symbol.defaults, values);
+    let default = open_text(table, symbol);
     user_warning(alloc, symbol.kind, name, range, given, out)?;
     default_warning(alloc, symbol.kind, name, range, used, default, out)?;
     Ok(())
 }
 
 // The warning of a bool or tristate symbol.
-fn select_warnings<V: Values>(
+fn select_warnings(
     alloc: Global,
-    tree: &Tree,
+    table: &Table<'_>,
     name: &[u8],
+    id: SymId,
     symbol: &Symbol,
-    values: &V,
     out: &mut Vec<Vec<u8>>,
 ) -> Result<(), AllocError>
-    ensures { OnOk result (map (λ w. w.items) out.new.items ≡ map (λ w. w.items) out.old.items ++ spec.select_warnings tree.now (known_by (V.kind_of values.now) (V.tri_of values.now) (V.text_of values.now)) name.now (facts_of symbol.now)) }
+    ensures { OnOk result (map (λ w. w.items) out.new.items ≡ map (λ w. w.items) out.old.items ++ spec.select_warnings table.now.tree.now (known_at table.now) name.now (facts_of table.now.layout.now id.0 symbol.now)) }
 {
-    let reverse = reverse(tree, symbol, values);
+    let reverse = reverse(table, id, symbol);
     // What nothing selects is above no direct dependency.
     if let Tri::N = reverse {
         return Ok(());
     }
-    let direct = direct(tree, symbol, values);
+    let direct = direct(table, symbol);
     if !is_above(reverse, direct) {
         return Ok(());
     }
@@ -264,29 +246,28 @@ fn select_warnings<V: Values>(
 /// tristate that is selected above its direct dependency; of an int or hex a visible user value outside the active range,
 /// then a default that was clamped; of a choice's member none (our own lines). The caller owes the symbol's visibility, so
 /// that it is found once for all that asks for it. Fails only when it is out of memory; some lines may then be there.
-pub fn warnings_into<V: Values>(
+pub fn warnings_into(
     alloc: Global,
-    tree: &Tree,
+    table: &Table<'_>,
     id: SymId,
     symbol: &Symbol,
     shown: Tri,
     user: Option<&UserValue>,
-    values: &V,
     out: &mut Vec<Vec<u8>>,
 ) -> Result<(), AllocError>
-    requires { shown ≡ value.visibility tree.now (known_by (V.kind_of values.now) (V.tri_of values.now) (V.text_of values.now)) (facts_of symbol.now) }
-    ensures { OnOk result (map (λ w. w.items) out.new.items ≡ map (λ w. w.items) out.old.items ++ spec.warnings_of tree.now (known_by (V.kind_of values.now) (V.tri_of values.now) (V.text_of values.now)) (lookup.name tree.now id) (Some (facts_of symbol.now)) (place user.entry)) }
+    requires { shown ≡ value.visibility table.now.tree.now (known_at table.now) (facts_of table.now.layout.now id.0 symbol.now) }
+    ensures { OnOk result (map (λ w. w.items) out.new.items ≡ map (λ w. w.items) out.old.items ++ spec.warnings_of table.now.tree.now (known_at table.now) (lookup.name table.now.tree.now id) (Some (facts_of table.now.layout.now id.0 symbol.now)) (place user.entry)) }
 {
     if symbol.choice.is_some() {
         return Ok(());
     }
-    let name = name(tree, id);
+    let name = name(table.tree, id);
     match symbol.kind {
         Kind::Undefined => Ok(()),
-        Kind::Bool => select_warnings(alloc, tree, name, symbol, values, out),
-        Kind::Tristate => select_warnings(alloc, tree, name, symbol, values, out),
+        Kind::Bool => select_warnings(alloc, table, name, id, symbol, out),
+        Kind::Tristate => select_warnings(alloc, table, name, id, symbol, out),
         Kind::Str => Ok(()),
-        Kind::Int => range_warnings(alloc, tree, name, symbol, shown, user, values, out),
-        Kind::Hex => range_warnings(alloc, tree, name, symbol, shown, user, values, out),
+        Kind::Int => range_warnings(alloc, table, name, symbol, shown, user, out),
+        Kind::Hex => range_warnings(alloc, table, name, symbol, shown, user, out),
     }
 }

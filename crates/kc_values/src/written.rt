@@ -1,59 +1,45 @@
 //! Which symbols are written.
 
-ghost use Rattle.std.specs.Prelude.{◌≡◌, map, Some};
-ghost use Rattle.std.specs.Option.{is_some};
-ghost use Rattle.kc_tree.specs.Views.{facts_of, default_view};
-ghost use Rattle.kc_expr.specs.Value.{known_by};
+ghost use Rattle.std.specs.Prelude.{◌≡◌, Some};
+ghost use Rattle.kc_tree.specs.Layouts.{facts_of};
+ghost use Rattle.kc_values.specs.Known.{known_at};
 ghost use Rattle.kc_values.specs.Values as value;
 ghost use Rattle.kc_values.specs.Written as spec;
 
-use crate::conditions::{condition, is_n};
-use crate::truths::{default_truth, direct, reverse, weak};
-use kc_expr::expression::{Expr, Kind, Tri};
-use kc_expr::values::Values;
-use kc_tree::parts::{Cond, Symbol};
-use kc_tree::tree::Tree;
-
-// Whether the condition of some default is not n.
-fn has_default<V: Values>(tree: &Tree, defaults: &[(Expr, Cond)], values: &V) -> bool
-    ensures { result ≡ is_some (value.first_open tree.now (known_by (V.kind_of values.now) (V.tri_of values.now) (V.text_of values.now)) (map default_view defaults.now)) }
-{
-    for default in defaults {
-        if !is_n(condition(tree, &default.1, values)) {
-            return true;
-        }
-    }
-    false
-}
+use crate::conditions::is_n;
+use crate::table::Table;
+use crate::truths::{default_truth, direct, open_default, reverse, weak};
+use kc_expr::expression::{Kind, SymId, Tri};
+use kc_tree::parts::Symbol;
 
 // Whether a bool or tristate symbol outside a choice is written.
-fn truth_is_written<V: Values>(tree: &Tree, symbol: &Symbol, shown: Tri, values: &V) -> bool
-    requires { shown ≡ value.visibility tree.now (known_by (V.kind_of values.now) (V.tri_of values.now) (V.text_of values.now)) (facts_of symbol.now) }
-    ensures { result ≡ spec.written_truth tree.now (known_by (V.kind_of values.now) (V.tri_of values.now) (V.text_of values.now)) (facts_of symbol.now) }
+fn truth_is_written(table: &Table<'_>, id: SymId, symbol: &Symbol, shown: Tri) -> bool
+    requires { shown ≡ value.visibility table.now.tree.now (known_at table.now) (facts_of table.now.layout.now id.0 symbol.now) }
+    ensures { result ≡ spec.written_truth table.now.tree.now (known_at table.now) (facts_of table.now.layout.now id.0 symbol.now) }
 {
     !is_n(shown)
-        || !is_n(default_truth(tree, &symbol.defaults, values))
-        || !is_n(reverse(tree, symbol, values))
-        || (!is_n(weak(tree, symbol, values)) && !is_n(direct(tree, symbol, values)))
+        || !is_n(default_truth(table, symbol))
+        || !is_n(reverse(table, id, symbol))
+        || (!is_n(weak(table, id, symbol)) && !is_n(direct(table, symbol)))
 }
 
 // Whether a string, int or hex symbol is written.
-fn text_is_written<V: Values>(tree: &Tree, symbol: &Symbol, shown: Tri, values: &V) -> bool
-    requires { shown ≡ value.visibility tree.now (known_by (V.kind_of values.now) (V.tri_of values.now) (V.text_of values.now)) (facts_of symbol.now) }
-    ensures { result ≡ spec.written_text tree.now (known_by (V.kind_of values.now) (V.tri_of values.now) (V.text_of values.now)) (facts_of symbol.now) }
+fn text_is_written(table: &Table<'_>, symbol: &Symbol, shown: Tri) -> bool
+    requires { shown ≡ value.visibility table.now.tree.now (known_at table.now) (facts_of table.now.layout.now 0 symbol.now) }
+    ensures { result ≡ spec.written_text table.now.tree.now (known_at table.now) (facts_of table.now.layout.now 0 symbol.now) }
 {
-    !is_n(shown) || has_default(tree, &symbol.defaults, values)
+    !is_n(shown) || open_default(table, symbol).is_some()
 }
 
 // Whether a symbol outside a choice is written, by its type.
-fn own_is_written<V: Values>(tree: &Tree, symbol: &Symbol, shown: Tri, values: &V) -> bool
-    requires { shown ≡ value.visibility tree.now (known_by (V.kind_of values.now) (V.tri_of values.now) (V.text_of values.now)) (facts_of symbol.now) }
-    ensures { result ≡ spec.written_by_kind tree.now (known_by (V.kind_of values.now) (V.tri_of values.now) (V.text_of values.now)) (facts_of symbol.now) symbol.now.kind }
+fn own_is_written(table: &Table<'_>, id: SymId, symbol: &Symbol, shown: Tri) -> bool
+    requires { shown ≡ value.visibility table.now.tree.now (known_at table.now) (facts_of table.now.layout.now id.0 symbol.now) }
+    ensures { result ≡ spec.written_by_kind table.now.tree.now (known_at table.now) (facts_of table.now.layout.now id.0 symbol.now) symbol.now.kind }
 {
     match symbol.kind {
         Kind::Undefined => false,
-        Kind::Bool | Kind::Tristate => truth_is_written(tree, symbol, shown, values),
-        Kind::Str | Kind::Int | Kind::Hex => text_is_written(tree, symbol, shown, values),
+        Kind::Bool | Kind::Tristate => truth_is_written(table, id, symbol, shown),
+        Kind::Str | Kind::Int | Kind::Hex => text_is_written(table, symbol, shown),
     }
 }
 
@@ -61,12 +47,12 @@ fn own_is_written<V: Values>(tree: &Tree, symbol: &Symbol, shown: Tri, values: &
 /// choice, a bool or tristate whose default, reverse dependency, or weak one within its direct dependency is not n, or a
 /// string, int or hex one of whose defaults has a condition that is not n. Without a type it has none (kconfiglib's
 /// `config_string`). The caller owes the visibility, so that it is found once for all that asks for it.
-pub fn written<V: Values>(tree: &Tree, symbol: &Symbol, shown: Tri, values: &V) -> bool
-    requires { shown ≡ value.visibility tree.now (known_by (V.kind_of values.now) (V.tri_of values.now) (V.text_of values.now)) (facts_of symbol.now) }
-    ensures { result ≡ spec.written_facts tree.now (known_by (V.kind_of values.now) (V.tri_of values.now) (V.text_of values.now)) (Some (facts_of symbol.now)) }
+pub fn written(table: &Table<'_>, id: SymId, symbol: &Symbol, shown: Tri) -> bool
+    requires { shown ≡ value.visibility table.now.tree.now (known_at table.now) (facts_of table.now.layout.now id.0 symbol.now) }
+    ensures { result ≡ spec.written_facts table.now.tree.now (known_at table.now) (Some (facts_of table.now.layout.now id.0 symbol.now)) }
 {
     match symbol.choice {
         Some(_) => !is_n(shown),
-        None => own_is_written(tree, symbol, shown, values),
+        None => own_is_written(table, id, symbol, shown),
     }
 }

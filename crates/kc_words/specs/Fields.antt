@@ -1,7 +1,7 @@
 -- Trusted: What the options hold.
 use Rattle.std.specs.Prelude.{◌≡◌, List, [], Bool, map, option_map, unwrap_or, string_bytes, codes, bytes_eq}
 use Rattle.clap.specs.Words.{Row, Text, all_of, first_of}
-use Rattle.kc_words.specs.declared.options.Options.{Options}
+use Rattle.kc_conf.specs.declared.options.Options.{Options}
 
 -- the prefix that is asked for
 abbrev pub prefix_word : List Row → Text

@@ -5,5 +5,5 @@ mod command;
 mod options;
 mod usage;
 
-pub use options::{Options, options_of};
+pub use options::options_of;
 pub use usage::Usage;

@@ -1,4 +1,4 @@
-//! What is asked of a run.
+//! What is asked of a run, by the words of its command line.
 
 ghost use Rattle.std.specs.Prelude.{◌≡◌, [], IfOk, IfErr, map, option_map, string_bytes, unwrap_or, codes, true};
 ghost use Rattle.clap.specs.Words.{takes, rows_of, found_of, kind_of, first_of, all_of, fault_of};
@@ -11,39 +11,9 @@ use crate::command::command;
 use crate::usage::Usage;
 use clap::error::ErrorKind;
 use clap::{ArgMatches, Error};
+use kc_conf::Options;
 use kc_dot::prefix::Prefix;
 use std::alloc::{AllocError, Global};
-
-/// What is asked of a run. The names of files are as they were given.
-#[derive(Drop)]
-pub struct Options {
-    /// The folder of the Kconfig files, for names that do not begin with `/`.
-    pub root: String,
-    /// The `.config` to read.
-    pub config: String,
-    /// The full `.config` to write.
-    pub out: String,
-    /// The Kconfig file to begin with.
-    pub kconfig: String,
-    /// The header to write.
-    pub header: Option<String>,
-    /// The minimal `.config` to write.
-    pub minimal: Option<String>,
-    /// The rule for make to write.
-    pub depfile: Option<String>,
-    /// The files to read after the `.config`, in this order.
-    pub fragments: Vec<String>,
-    /// What stands before each symbol's name.
-    pub prefix: Prefix,
-    /// Whether the `.config` to read has to exist, as a fragment has to.
-    pub must_exist: bool,
-    /// Whether a warning is refused.
-    pub strict: bool,
-    /// Whether a value that was given and is not the symbol's is warned of.
-    pub warn_lost: bool,
-    /// Whether each file is replaced in one step at the end, and only where its text changes.
-    pub replace: bool,
-}
 
 // The value of the argument, or what stands for an absent one.
 #[tactic(auto, using(crate::proofs::RowLemmas::found_rows))]

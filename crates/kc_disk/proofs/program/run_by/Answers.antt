@@ -1,6 +1,6 @@
 -- The files take their places at the end, or are written as they are made.
 use Rattle.std.proofs.Common.{◌≡◌, refl, Bool, true, false, Option}
-use Rattle.kc_words.specs.declared.options.Options.{Options}
+use Rattle.kc_conf.specs.declared.options.Options.{Options}
 use Rattle.kc_conf.specs.declared.options.Status.{Status}
 use Rattle.kc_disk.specs.Openers.{Source}
 use Rattle.kc_disk.specs.Makers.{Making}

@@ -1,5 +1,15 @@
+use Rattle.std.proofs.Common.{◌∙◌, ap, sym}
+use Rattle.std.specs.Option.{option_and_then}
+use Rattle.kc_tree.specs.TreeFacts.{SymbolFacts}
 use Rattle.kc_dot.proofs.StepLemmas.{choice_there}
 use Rattle.kc_dot.proofs.step.choice_of.Goals as goal
 
+pub returns-in-Some-clause-choice : goal.returns-in-Some-clause-choice
+returns-in-Some-clause-choice c = c.in-Some.ensures.2.choice ∙ sym (ap (option_and_then (λ (f : SymbolFacts). f.choice)) c.in-Some.ensures.1)
+
 pub returns-in-Some-clause-there : goal.returns-in-Some-clause-there
-returns-in-Some-clause-there c = choice_there c.args.tree.now c.args.id.0 c.in-Some.symbol.now c.symbol_count.ensures.formed c.in-Some.ensures
+returns-in-Some-clause-there c =
+    choice_there c.args.tree.now c.args.id.0 c.in-Some.ensures.0 c.in-Some.symbol.now.choice c.symbol_count.ensures.formed c.in-Some.ensures.1 c.in-Some.ensures.2.choice
+
+pub returns-in-None-clause-choice : goal.returns-in-None-clause-choice
+returns-in-None-clause-choice c = sym (ap (option_and_then (λ (f : SymbolFacts). f.choice)) c.in-None.ensures)

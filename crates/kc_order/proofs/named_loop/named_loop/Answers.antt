@@ -2,17 +2,17 @@ use Rattle.std.proofs.Common.{arith, ap, sym, ◌∙◌, ◌≡◌, true, false,
 use Rattle.std.proofs.Math.ListN.{set}
 use Rattle.std.specs.List.{list_any}
 use Rattle.std.proofs.lemmas.List.{length_push, take_rest, get_or_read}
-use Rattle.kc_order.specs.RowLists.{needs_of, AreMarks}
-use Rattle.kc_order.proofs.Held.{needs_below}
+use Rattle.kc_order.specs.Rows.{AreMarks}
+use Rattle.kc_order.proofs.Groups.{graph, flat, needs_within}
 use Rattle.kc_order.proofs.Walks.{sets_out, goes_further, has_room, comes_back, IsOnTheWay, met_push, not_met, is_met, none_met}
 use Rattle.kc_order.proofs.named_loop.named_loop.Goals.{After-index, After-next_stuck-at}
 use Rattle.kc_order.proofs.named_loop.named_loop.Goals as goal
 
 pub loop-met-init : goal.loop-met-init
 loop-met-init c = record {
-  walks = rw c.new-walk.ensures.items (sets_out _ (needs_of c.args.rows.now c.args.row_of.now) c.args.first c.requires.first);
-  marked = subst (λ w. AreMarks (length c.args.row_of.now) (λ s. list_any (eqb s) w) c.in_ok-met.met.items) (sym c.new-walk.ensures.items)
-      (none_met (length c.args.row_of.now) c.in_ok-met.met.items c.in_ok-met.ensures);
+  walks = rw c.new-walk.ensures.items (sets_out _ (flat c.args.symbols c.args.rows.now) c.args.first c.requires.first);
+  marked = subst (λ w. AreMarks c.args.symbols (λ s. list_any (eqb s) w) c.in_ok-met.met.items) (sym c.new-walk.ensures.items)
+      (none_met c.args.symbols c.in_ok-met.met.items c.in_ok-met.ensures);
 }
 
 -- what is read tells whether the symbol is on the walk
@@ -24,10 +24,10 @@ on_walk c =
 
 -- the walk after the push, and what comes next
 further : (c : After-next_stuck-at) → list_any (eqb c.loop-met.at) c.loop-met.walk.items ≡ false →
-    IsOnTheWay (length c.args.row_of.now) (needs_of c.args.rows.now c.args.row_of.now) (c.loop-met.walk.items ++ c.loop-met.at ∷ []) c.next_stuck-at.result
+    IsOnTheWay c.args.symbols (flat c.args.symbols c.args.rows.now) (c.loop-met.walk.items ++ c.loop-met.at ∷ []) c.next_stuck-at.result
 further c new =
-    goes_further _ (needs_of c.args.rows.now c.args.row_of.now) c.loop-met.walk.items c.loop-met.at c.next_stuck-at.result
-    (needs_below c.args.rows.now c.args.row_of.now c.requires.rows_below) c.loop-met.invariant.walks (not_met c.loop-met.walk.items c.loop-met.at new) c.next_stuck-at.ensures.next
+    goes_further _ (flat c.args.symbols c.args.rows.now) c.loop-met.walk.items c.loop-met.at c.next_stuck-at.result
+    (needs_within (graph c.args.symbols c.args.rows.now) c.requires.graph) c.loop-met.invariant.walks (not_met c.loop-met.walk.items c.loop-met.at new) c.next_stuck-at.ensures.next
 
 pub loop-met-smaller : goal.loop-met-smaller
 loop-met-smaller c =
@@ -43,17 +43,17 @@ loop-met-preserved c =
     let at = c.loop-met.at in
     record {
       walks = rw c.in_ok-push.ensures.items (further (goal.at.loop-met-preserved c).After-next_stuck-at new);
-      marked = subst (λ w. AreMarks (length c.args.row_of.now) (λ s. list_any (eqb s) w) (set c.loop-met.met.items at true)) (sym c.in_ok-push.ensures.items)
-          (met_push (length c.args.row_of.now) walk c.loop-met.met.items at c.loop-met.invariant.marked c.loop-met.invariant.walks.below);
+      marked = subst (λ w. AreMarks c.args.symbols (λ s. list_any (eqb s) w) (set c.loop-met.met.items at true)) (sym c.in_ok-push.ensures.items)
+          (met_push c.args.symbols walk c.loop-met.met.items at c.loop-met.invariant.marked c.loop-met.invariant.walks.below);
     }
 
 pub unreachable-requires : goal.unreachable-requires
 unreachable-requires c =
     is_met c.loop-met.walk.items c.loop-met.at (on_walk (goal.at.unreachable-requires c).After-index ∙ c.loop-met-test.false)
-    (rw c.deref.ensures.value at c.in-None.ensures)
+    (rw c.deref-2.ensures.value at c.in-None.ensures)
 
 pub returns : goal.returns
 returns c =
-    let found = rw c.deref.ensures.value at c.in-Some.ensures in
+    let found = rw c.deref-2.ensures.value at c.in-Some.ensures in
     rw (c.in_ok-found-in-Some.ensures.items, c.deref-in-Some.ensures.value, take_rest)
-    (comes_back _ (needs_of c.args.rows.now c.args.row_of.now) c.loop-met.walk.items c.loop-met.at c.in-Some.start c.loop-met.invariant.walks found.0 found.1)
+    (comes_back _ (flat c.args.symbols c.args.rows.now) c.loop-met.walk.items c.loop-met.at c.in-Some.start c.loop-met.invariant.walks found.0 found.1)

@@ -1,16 +1,13 @@
-use Rattle.std.proofs.Common.{sym, subst}
-use Rattle.kc_order.specs.Needs.{AreWithin, IsAccepted, needs_in}
-use Rattle.kc_order.specs.Rows.{held}
+use Rattle.std.proofs.Common.{sym, ◌∙◌, ◌≡◌, false, arith, subst, length}
+use Rattle.kc_order.specs.Graph.{needs_of}
+use Rattle.kc_order.specs.Needs.{needs_in, stuck_after}
 use Rattle.kc_order.proofs.ByOrder.{nothing_stuck}
-use Rattle.kc_order.proofs.Held.{rows_below}
+use Rattle.kc_order.proofs.Groups.{needs_count, stuck_alike}
 use Rattle.kc_order.proofs.order.order_of.Goals as goal
 
-pub order_or_loop-requires-clause-rows_below : goal.order_or_loop-requires-clause-rows_below
-order_or_loop-requires-clause-rows_below c =
-    rw c.deref.ensures.value (rows_below c.needs.inside.rows c.needs.inside.row_of.items c.needs.invariant (subst AreWithin (sym c.needs.view_is) c.requires.within))
-
 pub returns-clause-accepted : goal.returns-clause-accepted
-returns-clause-accepted c =
-    let rows = c.needs.inside.rows in
-    let row_of = c.needs.inside.row_of.items in
-    subst IsAccepted c.needs.view_is (nothing_stuck _ (needs_in (held rows row_of)) c.in_ok-symbols.symbols.items (rw c.deref.ensures.value at c.in_ok-symbols.ensures.order))
+returns-clause-accepted c s l =
+    let g = c.args.graph in
+    let count = needs_count g c.requires.graph in
+    let free = nothing_stuck (length g.rows) (needs_in g.rows) c.in_ok-nodes.nodes.items c.in_ok-nodes.ensures.order s (omega (arith, l, count, c.requires.graph.symbols_there)) in
+    subst (λ n. stuck_after (needs_in (needs_of g)) n s ≡ false) (sym count) (sym (stuck_alike g c.requires.graph s (omega (arith, l, count))) ∙ free)

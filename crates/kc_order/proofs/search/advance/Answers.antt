@@ -4,134 +4,132 @@ use Rattle.std.proofs.lemmas.List.{length-set, get_or_read}
 use Rattle.std.proofs.lemmas.List.Sums.{sum_by-set}
 use Rattle.std.proofs.lemmas.List.Elements.{Contains-get_or}
 use Rattle.kc_order.specs.declared.search.Mark.TheVariants.{New}
-use Rattle.kc_order.specs.RowLists.{needs_of}
+use Rattle.kc_order.specs.Needs.{needs_in}
 use Rattle.kc_order.specs.Search.{IsSearch}
 use Rattle.kc_order.proofs.Held.{needs_below}
 use Rattle.kc_order.proofs.SearchSteps.{opens_sound, opens_less, closes_sound, closes_less, gives_up_sound, gives_up_less, passed_one, row_passes_one, found, needs_stuck, last_is}
 use Rattle.kc_order.proofs.search.advance.Goals as goal
-use Rattle.kc_order.proofs.search.advance.Goals.{After-row_of_symbol, After-index}
+use Rattle.kc_order.proofs.search.advance.Goals.{After-row, After-index}
 
-row_in : (c : After-row_of_symbol) → get_or c.args.row_of.now c.args.top 0 < length c.args.search.now.left.items
-row_in c = omega (arith, c.requires.there c.args.top 0 c.requires.below, c.requires.sound.left_len)
+row_in : (c : After-row) → c.args.top < length c.args.search.now.left.items
+row_in c = omega (arith, c.requires.below, c.requires.sound.left_len)
 
-left_is : (c : After-row_of_symbol) → get_or c.args.search.now.left.items (get_or c.args.row_of.now c.args.top 0) 0 ≡ c.index-left.result.now
-left_is c = sym (get_or_read c.args.search.now.left.items (get_or c.args.row_of.now c.args.top 0) c.index-left.result.now (row_in c) c.index-left.ensures 0)
+left_is : (c : After-row) → get_or c.args.search.now.left.items c.args.top 0 ≡ c.index-left.result.now
+left_is c = sym (get_or_read c.args.search.now.left.items c.args.top c.index-left.result.now (row_in c) c.index-left.ensures 0)
 
 -- the need that is looked at
-abbrev need : After-row_of_symbol → ℕ
-need c = get_or c.row_of_symbol.result.now (c.index-left.result.now - 1) 0
+abbrev need : After-row → ℕ
+need c = get_or c.row.result.now (c.index-left.result.now - 1) 0
 
-in_row : (c : After-row_of_symbol) → c.index-left.result.now - 1 < length (needs_of c.args.rows.now c.args.row_of.now c.args.top)
+in_row : (c : After-row) → c.index-left.result.now - 1 < length (needs_in c.args.rows.now c.args.top)
 in_row c = omega (arith, left_is c, c.requires.sound.keeps.left_le c.args.top c.requires.below)
 
-need_in : (c : After-row_of_symbol) → Contains (needs_of c.args.rows.now c.args.row_of.now c.args.top) (need c)
+need_in : (c : After-row) → Contains (needs_in c.args.rows.now c.args.top) (need c)
 need_in c =
-    let needs = needs_of c.args.rows.now c.args.row_of.now c.args.top in
-    subst (λ xs. Contains needs (get_or xs (c.index-left.result.now - 1) 0)) (sym c.row_of_symbol.ensures) (Contains-get_or needs (c.index-left.result.now - 1) 0 (in_row c))
+    let needs = needs_in c.args.rows.now c.args.top in
+    subst (λ xs. Contains needs (get_or xs (c.index-left.result.now - 1) 0)) (sym c.row.ensures) (Contains-get_or needs (c.index-left.result.now - 1) 0 (in_row c))
 
-need_below : (c : After-row_of_symbol) → need c < length c.args.row_of.now
-need_below c = needs_below c.args.rows.now c.args.row_of.now c.requires.rows_below c.args.top (need c) c.requires.below (need_in c)
+need_below : (c : After-row) → need c < length c.args.rows.now
+need_below c = needs_below c.args.rows.now c.requires.rows_below c.args.top (need c) c.requires.below (need_in c)
 
-mark_is : (c : After-index) → get_or c.row_of_symbol.result.now (c.index-left.result.now - 1) 0 < length c.args.row_of.now →
-    get_or c.args.search.now.marks.items (get_or c.row_of_symbol.result.now (c.index-left.result.now - 1) 0) New ≡ c.index.result.now
-mark_is c below = sym (get_or_read c.args.search.now.marks.items (get_or c.row_of_symbol.result.now (c.index-left.result.now - 1) 0) c.index.result.now
+mark_is : (c : After-index) → get_or c.row.result.now (c.index-left.result.now - 1) 0 < length c.args.rows.now →
+    get_or c.args.search.now.marks.items (get_or c.row.result.now (c.index-left.result.now - 1) 0) New ≡ c.index.result.now
+mark_is c below = sym (get_or_read c.args.search.now.marks.items (get_or c.row.result.now (c.index-left.result.now - 1) 0) c.index.result.now
     (omega (arith, c.requires.sound.marks_len, below)) c.index.ensures New)
 
 pub index-requires : goal.index-requires
-index-requires c = omega (arith, need_below (goal.at.index-requires c).After-row_of_symbol, c.requires.sound.marks_len, c.args.search.now.marks.ok.0)
+index-requires c = omega (arith, need_below (goal.at.index-requires c).After-row, c.requires.sound.marks_len, c.args.search.now.marks.ok.0)
 
 -- the last open symbol needs it
-needed : (c : After-row_of_symbol) (k : ℕ) → k + 1 ≡ length c.args.search.now.path.items → Contains (needs_of c.args.rows.now c.args.row_of.now (get_or c.args.search.now.path.items k 0)) (need c)
-needed c k e = subst (λ x. Contains (needs_of c.args.rows.now c.args.row_of.now x) (need c)) (sym (last_is c.args.search.now.path.items c.args.top _ k c.requires.last e)) (need_in c)
+needed : (c : After-row) (k : ℕ) → k + 1 ≡ length c.args.search.now.path.items → Contains (needs_in c.args.rows.now (get_or c.args.search.now.path.items k 0)) (need c)
+needed c k e = subst (λ x. Contains (needs_in c.args.rows.now x) (need c)) (sym (last_is c.args.search.now.path.items c.args.top _ k c.requires.last e)) (need_in c)
 
 pub open-requires : goal.open-requires
-open-requires c = omega (arith, need_below (goal.at.open-requires c).After-row_of_symbol, c.requires.sound.marks_len)
+open-requires c = omega (arith, need_below (goal.at.open-requires c).After-row, c.requires.sound.marks_len)
 
 pub returns-then-left-eq0-clause-sound : goal.returns-then-left-eq0-clause-sound
 returns-then-left-eq0-clause-sound c =
     let s = c.args.search.now in
-    let row = get_or c.args.row_of.now c.args.top 0 in
-    let row_there : row < length s.left.items = omega (arith, c.requires.there c.args.top 0 c.requires.below, c.requires.sound.left_len) in
-    let none : get_or s.left.items row 0 ≡ 0 = sym (get_or_read s.left.items row c.index-left.result.now row_there c.index-left.ensures 0) ∙ c.if-left-eq0.true in
-    closes_sound c.args.rows.now c.args.row_of.now s c.close.new.search c.args.top c.requires.sound c.requires.rows_below c.requires.below none c.in_ok-close.ensures
+    let row_there : c.args.top < length s.left.items = omega (arith, c.requires.below, c.requires.sound.left_len) in
+    let none : get_or s.left.items c.args.top 0 ≡ 0 = sym (get_or_read s.left.items c.args.top c.index-left.result.now row_there c.index-left.ensures 0) ∙ c.if-left-eq0.true in
+    closes_sound c.args.rows.now s c.close.new.search c.args.top c.requires.sound c.requires.rows_below c.requires.below none c.in_ok-close.ensures
 
 pub returns-then-left-eq0-clause-less : goal.returns-then-left-eq0-clause-less
 returns-then-left-eq0-clause-less c =
-    closes_less c.args.rows.now c.args.row_of.now c.args.search.now c.close.new.search c.args.top c.requires.sound c.requires.below c.in_ok-close.ensures
+    closes_less c.args.rows.now c.args.search.now c.close.new.search c.args.top c.requires.sound c.requires.below c.in_ok-close.ensures
 
 pub returns-in_ok-open-in-New-clause-sound : goal.returns-in_ok-open-in-New-clause-sound
 returns-in_ok-open-in-New-clause-sound c =
     let s = c.args.search.now in
-    let a = (goal.at.returns-in_ok-open-in-New-clause-sound c).After-row_of_symbol in
+    let a = (goal.at.returns-in_ok-open-in-New-clause-sound c).After-row in
     let new = mark_is (goal.at.returns-in_ok-open-in-New-clause-sound c).After-index (need_below a) ∙ c.in-New.is in
-    opens_sound c.args.rows.now c.args.row_of.now s c.open.new.search (need a) c.requires.sound (need_below a) new (needed a) c.in_ok-open-in-New.ensures
+    opens_sound c.args.rows.now s c.open.new.search (need a) c.requires.sound (need_below a) new (needed a) c.in_ok-open-in-New.ensures
 
 pub returns-in_ok-open-in-New-clause-less : goal.returns-in_ok-open-in-New-clause-less
 returns-in_ok-open-in-New-clause-less c =
     let s = c.args.search.now in
-    let a = (goal.at.returns-in_ok-open-in-New-clause-less c).After-row_of_symbol in
+    let a = (goal.at.returns-in_ok-open-in-New-clause-less c).After-row in
     let new = mark_is (goal.at.returns-in_ok-open-in-New-clause-less c).After-index (need_below a) ∙ c.in-New.is in
-    opens_less c.args.rows.now c.args.row_of.now s c.open.new.search (need a) c.requires.sound (need_below a) new c.in_ok-open-in-New.ensures
+    opens_less c.args.rows.now s c.open.new.search (need a) c.requires.sound (need_below a) new c.in_ok-open-in-New.ensures
 
 pub returns-in-Done-clause-sound : goal.returns-in-Done-clause-sound
 returns-in-Done-clause-sound c =
     let s = c.args.search.now in
     let h = c.requires.sound in
-    let a = (goal.at.returns-in-Done-clause-sound c).After-row_of_symbol in
+    let a = (goal.at.returns-in-Done-clause-sound c).After-row in
     let i = (goal.at.returns-in-Done-clause-sound c).After-index in
-    let row = get_or c.args.row_of.now c.args.top 0 in
     let j = c.index-left.result.now - 1 in
     record {
       marks_len = h.marks_len;
-      left_len = length-set s.left.items row j ∙ h.left_len;
-      keeps = passed_one _ (needs_of c.args.rows.now c.args.row_of.now) (λ t. get_or s.marks.items t New)
-          (λ t. get_or s.left.items (get_or c.args.row_of.now t 0) 0) _ s.path.items s.order.items c.args.top j h.keeps c.requires.below (omega (arith, left_is a))
-          (ap (λ xs. get_or s.marks.items (get_or xs j 0) New) (sym c.row_of_symbol.ensures) ∙ mark_is i (need_below a) ∙ c.in-Done.is)
-          (row_passes_one c.args.rows.now c.args.row_of.now s.left.items c.args.top j c.requires.below (row_in a));
+      left_len = length-set s.left.items c.args.top j ∙ h.left_len;
+      keeps = passed_one _ (needs_in c.args.rows.now) (λ t. get_or s.marks.items t New)
+          (λ t. get_or s.left.items t 0) _ s.path.items s.order.items c.args.top j h.keeps c.requires.below (omega (arith, left_is a))
+          (ap (λ xs. get_or s.marks.items (get_or xs j 0) New) (sym c.row.ensures) ∙ mark_is i (need_below a) ∙ c.in-Done.is)
+          (row_passes_one c.args.rows.now s.left.items c.args.top j (row_in a));
     }
 
 pub returns-in-Done-clause-less : goal.returns-in-Done-clause-less
 returns-in-Done-clause-less c =
     let s = c.args.search.now in
-    let a = (goal.at.returns-in-Done-clause-less c).After-row_of_symbol in
-    omega (arith, left_is a, sum_by-set (λ x. x) s.left.items (get_or c.args.row_of.now c.args.top 0) (c.index-left.result.now - 1) 0 (row_in a))
+    let a = (goal.at.returns-in-Done-clause-less c).After-row in
+    omega (arith, left_is a, sum_by-set (λ x. x) s.left.items c.args.top (c.index-left.result.now - 1) 0 (row_in a))
 
 -- the search, its path split at its last
-abbrev split : After-row_of_symbol → Type 0
+abbrev split : After-row → Type 0
 split c =
-    IsSearch (length c.args.row_of.now) (needs_of c.args.rows.now c.args.row_of.now) (λ t. get_or c.args.search.now.marks.items t New)
-    (λ t. get_or c.args.search.now.left.items (get_or c.args.row_of.now t 0) 0)
+    IsSearch (length c.args.rows.now) (needs_in c.args.rows.now) (λ t. get_or c.args.search.now.marks.items t New)
+    (λ t. get_or c.args.search.now.left.items t 0)
     (take (vec_len c.args.search.now.path - 1) c.args.search.now.path.items ++ c.args.top ∷ []) c.args.search.now.order.items
 
-is_split : (c : After-row_of_symbol) → split c
+is_split : (c : After-row) → split c
 is_split c =
-    subst (λ p. IsSearch (length c.args.row_of.now) (needs_of c.args.rows.now c.args.row_of.now) (λ t. get_or c.args.search.now.marks.items t New)
-    (λ t. get_or c.args.search.now.left.items (get_or c.args.row_of.now t 0) 0) p c.args.search.now.order.items) c.requires.last c.requires.sound.keeps
+    subst (λ p. IsSearch (length c.args.rows.now) (needs_in c.args.rows.now) (λ t. get_or c.args.search.now.marks.items t New)
+    (λ t. get_or c.args.search.now.left.items t 0) p c.args.search.now.order.items) c.requires.last c.requires.sound.keeps
 
 pub returns-in-Open-clause-sound : goal.returns-in-Open-clause-sound
 returns-in-Open-clause-sound c =
     let s = c.args.search.now in
-    let a = (goal.at.returns-in-Open-clause-sound c).After-row_of_symbol in
+    let a = (goal.at.returns-in-Open-clause-sound c).After-row in
     let i = (goal.at.returns-in-Open-clause-sound c).After-index in
-    let stuck = found _ (needs_of c.args.rows.now c.args.row_of.now) (λ t. get_or s.marks.items t New) (λ t. get_or s.left.items (get_or c.args.row_of.now t 0) 0)
+    let stuck = found _ (needs_in c.args.rows.now) (λ t. get_or s.marks.items t New) (λ t. get_or s.left.items t 0)
     (take (vec_len s.path - 1) s.path.items) s.order.items c.args.top (need a)
     (is_split a) (need_in a) (need_below a) (mark_is i (need_below a) ∙ c.in-Open.is) in
-    gives_up_sound c.args.rows.now c.args.row_of.now s c.give_up.new.search c.args.top c.requires.sound c.requires.below stuck c.give_up.ensures
+    gives_up_sound c.args.rows.now s c.give_up.new.search c.args.top c.requires.sound c.requires.below stuck c.give_up.ensures
 
 pub returns-in-Open-clause-less : goal.returns-in-Open-clause-less
 returns-in-Open-clause-less c =
-    gives_up_less c.args.rows.now c.args.row_of.now c.args.search.now c.give_up.new.search c.args.top c.requires.sound c.requires.below c.give_up.ensures
+    gives_up_less c.args.rows.now c.args.search.now c.give_up.new.search c.args.top c.requires.sound c.requires.below c.give_up.ensures
 
 pub returns-in-Stuck-clause-sound : goal.returns-in-Stuck-clause-sound
 returns-in-Stuck-clause-sound c =
     let s = c.args.search.now in
-    let a = (goal.at.returns-in-Stuck-clause-sound c).After-row_of_symbol in
+    let a = (goal.at.returns-in-Stuck-clause-sound c).After-row in
     let i = (goal.at.returns-in-Stuck-clause-sound c).After-index in
-    let stuck = needs_stuck _ (needs_of c.args.rows.now c.args.row_of.now) (λ t. get_or s.marks.items t New)
-    (λ t. get_or s.left.items (get_or c.args.row_of.now t 0) 0) s.path.items s.order.items c.args.top (need a)
+    let stuck = needs_stuck _ (needs_in c.args.rows.now) (λ t. get_or s.marks.items t New)
+    (λ t. get_or s.left.items t 0) s.path.items s.order.items c.args.top (need a)
     c.requires.sound.keeps (need_in a) (need_below a) (mark_is i (need_below a) ∙ c.in-Stuck.is) in
-    gives_up_sound c.args.rows.now c.args.row_of.now s c.give_up-in-Stuck.new.search c.args.top c.requires.sound c.requires.below stuck c.give_up-in-Stuck.ensures
+    gives_up_sound c.args.rows.now s c.give_up-in-Stuck.new.search c.args.top c.requires.sound c.requires.below stuck c.give_up-in-Stuck.ensures
 
 pub returns-in-Stuck-clause-less : goal.returns-in-Stuck-clause-less
 returns-in-Stuck-clause-less c =
-    gives_up_less c.args.rows.now c.args.row_of.now c.args.search.now c.give_up-in-Stuck.new.search c.args.top c.requires.sound c.requires.below c.give_up-in-Stuck.ensures
+    gives_up_less c.args.rows.now c.args.search.now c.give_up-in-Stuck.new.search c.args.top c.requires.sound c.requires.below c.give_up-in-Stuck.ensures

@@ -1,10 +1,10 @@
 use Rattle.std.proofs.Common.{arith, ◌≡◌, ◌∙◌, ◌+◌, ◌++◌, ◌∷◌, [], ◌<◌, sym, ap, length, map, take, List, ℕ}
 use Rattle.std.proofs.lemmas.List.{map_more, take_all}
-use Rattle.kc_order.specs.Rows.{in_row}
+use Rattle.kc_order.specs.Needs.{needs_in}
 use Rattle.kc_order.proofs.search.need_counts.Goals as goal
 
 -- one more row is counted
-one_more : (rows : List (List ℕ)) (i : ℕ) (counts row : List ℕ) → i < length rows → counts ≡ map length (take i rows) → row ≡ in_row rows i →
+one_more : (rows : List (List ℕ)) (i : ℕ) (counts row : List ℕ) → i < length rows → counts ≡ map length (take i rows) → row ≡ needs_in rows i →
     counts ++ length row ∷ [] ≡ map length (take (i + 1) rows)
 one_more rows i counts row there before is =
     ap (λ (x : List ℕ). x ++ length row ∷ []) before ∙ ap (λ (x : List ℕ). map length (take i rows) ++ length x ∷ []) is

@@ -1,22 +1,20 @@
 use Rattle.std.proofs.Common.{arith, length, ◌∙◌, ap, sym, get_or}
 use Rattle.std.proofs.lemmas.List.{length-replicate, get_or-replicate, length-map}
 use Rattle.kc_order.specs.declared.search.Mark.TheVariants.{New}
-use Rattle.kc_order.specs.RowLists.{needs_of}
-use Rattle.kc_order.proofs.Held.{needs_are}
+use Rattle.kc_order.specs.Needs.{needs_in}
 use Rattle.kc_order.proofs.SearchSteps.{starts, counts_are}
 use Rattle.kc_order.proofs.search.search_all.Goals as goal
 
 pub loop-root-init : goal.loop-root-init
 loop-root-init c =
     let rows = c.args.rows.now in
-    let row_of = c.args.row_of.now in
     record {
       sound = record {
-        marks_len = ap length c.in_ok-new_marks.ensures ∙ length-replicate (length row_of) New;
+        marks_len = ap length c.in_ok-new_marks.ensures ∙ length-replicate c.count-count.result New ∙ c.count-count.ensures;
         left_len = ap length c.in_ok-need_counts.ensures ∙ length-map rows length;
-        keeps = rw (c.new.ensures.items, c.in_ok-with_capacity.ensures.items) (starts (length row_of) (needs_of rows row_of) _ _
-            (λ s b. rw c.in_ok-new_marks.ensures (get_or-replicate (length row_of) s New New b))
-            (λ s b. rw c.in_ok-need_counts.ensures (counts_are rows (get_or row_of s 0)) ∙ ap length (sym (needs_are rows row_of s b))));
+        keeps = rw (c.new.ensures.items, c.in_ok-with_capacity.ensures.items) (starts (length rows) (needs_in rows) _ _
+            (λ s b. rw c.in_ok-new_marks.ensures (get_or-replicate c.count-count.result s New New (omega (arith, b, c.count-count.ensures))))
+            (λ s b. rw c.in_ok-need_counts.ensures (counts_are rows s)));
       };
       idle = ap length c.new.ensures.items;
       met = λ s b. absurd (omega arith);

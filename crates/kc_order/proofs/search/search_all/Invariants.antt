@@ -5,7 +5,7 @@ use Rattle.kc_order.proofs.search.search_all.Given as goal
 
 abbrev pub invariant-loop-root : goal.invariant-loop-root
 invariant-loop-root l = record {
-  sound : IsSound l.rows l.row_of l.search;
+  sound : IsSound l.rows l.search;
   idle : length l.search.path.items ≡ 0;
   met : (s : ℕ) → s < l.root → get_or l.search.marks.items s New ≢ New;
 }

@@ -4,7 +4,7 @@ use Rattle.std.proofs.lemmas.Grind.{common_steps}
 use Rattle.std.proofs.lemmas.List.Elements.{Contains-push}
 use Rattle.std.proofs.lemmas.List.{get_or_read}
 use Rattle.kc_order.specs.declared.search.Mark.TheVariants.{New}
-use Rattle.kc_order.specs.RowLists.{needs_of}
+use Rattle.kc_order.specs.Needs.{needs_in}
 use Rattle.kc_order.proofs.SearchSteps.{opens_sound, opens_met, opens_there, open≢new}
 use Rattle.kc_order.proofs.search.visit.Goals as goal
 
@@ -16,13 +16,13 @@ advance-requires-clause-below c =
 
 pub loop-top-init : goal.loop-top-init
 loop-top-init c =
-    let path : (k : ℕ) → k + 1 ≡ length c.args.search.now.path.items → Contains (needs_of c.args.rows.now c.args.row_of.now (slice_index c.args.search.now.path.items k)) c.args.root =
+    let path : (k : ℕ) → k + 1 ≡ length c.args.search.now.path.items → Contains (needs_in c.args.rows.now (slice_index c.args.search.now.path.items k)) c.args.root =
     λ k e. absurd (omega (arith, c.requires.idle)) in
     let new = sym (get_or_read c.args.search.now.marks.items c.args.root c.index.result.now (omega (arith, c.requires.sound.marks_len, c.requires.below)) c.index.ensures New) ∙ c.in-New.is in
     let opens = c.in_ok-open.ensures in
     record {
-      sound = opens_sound c.args.rows.now c.args.row_of.now c.args.search.now c.open.new.search c.args.root c.requires.sound c.requires.below new path opens;
-      met = opens_met c.args.rows.now c.args.row_of.now c.args.search.now c.open.new.search c.args.root c.requires.sound c.requires.below opens;
+      sound = opens_sound c.args.rows.now c.args.search.now c.open.new.search c.args.root c.requires.sound c.requires.below new path opens;
+      met = opens_met c.args.rows.now c.args.search.now c.open.new.search c.args.root c.requires.sound c.requires.below opens;
       root_met = open≢new (get_or c.open.new.search.marks.items c.args.root New)
-          (opens_there c.args.rows.now c.args.row_of.now c.args.search.now c.open.new.search c.args.root c.requires.sound c.requires.below opens);
+          (opens_there c.args.rows.now c.args.search.now c.open.new.search c.args.root c.requires.sound c.requires.below opens);
     }

@@ -5,7 +5,7 @@ use Rattle.kc_order.proofs.search.visit.Given as goal
 
 abbrev pub invariant-loop-top : goal.invariant-loop-top
 invariant-loop-top l = record {
-  sound : IsSound l.rows l.row_of l.search;
+  sound : IsSound l.rows l.search;
   met : KeepsMet l.fn.search l.search;
   root_met : get_or l.search.marks.items l.root New ≢ New;
 }

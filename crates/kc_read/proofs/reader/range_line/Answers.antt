@@ -2,7 +2,7 @@ use Rattle.kc_expr.specs.Grammar.{atom_words}
 use Rattle.std.proofs.Common.{◌++◌, ◌∙◌, ap}
 use Rattle.kc_expr.specs.Form.{leaf_of}
 use Rattle.kc_read.specs.declared.statement.Bounds.{Bounds}
-use Rattle.kc_read.specs.Reads.{when_view}
+use Rattle.kc_expr.specs.When.{when_view}
 use Rattle.kc_read.specs.Statements.{condition_words}
 use Rattle.kc_expr.specs.Grammar.{lexemes_from}
 use Rattle.kc_expr.proofs.NamesLemmas.{extends_on, mentioned_on}

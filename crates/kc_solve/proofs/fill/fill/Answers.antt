@@ -1,89 +1,95 @@
-use Rattle.std.proofs.Common.{◌≡◌, ◌<◌, length, sym, ◌∙◌, subst, arith, refl, get_or}
-use Rattle.std.specs.Prelude.{IfSome}
-use Rattle.kc_tree.specs.Views.{facts_of}
+use Rattle.std.proofs.Common.{◌≡◌, ◌+◌, ℕ, arith, length, sym, subst, ◌∙◌, ap}
+use Rattle.std.specs.Prelude.{slice_index_or, None}
 use Rattle.kc_tree.specs.TreeFacts.{TreeFacts}
-use Rattle.kc_values.specs.Selections.{AreSettled, given_for}
-use Rattle.kc_user.specs.Given.{At}
-use Rattle.kc_values.specs.Table.{known_value}
-use Rattle.kc_values.specs.Values.{by_choice, visibility}
-use Rattle.kc_expr.specs.Names.{symbol}
-use Rattle.kc_solve.specs.Places.{known_in, places}
-use Rattle.kc_solve.proofs.FillSteps.{IsFilling, id_below, step, done}
-use Rattle.kc_solve.proofs.ShownSteps.{IsSeen, one_more_seen, all_seen}
+use Rattle.kc_values.specs.Solution.{symbol_count}
+use Rattle.kc_solve.specs.Filling.{IsSelection, IsUnreadIn, IsFilledTable, IsFilledTo}
+use Rattle.kc_solve.proofs.FillSteps.{begins, choice_next, choice_there, choices_length, context_next, solves, symbol_next, unread}
+use Rattle.kc_solve.proofs.GroupNames.{names_there}
+use Rattle.kc_solve.proofs.TableSteps.{row_count}
 use Rattle.kc_solve.proofs.fill.fill.Goals as goal
+use Rattle.kc_solve.proofs.fill.fill.Goals.{in-Symbol+in_ok-fill_symbol-in-Symbol, in-Context, in-Choice}
 
-pub symbol_facts-facts-requires : goal.symbol_facts-facts-requires
-symbol_facts-facts-requires c =
-    let bools = (c.choices_stand_alone.ensures.members c.args.tree.now c.symbol_count-count.ensures.formed).1 in
-    id_below c.args.tree.now c.args.given.now c.args.chosen.now c.args.symbols.now c.value_depends_on_symbols.ensures bools c.requires.order c.loop-symbol.symbol-index c.loop-symbol-test.true
+pub loop-node-init : goal.loop-node-init
+loop-node-init c =
+    let t = c.in_ok-table.table in
+    let e = c.in_ok-table.ensures in
+    begins c.args.tree.now c.args.layout.now c.args.given.now c.args.chosen.now c.args.nodes.now t e.tree e.layout c.requires.laid c.requires.order e.values e.contexts e.selections
 
-pub next_value-requires-clause-users : goal.next_value-requires-clause-users
-next_value-requires-clause-users c =
-    subst (λ n. IfSome c.symbol_facts-facts.result.now.choice (λ k. k.0 < n)) (sym c.requires.chosen) c.symbol_facts-facts.ensures.choice
+pub fill_symbol-requires-clause-defined : goal.fill_symbol-requires-clause-defined
+fill_symbol-requires-clause-defined c = omega (arith, c.in-Symbol.ensures.1, c.loop-node.invariant.1.value_count)
 
-pub next_value-requires-clause-there : goal.next_value-requires-clause-there
-next_value-requires-clause-there c =
-    subst (λ n. IfSome c.symbol_facts-facts.result.now.choice (λ k. k.0 < n)) (sym (c.loop-symbol.invariant.1 ∙ c.requires.chosen)) c.symbol_facts-facts.ensures.choice
+pub fill_symbol-requires-clause-given : goal.fill_symbol-requires-clause-given
+fill_symbol-requires-clause-given c =
+    c.requires.given ∙ sym (ap symbol_count c.loop-node.invariant.0) ∙ sym (row_count c.loop-node.table) ∙ sym c.loop-node.invariant.1.value_count
 
-pub index_mut-requires : goal.index_mut-requires
-index_mut-requires c =
-    let bools = (c.choices_stand_alone.ensures.members c.args.tree.now c.symbol_count-count.ensures.formed).1 in
-    let below = id_below c.args.tree.now c.args.given.now c.args.chosen.now c.args.symbols.now c.value_depends_on_symbols.ensures bools c.requires.order c.loop-symbol.symbol-index
-    c.loop-symbol-test.true in
-    let count = c.loop-symbol.invariant.2.count in
-    omega (arith, below, count, c.loop-symbol.table.values.ok.0)
+pub fill_symbol-requires-clause-full : goal.fill_symbol-requires-clause-full
+fill_symbol-requires-clause-full c = c.loop-node.invariant.1.value_count ∙ row_count c.loop-node.table
 
-pub index_mut-requires-in-loop-symbol : goal.index_mut-requires-in-loop-symbol
-index_mut-requires-in-loop-symbol c =
-    let bools = (c.choices_stand_alone.ensures.members c.args.tree.now c.symbol_count-count.ensures.formed).1 in
-    let below = id_below c.args.tree.now c.args.given.now c.args.chosen.now c.args.symbols.now c.value_depends_on_symbols.ensures bools c.requires.order c.loop-symbol.symbol-index
-    c.loop-symbol-test.true in
-    omega (arith, below, c.loop-symbol.invariant.3.count, c.loop-symbol.visibilities.ok.0)
+pub fill_symbol-requires-clause-selected : goal.fill_symbol-requires-clause-selected
+fill_symbol-requires-clause-selected c =
+    let t = c.loop-node.table in
+    subst (λ (u : TreeFacts). (n : ℕ) → IsSelection u t.values.items t.selections.items n (slice_index_or c.args.chosen.now n None)) (sym c.loop-node.invariant.0) c.loop-node.invariant.1.selected_are
 
-pub next_value-requires-clause-below : goal.next_value-requires-clause-below
-next_value-requires-clause-below c =
-    let bools = (c.choices_stand_alone.ensures.members c.args.tree.now c.symbol_count-count.ensures.formed).1 in
-    let below = id_below c.args.tree.now c.args.given.now c.args.chosen.now c.args.symbols.now c.value_depends_on_symbols.ensures bools c.requires.order c.loop-symbol.symbol-index
-    c.loop-symbol-test.true in
-    omega (arith, below, c.requires.given)
+pub fill_symbol-requires-clause-unread : goal.fill_symbol-requires-clause-unread
+fill_symbol-requires-clause-unread c =
+    let t = c.loop-node.table in
+    let now = c.loop-node.invariant.1 in
+    subst (λ (u : TreeFacts). IsUnreadIn u t.layout.now t.contexts.items t.selections.items c.in-Symbol.id.0) (sym c.loop-node.invariant.0)
+    (unread c.args.tree.now t.layout.now c.args.given.now c.args.chosen.now c.args.nodes.now c.loop-node.node-index t.values.items t.contexts.items t.selections.items now c.loop-node-test.true
+    (names_there c.args.tree.now t.layout.now now.order.graph now.laid now.order.is now.order.rows) c.in-Symbol.id.0 c.in-Symbol.ensures.0 c.in-Symbol.ensures.1)
 
-pub loop-symbol-preserved : goal.loop-symbol-preserved
-loop-symbol-preserved c =
-    let t = c.args.tree.now in
-    let bools = (c.choices_stand_alone.ensures.members t c.symbol_count-count.ensures.formed).1 in
-    let values = c.loop-symbol.table.values.items in
+pub settle_context-requires : goal.settle_context-requires
+settle_context-requires c = omega (arith, c.in-Context.ensures.1, c.loop-node.invariant.1.context_count)
+
+pub settle_choice-requires-clause-there : goal.settle_choice-requires-clause-there
+settle_choice-requires-clause-there c =
+    let t = c.loop-node.table in
+    choice_there c.args.tree.now t.layout.now c.args.given.now c.args.chosen.now c.args.nodes.now c.loop-node.node-index t.values.items t.contexts.items t.selections.items
+    c.loop-node.invariant.1 c.loop-node-test.true c.in-Choice.id.0 c.in-Choice.ensures.0
+
+pub settle_choice-requires-clause-chosen : goal.settle_choice-requires-clause-chosen
+settle_choice-requires-clause-chosen c =
+    let t = c.loop-node.table in
+    let now = c.loop-node.invariant.1 in
+    let l = choice_there c.args.tree.now t.layout.now c.args.given.now c.args.chosen.now c.args.nodes.now c.loop-node.node-index t.values.items t.contexts.items t.selections.items
+    now c.loop-node-test.true c.in-Choice.id.0 c.in-Choice.ensures.0 in
+    omega (arith, l, c.requires.chosen, now.choice_count, choices_length c.args.tree.now t.layout.now now.laid)
+
+pub loop-node-preserved : goal.loop-node-preserved
+loop-node-preserved c =
+    let tree = c.args.tree.now in
+    let given = c.args.given.now in
     let chosen = c.args.chosen.now in
-    let P = places c.args.given.now chosen in
-    let i = c.loop-symbol.symbol-index in
-    let id = get_or c.args.symbols.now i 0 in
-    let facts = c.symbol_facts-facts.result.now in
-    let f = facts_of facts in
-    let same = c.loop-symbol.invariant.0 in
-    let x = c.in_ok-value.value in
-    let settled = c.next_value.new.selections.settled.items in
-    let right = subst (λ (u : TreeFacts). AreSettled u (known_in u values) chosen settled) same c.in_ok-value.ensures.settled in
-    let value = subst (λ (u : TreeFacts). known_value f.kind x ≡ by_choice u (known_in u values) (symbol id) f f.choice (given_for facts.choice (P (At id)) chosen))
-    same c.in_ok-value.ensures.value in
-    let shown = subst (λ (u : TreeFacts). c.visibility-shown.result ≡ visibility u (known_in u values) f) same c.visibility-shown.ensures in (
-      same,
-      c.in_ok-value.ensures.count ∙ c.loop-symbol.invariant.1,
-      step t c.args.given.now chosen c.args.symbols.now c.value_depends_on_symbols.ensures bools c.requires.order i values
-          c.loop-symbol.selections.settled.items c.loop-symbol.invariant.2 c.loop-symbol-test.true f c.symbol_facts-facts.ensures.facts x settled facts.choice refl right
-          c.in_ok-value.ensures.only value,
-      one_more_seen t c.args.symbols.now c.visibility_reads_needs.ensures c.symbol_count-count.ensures.formed c.requires.order i values c.loop-symbol.visibilities.items x
-          c.visibility-shown.result f c.loop-symbol.invariant.2.count c.loop-symbol-test.true c.symbol_facts-facts.ensures.facts shown c.loop-symbol.invariant.3,
-    )
+    let nodes = c.args.nodes.now in
+    let k = c.loop-node.node-index in
+    let t = c.loop-node.table in
+    let now = c.loop-node.invariant in
+    let test = c.loop-node-test.true in
+    elim c.match-node_of.branch [
+      | in-Symbol+in_ok-fill_symbol-in-Symbol w ↦
+          let names = names_there tree t.layout.now now.1.order.graph now.1.laid now.1.order.is now.1.order.rows in
+          subst (IsFilledTable tree given chosen nodes (k + 1)) (sym w.table-is)
+          (symbol_next tree given chosen nodes k t w.fill_symbol.new.table now test names w.in-Symbol.id w.in-Symbol.ensures.0 w.in-Symbol.ensures.1 w.in_ok-fill_symbol-in-Symbol.ensures)
+      | in-Context w ↦
+          subst (IsFilledTable tree given chosen nodes (k + 1)) (sym w.table-is)
+          (context_next tree given chosen nodes k t w.settle_context.new.table now test w.in-Context.id.0 w.in-Context.ensures.0 w.settle_context.ensures)
+      | in-Choice w ↦
+          subst (IsFilledTable tree given chosen nodes (k + 1)) (sym w.table-is)
+          (choice_next tree given chosen nodes k t w.settle_choice.new.table now test w.in-Choice.id.0 w.in-Choice.ensures.0 w.settle_choice.ensures)
+    ]
+
+pub returns-clause-tree : goal.returns-clause-tree
+returns-clause-tree c = c.loop-node.invariant.0
+
+pub returns-clause-count : goal.returns-clause-count
+returns-clause-count c = c.loop-node.invariant.1.value_count ∙ row_count c.loop-node.table ∙ ap symbol_count c.loop-node.invariant.0
 
 pub returns-clause-solves : goal.returns-clause-solves
 returns-clause-solves c =
-    let t = c.args.tree.now in
-    let bools = (c.choices_stand_alone.ensures.members t c.symbol_count-count.ensures.formed).1 in
-    let end : c.loop-symbol.symbol-index ≡ length c.args.symbols.now = omega arith in
-    done t c.args.given.now c.args.chosen.now c.args.symbols.now c.value_depends_on_symbols.ensures bools c.requires.order c.loop-symbol.table.values.items c.loop-symbol.selections.settled.items
-    (subst (λ n. IsFilling t c.args.given.now c.args.chosen.now c.args.symbols.now n c.loop-symbol.table.values.items c.loop-symbol.selections.settled.items) end c.loop-symbol.invariant.2)
-
-pub returns-clause-visibilities : goal.returns-clause-visibilities
-returns-clause-visibilities c =
-    let end : c.loop-symbol.symbol-index ≡ length c.args.symbols.now = omega arith in
-    all_seen c.args.tree.now c.args.symbols.now c.visibility_reads_needs.ensures c.symbol_count-count.ensures.formed c.requires.order c.loop-symbol.table.values.items c.loop-symbol.visibilities.items
-    (subst (λ n. IsSeen c.args.tree.now c.args.symbols.now n c.loop-symbol.table.values.items c.loop-symbol.visibilities.items) end c.loop-symbol.invariant.3)
+    let t = c.loop-node.table in
+    let now = c.loop-node.invariant.1 in
+    let tree = c.args.tree.now in
+    let end : c.loop-node.node-index ≡ length c.args.nodes.now = omega arith in
+    solves tree t.layout.now c.args.given.now c.args.chosen.now c.args.nodes.now t.values.items t.contexts.items t.selections.items
+    (now.value_count ∙ row_count t ∙ ap symbol_count c.loop-node.invariant.0)
+    (subst (λ n. IsFilledTo tree t.layout.now c.args.given.now c.args.chosen.now c.args.nodes.now n t.values.items t.contexts.items t.selections.items) end now)

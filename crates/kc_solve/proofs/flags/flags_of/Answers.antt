@@ -1,47 +1,56 @@
-use Rattle.std.proofs.Common.{◌<◌, ◌++◌, map, length, sym, ◌∙◌, ap, subst, arith}
-use Rattle.std.specs.Prelude.{IfSome}
+use Rattle.std.proofs.Common.{◌++◌, map, length, sym, ◌∙◌, ap, refl, arith}
 use Rattle.std.proofs.lemmas.List.FromFn.{length-map-range_with_len}
 use Rattle.kc_expr.specs.Names.{symbol}
-use Rattle.kc_tree.specs.Views.{facts_of}
+use Rattle.kc_tree.specs.Layouts.{facts_of}
 use Rattle.kc_user.specs.Places.{place_at}
 use Rattle.kc_values.specs.Differs.{selection, default_selection}
 use Rattle.kc_values.specs.Lookups.{name}
+use Rattle.kc_values.specs.Table.{known_in}
 use Rattle.kc_values.specs.User.{place}
 use Rattle.kc_values.specs.Warnings.{warnings_of}
 use Rattle.kc_values.specs.Written.{written_facts}
-use Rattle.kc_solve.specs.Places.{known_in, valuation}
-use Rattle.kc_solve.proofs.FillSteps.{choice_at_most}
+use Rattle.kc_solve.specs.Places.{valuation}
 use Rattle.kc_solve.proofs.FlagSteps.{one_more_differs, one_more_written, solved_here}
+use Rattle.kc_solve.proofs.TableSteps.{choice_at_most, choice_below, row_count, row_facts}
 use Rattle.kc_solve.proofs.UserSteps.{place_mapped}
 use Rattle.kc_solve.proofs.WarningSteps.{one_more_warned}
 use Rattle.kc_solve.proofs.flags.flags_of.Goals as goal
 
+pub symbol_row-symbol-requires : goal.symbol_row-symbol-requires
+symbol_row-symbol-requires c = omega (arith, row_count c.args.table.now)
+
 pub symbol_differs-requires-clause-selections : goal.symbol_differs-requires-clause-selections
 symbol_differs-requires-clause-selections c =
     let t = c.args.table.now.tree.now in
+    let s = c.symbol_row-symbol.result.now in
     let f = selection t (place_at c.args.user.now) (valuation t c.args.table.now.values.items) in
-    let count = ap length c.requires.selections ∙ length-map-range_with_len f 0 (length t.choices) in
-    subst (λ n. IfSome c.symbol_facts-symbol.result.now.choice (λ k. k.0 < n)) (sym count) c.symbol_facts-symbol.ensures.choice
+    choice_below t c.symbol_count-count.ensures.formed c.loop-i.i _ (facts_of c.args.table.now.layout.now c.loop-i.i s) s.choice
+    (row_facts c.args.table.now (symbol c.loop-i.i) s c.symbol_row-symbol.ensures) refl (ap length c.requires.selections ∙ length-map-range_with_len f 0 (length t.choices))
 
 pub symbol_differs-requires-clause-defaults : goal.symbol_differs-requires-clause-defaults
 symbol_differs-requires-clause-defaults c =
     let t = c.args.table.now.tree.now in
+    let s = c.symbol_row-symbol.result.now in
     let f = default_selection t (valuation t c.args.table.now.values.items) in
-    let count = ap length c.requires.defaults ∙ length-map-range_with_len f 0 (length t.choices) in
-    subst (λ n. IfSome c.symbol_facts-symbol.result.now.choice (λ k. k.0 < n)) (sym count) c.symbol_facts-symbol.ensures.choice
+    choice_below t c.symbol_count-count.ensures.formed c.loop-i.i _ (facts_of c.args.table.now.layout.now c.loop-i.i s) s.choice
+    (row_facts c.args.table.now (symbol c.loop-i.i) s c.symbol_row-symbol.ensures) refl (ap length c.requires.defaults ∙ length-map-range_with_len f 0 (length t.choices))
 
 pub symbol_differs-requires-clause-solved : goal.symbol_differs-requires-clause-solved
 symbol_differs-requires-clause-solved c =
-    solved_here c.args.table.now.tree.now c.args.table.now.values.items c.requires.full (place_at c.args.user.now) c.loop-i.i
-    (facts_of c.symbol_facts-symbol.result.now) c.symbol_facts-symbol.ensures.facts c.args.selections.now c.args.defaults.now c.requires.selections c.requires.defaults
+    let t = c.args.table.now in
+    let s = c.symbol_row-symbol.result.now in
+    solved_here t.tree.now t.values.items c.requires.full (place_at c.args.user.now) c.loop-i.i
+    (facts_of t.layout.now c.loop-i.i s) (row_facts t (symbol c.loop-i.i) s c.symbol_row-symbol.ensures) c.args.selections.now c.args.defaults.now c.requires.selections c.requires.defaults
     c.requires.solves (omega arith) (place c.get-own.result) (place_mapped c.get-own.result ∙ c.get-own.ensures)
 
 pub loop-i-preserved : goal.loop-i-preserved
 loop-i-preserved c =
-    let t = c.args.table.now.tree.now in
-    let values = c.args.table.now.values.items in
-    let f = facts_of c.symbol_facts-symbol.result.now in
-    let at = c.symbol_facts-symbol.ensures.facts in
+    let table = c.args.table.now in
+    let t = table.tree.now in
+    let values = table.values.items in
+    let s = c.symbol_row-symbol.result.now in
+    let f = facts_of table.layout.now c.loop-i.i s in
+    let at = row_facts table (symbol c.loop-i.i) s c.symbol_row-symbol.ensures in
     let before = c.loop-i.invariant in
     let differs = one_more_differs t values c.requires.full (place_at c.args.user.now) c.loop-i.i f at c.args.selections.now c.args.defaults.now c.requires.selections c.requires.defaults
     (λ d e. choice_at_most t c.symbol_count-count.ensures.formed c.loop-i.i f d at e)

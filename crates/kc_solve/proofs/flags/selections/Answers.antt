@@ -2,7 +2,7 @@ use Rattle.std.proofs.Common.{◌∙◌, ap}
 use Rattle.kc_values.specs.Lookups.{choice_at}
 use Rattle.kc_user.specs.Places.{member_place}
 use Rattle.kc_values.specs.Values.{selected}
-use Rattle.kc_solve.specs.Places.{known_in}
+use Rattle.kc_values.specs.Table.{known_in}
 use Rattle.kc_user.specs.Places.{place_at}
 use Rattle.kc_solve.proofs.FlagSteps.{one_more_selected}
 use Rattle.kc_solve.proofs.flags.selections.Goals as goal

@@ -1,17 +1,17 @@
 use Rattle.std.proofs.Common.{◌&&◌, not, sym, ◌∙◌, ap}
-use Rattle.std.specs.Option.{is_some, option_map}
-use Rattle.kc_tree.specs.Views.{facts_of}
-use Rattle.kc_tree.specs.declared.parts.ChoiceId.{ChoiceId}
+use Rattle.std.specs.Option.{is_some}
+use Rattle.kc_tree.specs.Contexts.{mode_view}
+use Rattle.kc_tree.specs.Layouts.{facts_of}
+use Rattle.kc_values.specs.Known.{known_at}
 use Rattle.kc_values.specs.User.{place}
 use Rattle.kc_values.specs.Values.{is_n}
-use Rattle.kc_solve.specs.Places.{known_in}
 use Rattle.kc_solve.proofs.FlagSteps.{does_not_differ}
 use Rattle.kc_solve.proofs.flags.symbol_differs.Goals as goal
 
 pub returns-else-can_count : goal.returns-else-can_count
 returns-else-can_count c =
-    let t = c.args.table.now.tree.now in
+    let t = c.args.table.now in
     let own = place c.args.user in
-    does_not_differ t (known_in t c.args.table.now.values.items) c.args.id (facts_of c.args.symbol.now) own c.args.selections.now c.args.defaults.now
+    does_not_differ t.tree.now (known_at t) c.args.id (facts_of t.layout.now c.args.id.0 c.args.symbol.now) own c.args.selections.now c.args.defaults.now
     (ap (λ v. is_some own && not (is_n v)) (sym c.requires.shown) ∙ sym c.can_count.ensures ∙ c.if-can_count.false)
-    _ (ap (option_map (λ (k : ChoiceId). k.0)) c.in-None.is) c.requires.solved
+    _ (ap mode_view c.in-None.is) c.requires.solved

@@ -1,10 +1,15 @@
-use Rattle.std.proofs.Common.{◌∙◌, ap, subst, List, ℕ, length}
-use Rattle.kc_order.specs.Order.{Orders}
+use Rattle.std.proofs.Common.{◌∙◌, ap, length}
+use Rattle.kc_solve.proofs.OrderSteps.{accepted_through}
+use Rattle.kc_order.specs.Graph.{needs_of}
 use Rattle.kc_values.specs.Needs.{needs}
 use Rattle.kc_solve.specs.Places.{valuation}
 use Rattle.kc_user.specs.Places.{place_at}
 use Rattle.kc_solve.proofs.UserSteps.{count_shown, solves_as_shown}
 use Rattle.kc_solve.proofs.solve.full_table.Goals as goal
+
+pub fill-requires-clause-order : goal.fill-requires-clause-order
+fill-requires-clause-order c =
+    record { graph = c.args.order.now; is = c.requires.order.graph; alike = c.requires.order.alike; rows = c.requires.order.nodes; orders = c.nodes.ensures }
 
 pub fill-requires-clause-given : goal.fill-requires-clause-given
 fill-requires-clause-given c = count_shown c.symbols-given.result.now c.args.user.now.symbols c.symbols-given.ensures ∙ c.requires.user.symbols
@@ -16,19 +21,19 @@ pub returns-clause-solves : goal.returns-clause-solves
 returns-clause-solves c =
     let t = c.args.tree.now in
     solves_as_shown t c.symbols-given.result.now c.choices-chosen.result.now c.args.user.now
-    (valuation t c.in_ok-filled.filled.table.values.items) c.symbols-given.ensures c.choices-chosen.ensures c.in_ok-filled.ensures.solves
+    (valuation t c.in_ok-table.table.values.items) c.symbols-given.ensures c.choices-chosen.ensures c.in_ok-table.ensures.solves
 
 pub returns-clause-only : goal.returns-clause-only
 returns-clause-only c =
     let t = c.args.tree.now in
-    let V = valuation t c.in_ok-filled.filled.table.values.items in
-    let orders : Orders (needs t) c.symbols.result.now = subst (λ (n : List (List ℕ)). Orders n c.symbols.result.now) c.requires.order c.symbols.ensures in
-    let accepted = c.ordered_are_accepted.ensures (needs t) c.symbols.result.now orders in
-    let solves = solves_as_shown t c.symbols-given.result.now c.choices-chosen.result.now c.args.user.now V c.symbols-given.ensures c.choices-chosen.ensures c.in_ok-filled.ensures.solves in
-    c.accepted_have_one_solution.ensures.agree t (place_at c.args.user.now) accepted V solves
+    let g = c.args.order.now in
+    let V = valuation t c.in_ok-table.table.values.items in
+    let accepted = accepted_through g c.requires.order.graph (c.ordered_are_accepted.ensures g.rows c.nodes.result.now c.nodes.ensures) in
+    let solves = solves_as_shown t c.symbols-given.result.now c.choices-chosen.result.now c.args.user.now V c.symbols-given.ensures c.choices-chosen.ensures c.in_ok-table.ensures.solves in
+    c.accepted_have_one_solution.ensures.agree t (place_at c.args.user.now) (c.alike_needs.ensures.accepted (needs_of g) (needs t) c.requires.order.alike accepted) V solves
 
 pub returns-clause-accepted : goal.returns-clause-accepted
 returns-clause-accepted c =
-    let t = c.args.tree.now in
-    let orders : Orders (needs t) c.symbols.result.now = subst (λ (n : List (List ℕ)). Orders n c.symbols.result.now) c.requires.order c.symbols.ensures in
-    c.ordered_are_accepted.ensures (needs t) c.symbols.result.now orders
+    let g = c.args.order.now in
+    let accepted = accepted_through g c.requires.order.graph (c.ordered_are_accepted.ensures g.rows c.nodes.result.now c.nodes.ensures) in
+    c.alike_needs.ensures.accepted (needs_of g) (needs c.args.tree.now) c.requires.order.alike accepted

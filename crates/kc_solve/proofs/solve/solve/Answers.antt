@@ -10,15 +10,15 @@ use Rattle.kc_solve.proofs.solve.solve.Goals as goal
 
 pub invariant_of-solved : goal.invariant_of-solved
 invariant_of-solved c =
-    let items = c.in_ok-filled.filled.table.values.items in
+    let items = c.in_ok-table.table.values.items in
     let U = place_at c.args.user.now in
-    let e = sym c.in_ok-filled.ensures.tree in
+    let e = sym c.in_ok-table.ensures.tree in
     record {
-      accepted = subst IsAccepted e c.in_ok-filled.ensures.accepted;
+      accepted = subst IsAccepted e c.in_ok-table.ensures.accepted;
       user = subst (λ (t : TreeFacts). IsUserOf t c.args.user.now) e c.requires.user;
-      full = c.in_ok-filled.ensures.count ∙ ap symbol_count e;
-      solves = subst (λ (t : TreeFacts). Solves (symbol_count t) (equations t U) (valuation t items)) e c.in_ok-filled.ensures.solves;
-      only = subst (λ (t : TreeFacts). IsOnlySolution (symbol_count t) (equations t U) (valuation t items)) e c.in_ok-filled.ensures.only;
+      full = c.in_ok-table.ensures.count ∙ ap symbol_count e;
+      solves = subst (λ (t : TreeFacts). Solves (symbol_count t) (equations t U) (valuation t items)) e c.in_ok-table.ensures.solves;
+      only = subst (λ (t : TreeFacts). IsOnlySolution (symbol_count t) (equations t U) (valuation t items)) e c.in_ok-table.ensures.only;
       chosen_are = c.in_ok-selections.ensures;
       defaults_are = c.in_ok-default_selections.ensures;
       differing_are = c.in_ok-differing.ensures.differing;
@@ -27,4 +27,4 @@ invariant_of-solved c =
     }
 
 pub returns-clause-only : goal.returns-clause-only
-returns-clause-only c = only_here _ c.args.tree.now c.args.user.now c.is_solution.ensures c.in_ok-filled.ensures.tree refl
+returns-clause-only c = only_here _ c.args.tree.now c.args.user.now c.is_solution.ensures c.in_ok-table.ensures.tree refl

@@ -1,50 +1,73 @@
-use Rattle.std.proofs.Common.{◌≡◌, ℕ, List, refl, subst, ◌∙◌, arith}
-use Rattle.std.proofs.lemmas.List.{length-set}
-use Rattle.std.specs.Prelude.{Some}
+use Rattle.std.proofs.Common.{◌≡◌, ◌+◌, length, List, None, Option, ◌∙◌, sym, ap, subst, arith}
+use Rattle.std.specs.Prelude.{replicate}
+use Rattle.std.proofs.lemmas.List.{length-replicate}
 use Rattle.kc_expr.specs.Names.{symbol}
-use Rattle.kc_order.specs.Order.{Orders}
-use Rattle.kc_solve.specs.Places.{known_in, places, valuation}
+use Rattle.kc_expr.specs.declared.expression.Tri.{Tri}
 use Rattle.kc_tree.specs.TreeFacts.{TreeFacts}
-use Rattle.kc_tree.specs.Views.{facts_of}
-use Rattle.kc_user.specs.Given.{At}
 use Rattle.kc_user.specs.Places.{place_at}
-use Rattle.kc_values.specs.Needs.{needs}
-use Rattle.kc_values.specs.Selections.{given_for}
-use Rattle.kc_values.specs.Table.{known_value}
-use Rattle.kc_values.specs.Values.{by_choice}
+use Rattle.kc_values.specs.Solution.{symbol_count}
+use Rattle.kc_solve.specs.Filling.{AreFilledValues}
+use Rattle.kc_solve.specs.Places.{valuation}
+use Rattle.kc_solve.proofs.OrderSteps.{tree_accepted}
+use Rattle.kc_solve.proofs.UserSteps.{count_shown, solves_as_shown}
 use Rattle.kc_solve_rows.proofs.SlowSteps.{computed, ended, round_ended}
-use Rattle.kc_solve.proofs.UserSteps.{solves_as_shown}
 use Rattle.kc_solve_rows.proofs.slow.slow_table.Goals as goal
+
+pub compute_anew-requires-clause-given : goal.compute_anew-requires-clause-given
+compute_anew-requires-clause-given c =
+    count_shown c.symbols-given.result.now c.args.user.now.symbols c.symbols-given.ensures ∙ c.requires.user.symbols ∙ sym c.loop-i.invariant.count
+
+pub compute_anew-requires-clause-chosen : goal.compute_anew-requires-clause-chosen
+compute_anew-requires-clause-chosen c =
+    ap length c.choices-chosen.ensures ∙ c.requires.user.choices ∙ ap (λ (t : TreeFacts). length t.choices) (sym c.loop-i.invariant.tree)
+
+pub compute_anew-requires-clause-full : goal.compute_anew-requires-clause-full
+compute_anew-requires-clause-full c = c.loop-i.invariant.count ∙ ap symbol_count (sym c.loop-i.invariant.tree)
+
+pub loop-round-init : goal.loop-round-init
+loop-round-init c =
+    let t = c.in_ok-table.table in
+    let e = c.in_ok-table.ensures.unsettled in
+    record {
+      tree = c.in_ok-table.ensures.tree;
+      count = c.in_ok-table.ensures.count;
+      hold = λ s l free. cc;
+      unsettled = e ∙ ap (λ n. replicate n None) (sym (ap length e ∙ length-replicate _ None));
+    }
+
+pub loop-i-init : goal.loop-i-init
+loop-i-init c =
+    let now = c.loop-round.invariant in
+    record { tree = now.tree; count = now.count; hold = record { before = now.hold; now = λ s up. absurd (omega arith) }; unsettled = now.unsettled }
 
 pub loop-i-preserved : goal.loop-i-preserved
 loop-i-preserved c =
-    let t = c.args.tree.now in
-    let bools = (c.choices_stand_alone.ensures.members t c.symbol_count-count.ensures.formed).1 in
+    let now = c.loop-i.invariant in
+    let f = c.in_ok-compute_anew.ensures in
     let given = c.symbols-given.result.now in
     let chosen = c.choices-chosen.result.now in
     let values = c.loop-i.table.values.items in
-    let i = c.loop-i.i in
-    let facts = c.symbol_facts.result.now in
-    let f = facts_of facts in
-    let x = c.in_ok-value.value in
-    let same = c.loop-i.invariant.0 in
-    let count = c.loop-i.invariant.1 in
-    let below = c.loop-i-test.true in
-    let value = subst (λ (u : TreeFacts). known_value f.kind x ≡ by_choice u (known_in u values) (symbol i) f f.choice (given_for facts.choice (places given chosen (At i)) chosen))
-    same c.in_ok-value.ensures in (
-      same,
-      length-set values i (Some x)
-          ∙ count,
-      computed t given chosen c.value_depends_on_symbols.ensures bools c.loop-round._round i values count
-          (omega arith) f c.symbol_facts.ensures.facts x facts.choice refl value c.loop-i.invariant.2,
-    )
+    let new = c.compute_anew.new.table in
+    let filled = subst (λ (u : TreeFacts). AreFilledValues u given chosen (symbol c.loop-i.i) values new.values.items) now.tree f.values in
+    record {
+      tree = ap (λ t. t.now) f.keeps.tree ∙ now.tree;
+      count = f.values.count ∙ now.count;
+      hold = computed c.args.tree.now given chosen c.loop-round._round c.loop-i.i values new.values.items filled now.hold;
+      unsettled = subst (λ v. v.items ≡ replicate (length v.items) None) (sym f.contexts) now.unsettled;
+    }
 
 pub loop-round-preserved : goal.loop-round-preserved
-loop-round-preserved c = (
-  c.loop-i.invariant.0,
-  c.loop-i.invariant.1,
-  round_ended c.args.tree.now c.symbols-given.result.now c.choices-chosen.result.now c.loop-round._round c.loop-i.i c.loop-i.table.values.items (omega arith) c.loop-i.invariant.2,
-)
+loop-round-preserved c =
+    let now = c.loop-i.invariant in
+    record {
+      tree = now.tree;
+      count = now.count;
+      hold = round_ended c.args.tree.now c.symbols-given.result.now c.choices-chosen.result.now c.loop-round._round c.loop-i.i c.loop-i.table.values.items (omega arith) now.hold;
+      unsettled = now.unsettled;
+    }
+
+pub returns-clause-accepted : goal.returns-clause-accepted
+returns-clause-accepted c = tree_accepted c.args.tree.now c.args.layout.now c.args.order.now c.nodes-nodes.result.now c.requires.order c.nodes-nodes.ensures
 
 pub returns-clause-solves : goal.returns-clause-solves
 returns-clause-solves c =
@@ -52,10 +75,9 @@ returns-clause-solves c =
     let given = c.symbols-given.result.now in
     let chosen = c.choices-chosen.result.now in
     let values = c.loop-round.table.values.items in
-    let orders : Orders (needs t) c.symbols-symbols.result.now = subst (λ (n : List (List ℕ)). Orders n c.symbols-symbols.result.now) c.requires.order c.symbols-symbols.ensures in
-    let accepted = c.ordered_are_accepted.ensures (needs t) c.symbols-symbols.result.now orders in
+    let accepted = tree_accepted t c.args.layout.now c.args.order.now c.nodes-nodes.result.now c.requires.order c.nodes-nodes.ensures in
     solves_as_shown t given chosen c.args.user.now (valuation t values) c.symbols-given.ensures c.choices-chosen.ensures
-    (ended t given chosen c.loop-round._round values (omega arith) accepted c.loop-round.invariant.2)
+    (ended t given chosen c.loop-round._round values (omega arith) accepted c.loop-round.invariant.hold)
 
 pub returns-clause-only : goal.returns-clause-only
 returns-clause-only c =
@@ -64,10 +86,9 @@ returns-clause-only c =
     let chosen = c.choices-chosen.result.now in
     let values = c.loop-round.table.values.items in
     let V = valuation t values in
-    let orders : Orders (needs t) c.symbols-symbols.result.now = subst (λ (n : List (List ℕ)). Orders n c.symbols-symbols.result.now) c.requires.order c.symbols-symbols.ensures in
-    let accepted = c.ordered_are_accepted.ensures (needs t) c.symbols-symbols.result.now orders in
+    let accepted = tree_accepted t c.args.layout.now c.args.order.now c.nodes-nodes.result.now c.requires.order c.nodes-nodes.ensures in
     let solves =
     solves_as_shown t given chosen c.args.user.now V c.symbols-given.ensures c.choices-chosen.ensures
-    (ended t given chosen c.loop-round._round values (omega arith) accepted c.loop-round.invariant.2)
+    (ended t given chosen c.loop-round._round values (omega arith) accepted c.loop-round.invariant.hold)
     in
     c.accepted_have_one_solution.ensures.agree t (place_at c.args.user.now) accepted V solves

@@ -1,12 +1,12 @@
 use Rattle.std.proofs.Common.{◌≡◌, map, drop}
-use Rattle.kc_tree.specs.Views.{choice_facts_of, named_view}
+use Rattle.kc_tree.specs.Layouts.{choice_default_view, choice_facts}
+use Rattle.kc_values.specs.Known.{known_at, condition_at}
 use Rattle.kc_values.specs.Values as spec
-use Rattle.kc_expr.specs.Value.{known_by}
 use Rattle.kc_values.proofs.choices.first_default.Given as goal
 
 abbrev pub invariant-loop-default : goal.invariant-loop-default
-invariant-loop-default g l =
-    let k = known_by (g.V.Values.kind_of l.values) (g.V.Values.tri_of l.values) (g.V.Values.text_of l.values) in
-    let t = l.tree in
-    spec.first_default t k (choice_facts_of l.choice) (map named_view (drop l.default-index l.choice.defaults.items)) ≡
-    spec.first_default t k (choice_facts_of l.choice) (map named_view l.choice.defaults.items)
+invariant-loop-default l =
+    let k = known_at l.table in
+    let facts = choice_facts l.table.layout.now.tables l.choice in
+    spec.first_default l.table.tree.now k facts (map (choice_default_view l.table.layout.now.tables.contexts (condition_at l.table l.choice.within.0)) (drop l.default-index l.choice.defaults.items))
+    ≡ spec.first_default l.table.tree.now k facts facts.defaults

@@ -1,10 +1,9 @@
-use Rattle.std.proofs.Common.{◌≡◌, map, drop}
-use Rattle.kc_tree.specs.Views.{named_view}
-use Rattle.kc_values.specs.Needs as spec
-use Rattle.kc_values.specs.NeedRows.{with_names}
+use Rattle.std.proofs.Common.{◌≡◌, ◌++◌, take}
+use Rattle.std.specs.List.{flat_map}
+use Rattle.kc_values.specs.NeedRows.{choice_default_names}
 use Rattle.kc_values.proofs.needs.choice_defaults_into.Given as goal
 
 abbrev pub invariant-loop-default : goal.invariant-loop-default
 invariant-loop-default l =
-    with_names l.out.row (spec.guarded_names l.tree spec.no_name (map named_view (drop l.default-index l.defaults))) ≡
-    with_names l.initial.out.row (spec.guarded_names l.tree spec.no_name (map named_view l.defaults))
+    (l.out.nodes.items ≡ l.initial.out.nodes.items) ×
+    (l.out.names.items ≡ l.initial.out.names.items ++ flat_map choice_default_names (take l.default-index l.default-items))

@@ -1,5 +1,5 @@
 use Rattle.std.proofs.Common.{sym, subst}
-use Rattle.kc_order.specs.RowLists.{RowsBelow}
+use Rattle.kc_order.specs.Rows.{RowsBelow}
 use Rattle.kc_order.proofs.OneList.{below_rows, below_numbers}
 use Rattle.kc_order.proofs.rows.Rows.are_below.Goals as goal
 

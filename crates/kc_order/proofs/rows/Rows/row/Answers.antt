@@ -1,5 +1,5 @@
 use Rattle.std.proofs.Common.{arith, ap, length, ◌∙◌}
-use Rattle.kc_order.specs.RowLists.{begin}
+use Rattle.kc_order.specs.Rows.{begin}
 use Rattle.kc_order.proofs.OneList.{rows_len, is_row, IsRow}
 use Rattle.kc_order.proofs.rows.Rows.row.Goals as goal
 use Rattle.kc_order.proofs.rows.Rows.row.Goals.{After-index}

@@ -1,10 +1,11 @@
 use Rattle.std.proofs.Common.{ap, length, sym, ◌∙◌}
 use Rattle.std.proofs.lemmas.List.{length-map}
-use Rattle.kc_tree.specs.Views.{choice_facts_of}
+use Rattle.kc_tree.specs.declared.parts.Choice.{Choice}
+use Rattle.kc_tree.specs.TreeFacts.{ChoiceFacts}
 use Rattle.kc_user.proofs.UserLemmas.{empties}
 use Rattle.kc_user.proofs.user.User.new.Goals as goal
 
 pub returns : goal.returns
 returns c =
     empties c.args.tree.now _ _ _ _ c.in_ok-symbols.ensures c.in_ok-choices.ensures c.symbol_count.ensures.count
-    (sym (length-map c.choices.result.now choice_facts_of) ∙ ap length c.choices.ensures)
+    (sym (length-map c.choices.result.now (λ (x : Choice). x.members.items)) ∙ sym (ap length c.choices.ensures) ∙ length-map c.args.tree.now.choices (λ (f : ChoiceFacts). f.members))

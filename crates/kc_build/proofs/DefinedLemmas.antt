@@ -1,0 +1,307 @@
+-- The names that an expanded list defines: which they may be, and how many; and that no line of it gives the type that stands
+-- for none.
+use Rattle.std.proofs.Common.{◌≡◌, ℕ, zero, suc, ◌≤◌, nat_lt, Bool, true, false, if◌then◌else◌, List, [], ◌∷◌, ◌++◌, length, drop, map, Option, Some, None, Result, Ok, Err, MatchOption, refl, ap, sym, ◌∙◌, subst, arith, inl, inr, codes}
+use Rattle.std.specs.Prelude.{All}
+use Rattle.std.specs.List.{cons_option, list_any, slice_get}
+use Rattle.std.proofs.lemmas.Bool.Decides.{nat_tests}
+use Rattle.std.proofs.lemmas.List.{map-append}
+use Rattle.std.proofs.lemmas.List.Elements.{All-nil, All-push, filter_map-append}
+use Rattle.kc_text.specs.Lexemes.{Lexeme}
+use Rattle.kc_text.specs.Lines.{Left, left}
+use Rattle.kc_expr.specs.Names.{all_mentioned, mention, same_name}
+use Rattle.kc_expr.specs.Grammar.{Disjunction, if_word}
+use Rattle.kc_expr.specs.declared.expression.Kind.{Kind}
+use Rattle.kc_expr.specs.declared.expression.SymId.{SymId}
+use Rattle.kc_expr.specs.declared.expression.Kind.TheVariants as kind
+use Rattle.kc_expr.proofs.NamesLemmas.{all_mentioned-append}
+use Rattle.kc_read.specs.declared.refusal.Code.TheVariants as code
+use Rattle.kc_read.specs.declared.statement.Keyword.{Keyword}
+use Rattle.kc_read.specs.declared.statement.Keyword.TheVariants as key
+use Rattle.kc_read.specs.Blocks.{definitions, name_at}
+use Rattle.kc_read.specs.Expansion.{Around, Log, Refused, Rest, Expands, bytes_cause, context_of, effect_cause, opening, nothing_read, refused, root_around, symbol_cause, statements, with_line, defined, lexemes, at_end, unclosed, too_long, no_tokens, blank, bad_line, bad_effect, statement, bad_source, refused_inside, source}
+use Rattle.kc_read.specs.Files.{Files}
+use Rattle.kc_read.specs.Lines.{Context, After, Cause, ReadsTarget, ReadsType, begins_with, cause, left_out, syntax_cause, ReadsLine, ReadsPlaced, ReadsRest, attribute_words, block_words, left_out_words, type_words, ReadsWhole, ReadsCondition, ReadsValue, ReadsAsked, choice_line, finish, good_name, in_place, is_good_name, keyword_in, keyword_of, keyword_words, known, operand_of, option_line, place_cause, plain_text, target_of, text_of, word_of, expected}
+use Rattle.kc_read.specs.Progress.{defined_after, naming_cause}
+use Rattle.kc_read.specs.Numbering.{place_numbered}
+use Rattle.kc_read.specs.Statements.{Asked, Written, Placed, numbered, ConfigLine, IfLine, EndIfLine, CommentLine, SourceLine, MenuLine, EndMenuLine, ChoiceLine, EndChoiceLine, MainMenuLine, TypeLine, PromptLine, DefaultLine, DefLine, DependsLine, VisibleLine, SelectLine, ImplyLine, RangeLine, HelpLine, ModulesLine, IgnoredLine}
+use Rattle.kc_build.specs.Facts.{type_of}
+use Rattle.kc_build.specs.Known.{AreTyped}
+use Rattle.kc_build.proofs.ElementLemmas.{get_snoc}
+
+-- a statement defines no name that no symbol may have
+abbrev Allows : Option (List ℕ) → Type 0
+Allows None = Unit {0}
+Allows (Some n) = is_good_name n ≡ true
+
+-- and gives a type
+abbrev pub IsGiven : Kind → Type 0
+IsGiven k = k ≡ kind.Undefined → ⊥
+
+abbrev pub IsAllowed : Written → Type 0
+IsAllowed (ConfigLine n) = is_good_name n ≡ true
+IsAllowed (TypeLine k p) = IsGiven k
+IsAllowed (DefLine k v w) = IsGiven k
+IsAllowed _ = Unit {0}
+
+allowed_name : (s : Written) → IsAllowed s → Allows (name_at s)
+allowed_name (ConfigLine n) a = a
+allowed_name _ a = tt
+
+-- so does the word of a type
+abbrev AllowsKey : Keyword → Type 0
+AllowsKey (key.Type k) = IsGiven k
+AllowsKey (key.Def k) = IsGiven k
+AllowsKey _ = Unit {0}
+
+abbrev AllowKeys : List (List ℕ × Keyword) → Type 0
+AllowKeys [] = Unit {0}
+AllowKeys (k ∷ more) = AllowsKey k.1 × AllowKeys more
+
+key_in : (ks : List (List ℕ × Keyword)) (w : List ℕ) (k : Keyword) → AllowKeys ks → keyword_in ks w ≡ Some k → AllowsKey k
+key_in [] w k a e = absurd cc
+key_in (j ∷ more) w k a e = by (same_name w j.0) (key_in more w k a.1) e
+  where
+    by : (b : Bool) → (keyword_in more w ≡ Some k → AllowsKey k) → (if b then Some j.1 else keyword_in more w) ≡ Some k → AllowsKey k
+    by true rest q = subst AllowsKey (let same : j.1 ≡ k = cc in same) a.0
+    by false rest q = rest q
+
+allow_both : (js ks : List (List ℕ × Keyword)) → AllowKeys js → AllowKeys ks → AllowKeys (js ++ ks)
+allow_both [] ks a b = b
+allow_both (j ∷ js) ks a b = (a.0, allow_both js ks a.1 b)
+
+allow_types : AllowKeys type_words
+allow_types = (λ e. cc, (λ e. cc, (λ e. cc, (λ e. cc, (λ e. cc, (λ e. cc, (λ e. cc, tt)))))))
+
+allow_blocks : AllowKeys block_words
+allow_blocks = (tt, (tt, (tt, (tt, (tt, (tt, (tt, (tt, (tt, (tt, (tt, tt)))))))))))
+
+allow_attributes : AllowKeys attribute_words
+allow_attributes = (tt, (tt, (tt, (tt, (tt, (tt, (tt, (tt, (tt, (tt, (tt, tt)))))))))))
+
+allow_left_out : AllowKeys left_out_words
+allow_left_out = (tt, (tt, (tt, (tt, (tt, (tt, (tt, (tt, (tt, tt)))))))))
+
+key_of : (w : List ℕ) (k : Keyword) → keyword_of w ≡ Some k → AllowsKey k
+key_of w k e =
+    key_in keyword_words w k (allow_both attribute_words (type_words ++ block_words ++ left_out_words) allow_attributes (allow_both type_words (block_words ++ left_out_words) allow_types (allow_both block_words left_out_words allow_blocks allow_left_out))) e
+
+-- A line that is read gives such a statement.
+after : {A : Type 0} (o : Result A Cause) (Next : A → Result Written Cause → Type 0) (s : Written) → After o Next (Ok s) → ((a : A) → Next a (Ok s) → IsAllowed s) → IsAllowed s
+after (Ok a) Next s h k = k a h
+after (Err c) Next s h k = absurd (let e : ◌≡◌ {A = Result Written Cause} (Ok s) (Err c) = h in cc)
+
+same_allowed : (s x : Written) → s ≡ x → IsAllowed x → IsAllowed s
+same_allowed s x e a = subst IsAllowed (sym e) a
+
+finished : (x s : Written) (ts : List Lexeme) → IsAllowed x → Ok s ≡ finish x ts → IsAllowed s
+finished x s [] a e = same_allowed s x (let same : s ≡ x = cc in same) a
+finished x s (t ∷ ts) a e = absurd cc
+
+whole : (make : Disjunction → Written) (ts : List Lexeme) (s : Written) → ((d : Disjunction) → IsAllowed (make d)) → ReadsWhole make ts (Ok s) → IsAllowed s
+whole make ts s a h = same_allowed s (make h.0) h.2 (a h.0)
+
+condition : (make : Option Disjunction → Written) (ts : List Lexeme) (s : Written) → ((w : Option Disjunction) → IsAllowed (make w)) → ReadsCondition make ts (Ok s) → IsAllowed s
+condition make ts s a h = same_allowed s (make h.0) h.2 (a h.0)
+
+value : (make : Disjunction → Option Disjunction → Written) (ts : List Lexeme) (s : Written) → ((d : Disjunction) (w : Option Disjunction) → IsAllowed (make d w)) → ReadsValue make ts (Ok s) → IsAllowed s
+value make ts s a h = same_allowed s (make h.0.tree h.1) h.4 (a h.0.tree h.1)
+
+good : (w : List ℕ) (s : Written) → Ok s ≡ good_name w → IsAllowed s
+good w s h = by (is_good_name w) refl h
+  where
+    by : (b : Bool) → is_good_name w ≡ b → ◌≡◌ {A = Result Written Cause} (Ok s) (if b then Ok (ConfigLine w) else Err (record { code = code.BadName; detail = w })) → IsAllowed s
+    by true e f = same_allowed s (ConfigLine w) (let same : s ≡ ConfigLine w = cc in same) e
+    by false e f = absurd cc
+
+choice : (ts : List Lexeme) (s : Written) → Ok s ≡ choice_line ts → IsAllowed s
+choice [] s h = same_allowed s ChoiceLine (let same : s ≡ ChoiceLine = cc in same) tt
+choice (t ∷ ts) s h = absurd cc
+
+option : (ts : List Lexeme) (s : Written) → Ok s ≡ option_line ts → IsAllowed s
+option ts s h = by (begins_with (codes "modules") ts) (begins_with (codes "allnoconfig_y") ts) (begins_with (codes "env") ts) (begins_with (codes "defconfig_list") ts) h
+  where
+    by : (a b c d : Bool) → ◌≡◌ {A = Result Written Cause} (Ok s) (if a then finish ModulesLine (drop 1 ts) else if b then finish IgnoredLine (drop 1 ts) else if c then Err (left_out (codes "option env")) else if d then Err (left_out (codes "option defconfig_list")) else Err syntax_cause) → IsAllowed s
+    by true b c d e = finished ModulesLine s (drop 1 ts) tt e
+    by false true c d e = finished IgnoredLine s (drop 1 ts) tt e
+    by false false true d e = absurd cc
+    by false false false true e = absurd cc
+    by false false false false e = absurd cc
+
+text_line : (make : List ℕ → Written) (ts : List Lexeme) (s : Written) → ((t : List ℕ) → IsAllowed (make t)) → After (text_of ts) (λ t r. r ≡ finish (make t) (drop 1 ts)) (Ok s) → IsAllowed s
+text_line make ts s a h = after (text_of ts) (λ t r. r ≡ finish (make t) (drop 1 ts)) s h (λ t e. finished (make t) s (drop 1 ts) (a t) e)
+
+asked : (make : Asked Disjunction → Written) (ts : List Lexeme) (s : Written) → ((p : Asked Disjunction) → IsAllowed (make p)) → ReadsAsked make ts (Ok s) → IsAllowed s
+asked make ts s a h =
+    after (text_of ts) (λ t. ReadsCondition (λ w. make (record { text = t; when = w })) (drop 1 ts)) s h (λ t e. condition (λ w. make (record { text = t; when = w })) (drop 1 ts) s (λ w. a (record { text = t; when = w })) e)
+
+typed : (k : Kind) (ts : List Lexeme) (s : Written) → IsGiven k → ReadsType k ts (Ok s) → IsAllowed s
+typed k ts s g (inl h) = same_allowed s (TypeLine k None) (let e : ◌≡◌ {A = Result Written Cause} (Ok s) (Ok (TypeLine k None)) = h.1 in let same : s ≡ TypeLine k None = cc in same) g
+typed k ts s g (inr h) = asked (λ p. TypeLine k (Some p)) ts s (λ p. g) h.1
+
+target : (make : List ℕ → Option Disjunction → Written) (ts : List Lexeme) (s : Written) → ((t : List ℕ) (w : Option Disjunction) → IsAllowed (make t w)) → ReadsTarget make ts (Ok s) → IsAllowed s
+target make ts s a h =
+    after (target_of ts) (λ t. ReadsCondition (make t) (drop 1 ts)) s h (λ t e. condition (make t) (drop 1 ts) s (a t) e)
+
+rest_of : (w : List ℕ) (k : Keyword) (ts : List Lexeme) (s : Written) → AllowsKey k → ReadsRest w k ts (Ok s) → IsAllowed s
+rest_of w key.Config ts s g h =
+    after (word_of ts) (λ v. After (finish v (drop 1 ts)) (λ u r. r ≡ good_name u)) s h (λ v e. after (finish v (drop 1 ts)) (λ u r. r ≡ good_name u) s e (λ u f. good u s f))
+rest_of w key.If ts s g h = whole IfLine ts s (λ d. tt) h
+rest_of w key.EndIf ts s g h = finished EndIfLine s ts tt h
+rest_of w key.Comment ts s g h = text_line CommentLine ts s (λ t. tt) h
+rest_of w key.Source ts s g h =
+    after (text_of ts) (λ t. After (plain_text t) (λ u r. r ≡ finish (SourceLine u) (drop 1 ts))) s h (λ t e. after (plain_text t) (λ u r. r ≡ finish (SourceLine u) (drop 1 ts)) s e (λ u f. finished (SourceLine u) s (drop 1 ts) tt f))
+rest_of w key.Menu ts s g h = text_line MenuLine ts s (λ t. tt) h
+rest_of w key.EndMenu ts s g h = finished EndMenuLine s ts tt h
+rest_of w key.Choice ts s g h = choice ts s h
+rest_of w key.EndChoice ts s g h = finished EndChoiceLine s ts tt h
+rest_of w key.MainMenu ts s g h = text_line MainMenuLine ts s (λ t. tt) h
+rest_of w (key.Type k) ts s g h = typed k ts s g h
+rest_of w key.Prompt ts s g h = asked PromptLine ts s (λ p. tt) h
+rest_of w key.Default ts s g h = value DefaultLine ts s (λ d v. tt) h
+rest_of w (key.Def k) ts s g h = value (DefLine k) ts s (λ d v. g) h
+rest_of w key.Depends ts s g h =
+    after (expected (codes "on") ts) (λ us. ReadsWhole DependsLine us) s h (λ us e. whole DependsLine us s (λ d. tt) e)
+rest_of w key.Visible ts s g h =
+    after (expected if_word ts) (λ us. ReadsWhole VisibleLine us) s h (λ us e. whole VisibleLine us s (λ d. tt) e)
+rest_of w key.Select ts s g h = target SelectLine ts s (λ t v. tt) h
+rest_of w key.Imply ts s g h = target ImplyLine ts s (λ t v. tt) h
+rest_of w key.Range ts s g h =
+    after (operand_of ts) (λ a. After (operand_of (drop 1 ts)) (λ b. ReadsCondition (RangeLine a b) (drop 2 ts))) s h (λ a e. after (operand_of (drop 1 ts)) (λ b. ReadsCondition (RangeLine a b) (drop 2 ts)) s e (λ b f. condition (RangeLine a b) (drop 2 ts) s (λ v. tt) f))
+rest_of w key.Help ts s g h = finished HelpLine s ts tt h
+rest_of w key.Modules ts s g h = finished ModulesLine s ts tt h
+rest_of w key.«Option» ts s g h = option ts s h
+rest_of w key.LeftOut ts s g h = absurd (let e : ◌≡◌ {A = Result Written Cause} (Ok s) (Err (left_out w)) = h in cc)
+
+placed_of : (c : Context) (w : List ℕ) (ts : List Lexeme) (k : Keyword) (s : Written) → AllowsKey k → ReadsPlaced c w ts k (Ok s) → IsAllowed s
+placed_of c w ts k s g h = by (place_cause c w ts k) h
+  where
+    by : (o : Option Cause) → After (in_place k o) (λ j. ReadsRest w j ts) (Ok s) → IsAllowed s
+    by None e = rest_of w k ts s g e
+    by (Some why) e = absurd (let f : ◌≡◌ {A = Result Written Cause} (Ok s) (Err why) = e in cc)
+
+worded_of : (c : Context) (w : List ℕ) (ts : List Lexeme) (o : Option Keyword) (s : Written) → keyword_of w ≡ o → After (known o) (ReadsPlaced c w ts) (Ok s) → IsAllowed s
+worded_of c w ts None s e h = absurd (let f : ◌≡◌ {A = Result Written Cause} (Ok s) (Err syntax_cause) = h in cc)
+worded_of c w ts (Some k) s e h = placed_of c w ts k s (key_of w k e) h
+
+line_of : (c : Context) (ts : List Lexeme) (s : Written) → ReadsLine c ts (Ok s) → IsAllowed s
+line_of c ts s h =
+    after (word_of ts) (λ w. After (known (keyword_of w)) (ReadsPlaced c w (drop 1 ts))) s h (λ w e. worded_of c w (drop 1 ts) (keyword_of w) s refl e)
+
+-- The defined names: symbols may have them, and there are no more than there may be.
+pub record AreNames (names : List (List ℕ)) : Type 0 where
+  pub good : All (λ n. is_good_name n ≡ true) names
+  pub few : length names ≤ 65535
+
+few_by : (b : Bool) (n : ℕ) → nat_lt 65535 n ≡ b → (if b then Some (cause code.TooManySymbols) else None) ≡ None → n ≤ 65535
+few_by true n e h = absurd cc
+few_by false n e h = grind (arith, nat_tests)
+
+named_more : (names : List (List ℕ)) (n : List ℕ) → AreNames names → is_good_name n ≡ true → symbol_cause names n ≡ None → AreNames (mention names n)
+named_more names n a g c = record {
+  good = by (list_any (same_name n) names);
+  few = few_by (nat_lt 65535 (length (mention names n))) (length (mention names n)) refl c;
+}
+  where
+    by : (b : Bool) → All (λ m. is_good_name m ≡ true) (if b then names else names ++ n ∷ [])
+    by true = a.good
+    by false = All-push (λ m. is_good_name m ≡ true) names n a.good g
+
+named_after : (names : List (List ℕ)) (o : Option (List ℕ)) → AreNames names → Allows o → naming_cause names o ≡ None → AreNames (defined_after names o)
+named_after names None a g c = a
+named_after names (Some n) a g c = named_more names n a g c
+
+naming : (a : Around) (own : List (Placed Written)) (log : Log) (s : Written) → effect_cause a own log s ≡ None → naming_cause (defined (statements log.lines)) (name_at s) ≡ None
+naming a own log (ConfigLine n) h = h
+naming a own log _ h = refl
+
+defined_by : (ds : List (List ℕ)) (o : Option (List ℕ)) → defined_after ds o ≡ all_mentioned ds (cons_option o [])
+defined_by ds None = refl
+defined_by ds (Some n) = refl
+
+defined-push : (ss : List Written) (s : Written) → defined_after (defined ss) (name_at s) ≡ defined (ss ++ s ∷ [])
+defined-push ss s =
+    defined_by (defined ss) (name_at s) ∙ sym (all_mentioned-append [] (definitions ss) (cons_option (name_at s) [])) ∙ ap (all_mentioned []) (sym (filter_map-append name_at ss (s ∷ [])))
+
+abbrev Known : List (Placed Written) → Type 0
+Known ls = AreNames (defined (statements ls))
+
+known_next : (a b : Around) (own ls : List (Placed Written)) (log : Log) (n : ℕ) (s : Written) → ls ≡ log.lines → IsAllowed s → effect_cause a own log s ≡ None → Known ls → Known (with_line ls b n s)
+known_next a b own ls log n s same g c k =
+    let pushed : statements (with_line ls b n s) ≡ statements ls ++ s ∷ [] = map-append (λ l. l.statement) ls (record { file = b.file; line = n; statement = s } ∷ []) in
+    let names : defined (statements (with_line ls b n s)) ≡ defined_after (defined (statements ls)) (name_at s) = ap defined pushed ∙ sym (defined-push (statements ls) s) in
+    let caused : naming_cause (defined (statements ls)) (name_at s) ≡ None = ap (λ (l : List (Placed Written)). naming_cause (defined (statements l)) (name_at s)) same ∙ naming a own log s c in
+    subst AreNames (sym names) (named_after (defined (statements ls)) (name_at s) k (allowed_name s g) caused)
+
+module _ (files : Files) where
+  abbrev Outcome : Result Log Refused → Type 0
+  Outcome (Ok log) = Known log.lines
+  Outcome (Err r) = Unit {0}
+
+  rest_known : {a : Around} {l : Left} {own : List (Placed Written)} {log : Log} {r : Result Log Refused} → Rest files a l own log r → Known log.lines → Outcome r
+  rest_known (at_end a l own log e o) k = k
+  rest_known (unclosed a l own log line e u) k = tt
+  rest_known (too_long a l own log t) k = tt
+  rest_known (no_tokens a l m own log ts why n) k = tt
+  rest_known (blank a l m own log r n rest) k = rest_known rest k
+  rest_known (bad_line a l m own log c n) k = tt
+  rest_known (bad_effect a l m own log s c n e) k = tt
+  rest_known (statement a l m own log s r n plain effect rest) k =
+      rest_known rest (known_next a a own log.lines log l.number s refl (line_of (context_of a own log) (lexemes n.tokens) s n.reads) effect k)
+  rest_known (bad_source a l m own log name c n e) k = tt
+  rest_known (refused_inside a l m own log name bytes e n allowed found inner) k = tt
+  rest_known (source a l m own log more name bytes r n allowed found inner rest) k = rest_known rest (rest_known inner k)
+
+  by_bytes : (root : List ℕ) (log : Log) (o : Option Cause) → MatchOption o ((bytes : List ℕ) × (files root ≡ Some bytes) × Rest files (root_around root) (left bytes 1) [] (opening nothing_read bytes) (Ok log)) (λ c. Ok log ≡ Err (refused c root 0)) → Known log.lines
+  by_bytes root log None h = rest_known h.2 (record { good = All-nil (λ m. is_good_name m ≡ true); few = omega arith })
+  by_bytes root log (Some c) h = absurd (let e : ◌≡◌ {A = Result Log Refused} (Ok log) (Err (refused c root 0)) = h in cc)
+
+  pub expanded_known : (root : List ℕ) (log : Log) → Expands files root (Ok log) → AreNames (defined (statements log.lines))
+  expanded_known root log h = by_bytes root log (bytes_cause root 0 (files root)) h
+
+  -- Each line is allowed.
+  abbrev AreAllowed : List (Placed Written) → Type 0
+  AreAllowed ls = (i : ℕ) (l : Placed Written) → slice_get ls i ≡ Some l → IsAllowed l.statement
+
+  allowed_next : (ls : List (Placed Written)) (l : Placed Written) → IsAllowed l.statement → AreAllowed ls → AreAllowed (ls ++ l ∷ [])
+  allowed_next ls l a k = λ i m e.
+      elim (get_snoc ls l m i e) as (λ _. IsAllowed m.statement) [
+        | inl h ↦ k i m h
+        | inr h ↦ subst (λ (x : Placed Written). IsAllowed x.statement) h.1 a
+      ]
+
+  abbrev AllowedOutcome : Result Log Refused → Type 0
+  AllowedOutcome (Ok log) = AreAllowed log.lines
+  AllowedOutcome (Err r) = Unit {0}
+
+  rest_allowed : {a : Around} {l : Left} {own : List (Placed Written)} {log : Log} {r : Result Log Refused} → Rest files a l own log r → AreAllowed log.lines → AllowedOutcome r
+  rest_allowed (at_end a l own log e o) k = k
+  rest_allowed (unclosed a l own log line e u) k = tt
+  rest_allowed (too_long a l own log t) k = tt
+  rest_allowed (no_tokens a l m own log ts why n) k = tt
+  rest_allowed (blank a l m own log r n rest) k = rest_allowed rest k
+  rest_allowed (bad_line a l m own log c n) k = tt
+  rest_allowed (bad_effect a l m own log s c n e) k = tt
+  rest_allowed (statement a l m own log s r n plain effect rest) k =
+      rest_allowed rest (allowed_next log.lines (record { file = a.file; line = l.number; statement = s }) (line_of (context_of a own log) (lexemes n.tokens) s n.reads) k)
+  rest_allowed (bad_source a l m own log name c n e) k = tt
+  rest_allowed (refused_inside a l m own log name bytes e n allowed found inner) k = tt
+  rest_allowed (source a l m own log more name bytes r n allowed found inner rest) k = rest_allowed rest (rest_allowed inner k)
+
+  allowed_by : (root : List ℕ) (log : Log) (o : Option Cause) → MatchOption o ((bytes : List ℕ) × (files root ≡ Some bytes) × Rest files (root_around root) (left bytes 1) [] (opening nothing_read bytes) (Ok log)) (λ c. Ok log ≡ Err (refused c root 0)) → AreAllowed log.lines
+  allowed_by root log None h = rest_allowed h.2 (λ i l e. absurd cc)
+  allowed_by root log (Some c) h = absurd (let e : ◌≡◌ {A = Result Log Refused} (Ok log) (Err (refused c root 0)) = h in cc)
+
+  pub expanded_allowed : (root : List ℕ) (log : Log) → Expands files root (Ok log) → (i : ℕ) (l : Placed Written) → slice_get log.lines i ≡ Some l → IsAllowed l.statement
+  expanded_allowed root log h = allowed_by root log (bytes_cause root 0 (files root)) h
+
+-- The same of numbered lines.
+module _ (modules : Option SymId) (number : List ℕ → ℕ) where
+  untyped_not : (s : Written) → IsAllowed s → type_of (numbered modules number s) ≡ Some kind.Undefined → ⊥
+  untyped_not (TypeLine k p) a e = a (let same : k ≡ kind.Undefined = cc in same)
+  untyped_not (DefLine k v w) a e = a (let same : k ≡ kind.Undefined = cc in same)
+  untyped_not _ a e = absurd cc
+
+  pub numbered_typed : (ls : List (Placed Written)) → ((i : ℕ) (l : Placed Written) → slice_get ls i ≡ Some l → IsAllowed l.statement) → AreTyped (map (λ l. l.statement) (map (place_numbered modules number) ls))
+  numbered_typed [] h i s e t = absurd cc
+  numbered_typed (l ∷ ls) h zero s e t = untyped_not l.statement (h zero l refl) (ap type_of (let same : numbered modules number l.statement ≡ s = cc in same) ∙ t)
+  numbered_typed (l ∷ ls) h (suc i) s e t = numbered_typed ls (λ j. h (suc j)) i s e t

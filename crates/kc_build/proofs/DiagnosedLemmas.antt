@@ -1,0 +1,451 @@
+-- What lines have against them, from one line to the next and from one entry to the next.
+use Rattle.std.proofs.Common.{◌≡◌, ℕ, zero, suc, ◌+◌, ◌<◌, ◌≤◌, Bool, true, false, ◌||◌, ◌==◌, nat_lt, if◌then◌else◌, List, [], ◌∷◌, ◌++◌, length, filter, map, take, drop, get_or, Option, Some, None, Err, refl, ap, sym, ◌∙◌, arith, inl, inr, add-one}
+use Rattle.std.specs.Prelude.{◌⊎◌, All}
+use Rattle.std.specs.List.{slice_get, flat_map, list_any, take_while}
+use Rattle.std.specs.Option.{option_map, option_or, is_some}
+use Rattle.std.proofs.lemmas.Bool.Decides.{nat_tests}
+use Rattle.std.proofs.lemmas.Grind.{flat_map-append}
+use Rattle.std.proofs.lemmas.Option.{slice_get-get_or, slice_get-map, slice_get_within}
+use Rattle.std.proofs.lemmas.List.{append-nil, length-map, length-append, length-drop, take-append-drop, drop-drop, take-map, drop-map}
+use Rattle.std.proofs.lemmas.List.Elements.{filter-append, All-nil, All-cons, All-head, All-tail, All-same}
+use Rattle.std.proofs.lemmas.List.Sums.{take_while-cons}
+use Rattle.kc_expr.specs.declared.expression.SymId.{SymId}
+use Rattle.kc_expr.specs.declared.expression.Kind.{Kind}
+use Rattle.kc_read.specs.declared.refusal.Code.{Code}
+use Rattle.kc_read.specs.declared.refusal.Code.TheVariants as code
+use Rattle.kc_read.specs.Blocks.{attributes, is_attribute, numbers}
+use Rattle.kc_read.specs.Expansion.{Refused}
+use Rattle.kc_read.specs.Statements.{Numbered, Placed, ConfigLine, TypeLine, PromptLine}
+use Rattle.kc_read.specs.Steps.{refusal_view}
+use Rattle.kc_read.specs.Reads.{line_view, statement_view}
+use Rattle.kc_read.specs.declared.line.Line.{Line}
+use Rattle.kc_read.specs.declared.refusal.Refusal.{Refusal}
+use Rattle.kc_tree.specs.declared.parts.ChoiceId.{ChoiceId}
+use Rattle.kc_tree.specs.declared.parts.Symbol.{Symbol}
+use Rattle.kc_tree.specs.TreeFacts.{TreeFacts}
+use Rattle.kc_tree.specs.Words.{listed}
+use Rattle.kc_build.specs.declared.diagnostics.Diagnostics.{Diagnostics}
+use Rattle.kc_build.specs.declared.diagnostics.EntryPlace.{EntryPlace}
+use Rattle.kc_build.specs.declared.diagnostics.MenuEntry.{MenuEntry}
+use Rattle.kc_build.specs.Diagnosed.{Diagnosis, AreLookedAt, all_looked_at, diagnosis_view, looked_at}
+use Rattle.kc_build.specs.Facts.{asked_of, choice_of, choice_round, first_of, is_member, kind_of, symbol_of}
+use Rattle.kc_build.specs.Firsts.{is_first_at}
+use Rattle.kc_build.specs.Known.{AreBelow, AreSymbols, IsPlace, choice_by, kind_by, member_by, said_by_place}
+use Rattle.kc_build.specs.Late.{late}
+use Rattle.kc_build.specs.Passes.{said_by}
+use Rattle.kc_build.specs.Said.{IsDiagnosed}
+use Rattle.kc_build.specs.Trees.{unless_refused}
+use Rattle.kc_build.specs.Warnings.{bad_defaults, bad_members, is_bad_default, is_bad_member, late_refusals, line_of, menu_entry_at, menu_entry_before, numbered_statements, prompt_before, refused_at, said, said_with, warned_at, warnings}
+use Rattle.kc_build.proofs.KnownLemmas.{choices_known, kinds_known}
+use Rattle.kc_build.proofs.ListLemmas.{there_in}
+use Rattle.kc_build.proofs.MemberLemmas.{below_or_past, member_is}
+use Rattle.kc_build.proofs.MenuEntryLemmas.{asks, entry_goes_on, entry_here, prompt_begins, prompt_goes_on}
+use Rattle.kc_build.proofs.PlaceLemmas.{filter-next, flat_map-next}
+use Rattle.kc_build.proofs.SaidLemmas.{statements-are}
+
+-- The places below one, of those that are kept among all.
+below_it : (n i : ℕ) → n < i → nat_lt n i ≡ true
+below_it n i h = grind (arith, nat_tests)
+
+not_below : (n i : ℕ) → i ≤ n → nat_lt n i ≡ false
+not_below n i h = grind (arith, nat_tests)
+
+abbrev one_if : Bool → ℕ → List ℕ
+one_if b n = if b then n ∷ [] else []
+
+one_kept : (p : ℕ → Bool) (b : Bool) (n : ℕ) → p n ≡ true → filter p (one_if b n) ≡ one_if b n
+one_kept p true n e = rw e refl
+one_kept p false n e = refl
+
+one_gone : (p : ℕ → Bool) (b : Bool) (n : ℕ) → p n ≡ false → filter p (one_if b n) ≡ []
+one_gone p true n e = rw e refl
+one_gone p false n e = refl
+
+module _ (q : ℕ → Bool) where
+  abbrev kept_below : ℕ → ℕ → List ℕ
+  kept_below i n = filter (λ j. nat_lt j i) (filter q (numbers n))
+
+  kept_next : (i n : ℕ) → kept_below i (suc n) ≡ kept_below i n ++ filter (λ j. nat_lt j i) (one_if (q n) n)
+  kept_next i n =
+      let more : filter q (numbers (suc n)) ≡ filter q (numbers n) ++ one_if (q n) n = (rw add-one at (filter-next q n)) in
+      ap (filter (λ j. nat_lt j i)) more ∙ filter-append (λ j. nat_lt j i) (filter q (numbers n)) (one_if (q n) n)
+
+  all_below : (n i : ℕ) → n ≤ i → kept_below i n ≡ filter q (numbers n)
+  all_below zero i h = refl
+  all_below (suc n) i h =
+      let more : filter q (numbers (suc n)) ≡ filter q (numbers n) ++ one_if (q n) n = (rw add-one at (filter-next q n)) in
+      kept_next i n ∙ ap (λ l. l ++ filter (λ j. nat_lt j i) (one_if (q n) n)) (all_below n i (omega arith)) ∙ ap (λ l. filter q (numbers n) ++ l) (one_kept (λ j. nat_lt j i) (q n) n (below_it n i (omega arith))) ∙ sym more
+
+  kept-below : (n i : ℕ) → i ≤ n → kept_below i n ≡ filter q (numbers i)
+  kept-below zero i h = let e : i ≡ 0 = omega arith in rw e refl
+  kept-below (suc n) i h = by (below_or_past n i) (kept-below n i)
+    where
+      by : (n < i) ⊎ (i ≤ n) → (i ≤ n → kept_below i n ≡ filter q (numbers i)) → kept_below i (suc n) ≡ filter q (numbers i)
+      by (inl l) ih = let e : i ≡ suc n = omega arith in rw e (all_below (suc n) (suc n) (omega arith))
+      by (inr l) ih = kept_next i n ∙ ap (λ l. kept_below i n ++ l) (one_gone (λ j. nat_lt j i) (q n) n (not_below n i l)) ∙ append-nil (kept_below i n) ∙ ih l
+
+first_append : {A : Type 0} (xs ys : List A) → first_of (xs ++ ys) ≡ option_or (first_of xs) (first_of ys)
+first_append [] ys = refl
+first_append (x ∷ xs) ys = refl
+
+-- The first of what the kept places give, one place more.
+module _ {A : Type 0} (R : ℕ → List A) (q : ℕ → Bool) where
+  found_one : (i : ℕ) (b c : Bool) (a : A) → q i ≡ c → c ≡ b → R i ≡ a ∷ [] → first_of (flat_map R (one_if (q i) i)) ≡ (if b then Some a else None)
+  found_one i true c a e f r = rw (e, f, r) refl
+  found_one i false c a e f r = rw (e, f) refl
+
+  found_next : (i : ℕ) (b : Bool) (o : Option A) (a : A) → q i ≡ b → R i ≡ a ∷ [] → o ≡ first_of (flat_map R (filter q (numbers i))) → option_or o (if b then Some a else None) ≡ first_of (flat_map R (filter q (numbers (i + 1))))
+  found_next i b o a e r h =
+      ap (λ (p : Option A). option_or p (if b then Some a else None)) h
+      ∙ ap (option_or (first_of (flat_map R (filter q (numbers i))))) (sym (found_one i b b a e refl r))
+      ∙ sym (first_append (flat_map R (filter q (numbers i))) (flat_map R (one_if (q i) i)))
+      ∙ ap first_of (sym (flat_map-append R (filter q (numbers i)) (one_if (q i) i)))
+      ∙ ap (λ l. first_of (flat_map R l)) (sym (filter-next q i))
+
+or_false : (b : Bool) → (b || false) ≡ b
+or_false true = refl
+or_false false = refl
+
+-- What is not read of a line.
+no_symbol : (s : Numbered) → is_attribute s ≡ true → symbol_of (Some s) ≡ None
+no_symbol (ConfigLine t) h = cc
+no_symbol _ h = refl
+
+no_prompt : (s : Numbered) → is_attribute s ≡ false → asked_of s ≡ None
+no_prompt (TypeLine k p) h = cc
+no_prompt (PromptLine p) h = cc
+no_prompt _ h = refl
+
+module _ (kinds : SymId → Kind) (choices : SymId → Option ℕ) (members : ℕ → SymId → Bool) (o : MenuEntry) where
+  first_unread : (s : Numbered) (before first other : Bool) → is_attribute s ≡ true → said_with kinds choices members o before first s ≡ said_with kinds choices members o before other s
+  first_unread (ConfigLine t) before first other h = cc
+  first_unread _ before first other h = refl
+
+  before_unread : (s : Numbered) (before other first : Bool) → is_attribute s ≡ false → said_with kinds choices members o before first s ≡ said_with kinds choices members o other first s
+  before_unread (TypeLine k p) before other first h = cc
+  before_unread (PromptLine p) before other first h = cc
+  before_unread _ before other first h = refl
+
+  no_member : (s : Numbered) (first : Bool) (round : Option ℕ) → is_attribute s ≡ true → is_bad_member kinds choices first round s ≡ false
+  no_member (ConfigLine t) first round h = cc
+  no_member _ first round h = refl
+
+module _ (names : List (List ℕ)) (ls : List (Placed Numbered)) where
+  abbrev pub bad_member_at : ℕ → Bool
+  bad_member_at i = list_any (is_bad_member (kind_of (numbered_statements ls)) (choice_of (numbered_statements ls)) (is_first_at (numbered_statements ls) i) (choice_round (numbered_statements ls) i)) (listed (slice_get (numbered_statements ls) i))
+
+  abbrev pub bad_default_at : ℕ → Bool
+  bad_default_at i = list_any (is_bad_default (kind_of (numbered_statements ls)) (menu_entry_at (numbered_statements ls) i)) (listed (slice_get (numbered_statements ls) i))
+
+  -- the same as `IsDiagnosed`, by the places below one
+  record Found (i : ℕ) (d : Diagnosis) : Type 0 where
+    member : d.member ≡ first_of (flat_map (refused_at names ls code.ChoiceMember) (filter bad_member_at (numbers i)))
+    default : d.default ≡ first_of (flat_map (refused_at names ls code.BadDefault) (filter bad_default_at (numbers i)))
+    warnings : bad_members (numbered_statements ls) ≡ [] → d.warnings ≡ flat_map (λ j. warned_at names ls j (slice_get ls j)) (numbers i)
+
+  statement_count : length (numbered_statements ls) ≡ length ls
+  statement_count = length-map ls (λ (l : Placed Numbered). l.statement)
+
+  members_below : (i : ℕ) → i ≤ length ls → filter (λ j. nat_lt j i) (bad_members (numbered_statements ls)) ≡ filter bad_member_at (numbers i)
+  members_below i h = kept-below bad_member_at (length (numbered_statements ls)) i (omega (arith, statement_count))
+
+  defaults_below : (i : ℕ) → i ≤ length ls → filter (λ j. nat_lt j i) (bad_defaults (numbered_statements ls)) ≡ filter bad_default_at (numbers i)
+  defaults_below i h = kept-below bad_default_at (length (numbered_statements ls)) i (omega (arith, statement_count))
+
+  found : (i : ℕ) (d : Diagnostics) → i ≤ length ls → IsDiagnosed names ls i d → Found i (diagnosis_view d)
+  found i d h is = record {
+    member = is.member ∙ ap (λ l. first_of (flat_map (refused_at names ls code.ChoiceMember) l)) (members_below i h);
+    default = is.default ∙ ap (λ l. first_of (flat_map (refused_at names ls code.BadDefault) l)) (defaults_below i h);
+    warnings = is.warnings;
+  }
+
+  diagnosed : (i : ℕ) (d : Diagnostics) → i ≤ length ls → Found i (diagnosis_view d) → IsDiagnosed names ls i d
+  diagnosed i d h f = record {
+    member = f.member ∙ ap (λ l. first_of (flat_map (refused_at names ls code.ChoiceMember) l)) (sym (members_below i h));
+    default = f.default ∙ ap (λ l. first_of (flat_map (refused_at names ls code.BadDefault) l)) (sym (defaults_below i h));
+    warnings = f.warnings;
+  }
+
+  -- at the start nothing stands against them
+  pub diagnosed_start : (d : Diagnostics) → d.warnings.items ≡ [] → d.bad_member ≡ None → d.bad_default ≡ None → IsDiagnosed names ls 0 d
+  diagnosed_start d w m e = diagnosed 0 d (omega arith) (record {
+    member = ap (option_map refusal_view) m;
+    default = ap (option_map refusal_view) e;
+    warnings = λ none. ap (map (λ v. v.items)) w;
+  })
+
+  statement_read : (i : ℕ) (l : Placed Numbered) → slice_get ls i ≡ Some l → slice_get (numbered_statements ls) i ≡ Some l.statement
+  statement_read i l h = slice_get-map (λ (x : Placed Numbered). x.statement) ls i ∙ ap (option_map (λ (x : Placed Numbered). x.statement)) h
+
+  refused_one : (c : Code) (i : ℕ) (l : Placed Numbered) → slice_get ls i ≡ Some l → refused_at names ls c i ≡ late names c (menu_entry_at (numbered_statements ls) i) l ∷ []
+  refused_one c i l h = ap (λ (o : Option (Placed Numbered)). map (late names c (menu_entry_at (numbered_statements ls) i)) (listed o)) h
+
+-- What is known of a line is what the list says of it, as far as it counts there.
+record IsKnown (ls : List (Placed Numbered)) (symbols : List Symbol) (place : EntryPlace) (prompted : Bool) (i : ℕ) (l : Placed Numbered) : Type 0 where
+  at : slice_get ls i ≡ Some l
+  entry : place.entry ≡ menu_entry_at (numbered_statements ls) i
+  member : is_bad_member (kind_by symbols) (choice_by symbols) place.first (option_map (λ (k : ChoiceId). k.0) place.round) l.statement ≡ is_bad_member (kind_of (numbered_statements ls)) (choice_of (numbered_statements ls)) (is_first_at (numbered_statements ls) i) (choice_round (numbered_statements ls) i) l.statement
+  says : bad_members (numbered_statements ls) ≡ [] → said_by_place symbols place prompted l.statement ≡ said (numbered_statements ls) i l.statement
+
+module _ (names : List (List ℕ)) (ls : List (Placed Numbered)) (symbols : List Symbol) (below : AreBelow (length symbols) (numbered_statements ls)) (are : AreSymbols (numbered_statements ls) symbols) where
+  kinds : kind_by symbols ≡ kind_of (numbered_statements ls)
+  kinds = kinds_known (numbered_statements ls) symbols below are
+
+  choices : choice_by symbols ≡ choice_of (numbered_statements ls)
+  choices = choices_known (numbered_statements ls) symbols below are
+
+  members : bad_members (numbered_statements ls) ≡ [] → member_by symbols ≡ is_member (numbered_statements ls)
+  members none =
+      let at : (c : ℕ) (t : SymId) → member_by symbols c t ≡ is_member (numbered_statements ls) c t = λ c t. ap (λ (f : SymId → Option ℕ). list_any (λ d. d == c) (listed (f t))) choices ∙ sym (member_is (numbered_statements ls) t none c) in
+      λ i c t. at c t i
+
+  -- with the first walk's knowledge in place of that of the list
+  known_said : (o : MenuEntry) (before first : Bool) (s : Numbered) → bad_members (numbered_statements ls) ≡ [] → said_with (kind_by symbols) (choice_by symbols) (member_by symbols) o before first s ≡ said_with (kind_of (numbered_statements ls)) (choice_of (numbered_statements ls)) (is_member (numbered_statements ls)) o before first s
+  known_said o before first s none =
+      ap (λ (f : SymId → Kind). said_with f (choice_by symbols) (member_by symbols) o before first s) kinds
+      ∙ ap (λ (f : SymId → Option ℕ). said_with (kind_of (numbered_statements ls)) f (member_by symbols) o before first s) choices
+      ∙ ap (λ (f : ℕ → SymId → Bool). said_with (kind_of (numbered_statements ls)) (choice_of (numbered_statements ls)) f o before first s) (members none)
+
+  known_member : (first : Bool) (round : Option ℕ) (s : Numbered) → is_bad_member (kind_by symbols) (choice_by symbols) first round s ≡ is_bad_member (kind_of (numbered_statements ls)) (choice_of (numbered_statements ls)) first round s
+  known_member first round s =
+      ap (λ (f : SymId → Kind). is_bad_member f (choice_by symbols) first round s) kinds
+      ∙ ap (λ (f : SymId → Option ℕ). is_bad_member (kind_of (numbered_statements ls)) f first round s) choices
+
+  -- one line more
+  line_next : (place : EntryPlace) (prompted : Bool) (i : ℕ) (l : Placed Numbered) (d : Diagnosis) → IsKnown ls symbols place prompted i l → Found names ls i d → Found names ls (i + 1) (looked_at names symbols place prompted l d)
+  line_next place prompted i l d k f =
+      let ss = numbered_statements ls in
+      let read = statement_read names ls i l k.at in
+      let member_b = is_bad_member (kind_by symbols) (choice_by symbols) place.first (option_map (λ (c : ChoiceId). c.0) place.round) l.statement in
+      let member_at : bad_member_at names ls i ≡ member_b = ap (λ (o : Option Numbered). list_any (is_bad_member (kind_of ss) (choice_of ss) (is_first_at ss i) (choice_round ss i)) (listed o)) read ∙ or_false _ ∙ sym k.member in
+      let default_b = is_bad_default (kind_by symbols) place.entry l.statement in
+      let default_at : bad_default_at names ls i ≡ default_b = ap (λ (o : Option Numbered). list_any (is_bad_default (kind_of ss) (menu_entry_at ss i)) (listed o)) read ∙ or_false _ ∙ sym (ap (λ (g : SymId → Kind). is_bad_default g place.entry l.statement) kinds ∙ ap (λ (o : MenuEntry). is_bad_default (kind_of ss) o l.statement) k.entry) in
+      let refused_by : (c : Code) → refused_at names ls c i ≡ late names c place.entry l ∷ [] = λ c. refused_one names ls c i l k.at ∙ ap (λ (o : MenuEntry). late names c o l ∷ []) (sym k.entry) in
+      let line = line_of names l.file l.line in
+      let warned : warned_at names ls i (slice_get ls i) ≡ map line (said ss i l.statement) = ap (warned_at names ls i) k.at in
+      record {
+        member = found_next (refused_at names ls code.ChoiceMember) (bad_member_at names ls) i member_b d.member (late names code.ChoiceMember place.entry l) member_at (refused_by code.ChoiceMember) f.member;
+        default = found_next (refused_at names ls code.BadDefault) (bad_default_at names ls) i default_b d.default (late names code.BadDefault place.entry l) default_at (refused_by code.BadDefault) f.default;
+        warnings = λ none.
+            ap (λ w. w ++ map line (said_by_place symbols place prompted l.statement)) (f.warnings none)
+            ∙ ap (λ w. flat_map (λ j. warned_at names ls j (slice_get ls j)) (numbers i) ++ w) (ap (map line) (k.says none) ∙ sym warned)
+            ∙ sym (flat_map-next (λ j. warned_at names ls j (slice_get ls j)) i);
+      }
+
+-- The attributes of an entry.
+all_pass : {A : Type 0} (p : A → Bool) (b : Bool) (x : A) (xs : List A) → p x ≡ b → All (λ y. p y ≡ true) (take_while p xs) → All (λ y. p y ≡ true) (take_while p (x ∷ xs))
+all_pass p true x xs e h = rw (take_while-cons p x xs, e) (All-cons (λ y. p y ≡ true) x (take_while p xs) e h)
+all_pass p false x xs e h = rw (take_while-cons p x xs, e) (All-nil (λ y. p y ≡ true))
+
+taken_pass : {A : Type 0} (p : A → Bool) (xs : List A) → All (λ x. p x ≡ true) (take_while p xs)
+taken_pass p [] = All-nil (λ x. p x ≡ true)
+taken_pass p (x ∷ xs) = all_pass p (p x) x xs refl (taken_pass p xs)
+
+get_dropped : {A : Type 0} (xs : List A) (i : ℕ) (x : A) (ys : List A) → drop i xs ≡ x ∷ ys → slice_get xs i ≡ Some x
+get_dropped [] zero x ys h = cc
+get_dropped [] (suc i) x ys h = cc
+get_dropped (y ∷ xs) zero x ys h = cc
+get_dropped (y ∷ xs) (suc i) x ys h = get_dropped xs i x ys h
+
+drop_dropped : {A : Type 0} (xs : List A) (i : ℕ) (x : A) (ys : List A) → drop i xs ≡ x ∷ ys → drop (i + 1) xs ≡ ys
+drop_dropped xs i x ys h = sym (drop-drop 1 i xs) ∙ ap (drop 1) h
+
+module _ (names : List (List ℕ)) (ls : List (Placed Numbered)) (symbols : List Symbol) (below : AreBelow (length symbols) (numbered_statements ls)) (are : AreSymbols (numbered_statements ls) symbols) (place : EntryPlace) where
+  -- an attribute: whether a definition is the first, and what is round it, does not count
+  attribute_known : (prompted : Bool) (i : ℕ) (l : Placed Numbered) → slice_get ls i ≡ Some l → is_attribute l.statement ≡ true → menu_entry_before (numbered_statements ls) i ≡ place.entry → prompted ≡ prompt_before (numbered_statements ls) i → IsKnown ls symbols place prompted i l
+  attribute_known prompted i l at a e p =
+      let ss = numbered_statements ls in
+      let entry : place.entry ≡ menu_entry_at ss i = sym e ∙ sym (entry_goes_on ss i l.statement (statement_read names ls i l at) a) ∙ entry_here ss i in
+      record {
+        at = at;
+        entry = entry;
+        member = no_member (kind_by symbols) (choice_by symbols) (member_by symbols) place.entry l.statement place.first (option_map (λ (k : ChoiceId). k.0) place.round) a ∙ sym (no_member (kind_of ss) (choice_of ss) (member_by symbols) place.entry l.statement (is_first_at ss i) (choice_round ss i) a);
+        says = λ none.
+            known_said names ls symbols below are place.entry prompted place.first l.statement none
+            ∙ first_unread (kind_of ss) (choice_of ss) (is_member ss) place.entry l.statement prompted place.first (is_first_at ss i) a
+            ∙ ap (λ (b : Bool). said_with (kind_of ss) (choice_of ss) (is_member ss) place.entry b (is_first_at ss i) l.statement) p
+            ∙ ap (λ (o : MenuEntry). said_with (kind_of ss) (choice_of ss) (is_member ss) o (prompt_before ss i) (is_first_at ss i) l.statement) entry;
+      }
+
+  attributes_next : (own : List (Placed Numbered)) (rest : List (Placed Numbered)) (i : ℕ) (prompted : Bool) (d : Diagnosis) → drop i ls ≡ own ++ rest → All (λ s. is_attribute s ≡ true) (map (λ l. l.statement) own) → menu_entry_before (numbered_statements ls) i ≡ place.entry → prompted ≡ prompt_before (numbered_statements ls) i → Found names ls i d → Found names ls (i + length own) (all_looked_at names symbols place prompted own d)
+  attributes_next [] rest i prompted d h a e p f = let same : i + 0 ≡ i = omega arith in rw same f
+  attributes_next (l ∷ own) rest i prompted d h a e p f =
+      let ss = numbered_statements ls in
+      let at = get_dropped ls i l (own ++ rest) h in
+      let read = statement_read names ls i l at in
+      let one : is_attribute l.statement ≡ true = All-head (λ s. is_attribute s ≡ true) l.statement (map (λ l. l.statement) own) a in
+      let more = All-tail (λ s. is_attribute s ≡ true) l.statement (map (λ l. l.statement) own) a in
+      let next = line_next names ls symbols below are place prompted i l d (attribute_known prompted i l at one e p) f in
+      let asked : (prompted || asks l.statement) ≡ prompt_before ss (i + 1) = ap (λ b. b || asks l.statement) p ∙ turned (prompt_before ss i) (asks l.statement) ∙ sym (prompt_goes_on ss i l.statement read one) in
+      let there : i + length (l ∷ own) ≡ (i + 1) + length own = omega arith in
+      rw there (attributes_next own rest (i + 1) (prompted || asks l.statement) (looked_at names symbols place prompted l d) (drop_dropped ls i l (own ++ rest) h) more (entry_goes_on ss i l.statement read one ∙ e) asked next)
+    where
+      turned : (a b : Bool) → (a || b) ≡ (b || a)
+      turned true true = refl
+      turned true false = refl
+      turned false true = refl
+      turned false false = refl
+
+  -- what begins an entry: that a prompt stands before it does not count
+  head_known : (i : ℕ) (l : Placed Numbered) → slice_get ls i ≡ Some l → IsPlace (numbered_statements ls) i place → ((is_attribute l.statement ≡ false) ⊎ (i ≡ 0)) → IsKnown ls symbols place false i l
+  head_known i l at is begins = record {
+    at = at;
+    entry = is.entry;
+    member =
+        known_member names ls symbols below are place.first (option_map (λ (k : ChoiceId). k.0) place.round) l.statement
+        ∙ ap (λ (b : Bool). is_bad_member (kind_of (numbered_statements ls)) (choice_of (numbered_statements ls)) b (option_map (λ (k : ChoiceId). k.0) place.round) l.statement) is.first
+        ∙ ap (λ (r : Option ℕ). is_bad_member (kind_of (numbered_statements ls)) (choice_of (numbered_statements ls)) (is_first_at (numbered_statements ls) i) r l.statement) is.round;
+    says = λ none.
+        known_said names ls symbols below are place.entry false place.first l.statement none
+        ∙ ap (λ (b : Bool). said_with (kind_of (numbered_statements ls)) (choice_of (numbered_statements ls)) (is_member (numbered_statements ls)) place.entry false b l.statement) is.first
+        ∙ ap (λ (o : MenuEntry). said_with (kind_of (numbered_statements ls)) (choice_of (numbered_statements ls)) (is_member (numbered_statements ls)) o false (is_first_at (numbered_statements ls) i) l.statement) is.entry
+        ∙ unread begins;
+  }
+    where
+      unread : ((is_attribute l.statement ≡ false) ⊎ (i ≡ 0)) → said_with (kind_of (numbered_statements ls)) (choice_of (numbered_statements ls)) (is_member (numbered_statements ls)) (menu_entry_at (numbered_statements ls) i) false (is_first_at (numbered_statements ls) i) l.statement ≡ said (numbered_statements ls) i l.statement
+      unread (inl a) = before_unread (kind_of (numbered_statements ls)) (choice_of (numbered_statements ls)) (is_member (numbered_statements ls)) (menu_entry_at (numbered_statements ls) i) l.statement false (prompt_before (numbered_statements ls) i) (is_first_at (numbered_statements ls) i) a
+      unread (inr z) = rw z refl
+
+  -- behind what begins an entry a prompt stands, if it is its own
+  head_asked : (i : ℕ) (s : Numbered) → slice_get (numbered_statements ls) i ≡ Some s → ((is_attribute s ≡ false) ⊎ (i ≡ 0)) → asks s ≡ prompt_before (numbered_statements ls) (i + 1)
+  head_asked i s at (inl a) = ap is_some (no_prompt s a) ∙ sym (prompt_begins (numbered_statements ls) i s at a)
+  head_asked i s at (inr z) = by (is_attribute s) refl
+    where
+      by : (b : Bool) → is_attribute s ≡ b → asks s ≡ prompt_before (numbered_statements ls) (i + 1)
+      by false a = ap is_some (no_prompt s a) ∙ sym (prompt_begins (numbered_statements ls) i s at a)
+      by true a =
+          let none : prompt_before (numbered_statements ls) i ≡ false = rw z refl in
+          sym (prompt_goes_on (numbered_statements ls) i s at a ∙ ap (λ b. asks s || b) none ∙ or_false (asks s))
+
+  entry_next : (i : ℕ) (head : Placed Numbered) (own rest : List (Placed Numbered)) (d : Diagnosis) → slice_get ls i ≡ Some head → drop (i + 1) ls ≡ own ++ rest → attributes (numbered_statements ls) i ≡ map (λ l. l.statement) own → ((is_attribute head.statement ≡ false) ⊎ (i ≡ 0)) → IsPlace (numbered_statements ls) i place → Found names ls i d → Found names ls (i + 1 + length own) (all_looked_at names symbols place false (head ∷ own) d)
+  entry_next i head own rest d at tail are_own begins is f =
+      let ss = numbered_statements ls in
+      let read = statement_read names ls i head at in
+      let passed : All (λ s. is_attribute s ≡ true) (map (λ l. l.statement) own) = All-same (λ s. is_attribute s ≡ true) (map (λ l. l.statement) own) (attributes ss i) (sym are_own) (taken_pass is_attribute (drop (suc i) ss)) in
+      attributes_next own rest (i + 1) (asks head.statement) (looked_at names symbols place false head d) tail passed (entry_here ss i ∙ sym is.entry) (head_asked i head.statement read begins) (line_next names ls symbols below are place false i head d (head_known i head at is begins) f)
+
+  -- one entry more
+  pub entry_diagnosed : (i k : ℕ) (head : Placed Numbered) (own : List (Placed Numbered)) (old new : Diagnostics) → slice_get ls i ≡ Some head → own ≡ take k (drop (i + 1) ls) → attributes (numbered_statements ls) i ≡ map (λ l. l.statement) own → ((is_attribute head.statement ≡ false) ⊎ (i ≡ 0)) → IsPlace (numbered_statements ls) i place → IsDiagnosed names ls i old → AreLookedAt names symbols place head own old new → IsDiagnosed names ls (i + 1 + length own) new
+  entry_diagnosed i k head own old new at from are_own begins is old_is looked =
+      let within = slice_get_within ls i head at in
+      let tail : drop (i + 1) ls ≡ own ++ drop k (drop (i + 1) ls) = sym (take-append-drop k (drop (i + 1) ls)) ∙ ap (λ l. l ++ drop k (drop (i + 1) ls)) (sym from) in
+      let fits : i + 1 + length own ≤ length ls = omega (arith, ap length tail, length-append own (drop k (drop (i + 1) ls)), length-drop (i + 1) ls) in
+      diagnosed names ls (i + 1 + length own) new fits (rw looked (entry_next i head own (drop k (drop (i + 1) ls)) (diagnosis_view old) at tail are_own begins is (found names ls i old (omega arith) old_is)))
+
+-- The same of lines as the code has them.
+line_read : (lines : List Line) (i : ℕ) (x : Line) → i < length lines → x ≡ get_or lines i x → slice_get (map line_view lines) i ≡ Some (line_view x)
+line_read lines i x h e = slice_get-map line_view lines i ∙ ap (option_map line_view) (slice_get-get_or lines i x h ∙ ap Some (sym e))
+
+-- one entry more, of a walk over lines
+pub entry_of_lines : (names : List (List ℕ)) (lines : List Line) (symbols : List Symbol) (place : EntryPlace) (i k : ℕ) (head : Line) (own : List Line) (old new : Diagnostics) → AreBelow (length symbols) (said_by lines) → AreSymbols (said_by lines) symbols → i < length lines → head ≡ get_or lines i head → own ≡ take k (drop (i + 1) lines) → attributes (said_by lines) i ≡ said_by own → ((is_attribute (statement_view head.statement) ≡ false) ⊎ (i ≡ 0)) → IsPlace (said_by lines) i place → IsDiagnosed names (map line_view lines) i old → AreLookedAt names symbols place (line_view head) (map line_view own) old new → IsDiagnosed names (map line_view lines) (i + 1 + length (said_by own)) new
+entry_of_lines names lines symbols place i k head own old new below are h at from are_own begins is old_is looked =
+    let ls = map line_view lines in
+    let same : said_by lines ≡ numbered_statements ls = sym (statements-are lines) in
+    let taken : map line_view own ≡ take k (drop (i + 1) ls) = ap (map line_view) from ∙ sym (take-map line_view k (drop (i + 1) lines)) ∙ ap (take k) (sym (drop-map line_view (i + 1) lines)) in
+    let attributes_are : attributes (numbered_statements ls) i ≡ numbered_statements (map line_view own) = ap (λ (ss : List Numbered). attributes ss i) (sym same) ∙ are_own ∙ sym (statements-are own) in
+    let passed = entry_diagnosed names ls symbols (rw same at below) (rw same at are) place i k (line_view head) (map line_view own) old new (line_read lines i head h at) taken attributes_are begins (rw same at is) old_is looked in
+    let count : length (map line_view own) ≡ length (said_by own) = length-map own line_view ∙ sym (length-map own (λ (l : Line). statement_view l.statement)) in
+    rw count at passed
+
+-- The line behind an entry begins the next one.
+after_taken : {A : Type 0} (p : A → Bool) (b : Bool) (x y : A) (xs : List A) → p y ≡ b → slice_get (y ∷ xs) (length (take_while p (y ∷ xs))) ≡ Some x → (slice_get xs (length (take_while p xs)) ≡ Some x → p x ≡ false) → p x ≡ false
+after_taken p true x y xs e h ih = ih (rw (take_while-cons p y xs, e) at h)
+after_taken p false x y xs e h ih =
+    let same : y ≡ x = (let q : Some y ≡ Some x = (rw (take_while-cons p y xs, e) at h) in cc) in
+    ap p (sym same) ∙ e
+
+stops_at : {A : Type 0} (p : A → Bool) (xs : List A) (x : A) → slice_get xs (length (take_while p xs)) ≡ Some x → p x ≡ false
+stops_at p [] x h = cc
+stops_at p (y ∷ xs) x h = after_taken p (p y) x y xs refl h (stops_at p xs x)
+
+get-drop : {A : Type 0} (xs : List A) (n k : ℕ) → slice_get (drop n xs) k ≡ slice_get xs (n + k)
+get-drop xs zero k = let e : 0 + k ≡ k = omega arith in rw e refl
+get-drop [] (suc n) k = refl
+get-drop (x ∷ xs) (suc n) k = let e : suc n + k ≡ suc (n + k) = omega arith in rw e (get-drop xs n k)
+
+pub begins_behind : (ss : List Numbered) (i : ℕ) (s : Numbered) → slice_get ss (i + 1 + length (attributes ss i)) ≡ Some s → is_attribute s ≡ false
+begins_behind ss i s h =
+    let there : suc i + length (attributes ss i) ≡ i + 1 + length (attributes ss i) = omega arith in
+    stops_at is_attribute (drop (suc i) ss) s (get-drop ss (suc i) (length (attributes ss i)) ∙ ap (slice_get ss) there ∙ h)
+
+-- Behind the last line.
+no_left : {A : Type 0} (xs ys : List A) → xs ++ ys ≡ [] → xs ≡ []
+no_left [] ys h = refl
+no_left (x ∷ xs) ys h = cc
+
+no_right : {A : Type 0} (xs ys : List A) → xs ++ ys ≡ [] → ys ≡ []
+no_right [] ys h = h
+no_right (x ∷ xs) ys h = cc
+
+none_first : {A : Type 0} (xs : List A) → first_of xs ≡ None → xs ≡ []
+none_first [] h = refl
+none_first (x ∷ xs) h = cc
+
+module _ {A : Type 0} (R : ℕ → List A) (q : ℕ → Bool) where
+  none_more : (n : ℕ) (b : Bool) → q n ≡ b → (R n ≡ [] → ⊥) → flat_map R (filter q (numbers (suc n))) ≡ [] → (flat_map R (filter q (numbers n)) ≡ [] → filter q (numbers n) ≡ []) → filter q (numbers (suc n)) ≡ []
+  none_more n b e some h ih =
+      let more : filter q (numbers (suc n)) ≡ filter q (numbers n) ++ one_if b n = (rw add-one at (filter-next q n)) ∙ ap (λ c. filter q (numbers n) ++ one_if c n) e in
+      let none : flat_map R (filter q (numbers n)) ++ flat_map R (one_if b n) ≡ [] = sym (flat_map-append R (filter q (numbers n)) (one_if b n)) ∙ ap (flat_map R) (sym more) ∙ h in
+      let front = ih (no_left (flat_map R (filter q (numbers n))) (flat_map R (one_if b n)) none) in
+      more ∙ ap (λ l. l ++ one_if b n) front ∙ last b (no_right (flat_map R (filter q (numbers n))) (flat_map R (one_if b n)) none)
+    where
+      last : (c : Bool) → flat_map R (one_if c n) ≡ [] → one_if c n ≡ []
+      last false g = refl
+      last true g = absurd (some (sym (append-nil (R n)) ∙ g))
+
+  none_kept : (n : ℕ) → ((i : ℕ) → i < n → R i ≡ [] → ⊥) → flat_map R (filter q (numbers n)) ≡ [] → filter q (numbers n) ≡ []
+  none_kept zero some h = refl
+  none_kept (suc n) some h = none_more n (q n) refl (some n (omega arith)) h (none_kept n (λ i l. some i (omega arith)))
+
+-- no refusal, and the warnings are all there is
+pub record IsAccepted (names : List (List ℕ)) (ls : List (Placed Numbered)) (d : Diagnostics) : Type 0 where
+  pub refusals : late_refusals names ls ≡ []
+  pub warnings_are : map (λ v. v.items) d.warnings.items ≡ warnings names ls
+
+module _ (names : List (List ℕ)) (ls : List (Placed Numbered)) (d : Diagnostics) (is : IsDiagnosed names ls (length ls) d) where
+  all_found : Found names ls (length ls) (diagnosis_view d)
+  all_found = found names ls (length ls) d (omega arith) is
+
+  first_member : first_of (flat_map (refused_at names ls code.ChoiceMember) (bad_members (numbered_statements ls))) ≡ option_map refusal_view d.bad_member
+  first_member = ap (λ n. first_of (flat_map (refused_at names ls code.ChoiceMember) (filter (bad_member_at names ls) (numbers n)))) (statement_count names ls) ∙ sym all_found.member
+
+  first_default : first_of (flat_map (refused_at names ls code.BadDefault) (bad_defaults (numbered_statements ls))) ≡ option_map refusal_view d.bad_default
+  first_default = ap (λ n. first_of (flat_map (refused_at names ls code.BadDefault) (filter (bad_default_at names ls) (numbers n)))) (statement_count names ls) ∙ sym all_found.default
+
+  first_late : first_of (late_refusals names ls) ≡ option_or (option_map refusal_view d.bad_member) (option_map refusal_view d.bad_default)
+  first_late =
+      first_append (flat_map (refused_at names ls code.ChoiceMember) (bad_members (numbered_statements ls))) (flat_map (refused_at names ls code.BadDefault) (bad_defaults (numbered_statements ls)))
+      ∙ ap (λ (o : Option Refused). option_or o (first_of (flat_map (refused_at names ls code.BadDefault) (bad_defaults (numbered_statements ls))))) first_member
+      ∙ ap (option_or (option_map refusal_view d.bad_member)) first_default
+
+  refused_some : (c : Code) (i : ℕ) → i < length (numbered_statements ls) → refused_at names ls c i ≡ [] → ⊥
+  refused_some c i h none =
+      let l = there_in ls i (omega (arith, statement_count names ls)) in
+      let some = refused_one names ls c i l.0 l.1 in
+      cc
+
+  -- no member is refused where none is found
+  no_bad_member : d.bad_member ≡ None → bad_members (numbered_statements ls) ≡ []
+  no_bad_member none =
+      none_kept (refused_at names ls code.ChoiceMember) (bad_member_at names ls) (length (numbered_statements ls)) (refused_some code.ChoiceMember) (none_first (flat_map (refused_at names ls code.ChoiceMember) (bad_members (numbered_statements ls))) (first_member ∙ ap (option_map refusal_view) none))
+
+  by_option : (o p : Option Refusal) → option_map refusal_view (option_or o p) ≡ option_or (option_map refusal_view o) (option_map refusal_view p)
+  by_option None p = refl
+  by_option (Some r) p = refl
+
+  -- the first refusal is that of the list
+  pub refused_tree : (r : Refusal) (t : TreeFacts) → option_or d.bad_member d.bad_default ≡ Some r → unless_refused (late_refusals names ls) t ≡ Err (refusal_view r)
+  refused_tree r t e = by (late_refusals names ls) (first_late ∙ sym (by_option d.bad_member d.bad_default) ∙ ap (option_map refusal_view) e)
+    where
+      by : (rs : List Refused) → first_of rs ≡ Some (refusal_view r) → unless_refused rs t ≡ Err (refusal_view r)
+      by [] h = cc
+      by (x ∷ rs) h = cc
+
+  -- without one the warnings are those of the list
+  pub accepted : d.bad_member ≡ None → d.bad_default ≡ None → IsAccepted names ls d
+  accepted m e =
+      let none = first_late ∙ ap (λ (o : Option Refusal). option_or (option_map refusal_view o) (option_map refusal_view d.bad_default)) m ∙ ap (option_map refusal_view) e in
+      record {
+        refusals = none_first (late_refusals names ls) none;
+        warnings_are = all_found.warnings (no_bad_member m) ∙ ap (λ n. flat_map (λ j. warned_at names ls j (slice_get ls j)) (numbers n)) (sym (statement_count names ls));
+      }

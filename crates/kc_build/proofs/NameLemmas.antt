@@ -1,0 +1,18 @@
+-- The names of a tree are distinct, and so the tree of a root file is well formed.
+use Rattle.std.proofs.Common.{◌≡◌, ℕ, List, Result, Ok, Err}
+use Rattle.kc_read.specs.Expansion.{Expands, Log, Refused, statements}
+use Rattle.kc_read.specs.Files.{Files}
+use Rattle.kc_tree.specs.TreeFacts.{IsWellFormed, TreeFacts}
+use Rattle.kc_build.specs.Trees.{TreesAreWellFormed, tree_of_log}
+use Rattle.kc_build.proofs.BuildLemmas.{whole-formed}
+use Rattle.kc_build.proofs.DefinedLemmas.{expanded_known}
+use Rattle.kc_build.proofs.NumberingLemmas.{names-distinct}
+use Rattle.kc_build.proofs.WholeLemmas.{shaped}
+
+log-formed : (files : Files) (root : List ℕ) (tree : TreeFacts) (e : Result Log Refused) → Expands files root e → Ok tree ≡ tree_of_log e → IsWellFormed tree
+log-formed files root tree (Ok log) expands is =
+    whole-formed log.lines tree (expanded_known files root log expands) (names-distinct (statements log.lines)) (shaped files root log expands) is
+log-formed files root tree (Err r) expands is = absurd cc
+
+pub trees-formed : TreesAreWellFormed
+trees-formed files root tree (e, expands, is) = log-formed files root tree e expands is

@@ -1,0 +1,189 @@
+-- What selects and implies a symbol, by what the definitions say and by the rows of the lines, with one definition more.
+use Rattle.std.proofs.Common.{◌≡◌, ℕ, ◌<◌, Bool, true, false, if◌then◌else◌, ◌&&◌, ◌==◌, List, [], ◌∷◌, ◌++◌, length, map, reverse, Option, Some, None, refl, ap, sym, ◌∙◌, get_or, subst}
+use Rattle.std.specs.List.{All, cons_option, filter_map, flat_map, slice_get}
+use Rattle.std.specs.Option.{is_none, option_and_then, option_map}
+use Rattle.std.proofs.lemmas.Bool.{eqb-true, lt-ltb}
+use Rattle.std.proofs.lemmas.List.{append-nil, reverse-append}
+use Rattle.std.proofs.lemmas.List.Elements.{All-cons, All-head, All-nil, All-push, All-tail, filter_map-append}
+use Rattle.std.proofs.lemmas.Option.{slice_get-map}
+use Rattle.kc_expr.specs.declared.expression.Kind.{Kind}
+use Rattle.kc_expr.specs.declared.expression.SymId.{SymId}
+use Rattle.kc_expr.specs.Form.{Form}
+use Rattle.kc_expr.specs.Names.{symbol}
+use Rattle.kc_expr.specs.When.{when_view}
+use Rattle.kc_read.specs.Blocks.{attributes}
+use Rattle.kc_read.specs.Statements.{Numbered, SelectLine, ImplyLine}
+use Rattle.kc_tree.specs.declared.layout.Tables.{Tables}
+use Rattle.kc_tree.specs.declared.parts.DefinitionId.{DefinitionId}
+use Rattle.kc_tree.specs.declared.parts.Reverse.{Reverse}
+use Rattle.kc_tree.specs.declared.parts.ReverseId.{ReverseId}
+use Rattle.kc_tree.specs.declared.parts.Symbol.{Symbol}
+use Rattle.kc_tree.specs.Chains.{chain_of, chains_of}
+use Rattle.kc_tree.specs.Layouts.{DefinitionFacts, definition_facts, impliers_at, reverse_at, reverse_facts, selectors_at, with_when}
+use Rattle.kc_tree.specs.TreeFacts.{Guarded}
+use Rattle.kc_tree.specs.Words.{listed}
+use Rattle.kc_build.specs.declared.lines.ReverseKind.{ReverseKind}
+use Rattle.kc_build.specs.declared.lines.ReverseKind.TheVariants as reverse_kind
+use Rattle.kc_build.specs.Facts as facts
+use Rattle.kc_build.specs.Facts.{imply_of, named_under, naming_at, select_of, symbol_at}
+use Rattle.kc_build.specs.Known.{AreSymbols, AreBelow, can_be_target, choice_by, kind_by}
+use Rattle.kc_build.specs.ReverseRows.{HaveSources, added_line, added_lines, implies_of, reverse_row, rows_to, selects_of}
+use Rattle.kc_build.specs.Targets.{target_of}
+use Rattle.kc_build.proofs.GrownLemmas.{filter_map_alike, get_front, get_last}
+use Rattle.kc_build.proofs.KnownLemmas.{choices_known, kinds_known}
+use Rattle.kc_build.proofs.WalkLemmas.{all_at}
+
+-- Lists.
+and_then-filter : {A B C : Type 0} (f : A → Option B) (g : B → Option C) (xs : List A) → filter_map (λ x. option_and_then g (f x)) xs ≡ filter_map g (filter_map f xs)
+and_then-filter f g [] = refl
+and_then-filter {A} {B} {C} f g (x ∷ xs) = by (f x) (and_then-filter f g xs)
+  where
+    by : (o : Option B) → filter_map (λ y. option_and_then g (f y)) xs ≡ filter_map g (filter_map f xs) →
+        cons_option (option_and_then g o) (filter_map (λ y. option_and_then g (f y)) xs) ≡ filter_map g (cons_option o (filter_map f xs))
+    by None h = h
+    by (Some b) h = ap (cons_option (g b)) h
+
+filter_map-reverse : {A B : Type 0} (g : A → Option B) (xs : List A) → filter_map g (reverse xs) ≡ reverse (filter_map g xs)
+filter_map-reverse g [] = refl
+filter_map-reverse {A} {B} g (x ∷ xs) =
+    ap (filter_map g) (reverse-append (x ∷ []) xs)
+    ∙ filter_map-append g (reverse xs) (x ∷ [])
+    ∙ ap (λ l. l ++ cons_option (g x) []) (filter_map-reverse g xs)
+    ∙ sym (by (g x))
+  where
+    by : (o : Option B) → reverse (cons_option o (filter_map g xs)) ≡ reverse (filter_map g xs) ++ cons_option o []
+    by None = sym (append-nil (reverse (filter_map g xs)))
+    by (Some y) = reverse-append (y ∷ []) (filter_map g xs)
+
+all-reverse : {A : Type 0} (P : A → Type 0) (xs : List A) → All P xs → All P (reverse xs)
+all-reverse P [] h = h
+all-reverse {A} P (x ∷ xs) h =
+    let e : reverse (x ∷ xs) ≡ reverse xs ++ x ∷ [] = reverse-append (x ∷ []) xs in
+    subst (All P) (sym e) (All-push P (reverse xs) x (all-reverse P xs (All-tail P x xs h)) (All-head P x xs h))
+
+-- A line by the number of its definition, seen by what the definitions say.
+abbrev pub named_in : List DefinitionFacts → ℕ × Option Form → Option (Guarded SymId)
+named_in ds x = option_map (λ (d : DefinitionFacts). record { what = d.symbol; when = with_when d.dep x.1 }) (slice_get ds x.0)
+
+module _ (t : Tables) where
+  abbrev said : List DefinitionFacts
+  said = map (definition_facts t) t.definitions.items
+
+  by_row : (o : Option Reverse) → option_and_then (reverse_facts t) o ≡ option_and_then (named_in said) (option_map reverse_row o)
+  by_row None = refl
+  by_row (Some r) =
+      ap (option_map (λ (d : DefinitionFacts). record { what = d.symbol; when = with_when d.dep (when_view r.when) })) (sym (slice_get-map (definition_facts t) t.definitions.items r.source.0))
+
+  from_rows : (last : Option ReverseId) → reverse (filter_map (reverse_at t) (chain_of (chains_of t.reverses.lines.items) last)) ≡ filter_map (named_in said) (rows_to t.reverses.lines.items last)
+  from_rows last =
+      let chain = chain_of (chains_of t.reverses.lines.items) last in
+      let row = λ (i : ℕ). option_map reverse_row (slice_get t.reverses.lines.items i) in
+      ap reverse (filter_map_alike (reverse_at t) (λ i. option_and_then (named_in said) (row i)) chain (λ i. by_row (slice_get t.reverses.lines.items i)) ∙ and_then-filter row (named_in said) chain)
+      ∙ sym (filter_map-reverse (named_in said) (filter_map row chain))
+
+  pub selectors_by_rows : (s : ℕ) → selectors_at t s ≡ filter_map (named_in said) (selects_of t.reverses s)
+  selectors_by_rows s = from_rows (get_or t.reverses.selects.items s None)
+
+  pub impliers_by_rows : (s : ℕ) → impliers_at t s ≡ filter_map (named_in said) (implies_of t.reverses s)
+  impliers_by_rows s = from_rows (get_or t.reverses.implies.items s None)
+
+-- Rows of definitions below a number.
+abbrev AreLow : ℕ → List (ℕ × Option Form) → Type 0
+AreLow n = All (λ (x : ℕ × Option Form). x.0 < n)
+
+chain_low : (n : ℕ) (lines : List Reverse) → HaveSources n lines → (chain : List ℕ) → AreLow n (filter_map (λ i. option_map reverse_row (slice_get lines i)) chain)
+chain_low n lines h [] = All-nil (λ (x : ℕ × Option Form). x.0 < n)
+chain_low n lines h (i ∷ chain) = by (slice_get lines i) refl (chain_low n lines h chain)
+  where
+    by : (o : Option Reverse) → slice_get lines i ≡ o → AreLow n (filter_map (λ j. option_map reverse_row (slice_get lines j)) chain) →
+        AreLow n (cons_option (option_map reverse_row o) (filter_map (λ j. option_map reverse_row (slice_get lines j)) chain))
+    by None e rest = rest
+    by (Some r) e rest = All-cons (λ (x : ℕ × Option Form). x.0 < n) (reverse_row r) _ (all_at (λ (q : Reverse). q.source.0 < n) lines i r h e) rest
+
+pub rows_low : (n : ℕ) (lines : List Reverse) (last : Option ReverseId) → HaveSources n lines → AreLow n (rows_to lines last)
+rows_low n lines last h =
+    all-reverse (λ (x : ℕ × Option Form). x.0 < n) _ (chain_low n lines h (chain_of (chains_of lines) last))
+
+-- they say the same with one definition more
+pub named_more : (ds : List DefinitionFacts) (d : DefinitionFacts) (rows : List (ℕ × Option Form)) → AreLow (length ds) rows →
+    filter_map (named_in (ds ++ d ∷ [])) rows ≡ filter_map (named_in ds) rows
+named_more ds d [] h = refl
+named_more ds d (x ∷ rows) h =
+    let same : named_in (ds ++ d ∷ []) x ≡ named_in ds x = ap (option_map (λ (d : DefinitionFacts). record { what = d.symbol; when = with_when d.dep x.1 }))
+    (get_front ds (d ∷ []) x.0 (All-head (λ (y : ℕ × Option Form). y.0 < length ds) x rows h)) in
+    let rest = named_more ds d rows (All-tail (λ (y : ℕ × Option Form). y.0 < length ds) x rows h) in
+    rw (same, rest) refl
+
+-- What a definition adds.
+abbrev pub given_of : ReverseKind → ℕ → Numbered → Option (Option Form)
+given_of reverse_kind.Select s = select_of (symbol s)
+given_of reverse_kind.Imply s = imply_of (symbol s)
+
+if_nil : {A : Type 0} (b : Bool) → ◌≡◌ {A = List A} (if b then [] else []) []
+if_nil true = refl
+if_nil false = refl
+
+module _ (symbols : List Symbol) (source : DefinitionId) (ds : List DefinitionFacts) (d : DefinitionFacts) (n : source.0 ≡ length ds) (s : ℕ) (can : Bool) (is : can_be_target symbols (symbol s) ≡ can) where
+  abbrev pub named : Option Form → Guarded SymId
+  named w = record { what = d.symbol; when = with_when d.dep w }
+
+  found : (w : Option Form) → named_in (ds ++ d ∷ []) (source.0, w) ≡ Some (named w)
+  found w =
+      ap (option_map (λ (x : DefinitionFacts). record { what = x.symbol; when = with_when x.dep w })) (ap (slice_get (ds ++ d ∷ [])) n ∙ get_last ds d)
+
+  abbrev one : Option (Option Form) → List (Guarded SymId)
+  one o = if can then map named (cons_option o []) else []
+
+  -- a line that names a symbol, or another one
+  by_name : (t : SymId) (w : Option Form) (b : Bool) → (t.0 == s) ≡ b →
+      filter_map (named_in (ds ++ d ∷ [])) ((if b && can_be_target symbols t then (source.0, w) ∷ [] else []) ++ []) ≡ one (if b then Some w else None)
+  by_name t w true e =
+      let same : t ≡ symbol s = (let k = eqb-true t.0 s e in λ i. record { 0 = k i }) in
+      ap (λ (c : Bool). filter_map (named_in (ds ++ d ∷ [])) ((if c then (source.0, w) ∷ [] else []) ++ [])) (ap (can_be_target symbols) same ∙ is) ∙ by_can can
+    where
+      by_can : (c : Bool) → filter_map (named_in (ds ++ d ∷ [])) ((if c then (source.0, w) ∷ [] else []) ++ []) ≡ (if c then named w ∷ [] else [])
+      by_can true = ap (λ o. cons_option o []) (found w)
+      by_can false = refl
+  by_name t w false e = sym (if_nil can)
+
+  by_line : (kind : ReverseKind) (x : Numbered) → filter_map (named_in (ds ++ d ∷ [])) (flat_map (added_line symbols source kind s) (listed (target_of x))) ≡ one (given_of kind s x)
+  by_line reverse_kind.Select (SelectLine t w) = by_name t w (t.0 == s) refl
+  by_line reverse_kind.Imply (ImplyLine t w) = by_name t w (t.0 == s) refl
+  by_line reverse_kind.Select _ = sym (if_nil can)
+  by_line reverse_kind.Imply _ = sym (if_nil can)
+
+  abbrev all : List (Option Form) → List (Guarded SymId)
+  all ws = if can then map named ws else []
+
+  one_more : (o : Option (Option Form)) (ws : List (Option Form)) → one o ++ all ws ≡ all (cons_option o ws)
+  one_more o ws = by can o
+    where
+      by : (c : Bool) (o : Option (Option Form)) → (if c then map named (cons_option o []) else []) ++ (if c then map named ws else []) ≡ (if c then map named (cons_option o ws) else [])
+      by true None = refl
+      by true (Some w) = refl
+      by false None = refl
+      by false (Some w) = refl
+
+  pub added_named : (kind : ReverseKind) (own : List Numbered) → filter_map (named_in (ds ++ d ∷ [])) (added_lines symbols source kind s own) ≡ all (filter_map (given_of kind s) own)
+  added_named kind [] = sym (if_nil can)
+  added_named kind (x ∷ own) =
+      filter_map-append (named_in (ds ++ d ∷ [])) (flat_map (added_line symbols source kind s) (listed (target_of x))) (added_lines symbols source kind s own)
+      ∙ ap (λ l. l ++ filter_map (named_in (ds ++ d ∷ [])) (added_lines symbols source kind s own)) (by_line kind x)
+      ∙ ap (λ l. one (given_of kind s x) ++ l) (added_named kind own)
+      ∙ one_more (given_of kind s x) (filter_map (given_of kind s) own)
+
+-- the lines of a definition that name a symbol, as the list has them
+pub naming_is : (ss : List Numbered) (line : Numbered → Option (Option Form)) (i : ℕ) (t : SymId) → symbol_at ss i ≡ Some t →
+    naming_at ss line i ≡ map (named_under ss i t) (filter_map line (attributes ss i))
+naming_is ss line i t e = rw e (append-nil _)
+
+-- a symbol can be a target by the rows as it can by the list
+pub target_known : (ss : List Numbered) (symbols : List Symbol) (s : SymId) → AreBelow (length symbols) ss → AreSymbols ss symbols → s.0 < length symbols →
+    can_be_target symbols s ≡ facts.can_be_target ss s
+target_known ss symbols s below are l =
+    let there = lt-ltb s.0 (length symbols) l in
+    let kinds = kinds_known ss symbols below are in
+    let choices = choices_known ss symbols below are in
+    ap (λ (b : Bool). b && (is_none (choice_by symbols s) && facts.takes_kind (kind_by symbols s))) there
+    ∙ ap (λ (f : SymId → Option ℕ). is_none (f s) && facts.takes_kind (kind_by symbols s)) choices
+    ∙ ap (λ (f : SymId → Kind). is_none (facts.choice_of ss s) && facts.takes_kind (f s)) kinds

@@ -1,0 +1,56 @@
+-- Lists over the places of a list, one place more.
+use Rattle.std.proofs.Common.{◌≡◌, ℕ, zero, suc, ◌+◌, ◌<◌, Bool, if◌then◌else◌, List, [], ◌∷◌, ◌++◌, length, filter, map, Option, Some, refl, ap, sym, ◌∙◌, arith, add-one, get_or, length-append}
+use Rattle.std.specs.List.{slice_get, filter_map, flat_map, cons_option}
+use Rattle.std.proofs.lemmas.List.{map-append, append-nil, length-map}
+use Rattle.std.proofs.lemmas.List.Elements.{filter-append, filter_map-append}
+use Rattle.std.proofs.lemmas.Grind.{flat_map-append}
+use Rattle.std.specs.Prelude.{option_map}
+use Rattle.std.proofs.lemmas.Option.{slice_get-map, slice_get-get_or}
+use Rattle.kc_read.specs.declared.line.Line.{Line}
+use Rattle.kc_read.specs.Reads.{statement_view}
+use Rattle.kc_read.specs.Blocks.{numbers}
+use Rattle.kc_build.specs.Passes.{said_by}
+use Rattle.kc_build.proofs.BlockLemmas.{numbers_from, numbers-from}
+
+pub numbers-next : (i : ℕ) → numbers (i + 1) ≡ numbers i ++ i ∷ []
+numbers-next i = rw add-one refl
+
+pub map-next : {X : Type 0} (f : ℕ → X) (i : ℕ) (out : List X) (x : X) → out ≡ map f (numbers i) → x ≡ f i → out ++ x ∷ [] ≡ map f (numbers (i + 1))
+map-next f i out x h e = rw (numbers-next i, map-append f (numbers i) (i ∷ []), h, e) refl
+
+pub filter-next : (p : ℕ → Bool) (i : ℕ) → filter p (numbers (i + 1)) ≡ filter p (numbers i) ++ (if p i then i ∷ [] else [])
+filter-next p i = rw (numbers-next i, filter-append p (numbers i) (i ∷ [])) refl
+
+pub flat_map-next : {X : Type 0} (f : ℕ → List X) (i : ℕ) → flat_map f (numbers (i + 1)) ≡ flat_map f (numbers i) ++ f i
+flat_map-next f i = rw (numbers-next i, flat_map-append f (numbers i) (i ∷ []), append-nil (f i)) refl
+
+pub filter_map-next : {X : Type 0} (f : ℕ → Option X) (i : ℕ) → filter_map f (numbers (i + 1)) ≡ filter_map f (numbers i) ++ cons_option (f i) []
+filter_map-next f i = rw (numbers-next i, filter_map-append f (numbers i) (i ∷ [])) refl
+
+pub length-numbers : (n : ℕ) → length (numbers n) ≡ n
+length-numbers zero = refl
+length-numbers (suc n) = omega (arith, length-append (numbers n) (n ∷ []), length-numbers n)
+
+pub length-map_numbers : {X : Type 0} (f : ℕ → X) (n : ℕ) → length (map f (numbers n)) ≡ n
+length-map_numbers f n = length-map (numbers n) f ∙ length-numbers n
+
+get-from : {X : Type 0} (f : ℕ → X) (p n k : ℕ) → k < n → slice_get (map f (numbers_from p n)) k ≡ Some (f (p + k))
+get-from f p zero k h = absurd (omega arith)
+get-from f p (suc n) zero h = let e : p + 0 ≡ p = omega arith in rw e refl
+get-from f p (suc n) (suc k) h = let e : p + suc k ≡ suc p + k = omega arith in rw e (get-from f (suc p) n k (omega arith))
+
+pub get-map_numbers : {X : Type 0} (f : ℕ → X) (n k : ℕ) → k < n → slice_get (map f (numbers n)) k ≡ Some (f k)
+get-map_numbers f n k h = let e : 0 + k ≡ k = omega arith in rw (numbers-from n) (rw e at (get-from f 0 n k h))
+
+pub view_next : {A B : Type 0} (v : A → B) (f : ℕ → B) (i : ℕ) (out new : List A) (x : A) → map v out ≡ map f (numbers i) → v x ≡ f i → new ≡ out ++ x ∷ [] → map v new ≡ map f (numbers (i + 1))
+view_next v f i out new x h e n =
+    ap (map v) n ∙ map-append v out (x ∷ []) ∙ map-next f i (map v out) (v x) h e
+
+-- The same of lines.
+-- the statement of a line that was read by its place
+pub statement_at : (ls : List Line) (i : ℕ) (x : Line) → i < length ls → x ≡ get_or ls i x → slice_get (said_by ls) i ≡ Some (statement_view x.statement)
+statement_at ls i x h e =
+    slice_get-map (λ (l : Line). statement_view l.statement) ls i ∙ ap (option_map (λ (l : Line). statement_view l.statement)) (slice_get-get_or ls i x h ∙ ap Some (sym e))
+
+pub length-said_by : (ls : List Line) → length (said_by ls) ≡ length ls
+length-said_by ls = length-map ls (λ (l : Line). statement_view l.statement)

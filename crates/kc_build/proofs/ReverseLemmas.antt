@@ -1,0 +1,343 @@
+-- The lines of a definition that select and imply, as they are added.
+use Rattle.std.proofs.Common.{◌≡◌, ◌≢◌, ℕ, ◌+◌, ◌<◌, ◌≤◌, Bool, true, false, ◌&&◌, ◌==◌, if◌then◌else◌, List, [], ◌∷◌, ◌++◌, length, drop, Option, Some, None, refl, ap, sym, ◌∙◌, arith, get_or, slice_set, append_assoc, length-append, subst, inl, inr, nat_lt}
+use Rattle.std.specs.Prelude.{◌⊎◌, OnOk, OnErr, Result, Ok, Err}
+use Rattle.std.specs.List.{slice_get, flat_map}
+use Rattle.std.specs.Global.{Vec}
+use Rattle.std.specs.Vec.{with_items}
+use Rattle.std.specs.Option.{option_map}
+use Rattle.std.proofs.lemmas.Bool.{cases_lt, eq-eqb, eqb-true, false≢true, ltb-true}
+use Rattle.std.proofs.lemmas.List.{append-nil, length-set, get_or-set_same, get_or-set_other, with_items_is}
+use Rattle.std.proofs.lemmas.List.Elements.{All-push}
+use Rattle.std.proofs.lemmas.Option.{none-some, same_Some}
+use Rattle.std.specs.declared.alloc.AllocError.{AllocError}
+use Rattle.std.specs.declared.alloc.Global.{Global}
+use Rattle.std.specs.declared.rc.Rc.{Rc}
+use Rattle.kc_expr.specs.declared.expression.Expr.{Expr}
+use Rattle.kc_expr.specs.declared.expression.SymId.{SymId}
+use Rattle.kc_expr.specs.Form.{Form}
+use Rattle.kc_expr.specs.When.{when_view}
+use Rattle.kc_read.specs.declared.line.Line.{Line}
+use Rattle.kc_read.specs.Reads.{statement_view}
+use Rattle.kc_tree.specs.declared.parts.DefinitionId.{DefinitionId}
+use Rattle.kc_tree.specs.declared.parts.Reverse.{Reverse}
+use Rattle.kc_tree.specs.declared.parts.ReverseId.{ReverseId}
+use Rattle.kc_tree.specs.declared.parts.Symbol.{Symbol}
+use Rattle.kc_tree.specs.declared.reverses.Reverses.{Reverses}
+use Rattle.kc_tree.specs.Chains.{AreChained, AreHeads}
+use Rattle.kc_tree.specs.Words.{listed}
+use Rattle.kc_build.specs.declared.lines.ReverseKind.{ReverseKind}
+use Rattle.kc_build.specs.declared.lines.ReverseKind.TheVariants as reverse_kind
+use Rattle.kc_build.specs.Known.{can_be_target}
+use Rattle.kc_build.specs.Passes.{said_by}
+use Rattle.kc_build.specs.Targets.{target_of}
+use Rattle.kc_build.specs.ReverseRows.{reverse_row, rows_to, selects_of, implies_of, same_reverse, added_line, added_lines, HaveSources, KeepSources, IsAdded, AreAdded}
+use Rattle.kc_build.proofs.ChainLemmas.{to-keeps, to-new, get_past}
+use Rattle.kc_build.proofs.GrownLemmas.{get_front, get_last}
+use Rattle.kc_build.proofs.PlaceLemmas.{length-said_by}
+use Rattle.kc_build.proofs.ScanLemmas.{said_from, said_end}
+
+-- a line more, which leads on to the last one of its symbol
+chained-at : (lines : List Reverse) (row : Reverse) → AreChained lines → ((next : ReverseId) → row.next ≡ Some next → next.0 < length lines) →
+    (i : ℕ) (r : Reverse) (next : ReverseId) → ((i < length lines) ⊎ (length lines ≤ i)) → slice_get (lines ++ row ∷ []) i ≡ Some r → r.next ≡ Some next → next.0 < i
+chained-at lines row h there i r next (inl l) e n = h i r next (sym (get_front lines (row ∷ []) i l) ∙ e) n
+chained-at lines row h there i r next (inr g) e n = at (cases_lt (length lines) i)
+  where
+    at : ((length lines < i) ⊎ (i ≤ length lines)) → next.0 < i
+    at (inl past) = absurd (none-some r (sym (get_past lines row i past) ∙ e))
+    at (inr low) =
+        let same : i ≡ length lines = omega arith in
+        let is : row ≡ r = same_Some row r (sym (get_last lines row) ∙ ap (slice_get (lines ++ row ∷ [])) (sym same) ∙ e) in
+        let below = there next (ap (λ (x : Reverse). x.next) is ∙ n) in
+        omega arith
+
+pub chained-push : (lines : List Reverse) (row : Reverse) → AreChained lines → ((next : ReverseId) → row.next ≡ Some next → next.0 < length lines) → AreChained (lines ++ row ∷ [])
+chained-push lines row h there i r next e n = chained-at lines row h there i r next (cases_lt i (length lines)) e n
+
+-- heads that were there are there still; that of one symbol is the new line
+pub heads-stay : (lines : List Reverse) (row : Reverse) (heads : List (Option ReverseId)) → AreHeads lines heads → AreHeads (lines ++ row ∷ []) heads
+heads-stay lines row heads h s id e = omega (arith, h s id e, length-append lines (row ∷ []))
+
+set-cases : {A : Type 0} (xs : List A) (i j : ℕ) (y d z : A) (b : Bool) → i < length xs → (i == j) ≡ b → get_or (slice_set xs i y) j d ≡ z → ((j ≡ i) × (y ≡ z)) ⊎ ((j ≢ i) × (get_or xs j d ≡ z))
+set-cases xs i j y d z true l t e =
+    let same : j ≡ i = sym (eqb-true i j t) in
+    inl (same, sym (get_or-set_same xs i y d l) ∙ ap (λ k. get_or (slice_set xs i y) k d) (sym same) ∙ e)
+set-cases xs i j y d z false l t e =
+    let other : j ≢ i = (λ q. true_not_false i j q t) in
+    inr (other, sym (get_or-set_other xs i j y d other) ∙ e)
+  where
+    true_not_false : (i j : ℕ) → j ≡ i → (i == j) ≡ false → ⊥
+    true_not_false i j q t = absurd (false≢true (sym t ∙ eq-eqb i j (sym q)))
+
+pub heads-push : (lines : List Reverse) (row : Reverse) (heads : List (Option ReverseId)) (s : ℕ) (id : ReverseId) → s < length heads → id.0 ≡ length lines →
+    AreHeads lines heads → AreHeads (lines ++ row ∷ []) (slice_set heads s (Some id))
+heads-push lines row heads s id l n h t other e =
+    let more = length-append lines (row ∷ []) in
+    elim (set-cases heads s t (Some id) None (Some other) (s == t) l refl e) as (λ _. other.0 < length (lines ++ row ∷ [])) [
+      | inl p ↦ (let same : id ≡ other = same_Some id other p.1 in let m : id.0 ≡ other.0 = ap (λ (x : ReverseId). x.0) same in omega arith)
+      | inr p ↦ (let below = h t other p.1 in omega arith)
+    ]
+
+-- What a chain says, with one line more.
+abbrev one_if : Bool → ℕ × Option Form → List (ℕ × Option Form)
+one_if b x = if b then x ∷ [] else []
+
+module _ (lines : List Reverse) (row : Reverse) where
+  pub rows-stay : (heads : List (Option ReverseId)) (s : ℕ) → AreHeads lines heads → rows_to (lines ++ row ∷ []) (get_or heads s None) ≡ rows_to lines (get_or heads s None)
+  rows-stay heads s h = to-keeps (option_map reverse_row) lines row (get_or heads s None) (λ id e. h s id e)
+
+  rows-by : (heads : List (Option ReverseId)) (t s : ℕ) (id : ReverseId) (b : Bool) → (t == s) ≡ b → t < length heads → id.0 ≡ length lines → row.next ≡ get_or heads t None →
+      AreHeads lines heads → rows_to (lines ++ row ∷ []) (get_or (slice_set heads t (Some id)) s None) ≡ rows_to lines (get_or heads s None) ++ one_if b (reverse_row row)
+  rows-by heads t s id true e l n next h =
+      let same : t ≡ s = eqb-true t s e in
+      ap (λ k. rows_to (lines ++ row ∷ []) (get_or (slice_set heads t (Some id)) k None)) (sym same)
+      ∙ ap (rows_to (lines ++ row ∷ [])) (get_or-set_same heads t (Some id) None l)
+      ∙ to-new (option_map reverse_row) lines row id (reverse_row row) n refl
+      ∙ ap (λ o. rows_to lines o ++ reverse_row row ∷ []) (next ∙ ap (λ k. get_or heads k None) same)
+  rows-by heads t s id false e l n next h =
+      let other : s ≢ t = (λ q. false≢true (sym e ∙ eq-eqb t s (sym q))) in
+      ap (rows_to (lines ++ row ∷ [])) (get_or-set_other heads t s (Some id) None other) ∙ rows-stay heads s h ∙ sym (append-nil (rows_to lines (get_or heads s None)))
+
+  pub rows-push : (heads : List (Option ReverseId)) (t s : ℕ) (id : ReverseId) → t < length heads → id.0 ≡ length lines → row.next ≡ get_or heads t None → AreHeads lines heads →
+      rows_to (lines ++ row ∷ []) (get_or (slice_set heads t (Some id)) s None) ≡ rows_to lines (get_or heads s None) ++ one_if (t == s) (reverse_row row)
+  rows-push heads t s id l n next h = rows-by heads t s id (t == s) refl l n next h
+
+-- Lines that stand in definitions below a number.
+pub sources-same : (source : ℕ) (old new : List Reverse) → new ≡ old → KeepSources source old new
+sources-same source old new e n l h = subst (HaveSources n) (sym e) h
+
+pub sources-push : (source : ℕ) (old new : List Reverse) (row : Reverse) → new ≡ old ++ row ∷ [] → row.source.0 ≡ source → KeepSources source old new
+sources-push source old new row e s n l h =
+    let below : row.source.0 < n = omega arith in
+    subst (HaveSources n) (sym e) (All-push (λ (r : Reverse). r.source.0 < n) old row h below)
+
+pub sources-both : (source : ℕ) (a b c : List Reverse) → KeepSources source a b → KeepSources source b c → KeepSources source a c
+sources-both source a b c h k n l s = k n l (h n l s)
+
+and_false : (a b c : Bool) (x : ℕ × Option Form) → c ≡ false → one_if (a && (b && c)) x ≡ []
+and_false true true c x e = rw e refl
+and_false true false c x e = refl
+and_false false b c x e = refl
+
+and_true : (b c : Bool) (x : ℕ × Option Form) → c ≡ true → one_if (b && c) x ≡ one_if b x
+and_true true c x e = rw e refl
+and_true false c x e = refl
+
+pub target-there : (symbols : List Symbol) (s : SymId) → true ≡ can_be_target symbols s → s.0 < length symbols
+target-there symbols s h = ltb-true s.0 (length symbols) (first (nat_lt s.0 (length symbols)) _ (sym h))
+  where
+    first : (a b : Bool) → (a && b) ≡ true → a ≡ true
+    first true b e = refl
+    first false b e = e
+
+module _ (symbols : List Symbol) (source : DefinitionId) where
+  -- a line without effect
+  pub not_added : (old : Reverses) (t : ReverseKind × SymId × Option Form) → can_be_target symbols t.1 ≡ false → IsAdded symbols source old t old
+  not_added old t e = record {
+    selects = λ s. sym (ap (λ l. selects_of old s ++ l) (and_false (same_reverse reverse_kind.Select t.0) (t.1.0 == s) (can_be_target symbols t.1) (source.0, t.2) e) ∙ append-nil (selects_of old s));
+    implies = λ s. sym (ap (λ l. implies_of old s ++ l) (and_false (same_reverse reverse_kind.Imply t.0) (t.1.0 == s) (can_be_target symbols t.1) (source.0, t.2) e) ∙ append-nil (implies_of old s));
+    few = omega arith;
+    count = refl;
+    same = refl;
+  }
+
+  -- a line of each kind, by the row that stands for it
+  pub record IsPushed (old : List Reverse) (heads : List (Option ReverseId)) (s : SymId) (when : Option Form) (new : List Reverse) (after : List (Option ReverseId)) : Type 0 where
+    pub row : Reverse
+    pub source_is : row.source ≡ source
+    pub when_is : when_view row.when ≡ when
+    pub next_is : row.next ≡ get_or heads s.0 None
+    pub lines_are : new ≡ old ++ row ∷ []
+    pub heads_are : after ≡ slice_set heads s.0 (Some (record { 0 = length old }))
+
+  module _ (old : List Reverse) (heads : List (Option ReverseId)) (s : SymId) (when : Option Form) (new : List Reverse) (after : List (Option ReverseId)) (p : IsPushed old heads s when new after) where
+    row-is : reverse_row p.row ≡ (source.0, when)
+    row-is = let a = p.source_is in let b = p.when_is in λ i. ((a i).0, b i)
+
+    pub pushed-rows : s.0 < length heads → AreHeads old heads → (k : ℕ) → rows_to new (get_or after k None) ≡ rows_to old (get_or heads k None) ++ one_if (s.0 == k) (source.0, when)
+    pushed-rows l h k =
+        ap (λ (xs : List Reverse). rows_to xs (get_or after k None)) p.lines_are
+        ∙ ap (λ (hs : List (Option ReverseId)). rows_to (old ++ p.row ∷ []) (get_or hs k None)) p.heads_are
+        ∙ rows-push old p.row heads s.0 k (record { 0 = length old }) l refl p.next_is h
+        ∙ ap (λ x. rows_to old (get_or heads k None) ++ one_if (s.0 == k) x) row-is
+
+    pub pushed-others : (others : List (Option ReverseId)) → AreHeads old others → (k : ℕ) → rows_to new (get_or others k None) ≡ rows_to old (get_or others k None)
+    pushed-others others h k = ap (λ (xs : List Reverse). rows_to xs (get_or others k None)) p.lines_are ∙ rows-stay old p.row others k h
+
+    pub pushed-few : length new ≤ length old + 1
+    pushed-few = let e = ap length p.lines_are in omega (arith, length-append old (p.row ∷ []))
+
+    pub pushed-count : length after ≡ length heads
+    pushed-count = ap length p.heads_are ∙ length-set heads s.0 (Some (record { 0 = length old }))
+
+    pub pushed-sources : KeepSources source.0 old new
+    pushed-sources = sources-push source.0 old new p.row p.lines_are (ap (λ (d : DefinitionId). d.0) p.source_is)
+
+    pub pushed-chained : AreHeads old heads → AreChained old → AreChained new
+    pushed-chained h c =
+        subst AreChained (sym p.lines_are) (chained-push old p.row c (λ next e. h s.0 next (sym p.next_is ∙ e)))
+
+    pub pushed-heads : s.0 < length heads → AreHeads old heads → AreHeads new after
+    pushed-heads l h =
+        let q = heads-push old p.row heads s.0 (record { 0 = length old }) l refl h in
+        subst (λ (hs : List (Option ReverseId)). AreHeads new hs) (sym p.heads_are)
+        (subst (λ (xs : List Reverse). AreHeads xs (slice_set heads s.0 (Some (record { 0 = length old })))) (sym p.lines_are) q)
+
+    pub pushed-stay : (others : List (Option ReverseId)) → AreHeads old others → AreHeads new others
+    pushed-stay others h = subst (λ (xs : List Reverse). AreHeads xs others) (sym p.lines_are) (heads-stay old p.row others h)
+
+  pub select_added : (old new : Reverses) (s : SymId) (when : Option Form) → true ≡ can_be_target symbols s → s.0 < length old.selects.items →
+      IsPushed old.lines.items old.selects.items s when new.lines.items new.selects.items → new.implies.items ≡ old.implies.items →
+      IsAdded symbols source old (reverse_kind.Select, s, when) new
+  select_added old new s when t l p q = record {
+    selects = λ k. pushed-rows _ _ s when _ _ p l old.selects_there k ∙ ap (λ x. selects_of old k ++ x) (sym (and_true (s.0 == k) (can_be_target symbols s) (source.0, when) (sym t)));
+    implies = λ k. ap (λ (hs : List (Option ReverseId)). rows_to new.lines.items (get_or hs k None)) q
+        ∙ pushed-others _ _ s when _ _ p old.implies.items old.implies_there k
+        ∙ sym (append-nil (implies_of old k));
+    few = pushed-few _ _ s when _ _ p;
+    count = pushed-count _ _ s when _ _ p;
+    same = ap length q;
+  }
+
+  pub imply_added : (old new : Reverses) (s : SymId) (when : Option Form) → true ≡ can_be_target symbols s → s.0 < length old.implies.items →
+      IsPushed old.lines.items old.implies.items s when new.lines.items new.implies.items → new.selects.items ≡ old.selects.items →
+      IsAdded symbols source old (reverse_kind.Imply, s, when) new
+  imply_added old new s when t l p q = record {
+    selects = λ k. ap (λ (hs : List (Option ReverseId)). rows_to new.lines.items (get_or hs k None)) q
+        ∙ pushed-others _ _ s when _ _ p old.selects.items old.selects_there k
+        ∙ sym (append-nil (selects_of old k));
+    implies = λ k. pushed-rows _ _ s when _ _ p l old.implies_there k ∙ ap (λ x. implies_of old k ++ x) (sym (and_true (s.0 == k) (can_be_target symbols s) (source.0, when) (sym t)));
+    few = pushed-few _ _ s when _ _ p;
+    count = ap length q;
+    same = pushed-count _ _ s when _ _ p;
+  }
+
+  -- What one line more comes to: it is there, or nothing changed.
+  abbrev pub Pushes : List Reverse → List (Option ReverseId) → SymId → Option Form → List Reverse → List (Option ReverseId) → Result (Unit {0}) AllocError → Type 0
+  Pushes old heads s when new after (Ok u) = IsPushed old heads s when new after
+  Pushes old heads s when new after (Err e) = (new ≡ old) × (after ≡ heads)
+
+  pub pushes : (r : Result (Unit {0}) AllocError) (old new : List Reverse) (heads now raw after : List (Option ReverseId)) (s : SymId) (w : Option (Rc Expr Global)) (when : Option Form) →
+      when_view w ≡ when → now ≡ heads → after ≡ raw → OnOk r (new ≡ old ++ record { source = source; when = w; next = get_or now s.0 None } ∷ []) →
+      OnOk r (raw ≡ slice_set now s.0 (Some (record { 0 = length old }))) → OnErr r (new ≡ old) → OnErr r (raw ≡ now) → Pushes old heads s when new after r
+  pushes (Ok u) old new heads now raw after s w when v e a line head stay same = record {
+    row = record { source = source; when = w; next = get_or heads s.0 None };
+    source_is = refl;
+    when_is = v;
+    next_is = refl;
+    lines_are = line ∙ ap (λ (hs : List (Option ReverseId)). old ++ record { source = source; when = w; next = get_or hs s.0 None } ∷ []) e;
+    heads_are = a ∙ head ∙ ap (λ (hs : List (Option ReverseId)). slice_set hs s.0 (Some (record { 0 = length old }))) e;
+  }
+  pushes (Err x) old new heads now raw after s w when v e a line head stay same = (stay, a ∙ same ∙ e)
+
+  -- the same where the heads are those of a vector that was lent as a slice
+  pub pushes_in : (r : Result (Unit {0}) AllocError) (old new : List Reverse) (v : Vec (Option ReverseId)) (now ws : List (Option ReverseId)) (s : SymId) (w : Option (Rc Expr Global)) (when : Option Form) →
+      when_view w ≡ when → now ≡ v.items → length ws ≡ length now → length now ≡ v.len →
+      OnOk r (new ≡ old ++ record { source = source; when = w; next = get_or now s.0 None } ∷ []) → OnOk r (ws ≡ slice_set now s.0 (Some (record { 0 = length old }))) →
+      OnErr r (new ≡ old) → OnErr r (ws ≡ now) → Pushes old v.items s when new (with_items v ws).items r
+  pushes_in r old new v now ws s w when a e m n line head stay same =
+      pushes r old new v.items now ws (with_items v ws).items s w when a e (with_items_is v ws (m ∙ n)) line head stay same
+
+  module _ (old : List Reverse) (heads : List (Option ReverseId)) (s : SymId) (when : Option Form) (new : List Reverse) (after : List (Option ReverseId)) (l : s.0 < length heads) (h : AreHeads old heads) where
+    pub chained_by : (r : Result (Unit {0}) AllocError) → Pushes old heads s when new after r → AreChained old → AreChained new
+    chained_by (Ok u) p c = pushed-chained old heads s when new after p h c
+    chained_by (Err e) p c = subst AreChained (sym p.0) c
+
+    pub heads_by : (r : Result (Unit {0}) AllocError) → Pushes old heads s when new after r → AreHeads new after
+    heads_by (Ok u) p = pushed-heads old heads s when new after p l h
+    heads_by (Err e) p = subst (λ (xs : List Reverse). AreHeads xs after) (sym p.0) (subst (AreHeads old) (sym p.1) h)
+
+    pub others_by : (r : Result (Unit {0}) AllocError) (others : List (Option ReverseId)) → Pushes old heads s when new after r → AreHeads old others → AreHeads new others
+    others_by (Ok u) others p k = pushed-stay old heads s when new after p others k
+    others_by (Err e) others p k = subst (λ (xs : List Reverse). AreHeads xs others) (sym p.0) k
+
+    pub sources_by : (r : Result (Unit {0}) AllocError) → Pushes old heads s when new after r → KeepSources source.0 old new
+    sources_by (Ok u) p = pushed-sources old heads s when new after p
+    sources_by (Err e) p = sources-same source.0 old new p.0
+
+  pub select_by : (r : Result (Unit {0}) AllocError) (old new : Reverses) (s : SymId) (when : Option Form) (kind : ReverseKind) → kind ≡ reverse_kind.Select →
+      true ≡ can_be_target symbols s → s.0 < length old.selects.items → Pushes old.lines.items old.selects.items s when new.lines.items new.selects.items r →
+      new.implies.items ≡ old.implies.items → OnOk r (IsAdded symbols source old (kind, s, when) new)
+  select_by (Ok u) old new s when kind k t l p q =
+      subst (λ (x : ReverseKind). IsAdded symbols source old (x, s, when) new) (sym k) (select_added old new s when t l p q)
+  select_by (Err e) old new s when kind k t l p q = tt
+
+  pub imply_by : (r : Result (Unit {0}) AllocError) (old new : Reverses) (s : SymId) (when : Option Form) (kind : ReverseKind) → kind ≡ reverse_kind.Imply →
+      true ≡ can_be_target symbols s → s.0 < length old.implies.items → Pushes old.lines.items old.implies.items s when new.lines.items new.implies.items r →
+      new.selects.items ≡ old.selects.items → OnOk r (IsAdded symbols source old (kind, s, when) new)
+  imply_by (Ok u) old new s when kind k t l p q =
+      subst (λ (x : ReverseKind). IsAdded symbols source old (x, s, when) new) (sym k) (imply_added old new s when t l p q)
+  imply_by (Err e) old new s when kind k t l p q = tt
+
+  -- Along the lines of a definition.
+  pub record IsAdding (own : List Line) (old : Reverses) (i : ℕ) (new : Reverses) : Type 0 where
+    pub selects : (s : ℕ) →
+        selects_of new s ++ added_lines symbols source reverse_kind.Select s (drop i (said_by own)) ≡ selects_of old s ++ added_lines symbols source reverse_kind.Select s (said_by own)
+    pub implies : (s : ℕ) →
+        implies_of new s ++ added_lines symbols source reverse_kind.Imply s (drop i (said_by own)) ≡ implies_of old s ++ added_lines symbols source reverse_kind.Imply s (said_by own)
+    pub few : length new.lines.items ≤ length old.lines.items + i
+    pub count : length new.selects.items ≡ length old.selects.items
+    pub same : length new.implies.items ≡ length old.implies.items
+    pub sources : KeepSources source.0 old.lines.items new.lines.items
+
+  pub adding_start : (own : List Line) (old : Reverses) → IsAdding own old 0 old
+  adding_start own old = record {
+    selects = λ s. refl;
+    implies = λ s. refl;
+    few = omega arith;
+    count = refl;
+    same = refl;
+    sources = λ n l h. h;
+  }
+
+  abbrev given : ReverseKind → ℕ → Option (ReverseKind × SymId × Option Form) → List (ℕ × Option Form)
+  given kind s o = flat_map (added_line symbols source kind s) (listed o)
+
+  next_lines : (kind : ReverseKind) (s : ℕ) (own : List Line) (i : ℕ) (x : Line) (t : ReverseKind × SymId × Option Form) (now next base : List (ℕ × Option Form)) →
+      i < length own → x ≡ get_or own i x → Some t ≡ target_of (statement_view x.statement) → now ++ added_lines symbols source kind s (drop i (said_by own)) ≡ base →
+      next ≡ now ++ added_line symbols source kind s t → next ++ added_lines symbols source kind s (drop (i + 1) (said_by own)) ≡ base
+  next_lines kind s own i x t now next base l at e h n =
+      let rest = added_lines symbols source kind s (drop (i + 1) (said_by own)) in
+      let line = added_line symbols source kind s t in
+      let all : added_lines symbols source kind s (drop i (said_by own)) ≡ line ++ rest = rw (said_from own i x l at, ← e) (ap (λ k. k ++ rest) (append-nil line)) in
+      ap (λ k. k ++ rest) n ∙ append_assoc now line rest ∙ ap (λ k. now ++ k) (sym all) ∙ h
+
+  same_lines : (kind : ReverseKind) (s : ℕ) (own : List Line) (i : ℕ) (x : Line) (now base : List (ℕ × Option Form)) → i < length own → x ≡ get_or own i x →
+      None ≡ target_of (statement_view x.statement) → now ++ added_lines symbols source kind s (drop i (said_by own)) ≡ base →
+      now ++ added_lines symbols source kind s (drop (i + 1) (said_by own)) ≡ base
+  same_lines kind s own i x now base l at e h =
+      let all : added_lines symbols source kind s (drop i (said_by own)) ≡ added_lines symbols source kind s (drop (i + 1) (said_by own)) = rw (said_from own i x l at, ← e) refl in
+      ap (λ k. now ++ k) (sym all) ∙ h
+
+  pub adding_none : (own : List Line) (old now : Reverses) (i : ℕ) (x : Line) → IsAdding own old i now → i < length own → x ≡ get_or own i x →
+      None ≡ target_of (statement_view x.statement) → IsAdding own old (i + 1) now
+  adding_none own old now i x h l at e = record {
+    selects = λ s. same_lines reverse_kind.Select s own i x _ _ l at e (h.selects s);
+    implies = λ s. same_lines reverse_kind.Imply s own i x _ _ l at e (h.implies s);
+    few = let f = h.few in omega arith;
+    count = h.count;
+    same = h.same;
+    sources = h.sources;
+  }
+
+  pub adding_one : (own : List Line) (old now new : Reverses) (i : ℕ) (x : Line) (t : ReverseKind × SymId × Option Form) → IsAdding own old i now → i < length own →
+      x ≡ get_or own i x → Some t ≡ target_of (statement_view x.statement) → IsAdded symbols source now t new → KeepSources source.0 now.lines.items new.lines.items →
+      IsAdding own old (i + 1) new
+  adding_one own old now new i x t h l at e a k = record {
+    selects = λ s. next_lines reverse_kind.Select s own i x t _ _ _ l at e (h.selects s) (a.selects s);
+    implies = λ s. next_lines reverse_kind.Imply s own i x t _ _ _ l at e (h.implies s) (a.implies s);
+    few = let f = h.few in let g = a.few in omega arith;
+    count = a.count ∙ h.count;
+    same = a.same ∙ h.same;
+    sources = sources-both source.0 _ _ _ h.sources k;
+  }
+
+  pub adding_end : (own : List Line) (old new : Reverses) (i : ℕ) → IsAdding own old i new → i ≤ length own → length own ≤ i → AreAdded symbols source old (said_by own) new
+  adding_end own old new i h w l =
+      let none = said_end own i l in
+      record {
+        selects = λ s. sym (append-nil (selects_of new s)) ∙ ap (λ ss. selects_of new s ++ added_lines symbols source reverse_kind.Select s ss) (sym none) ∙ h.selects s;
+        implies = λ s. sym (append-nil (implies_of new s)) ∙ ap (λ ss. implies_of new s ++ added_lines symbols source reverse_kind.Imply s ss) (sym none) ∙ h.implies s;
+        few = (let f = h.few in omega (arith, length-said_by own));
+        count = h.count;
+        same = h.same;
+      }

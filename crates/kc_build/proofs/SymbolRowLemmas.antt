@@ -1,0 +1,221 @@
+-- What is found of each symbol: by its definitions before a place, one definition more, and when all lines were walked over.
+use Rattle.std.proofs.Common.{◌≡◌, ℕ, zero, suc, ◌+◌, ◌<◌, ◌≤◌, Bool, true, false, if◌then◌else◌, List, [], ◌∷◌, ◌++◌, length, map, take, drop, Option, Some, None, refl, ap, sym, ◌∙◌, arith, get_or}
+use Rattle.std.specs.List.{slice_get, filter_map, flat_map, cons_option, prefix_len, take_while}
+use Rattle.std.specs.Option.{is_some, option_or, unwrap_or}
+use Rattle.std.proofs.lemmas.List.{length-map, map-append}
+use Rattle.std.proofs.lemmas.List.Elements.{filter_map-append}
+use Rattle.kc_expr.specs.declared.expression.Kind.{Kind}
+use Rattle.kc_expr.specs.declared.expression.Kind.TheVariants as kind
+use Rattle.kc_expr.specs.declared.expression.SymId.{SymId}
+use Rattle.kc_expr.specs.Names.{symbol}
+use Rattle.kc_read.specs.Blocks.{attributes, is_attribute, numbers}
+use Rattle.kc_read.specs.Statements.{Numbered}
+use Rattle.kc_tree.specs.declared.parts.ChoiceId.{ChoiceId}
+use Rattle.kc_tree.specs.declared.parts.Symbol.{Symbol}
+use Rattle.kc_tree.specs.Words.{is_symbol_of}
+use Rattle.kc_build.specs.Facts.{choice_of, choice_round, definitions_of, first_of, symbol_at, symbol_of, type_of}
+use Rattle.kc_build.specs.Known.{AreSymbols, AreTyped, Row, definition_number, row_of, row_view}
+use Rattle.kc_build.specs.Passes.{change, changed}
+use Rattle.kc_build.specs.SymbolWalk.{choice_view, first_kind, settled, unknown, with_definition}
+use Rattle.kc_build.proofs.EnterLemmas.{attribute_symbol, get_behind, over}
+use Rattle.kc_build.proofs.PlaceLemmas.{length-map_numbers}
+use Rattle.kc_build.proofs.TableLemmas.{defined_before, defined_next, not_defined, same_numbers}
+use Rattle.kc_build.specs.Walks.{IsHead, place_after}
+
+-- The first of what two lists give, of what a list of lists gives.
+first_or : {A : Type 0} (xs ys : List A) → first_of (xs ++ ys) ≡ option_or (first_of xs) (first_of ys)
+first_or [] ys = refl
+first_or (x ∷ xs) ys = refl
+
+first_cons : {A : Type 0} (o : Option A) (xs : List A) → first_of (cons_option o xs) ≡ option_or o (first_of xs)
+first_cons None xs = refl
+first_cons (Some x) xs = refl
+
+first_found : {A B C : Type 0} (f : B → Option C) (g : A → List B) (xs : List A) → first_of (filter_map f (flat_map g xs)) ≡ first_of (filter_map (λ x. first_of (filter_map f (g x))) xs)
+first_found f g [] = refl
+first_found {A} f g (x ∷ xs) =
+    let more = λ (y : A). first_of (filter_map f (g y)) in
+    ap first_of (filter_map-append f (g x) (flat_map g xs))
+    ∙ first_or (filter_map f (g x)) (filter_map f (flat_map g xs))
+    ∙ ap (option_or (more x)) (first_found f g xs)
+    ∙ sym (first_cons (more x) (filter_map more xs))
+
+-- Types that stand for none.
+abbrev IsNot : Option Kind → Type 0
+IsNot o = o ≡ Some kind.Undefined → ⊥
+
+next_type : (k : Option Kind) (o : Option Kind) → IsNot o → first_kind (unwrap_or o kind.Undefined) k ≡ unwrap_or (option_or o k) kind.Undefined
+next_type k None n = refl
+next_type k (Some kind.Undefined) n = absurd (n refl)
+next_type k (Some kind.Bool) n = refl
+next_type k (Some kind.Tristate) n = refl
+next_type k (Some kind.Str) n = refl
+next_type k (Some kind.Int) n = refl
+next_type k (Some kind.Hex) n = refl
+
+settled_type : (b : Bool) (o : Option Kind) → IsNot o → first_kind (unwrap_or o kind.Undefined) (if b then Some kind.Bool else None) ≡ unwrap_or o (if b then kind.Bool else kind.Undefined)
+settled_type true None n = refl
+settled_type false None n = refl
+settled_type b (Some kind.Undefined) n = absurd (n refl)
+settled_type b (Some kind.Bool) n = refl
+settled_type b (Some kind.Tristate) n = refl
+settled_type b (Some kind.Str) n = refl
+settled_type b (Some kind.Int) n = refl
+settled_type b (Some kind.Hex) n = refl
+
+taken_at : {X : Type 0} (p : X → Bool) (xs : List X) (i : ℕ) (x : X) → slice_get (take_while p xs) i ≡ Some x → slice_get xs i ≡ Some x
+taken_at {X} p xs i x h = within (prefix_len p xs) xs i h
+  where
+    within : (n : ℕ) (ys : List X) (i : ℕ) → slice_get (take n ys) i ≡ Some x → slice_get ys i ≡ Some x
+    within zero ys i h = absurd cc
+    within (suc n) [] i h = h
+    within (suc n) (y ∷ ys) zero h = h
+    within (suc n) (y ∷ ys) (suc i) h = within n ys i h
+
+no_first : {A : Type 0} (f : A → Option Kind) (xs : List A) → ((i : ℕ) (x : A) → slice_get xs i ≡ Some x → IsNot (f x)) → IsNot (first_of (filter_map f xs))
+no_first f [] h = λ e. cc
+no_first f (x ∷ xs) h = by (f x) refl (no_first f xs (λ i. h (suc i)))
+  where
+    by : (o : Option Kind) → f x ≡ o → IsNot (first_of (filter_map f xs)) → IsNot (first_of (cons_option o (filter_map f xs)))
+    by None e rest = rest
+    by (Some k) e rest = λ q. h 0 x refl (e ∙ q)
+
+module _ (ss : List Numbered) where
+  -- the first type that the entry at a place gives
+  abbrev pub entry_type : ℕ → Option Kind
+  entry_type j = first_of (filter_map type_of (attributes ss j))
+
+  -- what definitions at these places say of a symbol, and those before a place
+  abbrev pub row_by : List ℕ → Row
+  row_by ds = record {
+    kind = unwrap_or (first_of (filter_map entry_type ds)) kind.Undefined;
+    choice = first_of (filter_map (choice_round ss) ds);
+    definitions = map (definition_number ss) ds;
+  }
+
+  abbrev pub row_before : ℕ → ℕ → Row
+  row_before i s = row_by (defined_before ss i s)
+
+  -- before all lines nothing is known
+  pub rows_start : (count : ℕ) → map (λ (s : ℕ). unknown) (numbers count) ≡ map (row_before 0) (numbers count)
+  rows_start count = same_numbers (λ s. unknown) (row_before 0) count (λ s. refl)
+
+  -- the attributes of an entry define nothing
+  pub rows_behind : (i : ℕ) (head : Numbered) (own : List Numbered) (count : ℕ) → IsHead ss i head own → map (row_before (i + 1)) (numbers count) ≡ map (row_before (place_after i own)) (numbers count)
+  rows_behind i head own count h =
+      same_numbers (row_before (i + 1)) (row_before (place_after i own)) count
+      (λ s. ap row_by (sym (over ss i head own h (λ j. defined_before ss j s) (λ j x at e. not_defined ss j s (ap (is_symbol_of (symbol s)) (ap symbol_of at ∙ attribute_symbol x e))))))
+
+  module _ (typed : AreTyped ss) where
+    entry_typed : (j : ℕ) → IsNot (entry_type j)
+    entry_typed j =
+        no_first type_of (attributes ss j) (λ i x at. typed (suc j + i) x (sym (get_behind ss (suc j) i) ∙ taken_at is_attribute (drop (suc j) ss) i x at))
+
+    all_typed : (ds : List ℕ) → IsNot (first_of (filter_map entry_type ds))
+    all_typed ds = no_first entry_type ds (λ i j at. entry_typed j)
+
+    -- one definition more
+    row_next : (ds : List ℕ) (i : ℕ) → with_definition (definition_number ss i) (entry_type i) (choice_round ss i) (row_by ds) ≡ row_by (ds ++ i ∷ [])
+    row_next ds i =
+        let type = next_type (entry_type i) (first_of (filter_map entry_type ds)) (all_typed ds) ∙ ap (λ o. unwrap_or o kind.Undefined) (first_more entry_type) in
+        let choice = first_more (choice_round ss) in
+        let numbers = sym (map-append (definition_number ss) ds (i ∷ [])) in
+        λ k. record { kind = type k; choice = choice k; definitions = numbers k }
+      where
+        single : {A : Type 0} (o : Option A) → o ≡ first_of (cons_option o [])
+        single None = refl
+        single (Some x) = refl
+
+        first_more : {A : Type 0} (f : ℕ → Option A) → option_or (first_of (filter_map f ds)) (f i) ≡ first_of (filter_map f (ds ++ i ∷ []))
+        first_more f =
+            ap (option_or (first_of (filter_map f ds))) (single (f i)) ∙ sym (first_or (filter_map f ds) (cons_option (f i) [])) ∙ ap first_of (sym (filter_map-append f ds (i ∷ [])))
+
+    pub rows_next : (i count : ℕ) (table new : List Row) (o : Option SymId) → table ≡ map (row_before i) (numbers count) → symbol_at ss i ≡ o → new ≡ changed (with_definition (definition_number ss i) (entry_type i) (choice_round ss i)) o table → new ≡ map (row_before (i + 1)) (numbers count)
+    rows_next i count table new o h e n =
+        n ∙ rw h (defined_next ss (λ s ds. row_by ds) (with_definition (definition_number ss i) (entry_type i) (choice_round ss i)) i count o e (λ s ds q. row_next ds i))
+
+    -- when all lines were walked over
+    row_settled : (s : ℕ) → settled (row_before (length ss) s) ≡ row_of ss s
+    row_settled s =
+        let ds = definitions_of ss (symbol s) in
+        let type = settled_type (is_some (choice_of ss (symbol s))) (first_of (filter_map entry_type ds)) (all_typed ds) ∙ ap (λ o. unwrap_or o (if is_some (choice_of ss (symbol s)) then kind.Bool else kind.Undefined)) (sym (first_found type_of (attributes ss) ds)) in
+        λ k. record { kind = type k; choice = choice_of ss (symbol s); definitions = map (definition_number ss) ds }
+
+    all_settled : (ns : List ℕ) → map settled (map (row_before (length ss)) ns) ≡ map (row_of ss) ns
+    all_settled [] = refl
+    all_settled (s ∷ ns) = rw (row_settled s, all_settled ns) refl
+
+    pub rows_end : (count : ℕ) (table new : List Row) → table ≡ map (row_before (length ss)) (numbers count) → new ≡ map settled table → new ≡ map (row_of ss) (numbers count)
+    rows_end count table new h n = n ∙ ap (map settled) h ∙ all_settled (numbers count)
+
+-- as many as there are rows
+pub so_many : (f : ℕ → Row) (count : ℕ) (symbols : List Symbol) → map row_view symbols ≡ map f (numbers count) → length symbols ≡ count
+so_many f count symbols h = sym (length-map symbols row_view) ∙ ap length h ∙ length-map_numbers f count
+
+pub symbols_are : (ss : List Numbered) (count : ℕ) (symbols : List Symbol) → map row_view symbols ≡ map (row_of ss) (numbers count) → AreSymbols ss symbols
+symbols_are ss count symbols h = h ∙ ap (λ n. map (row_of ss) (numbers n)) (sym (so_many (row_of ss) count symbols h))
+
+-- A walk along a table that changes each element.
+module _ {A : Type 0} (g : A → A) where
+  abbrev pub changed_to : ℕ → List A → List A
+  changed_to i xs = map g (take i xs) ++ drop i xs
+
+  pub change_next : (xs : List A) (i : ℕ) → i < length xs → change g i (changed_to i xs) ≡ changed_to (i + 1) xs
+  change_next xs i h = step xs i h ∙ ap (λ n. changed_to n xs) (let e : suc i ≡ i + 1 = omega arith in e)
+    where
+      step : (xs : List A) (i : ℕ) → i < length xs → change g i (changed_to i xs) ≡ changed_to (suc i) xs
+      step [] i h = absurd (omega arith)
+      step (x ∷ xs) zero h = refl
+      step (x ∷ xs) (suc i) h = ap (λ l. g x ∷ l) (step xs i (omega arith))
+
+  pub changed_all : (xs : List A) (i : ℕ) → length xs ≤ i → changed_to i xs ≡ map g xs
+  changed_all [] zero h = refl
+  changed_all [] (suc i) h = refl
+  changed_all (x ∷ xs) zero h = absurd (omega arith)
+  changed_all (x ∷ xs) (suc i) h = ap (λ l. g x ∷ l) (changed_all xs i (omega arith))
+
+  pub length-changed : (xs : List A) (i : ℕ) → length (changed_to i xs) ≡ length xs
+  length-changed [] zero = refl
+  length-changed [] (suc i) = refl
+  length-changed (x ∷ xs) zero = refl
+  length-changed (x ∷ xs) (suc i) = ap suc (length-changed xs i)
+
+  -- an element that stays as it is when it changes
+  pub change_same : {B : Type 0} (v : B → A) (ys : List B) (k : ℕ) (y : B) → k < length ys → y ≡ get_or ys k y → g (v y) ≡ v y → map v ys ≡ change g k (map v ys)
+  change_same v [] k y h at e = absurd (omega arith)
+  change_same v (z ∷ ys) zero y h at e = let same : y ≡ z = at in ap (λ x. x ∷ map v ys) (sym (ap (λ w. g (v w)) (sym same) ∙ e ∙ ap v same))
+  change_same v (z ∷ ys) (suc k) y h at e = ap (λ l. v z ∷ l) (change_same v ys k y (omega arith) at e)
+
+-- A symbol with the type of a member without one.
+module _ (x : Symbol) where
+  member_type : (o : Option ChoiceId) → true ≡ is_some o → (if is_some (choice_view o) then Some kind.Bool else None) ≡ Some kind.Bool
+  member_type None h = absurd cc
+  member_type (Some k) h = refl
+
+  no_type : (o : Option ChoiceId) → false ≡ is_some o → (if is_some (choice_view o) then Some kind.Bool else None) ≡ None
+  no_type None h = refl
+  no_type (Some k) h = absurd cc
+
+  kind_stays : (k : Kind) → first_kind k None ≡ k
+  kind_stays kind.Undefined = refl
+  kind_stays kind.Bool = refl
+  kind_stays kind.Tristate = refl
+  kind_stays kind.Str = refl
+  kind_stays kind.Int = refl
+  kind_stays kind.Hex = refl
+
+  pub settled_member : (k : Kind) → true ≡ is_some x.choice → k ≡ first_kind x.kind (Some kind.Bool) → row_view (record x { kind = k }) ≡ settled (row_view x)
+  settled_member k h e =
+      let type = e ∙ ap (first_kind x.kind) (sym (member_type x.choice h)) in
+      λ i. record (row_view x) { kind = type i }
+
+  pub settled_other : false ≡ is_some x.choice → settled (row_view x) ≡ row_view x
+  settled_other h =
+      let type = ap (first_kind x.kind) (no_type x.choice h) ∙ kind_stays x.kind in
+      λ i. record (row_view x) { kind = type i }
+
+-- what stands at a place does not depend on what stands past the end
+pub same_item : {A : Type 0} (xs : List A) (i : ℕ) (a b : A) → i < length xs → a ≡ get_or xs i a → b ≡ get_or xs i b → a ≡ b
+same_item [] i a b h e f = absurd (omega arith)
+same_item (x ∷ xs) zero a b h e f = e ∙ sym f
+same_item (x ∷ xs) (suc i) a b h e f = same_item xs i a b (omega arith) e f

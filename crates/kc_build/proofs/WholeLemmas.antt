@@ -1,0 +1,176 @@
+-- What holds of every tree.
+use Rattle.std.proofs.Common.{◌≡◌, ℕ, zero, suc, ◌+◌, ◌<◌, nat_lt, nat_le, Bool, true, false, ◌&&◌, ◌||◌, if◌then◌else◌, List, [], ◌∷◌, ◌++◌, length, map, Option, Some, None, Ok, refl, ap, sym, ◌∙◌, subst, arith, length-append}
+use Rattle.std.specs.Prelude.{All}
+use Rattle.std.specs.List.{slice_get, list_any, list_all, flat_map, AllByRecursion, IsDistinct}
+use Rattle.std.specs.Option.{option_map}
+use Rattle.std.proofs.lemmas.Bool.Decides.{nat_tests}
+use Rattle.std.proofs.lemmas.List.Elements.{All-nil, All-cons, All-head, All-from_recursion, filter_passes}
+use Rattle.std.proofs.lemmas.Option.{slice_get-map}
+use Rattle.kc_expr.specs.declared.expression.SymId.{SymId}
+use Rattle.kc_expr.specs.Names.{AreDistinct, same_name, symbol}
+use Rattle.kc_expr.specs.Grammar.{if_word, is_letter}
+use Rattle.kc_expr.proofs.NamesLemmas.{same_name-refl}
+use Rattle.kc_read.specs.declared.refusal.Code.{Code}
+use Rattle.kc_read.specs.declared.refusal.Code.TheVariants as code
+use Rattle.kc_read.specs.declared.statement.Block.TheVariants as block
+use Rattle.kc_read.specs.Files.{Files}
+use Rattle.kc_read.specs.Expansion.{Expands, Log, Refused, refused, defined, statements}
+use Rattle.kc_expr.specs.Names.{is_name_byte}
+use Rattle.kc_read.specs.Lines.{is_good_name}
+use Rattle.kc_read.specs.Numbering.{names_of, modules_id, numbered_lines}
+use Rattle.kc_read.specs.Statements.{Written, Numbered, Placed}
+use Rattle.kc_tree.specs.TreeFacts.{Condition, EndShown, MenuShown, TreeFacts, IsSymbolName, IsWellFormed}
+use Rattle.kc_tree.specs.Words.{listed}
+use Rattle.kc_build.specs.Facts.{entries, choice_round, choice_of, kind_of, of_block, symbol_facts, places}
+use Rattle.kc_build.specs.Trees.{facts_with}
+use Rattle.kc_build.specs.Firsts.{is_first_at}
+use Rattle.kc_build.specs.Warnings.{bad_members, bad_defaults, is_bad_member, entry_name, late_refusals, menu_entry_at, entry_symbol, refused_at}
+use Rattle.kc_build.proofs.DefinedLemmas.{AreNames}
+use Rattle.kc_build.proofs.ElementLemmas.{All-at}
+use Rattle.kc_build.proofs.EntrySoundLemmas.{entries_sound}
+use Rattle.kc_build.proofs.FormedLemmas.{all_sound, defined_if}
+use Rattle.kc_build.proofs.GrownLemmas.{get_front}
+use Rattle.kc_build.proofs.MemberSoundLemmas.{all_listed, choices_sound}
+use Rattle.kc_build.proofs.NumberingLemmas.{names_extend, numbered_below}
+use Rattle.kc_build.proofs.ShapeLemmas.{choices_alone, ends_name_menus}
+use Rattle.kc_build.proofs.PlaceLemmas.{length-map_numbers}
+use Rattle.kc_build.proofs.ReadTextLemmas.{IsInLines, expanded_lines}
+use Rattle.kc_build.proofs.ShownLemmas.{shows_each}
+use Rattle.kc_build.proofs.TreeTextLemmas.{line_texts}
+
+-- Names that differ stand at one place each.
+apart_at : (x name : List ℕ) (xs : List (List ℕ)) (i : ℕ) → AllByRecursion (λ y. same_name x y ≡ false) xs → slice_get xs i ≡ Some name → same_name x name ≡ false
+apart_at x name xs i a h = All-at (λ y. same_name x y ≡ false) xs i name (All-from_recursion (λ y. same_name x y ≡ false) xs a) h
+
+not_both : (x name : List ℕ) (xs : List (List ℕ)) (i : ℕ) → AllByRecursion (λ y. same_name x y ≡ false) xs → slice_get xs i ≡ Some name → x ≡ name → ⊥
+not_both x name xs i a h e =
+    let no = apart_at x name xs i a h in
+    let yes : same_name x name ≡ true = ap (same_name x) (sym e) ∙ same_name-refl x in
+    (let f : false ≡ true = sym no ∙ yes in cc)
+
+names_differ : (names : List (List ℕ)) → AreDistinct names → (i j : ℕ) (name : List ℕ) → slice_get names i ≡ Some name → slice_get names j ≡ Some name → i ≡ j
+unfolding IsDistinct
+names_differ [] d i j name e f = absurd cc
+names_differ (x ∷ xs) d zero zero name e f = refl
+names_differ (x ∷ xs) d zero (suc j) name e f = absurd (not_both x name xs j d.0 f (let same : x ≡ name = cc in same))
+names_differ (x ∷ xs) d (suc i) zero name e f = absurd (not_both x name xs i d.0 e (let same : x ≡ name = cc in same))
+names_differ (x ∷ xs) d (suc i) (suc j) name e f = ap suc (names_differ xs d.1 i j name e f)
+
+-- A name that a symbol may have.
+pass_first : (p : ℕ → Bool) (x : ℕ) (xs : List ℕ) (b : Bool) → p x ≡ b → (b && list_all p xs) ≡ true → (list_all p xs ≡ true → All (λ b. p b ≡ true) xs) → All (λ b. p b ≡ true) (x ∷ xs)
+pass_first p x xs true e f rest = All-cons (λ b. p b ≡ true) x xs e (rest f)
+pass_first p x xs false e f rest = absurd cc
+
+all_pass : (p : ℕ → Bool) (xs : List ℕ) → list_all p xs ≡ true → All (λ b. p b ≡ true) xs
+all_pass p [] h = All-nil (λ b. p b ≡ true)
+all_pass p (x ∷ xs) h = pass_first p x xs (p x) refl h (all_pass p xs)
+
+name_by : (name : List ℕ) (a b c d : Bool) → nat_le 1 (length name) ≡ b → nat_le (length name) 255 ≡ c → list_all is_name_byte name ≡ d → (if a then false else (b && c && d)) ≡ true → IsSymbolName name
+name_by name false true true true l s p h = record {
+  some = grind (arith, nat_tests);
+  short = grind (arith, nat_tests);
+  bytes = all_pass is_name_byte name p;
+}
+name_by name true b c d l s p h = absurd cc
+name_by name false false c d l s p h = absurd cc
+name_by name false true false d l s p h = absurd cc
+name_by name false true true false l s p h = absurd cc
+
+good_is : (name : List ℕ) → is_good_name name ≡ true → IsSymbolName name
+good_is name h = name_by name (same_name name if_word || is_letter name) (nat_le 1 (length name)) (nat_le (length name) 255) (list_all is_name_byte name) refl refl refl h
+
+-- Where nothing is refused, no member is bad.
+append_none : {A : Type 0} (xs ys : List A) → xs ++ ys ≡ [] → xs ≡ []
+append_none [] ys h = refl
+append_none (x ∷ xs) ys h = absurd cc
+
+map_none : {A B : Type 0} (f : A → B) (xs : List A) → map f xs ≡ [] → xs ≡ []
+map_none f [] h = refl
+map_none f (x ∷ xs) h = absurd cc
+
+listed_none : {A : Type 0} (o : Option A) → listed o ≡ [] → o ≡ None
+listed_none None h = refl
+listed_none (Some x) h = absurd cc
+
+module _ (names : List (List ℕ)) (ls : List (Placed Numbered)) where
+  abbrev numbered : List Numbered
+  numbered = map (λ l. l.statement) ls
+
+  abbrev bad_at : ℕ → Option Numbered → Bool
+  bad_at i o = list_any (is_bad_member (kind_of numbered) (choice_of numbered) (is_first_at numbered i) (choice_round numbered i)) (listed o)
+
+  not_refused : (c : Code) (i : ℕ) → bad_at i (slice_get numbered i) ≡ true → refused_at names ls c i ≡ [] → ⊥
+  not_refused c i h n =
+      let gone : slice_get ls i ≡ None = listed_none (slice_get ls i) (map_none (λ l. refused (record { code = c; detail = entry_name names (entry_symbol (menu_entry_at numbered i)) }) l.file l.line) (listed (slice_get ls i)) n) in
+      let none : slice_get numbered i ≡ None = slice_get-map (λ l. l.statement) ls i ∙ ap (option_map (λ l. l.statement)) gone in
+      let no : bad_at i (slice_get numbered i) ≡ false = ap (bad_at i) none in
+      (let e : true ≡ false = sym h ∙ no in cc)
+
+  none_by : (ms : List ℕ) (rest : List Refused) → bad_members numbered ≡ ms → flat_map (refused_at names ls code.ChoiceMember) ms ++ rest ≡ [] → ms ≡ []
+  none_by [] rest e h = refl
+  none_by (i ∷ is) rest e h =
+      let bad = All-head (λ (j : ℕ). bad_at j (slice_get numbered j) ≡ true) i is (subst (λ (js : List ℕ). All (λ (j : ℕ). bad_at j (slice_get numbered j) ≡ true) js) e (filter_passes (λ (j : ℕ). bad_at j (slice_get numbered j)) (places numbered))) in
+      let all : flat_map (refused_at names ls code.ChoiceMember) (i ∷ is) ≡ [] = append_none (flat_map (refused_at names ls code.ChoiceMember) (i ∷ is)) rest h in
+      absurd (not_refused code.ChoiceMember i bad (append_none (refused_at names ls code.ChoiceMember i) (flat_map (refused_at names ls code.ChoiceMember) is) all))
+
+  pub none_bad : late_refusals names ls ≡ [] → bad_members numbered ≡ []
+  none_bad h = none_by (bad_members numbered) (flat_map (refused_at names ls code.BadDefault) (bad_defaults numbered)) refl h
+
+modules_below : (s : SymId) (count : ℕ) (b : Bool) (t : SymId) → nat_lt s.0 count ≡ b → (if b then Some s else None) ≡ Some t → t.0 < count
+modules_below s count false t e h = absurd cc
+modules_below s count true t e h =
+    let same : s ≡ t = cc in
+    let n : s.0 ≡ t.0 = ap (λ (u : SymId). u.0) same in
+    let l : s.0 < count = grind (arith, nat_tests) in
+    omega arith
+
+-- What the shape of the expanded list gives: its texts stand in lines, a choice stands in no choice, and the end of a menu
+-- names that menu.
+pub record IsShaped (ls : List (Placed Written)) : Type 0 where
+  pub lines : All IsInLines (statements ls)
+  pub alone : (p : ℕ) → of_block (map (λ l. l.statement) (numbered_lines ls)) block.Choice p ≡ true → choice_round (map (λ l. l.statement) (numbered_lines ls)) p ≡ None
+  pub ends : (i menu : ℕ) → slice_get (entries (map (λ l. l.statement) (numbered_lines ls))) i ≡ Some (EndShown menu) → (menu < i) × ((text : List ℕ) × (when : Condition) × (slice_get (entries (map (λ l. l.statement) (numbered_lines ls))) menu ≡ Some (MenuShown text when)))
+
+pub shaped : (files : Files) (root : List ℕ) (log : Log) → Expands files root (Ok log) → IsShaped log.lines
+shaped files root log e = record {
+  lines = expanded_lines files root log e;
+  alone = choices_alone files root log e;
+  ends = ends_name_menus files root log e;
+}
+
+module _ (ls : List (Placed Written)) where
+  abbrev whole : TreeFacts
+  whole = facts_with (names_of (statements ls)) (length (defined (statements ls))) (modules_id (statements ls)) (numbered_lines ls)
+
+  abbrev count_is : length whole.symbols ≡ length (defined (statements ls))
+  count_is = length-map_numbers (λ i. symbol_facts (map (λ l. l.statement) (numbered_lines ls)) (symbol i)) (length (defined (statements ls)))
+
+  allowed : AreNames (defined (statements ls)) → (i : ℕ) (name : List ℕ) → i < length whole.symbols → slice_get whole.names i ≡ Some name → IsSymbolName name
+  allowed k i name l h =
+      let n = count_is in
+      let b : i < length (defined (statements ls)) = omega arith in
+      let x = names_extend (statements ls) in
+      let first : slice_get (defined (statements ls)) i ≡ Some name = sym (ap (λ (ns : List (List ℕ)). slice_get ns i) x.1 ∙ get_front (defined (statements ls)) x.0 i b) ∙ h in
+      good_is name (All-at (λ m. is_good_name m ≡ true) (defined (statements ls)) i name k.good first)
+
+  pub well_formed : AreNames (defined (statements ls)) → AreDistinct (names_of (statements ls)) → IsShaped ls → late_refusals (names_of (statements ls)) (numbered_lines ls) ≡ [] → IsWellFormed whole
+  well_formed known distinct shaped none =
+      let n = count_is in
+      let few = known.few in
+      let x = names_extend (statements ls) in
+      let long : length (names_of (statements ls)) ≡ length (defined (statements ls)) + length x.0 = ap (λ (ns : List (List ℕ)). length ns) x.1 ∙ length-append (defined (statements ls)) x.0 in
+      let below = numbered_below ls in
+      let good = none_bad (names_of (statements ls)) (numbered_lines ls) none in
+      record {
+        names_differ = names_differ (names_of (statements ls)) distinct;
+        names_known = omega arith;
+        names_allowed = allowed known;
+        symbols_few = omega arith;
+        lines_sound = all_sound (names_of (statements ls)) (length (defined (statements ls))) (modules_id (statements ls)) (numbered_lines ls) below;
+        members_listed = all_listed (names_of (statements ls)) (length (defined (statements ls))) (modules_id (statements ls)) (numbered_lines ls) below good;
+        choices_sound = choices_sound (names_of (statements ls)) (length (defined (statements ls))) (modules_id (statements ls)) (numbered_lines ls) below good shaped.alone;
+        entries_sound = entries_sound (names_of (statements ls)) (length (defined (statements ls))) (modules_id (statements ls)) (numbered_lines ls) below shaped.ends;
+        symbols_shown = shows_each ls (names_differ (names_of (statements ls)) distinct);
+        modules_defined = λ s h. defined_if (names_of (statements ls)) (length (defined (statements ls))) (modules_id (statements ls)) (numbered_lines ls) s (modules_below (modules_id (statements ls)) (length (defined (statements ls))) (nat_lt (modules_id (statements ls)).0 (length (defined (statements ls)))) s refl h);
+        texts = line_texts ls shaped.lines;
+      }

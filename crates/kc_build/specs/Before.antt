@@ -1,0 +1,61 @@
+-- For proofs: What the entries before a place say.
+use Rattle.std.specs.Prelude.{ℕ, List, [], codes, filter, map, take, if◌then◌else◌, Option, Some, None, slice_get, unwrap_or}
+use Rattle.std.specs.Option.{option_and_then, option_map}
+use Rattle.std.specs.List.{filter_map, flat_map}
+use Rattle.kc_expr.specs.declared.expression.SymId.{SymId}
+use Rattle.kc_read.specs.Blocks.{attributes, last_of, numbers}
+use Rattle.kc_read.specs.Statements.{Numbered}
+use Rattle.kc_read.specs.declared.statement.Block.TheVariants as block
+use Rattle.kc_tree.specs.declared.parts.Symbol.{Symbol}
+use Rattle.kc_build.specs.Facts.{Given, can_be_target, choice_number, defaults_at, dep, entry_at, given_of, imply_of, is_member_place, named_under, naming_at, of_block, prompt_at, range_under, select_of, single_symbol, symbol_at, title_of}
+use Rattle.kc_build.specs.Known.{member_by}
+use Rattle.kc_tree.specs.Layouts.{DefinitionFacts}
+use Rattle.kc_tree.specs.TreeFacts.{Guarded, ChoiceFacts, Shown}
+
+module _ (ss : List Numbered) where
+  -- the definition that begins at a place; those that begin before a place
+  abbrev pub definition_at : ℕ → SymId → DefinitionFacts
+  definition_at i s = record {
+    symbol = s;
+    dep = dep ss i;
+    prompt = prompt_at ss i;
+    defaults = defaults_at ss i;
+    ranges = filter_map (range_under ss i) (attributes ss i);
+  }
+
+  abbrev pub definition_line : ℕ → Option DefinitionFacts
+  definition_line i = option_map (definition_at i) (symbol_at ss i)
+
+  abbrev pub definitions_before : ℕ → List DefinitionFacts
+  definitions_before i = filter_map definition_line (numbers i)
+
+  -- the lines before a place that select a symbol; that imply it
+  abbrev pub selectors_before : ℕ → SymId → List (Guarded SymId)
+  selectors_before i t = if can_be_target ss t then flat_map (naming_at ss (select_of t)) (numbers i) else []
+
+  abbrev pub impliers_before : ℕ → SymId → List (Guarded SymId)
+  impliers_before i t = if can_be_target ss t then flat_map (naming_at ss (imply_of t)) (numbers i) else []
+
+  -- the choices that open before a place, with their members before it; what is a member is said by the symbols
+  abbrev pub members_before : ℕ → ℕ → List SymId
+  members_before i k = filter_map (symbol_at ss) (filter (is_member_place ss k) (numbers i))
+
+  abbrev pub default_by : List Symbol → ℕ → Given → Option (Guarded SymId)
+  default_by symbols j g = option_and_then (λ s. if member_by symbols (choice_number ss j) s then Some (named_under ss j s g.when) else None) (single_symbol g.value)
+
+  abbrev pub choice_before : List Symbol → ℕ → ℕ → ChoiceFacts
+  choice_before symbols i j = record {
+    prompt = prompt_at ss j;
+    defaults = filter_map (default_by symbols j) (filter_map given_of (attributes ss j));
+    members = members_before i (choice_number ss j);
+  }
+
+  abbrev pub choices_before : List Symbol → ℕ → List ChoiceFacts
+  choices_before symbols i = map (choice_before symbols i) (filter (of_block ss block.Choice) (numbers i))
+
+  -- the entries before a place
+  abbrev pub entries_before : ℕ → List Shown
+  entries_before i = filter_map (λ j. entry_at ss j (slice_get ss j)) (numbers i)
+
+  abbrev pub main_menu_before : ℕ → List ℕ
+  main_menu_before i = unwrap_or (last_of (filter_map title_of (take i ss))) (codes "Main menu")

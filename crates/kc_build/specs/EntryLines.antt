@@ -1,0 +1,41 @@
+-- For proofs: What the attributes of an entry give to the tables.
+use Rattle.std.specs.Prelude.{ℕ, List, Option, Some, None, if◌then◌else◌}
+use Rattle.std.specs.Option.{option_map, option_and_then}
+use Rattle.kc_expr.specs.declared.expression.SymId.{SymId}
+use Rattle.kc_expr.specs.Form.{Form, Leaf, form_of, leaf_of}
+use Rattle.kc_expr.specs.When.{when_view}
+use Rattle.kc_read.specs.Statements.{Numbered, RangeLine}
+use Rattle.kc_tree.specs.declared.parts.ChoiceDefault.{ChoiceDefault}
+use Rattle.kc_tree.specs.declared.parts.Prompt.{Prompt}
+use Rattle.kc_tree.specs.declared.parts.Symbol.{Symbol}
+use Rattle.kc_tree.specs.declared.parts.SymbolDefault.{SymbolDefault}
+use Rattle.kc_tree.specs.declared.parts.SymbolRange.{SymbolRange}
+use Rattle.kc_build.specs.Facts.{Given, given_of, single_symbol}
+use Rattle.kc_build.specs.Known.{member_by}
+
+-- a prompt by the number of its context; a default, a range, a choice's default
+abbrev pub prompt_line : Prompt → ℕ × Option Form
+prompt_line p = (p.visible.0, when_view p.when)
+
+abbrev pub default_row : SymbolDefault → Form × Option Form
+default_row d = (form_of d.value.value, when_view d.when)
+
+abbrev pub range_row : SymbolRange → Leaf × Leaf × Option Form
+range_row r = (leaf_of r.low, leaf_of r.high, when_view r.when)
+
+abbrev pub choice_default_line : ChoiceDefault → SymId × Option Form
+choice_default_line d = (d.member, when_view d.when)
+
+-- the same, of the line that gives it
+abbrev pub default_line : Numbered → Option (Form × Option Form)
+default_line s = option_map (λ (g : Given). (g.value, g.when)) (given_of s)
+
+abbrev pub range_line : Numbered → Option (Leaf × Leaf × Option Form)
+range_line (RangeLine a b w) = Some (a, b, w)
+range_line _ = None
+
+abbrev pub named_line : List Symbol → ℕ → Given → Option (SymId × Option Form)
+named_line symbols k g = option_and_then (λ s. if member_by symbols k s then Some (s, g.when) else None) (single_symbol g.value)
+
+abbrev pub member_line : List Symbol → ℕ → Numbered → Option (SymId × Option Form)
+member_line symbols k s = option_and_then (named_line symbols k) (given_of s)

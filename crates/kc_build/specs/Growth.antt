@@ -1,0 +1,21 @@
+-- For proofs: How the conditions of contexts grow by an entry.
+use Rattle.std.specs.Prelude.{◌≡◌, ◌<◌, ◌≤◌, ◌+◌, ℕ, List, ◌++◌, length, Option}
+use Rattle.kc_expr.specs.Form.{Form}
+use Rattle.kc_tree.specs.TreeFacts.{Condition}
+use Rattle.kc_tree.specs.Contexts.{condition_in}
+
+-- a condition and these things more
+abbrev pub and_all : Condition → List Form → Condition
+and_all c fs = record { parts = c.parts ++ fs; mode = c.mode }
+
+-- a condition stands at a number
+pub record Stands (conditions : List Condition) (i : ℕ) (c : Condition) : Type 0 where
+  pub there : i < length conditions
+  pub is : condition_in conditions i ≡ c
+
+-- what there was stays, and there are n more at most, in which this mode counts
+pub record IsGrown (old new : List Condition) (mode : Option ℕ) (n : ℕ) : Type 0 where
+  pub keeps : (i : ℕ) → i < length old → condition_in new i ≡ condition_in old i
+  pub longer : length old ≤ length new
+  pub few : length new ≤ length old + n
+  pub modes : (i : ℕ) → length old ≤ i → i < length new → (condition_in new i).mode ≡ mode

@@ -1,0 +1,48 @@
+-- For proofs: Words for the passes over the list of lines.
+use Rattle.std.specs.Prelude.{ℕ, zero, suc, List, [], ◌∷◌, map, Bool, true, false, Option, Some, None}
+use Rattle.std.specs.Prelude.{option_map}
+use Rattle.kc_expr.specs.declared.expression.SymId.{SymId}
+use Rattle.kc_expr.specs.Form.{Form, Leaf, form_of, leaf_of}
+use Rattle.kc_build.specs.declared.lines.Given.{Given}
+use Rattle.kc_build.specs.declared.lines.Target.{Target}
+use Rattle.kc_build.specs.declared.lines.Range.{Range}
+use Rattle.kc_build.specs.declared.lines.ReverseKind.{ReverseKind}
+use Rattle.kc_build.specs.Facts as spec
+use Rattle.kc_read.specs.declared.line.Line.{Line}
+use Rattle.kc_read.specs.Reads.{statement_view}
+use Rattle.kc_read.specs.Statements.{Numbered, RangeLine}
+use Rattle.kc_read.specs.Blocks.{Bracket, Opens, Closes, NoBracket}
+
+-- the statements of lines
+abbrev pub said_by : List Line → List Numbered
+said_by = map (λ l. statement_view l.statement)
+
+abbrev pub closes : Bracket → Bool
+closes Closes = true
+closes (Opens b) = false
+closes NoBracket = false
+
+abbrev pub given_view : Given → spec.Given
+given_view g = record { value = form_of g.value.now.value; when = option_map (λ e. form_of e.now.value) g.when }
+
+-- a line that selects or implies: which, whom, when
+abbrev pub target_view : Target → ReverseKind × SymId × Option Form
+target_view t = (t.kind, t.symbol, option_map (λ e. form_of e.now.value) t.when)
+
+abbrev pub range_view : Range → Leaf × Leaf × Option Form
+range_view r = (leaf_of r.low.now, leaf_of r.high.now, option_map (λ e. form_of e.now.value) r.when)
+
+abbrev pub range_of : Numbered → Option (Leaf × Leaf × Option Form)
+range_of (RangeLine a b w) = Some (a, b, w)
+range_of _ = None
+
+-- the element at a place, changed
+abbrev pub change : {A : Type 0} → (A → A) → ℕ → List A → List A
+change g k [] = []
+change g zero (x ∷ xs) = g x ∷ xs
+change g (suc k) (x ∷ xs) = x ∷ change g k xs
+
+-- what a table by symbol has, changed at one that may be there
+abbrev pub changed : {A : Type 0} → (A → A) → Option SymId → List A → List A
+changed g None xs = xs
+changed g (Some s) xs = change g s.0 xs

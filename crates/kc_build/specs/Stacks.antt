@@ -1,0 +1,75 @@
+-- For proofs: What open blocks ask for, by the conditions of the contexts.
+use Rattle.std.specs.Prelude.{◌≡◌, ◌<◌, ℕ, List, [], ◌∷◌, ◌++◌, Some, None, Option, length, map, slice_get}
+use Rattle.std.specs.Option.{option_map}
+use Rattle.kc_expr.specs.Form.{Form}
+use Rattle.kc_read.specs.Blocks.{enclosing}
+use Rattle.kc_read.specs.Statements.{Numbered, ChoiceLine}
+use Rattle.kc_tree.specs.Contexts.{IsPlain, condition_in}
+use Rattle.kc_build.specs.Facts.{entry_number, opener_of}
+use Rattle.kc_build.specs.Rounds.{round}
+use Rattle.kc_tree.specs.TreeFacts.{Condition}
+use Rattle.kc_tree.specs.declared.parts.Title.{Title}
+use Rattle.kc_build.specs.declared.blocks.Block.{Block}
+use Rattle.kc_build.specs.declared.blocks.Blocks.{Blocks}
+
+-- a block by the conditions of its contexts; its opener is given by the entries before it
+pub record Asked : Type 0 where
+  pub parts : List Form
+  pub visible : List Form
+  pub mode : Option ℕ
+  pub entry : Option ℕ
+
+abbrev pub block_view : List Condition → Block → Asked
+block_view conditions b = record {
+  parts = (condition_in conditions b.within.0).parts;
+  visible = (condition_in conditions b.visible.0).parts;
+  mode = (condition_in conditions b.within.0).mode;
+  entry = b.entry;
+}
+
+-- what surrounds a place, with the number of the entries before its innermost block's opener
+abbrev pub asked_at : List Numbered → ℕ → Asked
+asked_at ss i = record {
+  parts = (round ss i).parts;
+  visible = (round ss i).visible;
+  mode = (round ss i).mode;
+  entry = option_map (entry_number ss) (opener_of ss i);
+}
+
+-- the open blocks at a place: that of the place, and those of the openers round it
+pub record AreOpen (ss : List Numbered) (i : ℕ) (conditions : List Condition) (blocks : Blocks) : Type 0 where
+  pub innermost : block_view conditions blocks.innermost ≡ asked_at ss i
+  pub outside : map (block_view conditions) blocks.outside.items ≡ map (asked_at ss) (enclosing ss i)
+
+-- the open blocks, the innermost first
+abbrev pub open_blocks : Blocks → List Block
+open_blocks blocks = blocks.innermost ∷ blocks.outside.items
+
+-- the innermost block is closed, where one is open
+abbrev pub IsClosed : Blocks → Blocks → Type 0
+IsClosed old new =
+    ((outside : List Block) (b : Block) → old.outside.items ≡ outside ++ b ∷ [] → (new.innermost ≡ b) × (new.outside.items ≡ outside))
+    × (old.outside.items ≡ [] → open_blocks new ≡ open_blocks old)
+
+-- they lead to contexts that are there, and no mode counts in what is asked of what is visible in them
+abbrev pub AreBlocksWithin : List Condition → Blocks → Type 0
+AreBlocksWithin conditions blocks = (j : ℕ) (b : Block) → slice_get (open_blocks blocks) j ≡ Some b → b.within.0 < length conditions
+
+abbrev pub AreBlocksVisible : List Condition → Blocks → Type 0
+AreBlocksVisible conditions blocks = (j : ℕ) (b : Block) → slice_get (open_blocks blocks) j ≡ Some b → b.visible.0 < length conditions
+
+abbrev pub AreBlocksPlain : List Condition → Blocks → Type 0
+AreBlocksPlain conditions blocks = (j : ℕ) (b : Block) → slice_get (open_blocks blocks) j ≡ Some b → IsPlain conditions b.visible.0
+
+-- what is asked of what is visible round a title is there
+abbrev pub AreTitlesWithin : List Condition → List Title → Type 0
+AreTitlesWithin conditions ts = (i : ℕ) (t : Title) → slice_get ts i ≡ Some t → t.visible.0 < length conditions
+
+-- the context with the number 0 asks for nothing
+abbrev pub AsksNothing : List Condition → Type 0
+AsksNothing conditions = length (condition_in conditions 0).parts ≡ 0
+
+-- a choice begins where no mode counts
+abbrev pub IsPlainHead : Numbered → Option ℕ → Type 0
+IsPlainHead ChoiceLine mode = mode ≡ None
+IsPlainHead _ mode = Unit {0}

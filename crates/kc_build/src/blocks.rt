@@ -1,0 +1,119 @@
+//! The open blocks round a line, by their contexts.
+
+ghost use Rattle.std.specs.Prelude.{◌≡◌, ◌<◌, ◌++◌, ◌∷◌, [], ◌^◌, None, Some, length, IfOk, OnOk, OnErr};
+ghost use Rattle.kc_expr.specs.Form.{form_of};
+ghost use Rattle.kc_tree.specs.Contexts.{IsPlain, and_also, in_choice, condition_in};
+ghost use Rattle.kc_build.specs.Stacks.{IsClosed, open_blocks};
+
+use kc_expr::expression::Expr;
+use kc_tree::contexts::Contexts;
+use kc_tree::parts::{ChoiceId, ContextId};
+use std::alloc::{AllocError, Global};
+use std::rc::Rc;
+
+/// What a block asks of the entries in it, and of what is visible in it besides; and the place among the entries of what
+/// opened it: none at the top.
+#[derive(Clone, Copy, Debug)]
+pub struct Block {
+    pub within: ContextId,
+    pub visible: ContextId,
+    pub entry: Option<u32>,
+}
+
+/// The innermost open block, and those outside it.
+#[derive(Debug, Drop)]
+pub struct Blocks {
+    innermost: Block,
+    outside: Vec<Block>,
+}
+
+impl Blocks {
+    /// No block is open.
+    pub fn new(alloc: Global) -> Blocks
+        ensures top { result.innermost ≡ record { within = record { 0 = 0 }; visible = record { 0 = 0 }; entry = None } }
+        ensures outside { result.outside.items ≡ [] }
+    {
+        Blocks {
+            innermost: Block {
+                within: ContextId(0),
+                visible: ContextId(0),
+                entry: None,
+            },
+            outside: Vec::new(alloc),
+        }
+    }
+
+    /// The innermost open block; at the top it asks for nothing.
+    pub fn innermost(&self) -> Block
+        ensures { result ≡ self.now.innermost }
+    {
+        self.innermost
+    }
+
+    /// Opens a block inside the innermost one. Where it is out of memory, nothing changes.
+    pub fn open(&mut self, block: Block) -> Result<(), AllocError>
+        ensures innermost { OnOk result (self.new.innermost ≡ block) }
+        ensures outside { OnOk result (self.new.outside.items ≡ self.old.outside.items ++ self.old.innermost ∷ []) }
+        ensures unchanged { OnErr result (open_blocks self.new ≡ open_blocks self.old) }
+    {
+        self.outside.push(self.innermost)?;
+        self.innermost = block;
+        Ok(())
+    }
+
+    /// Closes the innermost block, if one is open.
+    pub fn close(&mut self)
+        ensures { IsClosed self.old self.new }
+    {
+        if let Some(block) = self.outside.pop() {
+            self.innermost = block;
+        }
+    }
+}
+
+/// The block of an `if`, inside another one.
+pub fn if_block(
+    contexts: &mut Contexts,
+    outer: Block,
+    condition: Rc<Expr>,
+    entry: u32,
+) -> Result<Block, AllocError>
+    requires there { outer.within.0 < length contexts.old }
+    requires few { length contexts.old < 2 ^ 32 }
+    ensures added { OnOk result (contexts.new ≡ contexts.old ++ and_also (condition_in contexts.old outer.within.0) (form_of condition.value) ∷ []) }
+    ensures within { IfOk result (λ b. b.within.0 ≡ length contexts.old) }
+    ensures visible { IfOk result (λ b. b.visible ≡ outer.visible) }
+    ensures entry { IfOk result (λ b. b.entry ≡ Some entry) }
+    ensures unchanged { OnErr result (contexts.new ≡ contexts.old) }
+{
+    let within = contexts.inside(outer.within, condition)?;
+    Ok(Block {
+        within,
+        visible: outer.visible,
+        entry: Some(entry),
+    })
+}
+
+/// The block of a choice, inside another one: its members depend on its mode.
+pub fn choice_block(
+    contexts: &mut Contexts,
+    outer: Block,
+    choice: ChoiceId,
+    entry: u32,
+) -> Result<Block, AllocError>
+    requires there { outer.within.0 < length contexts.old }
+    requires plain { IsPlain contexts.old outer.within.0 }
+    requires few { length contexts.old < 2 ^ 32 }
+    ensures added { OnOk result (contexts.new ≡ contexts.old ++ in_choice (condition_in contexts.old outer.within.0) choice.0 ∷ []) }
+    ensures within { IfOk result (λ b. b.within.0 ≡ length contexts.old) }
+    ensures visible { IfOk result (λ b. b.visible ≡ outer.visible) }
+    ensures entry { IfOk result (λ b. b.entry ≡ Some entry) }
+    ensures unchanged { OnErr result (contexts.new ≡ contexts.old) }
+{
+    let within = contexts.inside_choice(outer.within, choice)?;
+    Ok(Block {
+        within,
+        visible: outer.visible,
+        entry: Some(entry),
+    })
+}

@@ -1,0 +1,354 @@
+//! The second walk over the lines, entry by entry with the open blocks: all that they say but of symbols alone.
+
+ghost use Rattle.std.specs.Prelude.{◌≡◌, ℕ, List, ◌<◌, ◌+◌, ◌*◌, ◌^◌, length, map, IfOk, OnOk};
+ghost use Rattle.kc_expr.specs.Form.{form_of};
+ghost use Rattle.kc_read.specs.Reads.{line_view, statement_view};
+ghost use Rattle.kc_read.specs.Statements.{Numbered, ConfigLine, IfLine, MenuLine, CommentLine, ChoiceLine, EndMenuLine};
+ghost use Rattle.kc_tree.specs.declared.parts.Symbol.{Symbol};
+ghost use Rattle.kc_build.specs.Known.{AreBelow, AreChoicesApart, AreMenusOpened, AreSymbols, IsPlace, IsWhole};
+ghost use Rattle.kc_build.specs.Passes.{said_by};
+ghost use Rattle.kc_build.specs.Said.{AreSaid, HasHeads, HasRoom, IsDiagnosed, IsSmall};
+ghost use Rattle.kc_build.specs.Stacks.{AreBlocksPlain, AreBlocksVisible, AreBlocksWithin, AreTitlesWithin, AsksNothing, IsPlainHead};
+ghost use Rattle.kc_tree.specs.Contexts.{IsPlain, condition_in};
+ghost use Rattle.kc_tree.specs.Layouts.{choice_facts as choice_in};
+
+use crate::attributes::{
+    add_defaults, add_ranges, choice_defaults, entry_context, entry_end, prompt, visible_context,
+};
+use crate::blocks::{Block, Blocks, choice_block, if_block};
+use crate::diagnostics::{Diagnostics, EntryPlace, MenuEntry};
+use crate::reverse_lines::add_reverses;
+use crate::symbols::is_first;
+use kc_expr::expression::{Expr, SymId};
+use kc_expr::names::Names;
+use kc_read::line::Line;
+use kc_read::statement::Statement;
+use kc_tree::layout::Tables;
+use kc_tree::parts::{
+    Choice, ChoiceId, ContextId, Definition, DefinitionId, Entry, Symbol, Title, TitleId,
+};
+use std::alloc::{AllocError, Global};
+use std::rc::Rc;
+
+// The walk so far: the tables, the open blocks, and the title of the main menu.
+#[derive(Drop)]
+struct Walk {
+    tables: Tables,
+    blocks: Blocks,
+    main_menu: Vec<u8>,
+    ghost asks_nothing: { AsksNothing tables.contexts },
+    ghost top_plain: { IsPlain tables.contexts 0 },
+    ghost within: { AreBlocksWithin tables.contexts blocks },
+    ghost visible: { AreBlocksVisible tables.contexts blocks },
+    ghost plain: { AreBlocksPlain tables.contexts blocks },
+    ghost titles: { AreTitlesWithin tables.contexts tables.titles.items },
+}
+
+impl Walk {
+    ghost use Rattle.kc_build.specs.Walks.{Enters, IsHead, IsWalk};
+    ghost use Rattle.kc_build.specs.WalkSteps.{AddsDefinition, AddsEnd, AddsTitle, KeepsAllButChoices, with_member};
+
+    // The number of the next definition.
+    fn next_definition(&self) -> DefinitionId
+        requires { length self.now.tables.definitions.items < 2 ^ 32 }
+        ensures { result.0 ≡ length self.now.tables.definitions.items }
+    {
+        DefinitionId(self.tables.definitions.len() as u32)
+    }
+
+    // How many entries there are, which is the place of the next one.
+    fn next_entry(&self) -> u32
+        requires { length self.now.tables.entries.items < 2 ^ 32 }
+        ensures { result ≡ length self.now.tables.entries.items }
+    {
+        self.tables.entries.len() as u32
+    }
+
+    // A definition of a symbol: what its entry depends on, its prompt, its defaults and its ranges.
+    fn add_definition(
+        &mut self,
+        alloc: Global,
+        symbol: SymId,
+        own: &[Line],
+    ) -> Result<(), AllocError>
+        requires { HasRoom (length own.now) self.old.tables }
+        ensures { OnOk result (AddsDefinition symbol (said_by own.now) self.old self.new) }
+    {
+        let round = self.blocks.innermost();
+        let within = entry_context(&mut self.tables.contexts, round.within, own)?;
+        let prompt = prompt(own, round.visible)?;
+        let defaults = add_defaults(own, &mut self.tables.defaults)?;
+        let ranges = add_ranges(alloc, own, &mut self.tables.ranges)?;
+        self.tables.definitions.push(Definition {
+            symbol,
+            within,
+            prompt,
+            defaults,
+            ranges,
+        })?;
+        Ok(())
+    }
+
+    // A `config` entry.
+    fn define(
+        &mut self,
+        alloc: Global,
+        symbols: &[Symbol],
+        symbol: SymId,
+        own: &[Line],
+    ) -> Result<(), AllocError>
+        requires room { HasRoom (length own.now) self.old.tables }
+        requires heads { HasHeads symbols.now self.old.tables }
+        ensures { OnOk result (Enters symbols.now (ConfigLine symbol) (said_by own.now) self.old self.new) }
+    {
+        let id = self.next_definition();
+        self.add_definition(alloc, symbol, own)?;
+        add_reverses(&mut self.tables.reverses, symbols, id, own)?;
+        if is_first(symbols, symbol, id) {
+            self.tables.entries.push(Entry::Symbol(symbol))?;
+        }
+        self.add_member(symbol)
+    }
+
+    // Adds a symbol to the choice round it, where there is one.
+    fn add_member(&mut self, symbol: SymId) -> Result<(), AllocError>
+        ensures choices { OnOk result (map (choice_in self.new.tables) self.new.tables.choices.items ≡ with_member (condition_in self.old.tables.contexts self.old.blocks.innermost.within.0).mode symbol (map (choice_in self.old.tables) self.old.tables.choices.items)) }
+        ensures others { OnOk result (KeepsAllButChoices self.old self.new) }
+    {
+        let round = self.blocks.innermost();
+        if let Some(choice) = self.tables.contexts.mode(round.within) {
+            if choice.0 < self.tables.choices.len() {
+                self.tables.choices[choice.0].members.push(symbol)?;
+            }
+        }
+        Ok(())
+    }
+
+    // A title, which is shown under this.
+    fn add_title(
+        &mut self,
+        alloc: Global,
+        text: &[u8],
+        within: ContextId,
+        visible: ContextId,
+    ) -> Result<TitleId, AllocError>
+        requires within { within.0 < length self.old.tables.contexts }
+        requires visible { visible.0 < length self.old.tables.contexts }
+        requires plain { IsPlain self.old.tables.contexts visible.0 }
+        requires few { length self.old.tables.titles.items < 2 ^ 32 }
+        ensures number { IfOk result (λ id. id.0 ≡ length self.old.tables.titles.items) }
+        ensures title { OnOk result (AddsTitle text.now within visible self.old self.new) }
+    {
+        let id = TitleId(self.tables.titles.len() as u32);
+        let text = Vec::from_slice(alloc, text)?;
+        self.tables.titles.push(Title {
+            text,
+            within,
+            visible,
+        })?;
+        Ok(id)
+    }
+
+    // An `if`.
+    fn open_if(&mut self, condition: &Rc<Expr>) -> Result<(), AllocError>
+        requires room { HasRoom 0 self.old.tables }
+        ensures { OnOk result ((symbols : List Symbol) (own : List Numbered) → Enters symbols (IfLine (form_of condition.now.value)) own self.old self.new) }
+    {
+        let entry = self.next_entry();
+        let outer = self.blocks.innermost();
+        let block = if_block(&mut self.tables.contexts, outer, condition.clone()?, entry)?;
+        self.blocks.open(block)
+    }
+
+    // A menu: what it asks for, all that stands in it asks for, too.
+    fn open_menu(&mut self, alloc: Global, text: &[u8], own: &[Line]) -> Result<(), AllocError>
+        requires room { HasRoom (length own.now) self.old.tables }
+        ensures { OnOk result ((symbols : List Symbol) → Enters symbols (MenuLine text.now) (said_by own.now) self.old self.new) }
+    {
+        let entry = self.next_entry();
+        let outer = self.blocks.innermost();
+        let within = entry_context(&mut self.tables.contexts, outer.within, own)?;
+        let visible = visible_context(&mut self.tables.contexts, outer.visible, own)?;
+        let title = self.add_title(alloc, text, within, visible)?;
+        self.tables.entries.push(Entry::Menu(title))?;
+        self.blocks.open(Block {
+            within,
+            visible,
+            entry: Some(entry),
+        })
+    }
+
+    // A comment.
+    fn comment(&mut self, alloc: Global, text: &[u8], own: &[Line]) -> Result<(), AllocError>
+        requires room { HasRoom (length own.now) self.old.tables }
+        ensures { OnOk result ((symbols : List Symbol) → Enters symbols (CommentLine text.now) (said_by own.now) self.old self.new) }
+    {
+        let round = self.blocks.innermost();
+        let within = entry_context(&mut self.tables.contexts, round.within, own)?;
+        // What is asked of what is visible is asked of prompts and menus alone.
+        let title = self.add_title(alloc, text, within, ContextId(0))?;
+        self.tables.entries.push(Entry::Comment(title))?;
+        Ok(())
+    }
+
+    // A choice: its members depend on its mode, and not on what it depends on itself.
+    fn open_choice(
+        &mut self,
+        alloc: Global,
+        symbols: &[Symbol],
+        own: &[Line],
+    ) -> Result<(), AllocError>
+        requires room { HasRoom (length own.now) self.old.tables }
+        requires plain { IsPlain self.old.tables.contexts self.old.blocks.innermost.within.0 }
+        ensures { OnOk result (Enters symbols.now ChoiceLine (said_by own.now) self.old self.new) }
+    {
+        let entry = self.next_entry();
+        let id = ChoiceId(self.tables.choices.len());
+        let outer = self.blocks.innermost();
+        let within = entry_context(&mut self.tables.contexts, outer.within, own)?;
+        let prompt = prompt(own, outer.visible)?;
+        let defaults = choice_defaults(alloc, symbols, id, own)?;
+        self.tables.choices.push(Choice {
+            within,
+            prompt,
+            defaults,
+            members: Vec::new(alloc),
+        })?;
+        let block = choice_block(&mut self.tables.contexts, outer, id, entry)?;
+        self.blocks.open(block)
+    }
+
+    // The end of what opened the innermost block, among the entries.
+    fn add_end(&mut self) -> Result<(), AllocError>
+        ensures { OnOk result (AddsEnd self.old self.new) }
+    {
+        match self.blocks.innermost().entry {
+            Some(menu) => {
+                self.tables.entries.push(Entry::End(menu))?;
+                Ok(())
+            }
+            None => Ok(()),
+        }
+    }
+
+    // The end of a menu.
+    fn close_menu(&mut self) -> Result<(), AllocError>
+        ensures { OnOk result ((symbols : List Symbol) (own : List Numbered) → Enters symbols EndMenuLine own self.old self.new) }
+    {
+        self.add_end()?;
+        self.blocks.close();
+        Ok(())
+    }
+
+    // What the entry at the head of its attributes says.
+    fn enter(
+        &mut self,
+        alloc: Global,
+        symbols: &[Symbol],
+        head: &Statement,
+        own: &[Line],
+    ) -> Result<(), AllocError>
+        requires room { HasRoom (length own.now) self.old.tables }
+        requires heads { HasHeads symbols.now self.old.tables }
+        requires plain { IsPlainHead (statement_view head.now) (condition_in self.old.tables.contexts self.old.blocks.innermost.within.0).mode }
+        ensures { OnOk result (Enters symbols.now (statement_view head.now) (said_by own.now) self.old self.new) }
+    {
+        match head {
+            Statement::Config(symbol) => self.define(alloc, symbols, *symbol, own),
+            Statement::If(condition) => self.open_if(condition),
+            Statement::Menu(text) => self.open_menu(alloc, text, own),
+            Statement::Choice => self.open_choice(alloc, symbols, own),
+            Statement::Comment(text) => self.comment(alloc, text, own),
+            Statement::EndMenu => self.close_menu(),
+            Statement::EndIf | Statement::EndChoice => {
+                self.blocks.close();
+                Ok(())
+            }
+            Statement::MainMenu(text) => {
+                self.main_menu = Vec::from_slice(alloc, text)?;
+                Ok(())
+            }
+            _ => Ok(()),
+        }
+    }
+
+    // What is known of the entry that a statement begins, before the walk goes into it.
+    fn place_of(&self, symbols: &[Symbol], head: &Statement) -> EntryPlace
+        requires { length self.now.tables.definitions.items < 2 ^ 32 }
+        ensures { (ss : List Numbered) (i : ℕ) (own : List Numbered) → IsWhole ss symbols.now → IsHead ss i (statement_view head.now) own → IsWalk ss symbols.now i self.now → IsPlace ss i result }
+    {
+        let round = self.tables.contexts.mode(self.blocks.innermost().within);
+        match head {
+            Statement::Config(symbol) => EntryPlace {
+                entry: MenuEntry::Symbol(*symbol),
+                first: is_first(symbols, *symbol, self.next_definition()),
+                round,
+            },
+            Statement::Choice => EntryPlace {
+                entry: MenuEntry::Choice(ChoiceId(self.tables.choices.len())),
+                first: false,
+                round,
+            },
+            _ => EntryPlace {
+                entry: MenuEntry::Other,
+                first: false,
+                round,
+            },
+        }
+    }
+}
+
+/// What lines say but of symbols alone.
+#[derive(Debug, Drop)]
+pub struct Said {
+    /// The tables that they fill.
+    pub tables: Tables,
+    /// The title of the main menu.
+    pub main_menu: Vec<u8>,
+    /// What they have against them.
+    pub diagnostics: Diagnostics,
+}
+
+/// What the lines say, entry by entry. The symbols are those of the first walk.
+pub fn walk_entries(
+    alloc: Global,
+    names: &Names,
+    lines: &[Line],
+    symbols: &[Symbol],
+) -> Result<Said, AllocError>
+    requires symbols { AreSymbols (said_by lines.now) symbols.now }
+    requires below { AreBelow (length symbols.now) (said_by lines.now) }
+    requires apart { AreChoicesApart (said_by lines.now) }
+    requires ends { AreMenusOpened (said_by lines.now) }
+    requires few { 4 * length lines.now + 8 < 2 ^ 32 }
+    ensures said { IfOk result (λ s. AreSaid (said_by lines.now) symbols.now s.tables s.main_menu.items) }
+    ensures small { IfOk result (λ s. IsSmall (length lines.now) s.tables) }
+    ensures diagnosed { IfOk result (λ s. IsDiagnosed names.now (map line_view lines.now) (length lines.now) s.diagnostics) }
+{
+    let mut walk = Walk {
+        tables: Tables::empty(alloc, symbols.len())?,
+        blocks: Blocks::new(alloc),
+        main_menu: Vec::from_slice(alloc, b"Main menu")?,
+    };
+    let mut diagnostics = Diagnostics::new(alloc);
+    let mut place = 0;
+    'entries: while place < lines.len() {
+        let end = entry_end(lines, place);
+        let head = &lines[place];
+        let own = &lines[place + 1..end];
+        let known = walk.place_of(symbols, &head.statement);
+        diagnostics.look_at_entry(alloc, names, symbols, known, head, own)?;
+        walk.enter(alloc, symbols, &head.statement, own)?;
+        place = end;
+    }
+    let Walk {
+        tables,
+        main_menu,
+        ..
+    } = walk;
+    Ok(Said {
+        tables,
+        main_menu,
+        diagnostics,
+    })
+}

@@ -1,0 +1,19 @@
+//! From the statements of a Kconfig tree to its symbols, choices, entries and warnings.
+#![tactic(auto)]
+
+mod assembly;
+mod attributes;
+mod blocks;
+mod build;
+mod copies;
+mod diagnostics;
+mod entries;
+pub mod laws;
+mod lines;
+mod numbering;
+mod renaming;
+mod reverse_lines;
+mod symbols;
+mod warning;
+
+pub use build::build_tree;

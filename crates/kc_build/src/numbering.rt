@@ -1,0 +1,118 @@
+//! The lines of a root file, with their names numbered.
+
+ghost use Rattle.std.specs.Prelude.{◌≡◌, ◌≢◌, ◌≤◌, ℕ, List, Option, IfOk, IfErr, OnOk, Ok, Err, [], Some, codes, length, map, unwrap_or};
+ghost use Rattle.kc_expr.specs.Names.{IsNumber, all_mentioned, mention, number_of, symbol};
+ghost use Rattle.kc_read.specs.Expansion.{Log, Expands};
+ghost use Rattle.kc_read.specs.Files.{bytes_in};
+ghost use Rattle.kc_read.specs.Expanded.{AreNumbers, IsExpansion, IsNamed};
+ghost use Rattle.kc_read.specs.Limits.{most_lines};
+ghost use Rattle.kc_read.specs.Steps.{IsMemory, out_of_memory, refusal_view};
+ghost use Rattle.kc_read.specs.declared.refusal.Code.TheVariants.{Memory};
+ghost use Rattle.kc_build.specs.Numberings.{IsListing};
+
+use crate::renaming::rename_lines;
+use kc_expr::expression::SymId;
+use kc_expr::names::Names;
+use kc_expr::order::SymbolOrder;
+use kc_read::expansion::{Expansion, expand};
+use kc_read::file_map::FileMap;
+use kc_read::line::Line;
+use kc_read::refusal::{Code, Refusal};
+use std::alloc::{AllocError, Global};
+
+/// The lines of a root file, with their names numbered: those of the defined symbols, `count` of them, in order of
+/// their first definition, then that of the modules symbol, where it is none of them, and then the others in order of
+/// their first mention.
+#[derive(Drop)]
+pub struct Listing {
+    pub names: Names,
+    pub count: usize,
+    pub modules: SymId,
+    pub lines: Vec<Line>,
+}
+
+/// Memory ran out.
+pub fn memory(alloc: Global) -> Refusal
+    ensures { refusal_view result ≡ out_of_memory }
+{
+    Refusal {
+        code: Code::Memory,
+        place: None,
+        detail: Vec::new(alloc),
+    }
+}
+
+// The modules symbol: this one, or that of the name `MODULES`, which is then mentioned.
+fn modules_symbol(names: &mut Names, modules: Option<SymId>) -> Result<SymId, AllocError>
+    ensures number { IfOk result (λ id. (named : Option (List ℕ)) → IsNamed names.old modules named → IsNumber names.new (unwrap_or named (codes "MODULES")) id) }
+    ensures names { OnOk result ((named : Option (List ℕ)) → IsNamed names.old modules named → names.new ≡ mention names.old (unwrap_or named (codes "MODULES"))) }
+{
+    match modules {
+        Some(id) => Ok(id),
+        None => names.id(b"MODULES"),
+    }
+}
+
+// All names are placed behind the symbols that are placed: the place that each has then.
+fn place_names(alloc: Global, names: &Names, order: SymbolOrder) -> Result<Vec<SymId>, AllocError>
+    ensures few { OnOk result (length names.now ≤ usize.MAX) }
+    ensures places { IfOk result (λ v. (placed : List (List ℕ)) → AreNumbers names.now order placed → v.items ≡ map (λ n. symbol (number_of (all_mentioned placed names.now) n)) names.now) }
+{
+    let mut order = order;
+    let count = names.count();
+    let mut places = Vec::with_capacity(alloc, count)?;
+    for i in 0..count {
+        let id = SymId(i);
+        // Each name has a number of its own.
+        let _name = names.name(id);
+        let place = order.place(id)?;
+        places.push(place)?;
+    }
+    Ok(places)
+}
+
+// The lines of an expansion, whose names are numbered by first mention, and which names `unknown` where it means the
+// modules symbol: a number that no name has, since there are at most so many.
+fn number_lines(
+    alloc: Global,
+    mentioned: Names,
+    unknown: SymId,
+    expansion: Expansion,
+) -> Result<Listing, AllocError>
+    requires unknown { unknown.0 ≡ usize.MAX }
+    requires expanded { (log : Log) × IsExpansion [] (Some unknown) mentioned log expansion }
+    ensures { IfOk result (λ l. (log : Log) → IsExpansion [] (Some unknown) mentioned log expansion → IsListing log l) }
+{
+    let mut names = mentioned;
+    let mut order = expansion.defined;
+    let count = order.count();
+    let symbol = modules_symbol(&mut names, expansion.modules)?;
+    let modules = order.place(symbol)?;
+    let numbers = place_names(alloc, &names, order)?;
+    let mut lines = expansion.lines;
+    rename_lines(alloc, &mut lines, &numbers, modules)?;
+    names.renumber(numbers);
+    Ok(Listing {
+        names,
+        count,
+        modules,
+        lines,
+    })
+}
+
+/// The lines of a root file with their names numbered, or its first refusal. The file is read once: the names get
+/// their numbers afterwards, since the defined symbols are the first.
+pub fn read_listing(alloc: Global, map: &FileMap, root: &[u8]) -> Result<Listing, Refusal>
+    ensures listed { IfOk result (λ l. (log : Log) × Expands (bytes_in map.now) root.now (Ok log) × IsListing log l) }
+    ensures refused { IfErr result (λ r. r.code ≢ Memory → Expands (bytes_in map.now) root.now (Err (refusal_view r))) }
+    ensures memory { IfErr result IsMemory }
+    ensures few { IfOk result (λ l. length l.lines.items ≤ most_lines) }
+{
+    let unknown = SymId(usize::MAX);
+    let mut mentioned = Names::new(alloc);
+    let expansion = expand(alloc, map, root, Some(unknown), &mut mentioned)?;
+    match number_lines(alloc, mentioned, unknown, expansion) {
+        Ok(listing) => Ok(listing),
+        Err(_) => Err(memory(alloc)),
+    }
+}

@@ -1,0 +1,108 @@
+//! What the entries of symbols select and imply.
+
+ghost use Rattle.std.specs.Prelude.{◌≡◌, ◌<◌, ◌+◌, ◌^◌, ◌++◌, ◌∷◌, [], None, Some, length, option_map, slice_index_or, slice_set, OnOk, OnErr};
+ghost use Rattle.kc_build.specs.Known.{can_be_target};
+ghost use Rattle.kc_build.specs.Passes.{said_by};
+ghost use Rattle.kc_build.specs.ReverseRows.{IsAdded, AreAdded, KeepSources};
+ghost use Rattle.kc_expr.specs.Form.{form_of};
+
+use crate::attributes::share;
+use crate::lines::{ReverseKind, Target, target_of};
+use crate::symbols::{choice_of, has_text, kind_of};
+use kc_expr::expression::{Expr, SymId};
+use kc_read::line::Line;
+use kc_tree::parts::{DefinitionId, Reverse, ReverseId, Symbol};
+use kc_tree::reverses::Reverses;
+use std::alloc::AllocError;
+use std::rc::Rc;
+
+// Whether selecting or implying the symbol has an effect: it is defined, no choice's member, and its value is no text.
+fn is_target(symbols: &[Symbol], symbol: SymId) -> bool
+    ensures { result ≡ can_be_target symbols.now symbol }
+{
+    symbol.0 < symbols.len()
+        && choice_of(symbols, symbol).is_none()
+        && !has_text(kind_of(symbols, symbol))
+}
+
+// Adds a line that names a symbol to the lines of one kind, whose last for each symbol are the heads.
+fn add_line(
+    lines: &mut Vec<Reverse>,
+    heads: &mut [Option<ReverseId>],
+    symbol: SymId,
+    source: DefinitionId,
+    when: Option<Rc<Expr>>,
+) -> Result<(), AllocError>
+    requires there { symbol.0 < length heads.old }
+    requires few { length lines.old.items < 2 ^ 32 }
+    ensures line { OnOk result (lines.new.items ≡ lines.old.items ++ record { source = source; when = when; next = slice_index_or heads.old symbol.0 None } ∷ []) }
+    ensures head { OnOk result (heads.new ≡ slice_set heads.old symbol.0 (Some (record { 0 = length lines.old.items }))) }
+    ensures lines_stay { OnErr result (lines.new.items ≡ lines.old.items) }
+    ensures heads_stay { OnErr result (heads.new ≡ heads.old) }
+{
+    let id = ReverseId(lines.len() as u32);
+    lines.push(Reverse {
+        source,
+        when,
+        next: heads[symbol.0],
+    })?;
+    heads[symbol.0] = Some(id);
+    Ok(())
+}
+
+// Adds a line of an entry, where it has an effect.
+fn add_reverse(
+    reverses: &mut Reverses,
+    symbols: &[Symbol],
+    source: DefinitionId,
+    target: Target<'_>,
+) -> Result<(), AllocError>
+    requires count { length reverses.old.selects.items ≡ length symbols.now }
+    requires same { length reverses.old.implies.items ≡ length symbols.now }
+    requires few { length reverses.old.lines.items < 2 ^ 32 }
+    ensures added { OnOk result (IsAdded symbols.now source reverses.old (target.entry.kind, target.entry.symbol, option_map (λ e. form_of e.now.value) target.entry.when) reverses.new) }
+    ensures sources { KeepSources source.0 reverses.old.lines.items reverses.new.lines.items }
+{
+    if !is_target(symbols, target.symbol) {
+        return Ok(());
+    }
+    let when = share(target.when)?;
+    let symbol = target.symbol;
+    match target.kind {
+        ReverseKind::Select => add_line(
+            &mut reverses.lines,
+            &mut reverses.selects,
+            symbol,
+            source,
+            when,
+        ),
+        ReverseKind::Imply => add_line(
+            &mut reverses.lines,
+            &mut reverses.implies,
+            symbol,
+            source,
+            when,
+        ),
+    }
+}
+
+/// Adds what the attributes of a definition select and imply.
+pub fn add_reverses(
+    reverses: &mut Reverses,
+    symbols: &[Symbol],
+    source: DefinitionId,
+    attributes: &[Line],
+) -> Result<(), AllocError>
+    requires count { length reverses.old.selects.items ≡ length symbols.now }
+    requires same { length reverses.old.implies.items ≡ length symbols.now }
+    requires few { length reverses.old.lines.items + length attributes.now < 2 ^ 32 }
+    ensures added { OnOk result (AreAdded symbols.now source reverses.old (said_by attributes.now) reverses.new) }
+    ensures sources { KeepSources source.0 reverses.old.lines.items reverses.new.lines.items }
+{
+    for line in attributes {
+        if let Some(target) = target_of(&line.statement) {
+            add_reverse(reverses, symbols, source, target)?;
+        }
+    }
+    Ok(())
+}

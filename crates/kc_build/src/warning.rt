@@ -1,0 +1,145 @@
+//! A warning about a tree, and its text.
+
+ghost use Rattle.std.specs.Prelude.{◌≡◌, ◌++◌, codes, IfOk};
+ghost use Rattle.kc_read.specs.Reads.{line_view};
+ghost use Rattle.kc_build.specs.Warnings as spec;
+
+use crate::lines::ReverseKind;
+use itoa::Buffer;
+use kc_expr::expression::SymId;
+use kc_expr::names::Names;
+use kc_read::line::Line;
+use std::alloc::{AllocError, Global};
+
+/// What there is to warn of, about a line:
+/// - `Retyped`: a type line whose type is not the symbol's first type, which is kept;
+/// - `Reprompted`: a second prompt in one entry, of which the last is kept; without a symbol it is a choice's;
+/// - `Untyped`: the first definition of a symbol that has no type and is no member of a choice;
+/// - `TextTarget`: a select or imply of a string, int or hex symbol, which has no effect;
+/// - `OtherDefault`: a choice's default that names no member of it;
+/// - `MemberTarget`: a select or imply of a member of a choice, which has no effect.
+#[derive(Clone, Copy, Debug, PartialEq, Eq)]
+pub enum Warning {
+    Retyped(SymId),
+    Reprompted(Option<SymId>),
+    Untyped(SymId),
+    TextTarget(SymId, ReverseKind),
+    OtherDefault(SymId),
+    MemberTarget(SymId, ReverseKind),
+}
+
+// The name of a symbol.
+fn name_of(names: &Names, symbol: SymId) -> &[u8]
+    ensures { result.now ≡ spec.name_of names.now symbol }
+{
+    match names.get(symbol) {
+        Some(name) => name,
+        None => b"",
+    }
+}
+
+/// The name of the symbol whose entry it is, or `choice`.
+pub fn entry_name(names: &Names, symbol: Option<SymId>) -> &[u8]
+    ensures { result.now ≡ spec.entry_name names.now symbol }
+{
+    match symbol {
+        Some(s) => name_of(names, s),
+        None => b"choice",
+    }
+}
+
+// The word of the line.
+fn reverse_word(kind: ReverseKind) -> &'static [u8]
+    ensures { result.now ≡ spec.reverse_word kind }
+{
+    match kind {
+        ReverseKind::Select => b"select",
+        ReverseKind::Imply => b"imply",
+    }
+}
+
+// The parts of a text, one after the other.
+fn joined_text(alloc: Global, head: &[u8], name: &[u8], tail: &[u8]) -> Result<Vec<u8>, AllocError>
+    ensures { IfOk result (λ v. v.items ≡ head.now ++ name.now ++ tail.now) }
+{
+    let mut text = Vec::from_slice(alloc, head)?;
+    text.extend_from_slice(name)?;
+    text.extend_from_slice(tail)?;
+    Ok(text)
+}
+
+// The same, with the word of a line and what has no effect after it.
+fn target_text(
+    alloc: Global,
+    head: &[u8],
+    name: &[u8],
+    fault: &[u8],
+    kind: ReverseKind,
+) -> Result<Vec<u8>, AllocError>
+    ensures { IfOk result (λ v. v.items ≡ head.now ++ name.now ++ fault.now ++ spec.reverse_word kind ++ codes " has no effect") }
+{
+    let mut text = joined_text(alloc, head, name, fault)?;
+    text.extend_from_slice(reverse_word(kind))?;
+    text.extend_from_slice(b" has no effect")?;
+    Ok(text)
+}
+
+/// The text of a warning, without its line.
+pub fn text_of(alloc: Global, names: &Names, warning: Warning) -> Result<Vec<u8>, AllocError>
+    ensures { IfOk result (λ v. v.items ≡ spec.text_of names.now warning) }
+{
+    match warning {
+        Warning::Retyped(s) => joined_text(
+            alloc,
+            b"K1: type of ",
+            name_of(names, s),
+            b" redefined, the first is kept",
+        ),
+        Warning::Reprompted(s) => joined_text(
+            alloc,
+            b"K2: prompt of ",
+            entry_name(names, s),
+            b" redefined, the last is kept",
+        ),
+        Warning::Untyped(s) => joined_text(alloc, b"K3: ", name_of(names, s), b" has no type"),
+        Warning::TextTarget(s, kind) => target_text(
+            alloc,
+            b"K4: ",
+            name_of(names, s),
+            b" is not bool or tristate, the ",
+            kind,
+        ),
+        Warning::OtherDefault(s) => joined_text(
+            alloc,
+            b"K5: ",
+            name_of(names, s),
+            b" is not a member of the choice",
+        ),
+        Warning::MemberTarget(s, kind) => target_text(
+            alloc,
+            b"K6: ",
+            name_of(names, s),
+            b" is a choice member, the ",
+            kind,
+        ),
+    }
+}
+
+/// The whole line of a warning, which names the file and the line that it is about.
+pub fn line_of(
+    alloc: Global,
+    names: &Names,
+    line: &Line,
+    warning: Warning,
+) -> Result<Vec<u8>, AllocError>
+    ensures { IfOk result (λ v. v.items ≡ spec.line_of names.now (line_view line.now).file (line_view line.now).line warning) }
+{
+    let text = text_of(alloc, names, warning)?;
+    let mut buffer = Buffer::new();
+    let mut whole = Vec::from_slice(alloc, &line.file)?;
+    whole.extend_from_slice(b":")?;
+    whole.extend_from_slice(buffer.format(line.line).as_bytes())?;
+    whole.extend_from_slice(b": warning ")?;
+    whole.extend_from_slice(&text)?;
+    Ok(whole)
+}

@@ -1,0 +1,136 @@
+-- Needs that are alike, and orders of graphs.
+use Rattle.std.proofs.Common.{◌≡◌, ℕ, ◌<◌, ◌≤◌, ◌+◌, Bool, true, false, List, [], ◌∷◌, length, get_or, zero, suc, sym, ◌∙◌, ap, refl, inl, inr, arith, take, filter, All, subst, ◌⊎◌}
+use Rattle.std.specs.List.{Contains, list_any, flat_map, slice_index}
+use Rattle.std.proofs.lemmas.Bool.{cases_Bool, cases_lt, true≢false}
+use Rattle.std.proofs.lemmas.List.{get_or_default, get_or-take, length-take-le}
+use Rattle.std.proofs.lemmas.List.Elements.{All-contains, All-cons, All-tail, Contains-get_or, Contains-append_left, Contains-append_right, Contains-append_cases}
+use Rattle.std.proofs.lemmas.List.Folds.{list_any_at, Any-from_list_any}
+use Rattle.kc_order.specs.Graph.{Nodes, IsGraph, groups_of, needs_of, stands_for}
+use Rattle.kc_order.specs.Loop.{IsFirstStuck, IsLeast, IsNext, IsNamedLoop}
+use Rattle.kc_order.specs.Needs.{AreAlike, AreWithin, IsAccepted, NeedsBelow, needs_in, stuck_after}
+use Rattle.kc_order.specs.Order.{Orders}
+use Rattle.kc_order.proofs.Groups.{contains_flat, group_stands, needs_count, needs_within, one_is, stands_symbol}
+use Rattle.kc_order.proofs.Walks.{kept_from}
+
+-- a test finds something in a list where it finds it in one that holds no more
+any_in : (p q : ℕ → Bool) (xs ys : List ℕ) → ((t : ℕ) → Contains xs t → Contains ys t) → ((t : ℕ) → p t ≡ true → q t ≡ true) → list_any p xs ≡ true → list_any q ys ≡ true
+any_in p q xs ys more same e =
+    let a = Any-from_list_any p xs e in
+    let c = more a.1 (a.0, a.2, a.3) in
+    list_any_at q ys c.0 0 c.1 (ap q (get_or_default ys c.0 0 a.1 c.1 ∙ c.2) ∙ same a.1 a.4)
+
+stuck_onward : (needs other : List (List ℕ)) → AreAlike needs other → (k s : ℕ) → stuck_after (needs_in needs) k s ≡ true → stuck_after (needs_in other) k s ≡ true
+stuck_onward needs other alike zero s e = refl
+stuck_onward needs other alike (suc k) s e =
+    any_in (stuck_after (needs_in needs) k) (stuck_after (needs_in other) k) (needs_in needs s) (needs_in other s) (alike.onward s) (stuck_onward needs other alike k) e
+
+pub turned : (needs other : List (List ℕ)) → AreAlike needs other → AreAlike other needs
+turned needs other alike = record { count = sym alike.count; onward = alike.back; back = alike.onward }
+
+-- the same symbols are stuck after each round
+pub stuck_same : (needs other : List (List ℕ)) → AreAlike needs other → (k s : ℕ) → stuck_after (needs_in needs) k s ≡ stuck_after (needs_in other) k s
+stuck_same needs other alike k s =
+    elim (cases_Bool (stuck_after (needs_in needs) k s)) [
+      | inl stuck ↦ stuck ∙ sym (stuck_onward needs other alike k s stuck)
+      | inr free ↦ elim (cases_Bool (stuck_after (needs_in other) k s)) [
+        | inl stuck ↦ stuck_onward other needs (turned needs other alike) k s stuck ∙ sym stuck
+        | inr both ↦ free ∙ sym both
+      ]
+    ]
+
+pub accepted_alike : (needs other : List (List ℕ)) → AreAlike needs other → IsAccepted needs → IsAccepted other
+accepted_alike needs other alike is s l =
+    subst (λ n. stuck_after (needs_in other) n s ≡ false) alike.count (sym (stuck_same needs other alike (length needs) s) ∙ is s (omega (arith, l, alike.count)))
+
+-- what passes is kept
+kept_in : (p : ℕ → Bool) (xs : List ℕ) (t : ℕ) → Contains xs t → p t ≡ true → Contains (filter p xs) t
+kept_in p [] t c e = absurd (omega (arith, c.1))
+kept_in p (x ∷ xs) t c e =
+    elim (Contains-append_cases (x ∷ []) xs t c) [
+      | inl here ↦
+          let same : x ≡ t = one_is x t here in
+          let passes : p x ≡ true = ap p same ∙ e in
+          rw passes (0, omega arith, same)
+      | inr later ↦
+          let rest = kept_in p xs t later e in
+          elim (cases_Bool (p x)) [
+            | inl passes ↦ rw passes (Contains-append_right (x ∷ []) (filter p xs) t rest)
+            | inr fails ↦ rw fails rest
+          ]
+    ]
+
+least_alike : (p q : ℕ → Bool) (xs ys : List ℕ) (t : ℕ) → ((u : ℕ) → p u ≡ q u) → ((u : ℕ) → Contains xs u → Contains ys u) → ((u : ℕ) → Contains ys u → Contains xs u) →
+    IsLeast (filter p xs) t → IsLeast (filter q ys) t
+least_alike p q xs ys t same onward back least =
+    let from = kept_from p xs t least.0 in (
+      kept_in q ys t (onward t from.0) (sym (same t) ∙ from.1),
+      λ k d l.
+          let u = get_or (filter q ys) k d in
+          let there = kept_from q ys u (Contains-get_or (filter q ys) k d l) in
+          All-contains (λ v. t ≤ v) (filter p xs) u least.1 (kept_in p xs u (back u there.0) (same u ∙ there.1)),
+    )
+
+next_alike : (needs other : List (List ℕ)) → AreAlike needs other → (s t : ℕ) → IsNext (length needs) (needs_in needs) s t → IsNext (length other) (needs_in other) s t
+next_alike needs other alike s t next =
+    subst (λ n. IsLeast (filter (stuck_after (needs_in other) n) (needs_in other s)) t) alike.count
+    (least_alike (stuck_after (needs_in needs) (length needs)) (stuck_after (needs_in other) (length needs)) (needs_in needs s) (needs_in other s) t
+    (stuck_same needs other alike (length needs)) (alike.onward s) (alike.back s) next)
+
+first_alike : (needs other : List (List ℕ)) → AreAlike needs other → (t : ℕ) → IsFirstStuck (length needs) (needs_in needs) t → IsFirstStuck (length other) (needs_in other) t
+first_alike needs other alike t first = record {
+  below = omega (arith, first.below, alike.count);
+  stuck = subst (λ n. stuck_after (needs_in other) n t ≡ true) alike.count (sym (stuck_same needs other alike (length needs) t) ∙ first.stuck);
+  none_before = λ u b. subst (λ n. stuck_after (needs_in other) n u ≡ false) alike.count (sym (stuck_same needs other alike (length needs) u) ∙ first.none_before u b);
+}
+
+pub loop_alike : (needs other : List (List ℕ)) (loop : List ℕ) → AreAlike needs other → IsNamedLoop (length needs) (needs_in needs) loop → IsNamedLoop (length other) (needs_in other) loop
+loop_alike needs other loop alike named = record {
+  lead = named.lead;
+  some = named.some;
+  walk = record {
+    begins = first_alike needs other alike _ named.walk.begins;
+    goes_on = λ k l. next_alike needs other alike _ _ (named.walk.goes_on k l);
+  };
+  apart = named.apart;
+}
+
+pub graph_within : (g : Nodes) → IsGraph g → AreWithin (needs_of g)
+graph_within g is s t l c =
+    let count = needs_count g is in
+    omega (arith, count, needs_within g is s t (omega (arith, l, count)) c)
+
+-- an element of a front stands at a place before its end
+in_front : (xs : List ℕ) (k t : ℕ) → k ≤ length xs → Contains (take k xs) t → (i : ℕ) × (i < k) × (get_or xs i 0 ≡ t)
+in_front xs k t l c =
+    let i_lt : c.0 < k = omega (arith, c.1, length-take-le k xs l) in
+    (c.0, i_lt, get_or_default xs c.0 0 t (omega arith) ∙ sym (get_or-take k xs c.0 t i_lt) ∙ c.2)
+
+front_in : (xs : List ℕ) (j k t : ℕ) → j ≤ k → k ≤ length xs → Contains (take j xs) t → Contains (take k xs) t
+front_in xs j k t l m c =
+    let at = in_front xs j t (omega arith) c in
+    (at.0, omega (arith, at.1, length-take-le k xs m), get_or-take k xs at.0 t (omega (arith, at.1)) ∙ get_or_default xs at.0 t 0 (omega (arith, at.1)) ∙ at.2)
+
+-- each symbol that a node needs stands before it: of the nodes before a bound first
+first_to : (g : Nodes) (nodes : List ℕ) → IsGraph g → Orders g.rows nodes → (bound k v : ℕ) → k < bound → k < length nodes →
+    Contains (flat_map (stands_for g.symbols (groups_of g)) (needs_in g.rows (slice_index nodes k))) v → Contains (take k nodes) v
+first_to g nodes is orders zero k v b l c = absurd (omega arith)
+first_to g nodes is orders (suc bound) k v b l c =
+    let node = slice_index nodes k in
+    let w = contains_flat (stands_for g.symbols (groups_of g)) (needs_in g.rows (slice_index nodes k)) v c in
+    let before = orders.needs_first k w.0 l w.1 in
+    elim (cases_lt w.0 g.symbols) [
+      | inl symbol ↦
+          let same = one_is w.0 v (subst (λ xs. Contains xs v) (stands_symbol g.symbols (groups_of g) w.0 symbol) w.2) in
+          subst (Contains (take k nodes)) same before
+      | inr group ↦
+          let j = in_front nodes k w.0 (omega arith) before in
+          let there = is.within (slice_index nodes k) w.0 (orders.all_below (slice_index nodes k) (Contains-get_or nodes k 0 l)) w.1 in
+          let row = subst (λ xs. Contains xs v) (group_stands g is w.0 group there) w.2 in
+          let at : w.0 ≡ slice_index nodes j.0 = sym j.2 in
+          let row' = subst (λ t. Contains (flat_map (stands_for g.symbols (groups_of g)) (needs_in g.rows t)) v) at row in
+          front_in nodes j.0 k v (omega (arith, j.1)) (omega arith) (first_to g nodes is orders bound j.0 v (omega (arith, j.1)) (omega (arith, j.1)) row')
+    ]
+
+pub symbols_first : (g : Nodes) (nodes : List ℕ) → IsGraph g → Orders g.rows nodes → (k v : ℕ) → k < length nodes →
+    Contains (flat_map (stands_for g.symbols (groups_of g)) (needs_in g.rows (slice_index nodes k))) v → Contains (take k nodes) v
+symbols_first g nodes is orders k v l c = first_to g nodes is orders (suc k) k v (omega arith) l c

@@ -1,7 +1,0 @@
-use Rattle.std.proofs.Common.{length}
-use Rattle.kc_tree.specs.Passes.{said_by}
-use Rattle.kc_tree.proofs.LateLemmas.{FirstFrom, is_bad_config}
-use Rattle.kc_tree.proofs.late.first_bad_member.Given as goal
-
-abbrev pub invariant-loop-i : goal.invariant-loop-i
-invariant-loop-i l = FirstFrom (is_bad_config l.lines) (length (said_by l.lines)) l.i

@@ -1,0 +1,159 @@
+-- Trusted: How the tables of a tree are seen in contracts: what they say of symbols, choices and entries.
+use Rattle.std.specs.Prelude.{◌≡◌, ℕ, List, [], ◌++◌, map, length, reverse, Option, Some, None, slice_get, slice_index_or}
+use Rattle.std.specs.Option.{option_map, option_and_then}
+use Rattle.std.specs.List.{filter_map, flat_map, range_with_len}
+use Rattle.kc_expr.specs.declared.expression.SymId.{SymId}
+use Rattle.kc_expr.specs.declared.expression.Kind.{Kind}
+use Rattle.kc_expr.specs.Form.{Form, form_of, leaf_of}
+use Rattle.kc_expr.specs.When.{when_view}
+use Rattle.kc_tree.specs.declared.layout.Layout.{Layout}
+use Rattle.kc_tree.specs.declared.layout.Tables.{Tables}
+use Rattle.kc_tree.specs.declared.parts.Choice.{Choice}
+use Rattle.kc_tree.specs.declared.parts.ChoiceDefault.{ChoiceDefault}
+use Rattle.kc_tree.specs.declared.parts.Definition.{Definition}
+use Rattle.kc_tree.specs.declared.parts.DefinitionId.{DefinitionId}
+use Rattle.kc_tree.specs.declared.parts.Entry.{Entry}
+use Rattle.kc_tree.specs.declared.parts.Entry.TheVariants as entry
+use Rattle.kc_tree.specs.declared.parts.Prompt.{Prompt}
+use Rattle.kc_tree.specs.declared.parts.Reverse.{Reverse}
+use Rattle.kc_tree.specs.declared.parts.ReverseId.{ReverseId}
+use Rattle.kc_tree.specs.declared.parts.Symbol.{Symbol}
+use Rattle.kc_tree.specs.declared.parts.SymbolDefault.{SymbolDefault}
+use Rattle.kc_tree.specs.declared.parts.SymbolRange.{SymbolRange}
+use Rattle.kc_tree.specs.declared.parts.Title.{Title}
+use Rattle.kc_tree.specs.declared.parts.TitleId.{TitleId}
+use Rattle.kc_tree.specs.Chains.{chain_of, chains_of}
+use Rattle.kc_tree.specs.Contexts.{condition_in, mode_view}
+use Rattle.kc_tree.specs.Words.{listed}
+use Rattle.kc_tree.specs.Parts.{part_of, definition_ids}
+use Rattle.kc_tree.specs.TreeFacts.{Condition, Guarded, Bounds, SymbolFacts, ChoiceFacts, Shown, SymbolShown, MenuShown, EndShown, CommentShown, TreeFacts}
+
+-- a condition and an `if`; a condition and what another one asks for besides
+abbrev pub with_when : Condition → Option Form → Condition
+with_when c w = record { parts = c.parts ++ listed w; mode = c.mode }
+
+abbrev pub with_parts : Condition → List Form → Condition
+with_parts c fs = record { parts = c.parts ++ fs; mode = c.mode }
+
+-- Under the conditions of the contexts and what an entry depends on.
+module _ (conditions : List Condition) (dep : Condition) where
+  abbrev pub prompt_view : Prompt → Condition
+  prompt_view p = with_when (with_parts dep (condition_in conditions p.visible.0).parts) (when_view p.when)
+
+  abbrev pub default_view : SymbolDefault → Guarded Form
+  default_view d = record { what = form_of d.value.value; when = with_when dep (when_view d.when) }
+
+  abbrev pub range_view : SymbolRange → Guarded Bounds
+  range_view r = record { what = record { low = leaf_of r.low; high = leaf_of r.high }; when = with_when dep (when_view r.when) }
+
+  abbrev pub choice_default_view : ChoiceDefault → Guarded SymId
+  choice_default_view d = record { what = d.member; when = with_when dep (when_view d.when) }
+
+-- What one `config` entry says.
+pub record DefinitionFacts : Type 0 where
+  pub symbol : SymId
+  pub dep : Condition
+  pub prompt : Option Condition
+  pub defaults : List (Guarded Form)
+  pub ranges : List (Guarded Bounds)
+
+-- a symbol's facts by its definitions
+abbrev pub facts_by : Kind → Option ℕ → List DefinitionFacts → List (Guarded SymId) → List (Guarded SymId) → SymbolFacts
+facts_by kind choice ds selectors impliers = record {
+  kind = kind;
+  choice = choice;
+  deps = map (λ d. d.dep) ds;
+  prompts = filter_map (λ d. d.prompt) ds;
+  defaults = flat_map (λ d. d.defaults) ds;
+  ranges = flat_map (λ d. d.ranges) ds;
+  selectors = selectors;
+  impliers = impliers;
+}
+
+-- Of these tables.
+module _ (t : Tables) where
+  abbrev pub definition_facts : Definition → DefinitionFacts
+  definition_facts d = record {
+    symbol = d.symbol;
+    dep = condition_in t.contexts d.within.0;
+    prompt = option_map (prompt_view t.contexts (condition_in t.contexts d.within.0)) d.prompt;
+    defaults = map (default_view t.contexts (condition_in t.contexts d.within.0)) (part_of t.defaults.items d.defaults);
+    ranges = map (range_view t.contexts (condition_in t.contexts d.within.0)) (part_of t.ranges.items d.ranges);
+  }
+
+  abbrev pub definition_at : DefinitionId → Option DefinitionFacts
+  definition_at id = option_map definition_facts (slice_get t.definitions.items id.0)
+
+  -- a line that selects or implies: the symbol whose definition it stands in, and its condition
+  abbrev pub reverse_facts : Reverse → Option (Guarded SymId)
+  reverse_facts r = option_map (λ (d : DefinitionFacts). record { what = d.symbol; when = with_when d.dep (when_view r.when) }) (definition_at r.source)
+
+  abbrev pub reverse_at : ℕ → Option (Guarded SymId)
+  reverse_at i = option_and_then reverse_facts (slice_get t.reverses.lines.items i)
+
+  -- the lines from one on, that one first
+  abbrev pub reverses_from : Option ReverseId → List (Guarded SymId)
+  reverses_from last = filter_map reverse_at (chain_of (chains_of t.reverses.lines.items) last)
+
+  -- what selects a symbol, and what implies it, in the order of the lines
+  abbrev pub selectors_at : ℕ → List (Guarded SymId)
+  selectors_at s = reverse (reverses_from (slice_index_or t.reverses.selects.items s None))
+
+  abbrev pub impliers_at : ℕ → List (Guarded SymId)
+  impliers_at s = reverse (reverses_from (slice_index_or t.reverses.implies.items s None))
+
+  abbrev pub choice_facts : Choice → ChoiceFacts
+  choice_facts c = record {
+    prompt = option_map (prompt_view t.contexts (condition_in t.contexts c.within.0)) c.prompt;
+    defaults = map (choice_default_view t.contexts (condition_in t.contexts c.within.0)) c.defaults.items;
+    members = c.members.items;
+  }
+
+  -- when a title is shown
+  abbrev pub title_condition : Title → Condition
+  title_condition title = with_parts (condition_in t.contexts title.within.0) (condition_in t.contexts title.visible.0).parts
+
+  abbrev pub title_text : Option Title → List ℕ
+  title_text None = []
+  title_text (Some title) = title.text.items
+
+  abbrev pub shown_when : Option Title → Condition
+  shown_when None = condition_in t.contexts 0
+  shown_when (Some title) = title_condition title
+
+  abbrev pub title_at : TitleId → Option Title
+  title_at id = slice_get t.titles.items id.0
+
+  abbrev pub shown_of : Entry → Shown
+  shown_of (entry.Symbol s) = SymbolShown s
+  shown_of (entry.Menu id) = MenuShown (title_text (title_at id)) (shown_when (title_at id))
+  shown_of (entry.End menu) = EndShown menu
+  shown_of (entry.Comment id) = CommentShown (title_text (title_at id)) (shown_when (title_at id))
+
+-- Of this layout.
+module _ (l : Layout) where
+  -- the definitions of a symbol, in the order of the lines
+  abbrev pub definitions_of : Symbol → List DefinitionFacts
+  definitions_of s = filter_map (definition_at l.tables) (definition_ids s)
+
+  abbrev pub facts_of : ℕ → Symbol → SymbolFacts
+  facts_of i s = facts_by s.kind (mode_view s.choice) (definitions_of s) (selectors_at l.tables i) (impliers_at l.tables i)
+
+  -- the facts of the symbol with a number
+  abbrev pub facts_at : ℕ → Option SymbolFacts
+  facts_at i = option_map (facts_of i) (slice_get l.symbols.items i)
+
+  abbrev pub symbols_in : List SymbolFacts
+  symbols_in = filter_map facts_at (range_with_len 0 (length l.symbols.items))
+
+  abbrev pub choices_in : List ChoiceFacts
+  choices_in = map (choice_facts l.tables) l.tables.choices.items
+
+  abbrev pub entries_in : List Shown
+  entries_in = map (shown_of l.tables) l.tables.entries.items
+
+-- a layout says what a tree says
+pub record IsLayoutOf (t : TreeFacts) (l : Layout) : Type 0 where
+  pub symbols : t.symbols ≡ symbols_in l
+  pub choices : t.choices ≡ choices_in l
+  pub entries : t.entries ≡ entries_in l

@@ -1,0 +1,43 @@
+-- What a tree says of a symbol and a choice is what the rows of its layout say.
+use Rattle.std.proofs.Common.{length, ◌≡◌, ℕ, List, Option, Some, None, refl, sym, ap, ◌∙◌}
+use Rattle.std.specs.List.{slice_get}
+use Rattle.std.specs.Option.{option_map}
+use Rattle.std.proofs.lemmas.Option.{slice_get-map}
+use Rattle.kc_expr.specs.declared.expression.Kind.{Kind}
+use Rattle.kc_expr.specs.declared.expression.Kind.TheVariants.{Undefined}
+use Rattle.kc_tree.specs.declared.layout.Layout.{Layout}
+use Rattle.kc_tree.specs.declared.parts.Choice.{Choice}
+use Rattle.kc_tree.specs.declared.parts.Symbol.{Symbol}
+use Rattle.kc_tree.specs.Layouts.{IsLayoutOf, facts_of, facts_at, choice_facts}
+use Rattle.kc_tree.specs.TreeFacts.{SymbolFacts, ChoiceFacts, TreeFacts}
+use Rattle.kc_tree.proofs.TreeLemmas.{symbols-at, symbols-length}
+use Rattle.kc_values.specs.Table.{kind_in}
+
+module _ (tree : TreeFacts) (l : Layout) (laid : IsLayoutOf tree l) where
+  pub facts_laid : (i : ℕ) → slice_get tree.symbols i ≡ facts_at l i
+  facts_laid i = ap (λ (fs : List SymbolFacts). slice_get fs i) laid.symbols ∙ symbols-at l i
+
+  pub symbols_count : length tree.symbols ≡ length l.symbols.items
+  symbols_count = ap length laid.symbols ∙ symbols-length l
+
+  pub choices_laid : (k : ℕ) → slice_get tree.choices k ≡ option_map (choice_facts l.tables) (slice_get l.tables.choices.items k)
+  choices_laid k = ap (λ (cs : List ChoiceFacts). slice_get cs k) laid.choices ∙ slice_get-map (choice_facts l.tables) l.tables.choices.items k
+
+  -- the row of a choice that was found, or not
+  pub choice_found : (k : ℕ) (o : Option Choice) → o ≡ slice_get l.tables.choices.items k → option_map (choice_facts l.tables) o ≡ slice_get tree.choices k
+  choice_found k o e = ap (option_map (choice_facts l.tables)) e ∙ sym (choices_laid k)
+
+  -- the same of a symbol
+  pub symbol_found : (i : ℕ) (o : Option Symbol) → o ≡ slice_get l.symbols.items i → option_map (facts_of l i) o ≡ slice_get tree.symbols i
+  symbol_found i o e = ap (option_map (facts_of l i)) e ∙ sym (facts_laid i)
+
+abbrev pub kind_of_row : Option Symbol → Kind
+kind_of_row None = Undefined
+kind_of_row (Some s) = s.kind
+
+same_kind : (l : Layout) (i : ℕ) (o : Option Symbol) → kind_of_row o ≡ kind_in (option_map (facts_of l i) o)
+same_kind l i None = refl
+same_kind l i (Some s) = refl
+
+pub kind_laid : (tree : TreeFacts) (l : Layout) → IsLayoutOf tree l → (i : ℕ) (o : Option Symbol) → o ≡ slice_get l.symbols.items i → kind_of_row o ≡ kind_in (slice_get tree.symbols i)
+kind_laid tree l laid i o e = same_kind l i o ∙ ap kind_in (symbol_found tree l laid i o e)

@@ -1,0 +1,56 @@
+use Rattle.std.proofs.Common.{◌≡◌, Some, rules, sym}
+use Rattle.std.proofs.Math.Logic.{∥∥₁_elim}
+use Rattle.std.specs.Coded.{Coded-set}
+use Rattle.kc_expr.specs.contracts.expression.Kind as kind
+use Rattle.kc_values.specs.Lookups.{facts}
+use Rattle.kc_values.specs.Table.{kind_in}
+use Rattle.kc_values.proofs.Laid.{kind_laid}
+use Rattle.kc_values.proofs.differs.own_differs.Goals as goal
+
+pub returns-in-Bool : goal.returns-in-Bool
+returns-in-Bool c =
+    let t = c.args.table.now in
+    let typed : kind_in (facts t.tree.now c.args.id) ≡ c.args.symbol.now.kind =
+    ∥∥₁_elim t.laid (Coded-set kind.the_row.coded _ _) (λ laid. sym (kind_laid t.tree.now t.layout.now laid c.args.id.0 (Some c.args.symbol.now) (sym c.requires)))
+    in
+    search rules
+
+pub returns-in-Tristate : goal.returns-in-Tristate
+returns-in-Tristate c =
+    let t = c.args.table.now in
+    let typed : kind_in (facts t.tree.now c.args.id) ≡ c.args.symbol.now.kind =
+    ∥∥₁_elim t.laid (Coded-set kind.the_row.coded _ _) (λ laid. sym (kind_laid t.tree.now t.layout.now laid c.args.id.0 (Some c.args.symbol.now) (sym c.requires)))
+    in
+    search rules
+
+pub returns-in_ok-without-in-Str : goal.returns-in_ok-without-in-Str
+returns-in_ok-without-in-Str c =
+    let t = c.args.table.now in
+    let typed : kind_in (facts t.tree.now c.args.id) ≡ c.args.symbol.now.kind =
+    ∥∥₁_elim t.laid (Coded-set kind.the_row.coded _ _) (λ laid. sym (kind_laid t.tree.now t.layout.now laid c.args.id.0 (Some c.args.symbol.now) (sym c.requires)))
+    in
+    search rules
+
+pub returns-in_ok-without-in-Int : goal.returns-in_ok-without-in-Int
+returns-in_ok-without-in-Int c =
+    let t = c.args.table.now in
+    let typed : kind_in (facts t.tree.now c.args.id) ≡ c.args.symbol.now.kind =
+    ∥∥₁_elim t.laid (Coded-set kind.the_row.coded _ _) (λ laid. sym (kind_laid t.tree.now t.layout.now laid c.args.id.0 (Some c.args.symbol.now) (sym c.requires)))
+    in
+    search rules
+
+pub returns-in_ok-without-in-Hex : goal.returns-in_ok-without-in-Hex
+returns-in_ok-without-in-Hex c =
+    let t = c.args.table.now in
+    let typed : kind_in (facts t.tree.now c.args.id) ≡ c.args.symbol.now.kind =
+    ∥∥₁_elim t.laid (Coded-set kind.the_row.coded _ _) (λ laid. sym (kind_laid t.tree.now t.layout.now laid c.args.id.0 (Some c.args.symbol.now) (sym c.requires)))
+    in
+    search rules
+
+pub returns-in-Undefined : goal.returns-in-Undefined
+returns-in-Undefined c =
+    let t = c.args.table.now in
+    let typed : kind_in (facts t.tree.now c.args.id) ≡ c.args.symbol.now.kind =
+    ∥∥₁_elim t.laid (Coded-set kind.the_row.coded _ _) (λ laid. sym (kind_laid t.tree.now t.layout.now laid c.args.id.0 (Some c.args.symbol.now) (sym c.requires)))
+    in
+    search rules

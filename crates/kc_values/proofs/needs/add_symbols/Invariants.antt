@@ -1,0 +1,11 @@
+use Rattle.std.proofs.Common.{◌≡◌, ◌++◌, [], map}
+use Rattle.std.specs.Prelude.{slice_get}
+use Rattle.std.specs.List.{range_with_len}
+use Rattle.kc_values.specs.NeedRows.{IsRow, symbol_row}
+use Rattle.kc_values.proofs.needs.add_symbols.Given as goal
+
+abbrev pub invariant-loop-i : goal.invariant-loop-i
+invariant-loop-i l =
+    (l.graph ≡ record l.initial.graph {
+      rows = l.initial.graph.rows ++ map (λ i. symbol_row l.tree l.layout i (slice_get l.layout.symbols.items i)) (range_with_len 0 l.i);
+    }) × IsRow [] [] l.row
