@@ -5,7 +5,7 @@ ghost use Rattle.std.specs.Prelude.{◌≤◌, length};
 use kc_expr::expression::{Expr, Kind, SymId, Tri};
 use kc_expr::names::Names;
 use kc_expr::parse::{ExprFault, parse};
-use kc_expr::values::{Values, eval, eval_depends_on_symbols, names_into};
+use kc_expr::values::{Values, eval, eval_depends_on_symbols, symbols_into};
 use kc_text::{Token, lex};
 use std::alloc::Global;
 use std::process::Abort;
@@ -34,7 +34,7 @@ fn are_symbols(rt: &impl Abort, got: &[SymId], want: &[SymId]) {
     assert_eq!(rt; got, want);
 }
 
-// What is known of a symbol, by its number.
+// The values of the symbols, by number.
 #[derive(Drop)]
 struct Table {
     kinds: Vec<Kind>,
@@ -114,7 +114,7 @@ fn shape(
 const SHAPES: &[(&[u8], &str)] = &[
     (
         b"A && !B = A || m) x",
-        "Any([All([One(Sym(SymId(1))), Not(Rel(Eq, Sides { left: Sym(SymId(2)), right: Sym(SymId(1)) }))]), One(Letter(M))]) 8",
+        "Any([All([One(Sym(SymId(1))), Not(Rel(Eq, Sides { left: Sym(SymId(2)), right: Sym(SymId(1)) }))]), One(TristateConstant(M))]) 8",
     ),
     (
         b"!A=B",
@@ -202,23 +202,29 @@ fn lines_follow_the_grammar(rt: HostRuntime) -> Result<(), Fail> {
 
 // The line, then what it reads as in a condition.
 const CONDITIONS: &[(&[u8], &str)] = &[
-    (b"m", "All([One(Letter(M)), One(Sym(SymId(0)))]) 1"),
+    (
+        b"m",
+        "All([One(TristateConstant(M)), One(Sym(SymId(0)))]) 1",
+    ),
     (b"\"m\"", "All([One(Const([109])), One(Sym(SymId(0)))]) 1"),
     (b"'\\m'", "All([One(Const([109])), One(Sym(SymId(0)))]) 1"),
     (
         b"A && m",
-        "All([One(Sym(SymId(1))), All([One(Letter(M)), One(Sym(SymId(0)))])]) 3",
+        "All([One(Sym(SymId(1))), All([One(TristateConstant(M)), One(Sym(SymId(0)))])]) 3",
     ),
-    (b"!m", "Not(All([One(Letter(M)), One(Sym(SymId(0)))])) 2"),
+    (
+        b"!m",
+        "Not(All([One(TristateConstant(M)), One(Sym(SymId(0)))])) 2",
+    ),
     (
         b"m = A",
-        "Rel(Eq, Sides { left: Letter(M), right: Sym(SymId(1)) }) 3",
+        "Rel(Eq, Sides { left: TristateConstant(M), right: Sym(SymId(1)) }) 3",
     ),
     (
         b"A != m",
-        "Rel(Ne, Sides { left: Sym(SymId(1)), right: Letter(M) }) 3",
+        "Rel(Ne, Sides { left: Sym(SymId(1)), right: TristateConstant(M) }) 3",
     ),
-    (b"y", "One(Letter(Y)) 1"),
+    (b"y", "One(TristateConstant(Y)) 1"),
 ];
 
 #[test]
@@ -330,7 +336,7 @@ type Level = (
 );
 
 const LEVELS: &[Level] = &[
-    (64, b"(", b"y", b")", "One(Letter(Y)) 129"),
+    (64, b"(", b"y", b")", "One(TristateConstant(Y)) 129"),
     (65, b"(", b"y", b")", "too deep"),
     (65, b"!", b"y", b"", "too deep"),
     (32, b"!(", b"=", b"", "syntax"),
@@ -383,7 +389,7 @@ fn the_65th_level_is_too_deep(rt: HostRuntime) -> Result<(), Fail> {
 #[test]
 fn a_plain_m_opens_no_level(rt: HostRuntime) -> Result<(), Fail> {
     let line = opened(rt.alloc(), 64, b"(", b"m", b")")?;
-    let want = "All([One(Letter(M)), One(Sym(SymId(3)))]) 129";
+    let want = "All([One(TristateConstant(M)), One(Sym(SymId(3)))]) 129";
     reads_without_names(&rt, rt.alloc(), &line, Some(SymId(3)), want)
 }
 
@@ -517,7 +523,7 @@ fn push_symbol(
     push_text(alloc, text, &mut table.texts)
 }
 
-// What is known of the symbols goes into an empty table.
+// Puts the values of the symbols into an empty table.
 fn fill(alloc: Global, table: &mut Table) -> Result<(), Fail> {
     for (_, kind, tri, text) in SYMBOLS {
         push_symbol(alloc, *kind, *tri, text, table)?;
@@ -771,7 +777,7 @@ fn named_by_tokens(
     ids: &mut Vec<SymId>,
 ) -> Result<(), Fail> {
     let (expr, _) = parse(alloc, tokens, 0, Some(SymId(7)), names)?;
-    let outcome = names_into(&expr, ids);
+    let outcome = symbols_into(&expr, ids);
     drop(expr);
     outcome?;
     Ok(())

@@ -3,7 +3,7 @@
 ghost use Rattle.std.specs.Prelude.{◌<◌, ◌^◌};
 
 use kc_order::{
-    Graph, NoOrder, Order, a_way_round_is_stuck, accepted_have_one_solution, filling_solves,
+    Graph, NoOrder, Order, accepted_have_one_solution, cycles_are_unordered, filling_solves,
     minimal_has_nothing_to_spare, minimal_restores, named_loop_goes_round, named_loop_is_within,
     one_named_loop, order_of, ordered_are_accepted, rounds_solve, solutions_agree,
 };
@@ -177,7 +177,7 @@ fn many_members_share_a_long_row(rt: HostRuntime) -> Result<(), Fail> {
 #[test]
 fn laws_hold_of_bytes(_rt: HostRuntime) -> Result<(), Fail> {
     ordered_are_accepted();
-    a_way_round_is_stuck();
+    cycles_are_unordered();
     named_loop_goes_round();
     named_loop_is_within();
     one_named_loop();

@@ -7,20 +7,20 @@ use Rattle.std.proofs.lemmas.List.{append-nil, get_or_append_left, get_or_push, 
 use Rattle.kc_expr.specs.declared.expression.SymId.{SymId}
 use Rattle.kc_expr.specs.Form.{Form, Leaf, form_of, leaf_of}
 use Rattle.kc_expr.specs.When.{when_view}
-use Rattle.kc_read.specs.declared.line.Line.{Line}
-use Rattle.kc_read.specs.Reads.{statement_view}
+use Rattle.kc_read.specs.declared.statement.Line.{Line}
+use Rattle.kc_read.specs.StatementViews.{statement_view}
 use Rattle.kc_read.specs.Statements.{Numbered, RangeLine}
-use Rattle.kc_tree.specs.declared.parts.ChoiceDefault.{ChoiceDefault}
-use Rattle.kc_tree.specs.declared.parts.Symbol.{Symbol}
-use Rattle.kc_tree.specs.declared.parts.SymbolDefault.{SymbolDefault}
-use Rattle.kc_tree.specs.declared.parts.SymbolRange.{SymbolRange}
+use Rattle.kc_tree.specs.declared.rows.ChoiceDefault.{ChoiceDefault}
+use Rattle.kc_tree.specs.declared.rows.Symbol.{Symbol}
+use Rattle.kc_tree.specs.declared.rows.SymbolDefault.{SymbolDefault}
+use Rattle.kc_tree.specs.declared.rows.SymbolRange.{SymbolRange}
 use Rattle.kc_tree.specs.Contexts.{and_also, condition_in, top}
 use Rattle.kc_tree.specs.TreeFacts.{Condition}
 use Rattle.kc_build.specs.EntryLines.{choice_default_line, default_line, default_row, member_line, range_line, range_row}
-use Rattle.kc_build.specs.Facts.{Given, given_of, single_symbol}
+use Rattle.kc_build.specs.Facts.{StatedDefault, stated_default, single_symbol}
 use Rattle.kc_build.specs.Growth.{IsGrown, Stands, and_all}
-use Rattle.kc_build.specs.Known.{member_by}
-use Rattle.kc_build.specs.Passes.{range_of, said_by}
+use Rattle.kc_build.specs.SymbolRows.{member_by}
+use Rattle.kc_build.specs.Passes.{range_of, statements_of}
 use Rattle.kc_build.proofs.ScanLemmas.{said_end, said_from}
 
 -- The conditions of contexts grow.
@@ -45,7 +45,8 @@ module _ (old : List Condition) (mode : Option ℕ) where
         modes = λ i a b. by i a b before last (cases_lt i (length now));
       }
     where
-      by : (i : ℕ) → length old ≤ i → i < length new → ((i : ℕ) → i < length now → condition_in new i ≡ condition_in now i) → condition_in new (length now) ≡ c → (i < length now) ⊎ (length now ≤ i) → (condition_in new i).mode ≡ mode
+      by : (i : ℕ) → length old ≤ i → i < length new → ((i : ℕ) → i < length now → condition_in new i ≡ condition_in now i) →
+          condition_in new (length now) ≡ c → (i < length now) ⊎ (length now ≤ i) → (condition_in new i).mode ≡ mode
       by i a b before last (inl h) = ap (λ (d : Condition). d.mode) (before i h) ∙ g.modes i a h
       by i a b before last (inr h) =
           let size : length new ≡ length now + 1 = ap length e ∙ length_push now c in
@@ -64,24 +65,28 @@ module _ (f : Numbered → Option Form) (old : List Condition) (outer : ℕ) whe
   pub record Asks (ls : List Line) (i : ℕ) (now : List Condition) (at : ℕ) : Type 0 where
     pub grown : IsGrown old now (condition_in old outer).mode i
     pub there : at < length now
-    pub asks : and_all (condition_in now at) (filter_map f (drop i (said_by ls))) ≡ and_all (condition_in old outer) (filter_map f (said_by ls))
+    pub asks : and_all (condition_in now at) (filter_map f (drop i (statements_of ls))) ≡ and_all (condition_in old outer) (filter_map f (statements_of ls))
 
   pub asks_start : (ls : List Line) → outer < length old → Asks ls 0 old outer
   asks_start ls h = record { grown = grown_none old (condition_in old outer).mode; there = h; asks = refl }
 
-  pub asks_none : (ls : List Line) (i : ℕ) (x : Line) (now : List Condition) (at : ℕ) → Asks ls i now at → i < length ls → x ≡ get_or ls i x → f (statement_view x.statement) ≡ None → Asks ls (i + 1) now at
+  pub asks_none : (ls : List Line) (i : ℕ) (x : Line) (now : List Condition) (at : ℕ) → Asks ls i now at → i < length ls → x ≡ get_or ls i x →
+      f (statement_view x.statement) ≡ None → Asks ls (i + 1) now at
   asks_none ls i x now at a h n e = record {
     grown = grown_more old (condition_in old outer).mode now i (i + 1) (omega arith) a.grown;
     there = a.there;
     asks = let s = a.asks in (rw (said_from ls i x h n, e) at s);
   }
 
-  pub asks_more : (ls : List Line) (i : ℕ) (x : Line) (now new : List Condition) (at next : ℕ) (e : Form) → Asks ls i now at → i < length ls → x ≡ get_or ls i x → Some e ≡ f (statement_view x.statement) → new ≡ now ++ and_also (condition_in now at) e ∷ [] → next ≡ length now → Asks ls (i + 1) new next
+  pub asks_more : (ls : List Line) (i : ℕ) (x : Line) (now new : List Condition) (at next : ℕ) (e : Form) → Asks ls i now at → i < length ls →
+      x ≡ get_or ls i x → Some e ≡ f (statement_view x.statement) → new ≡ now ++ and_also (condition_in now at) e ∷ [] → next ≡ length now →
+      Asks ls (i + 1) new next
   asks_more ls i x now new at next e a h n q p k =
       let s = a.asks in
-      let rest = filter_map f (drop (i + 1) (said_by ls)) in
+      let rest = filter_map f (drop (i + 1) (statements_of ls)) in
       let size : length new ≡ length now + 1 = ap length p ∙ length_push now (and_also (condition_in now at) e) in
-      let here : condition_in new next ≡ and_also (condition_in now at) e = ap (λ j. condition_in new j) k ∙ ap (λ l. condition_in l (length now)) p ∙ get_or_push now (and_also (condition_in now at) e) top (length now) refl in
+      let here : condition_in new next ≡ and_also (condition_in now at) e = ap (λ j. condition_in new j) k ∙ ap (λ l. condition_in l (length now)) p
+      ∙ get_or_push now (and_also (condition_in now at) e) top (length now) refl in
       record {
         grown = grown_push old (condition_in old outer).mode now new i (and_also (condition_in now at) e) a.grown (ap (λ (c : Condition). c.mode) s) p;
         there = omega arith;
@@ -91,16 +96,17 @@ module _ (f : Numbered → Option Form) (old : List Condition) (outer : ℕ) whe
   pub asks_grown : (ls : List Line) (i : ℕ) (now : List Condition) (at : ℕ) → Asks ls i now at → i ≤ length ls → IsGrown old now (condition_in old outer).mode (length ls)
   asks_grown ls i now at a h = grown_more old (condition_in old outer).mode now i (length ls) h a.grown
 
-  pub asks_end : (ls : List Line) (i : ℕ) (now : List Condition) (at : ℕ) → Asks ls i now at → length ls ≤ i → Stands now at (and_all (condition_in old outer) (filter_map f (said_by ls)))
+  pub asks_end : (ls : List Line) (i : ℕ) (now : List Condition) (at : ℕ) → Asks ls i now at → length ls ≤ i → Stands now at (and_all (condition_in old outer) (filter_map f (statements_of ls)))
   asks_end ls i now at a h =
       let s = a.asks in
       record { there = a.there; is = sym (all_asked (condition_in now at)) ∙ (rw (said_end ls i h) at s) }
 
 -- A default.
-pub default_made : (s : Numbered) (g : Given) (d : SymbolDefault) → Some g ≡ given_of s → form_of d.value.value ≡ g.value → when_view d.when ≡ g.when → default_line s ≡ Some (default_row d)
+pub default_made : (s : Numbered) (g : StatedDefault) (d : SymbolDefault) → Some g ≡ stated_default s → form_of d.value.value ≡ g.value →
+    when_view d.when ≡ g.when → default_line s ≡ Some (default_row d)
 default_made s g d h v w = rw (← h) (λ i. Some (sym v i, sym w i))
 
-pub default_missing : (s : Numbered) → None ≡ given_of s → default_line s ≡ None
+pub default_missing : (s : Numbered) → None ≡ stated_default s → default_line s ≡ None
 default_missing s h = rw (← h) refl
 
 -- A range.
@@ -108,7 +114,8 @@ range_line-is : (s : Numbered) → range_line s ≡ range_of s
 range_line-is (RangeLine a b w) = refl
 range_line-is _ = refl
 
-pub range_made : (s : Numbered) (r : Leaf × Leaf × Option Form) (d : SymbolRange) → Some r ≡ range_of s → leaf_of d.low ≡ r.0 → leaf_of d.high ≡ r.1 → when_view d.when ≡ r.2 → range_line s ≡ Some (range_row d)
+pub range_made : (s : Numbered) (r : Leaf × Leaf × Option Form) (d : SymbolRange) → Some r ≡ range_of s → leaf_of d.low ≡ r.0 → leaf_of d.high ≡ r.1 →
+    when_view d.when ≡ r.2 → range_line s ≡ Some (range_row d)
 range_made s r d h a b w = range_line-is s ∙ sym h ∙ (λ i. Some (sym a i, sym b i, sym w i))
 
 pub range_missing : (s : Numbered) → None ≡ range_of s → range_line s ≡ None
@@ -116,14 +123,15 @@ range_missing s h = range_line-is s ∙ sym h
 
 -- A default of a choice.
 module _ (symbols : List Symbol) (k : ℕ) (s : Numbered) where
-  pub member_made : (g : Given) (d : ChoiceDefault) → Some g ≡ given_of s → Some d.member ≡ single_symbol g.value → true ≡ member_by symbols k d.member → when_view d.when ≡ g.when → member_line symbols k s ≡ Some (choice_default_line d)
+  pub member_made : (g : StatedDefault) (d : ChoiceDefault) → Some g ≡ stated_default s → Some d.member ≡ single_symbol g.value →
+      true ≡ member_by symbols k d.member → when_view d.when ≡ g.when → member_line symbols k s ≡ Some (choice_default_line d)
   member_made g d h n m w = rw (← h, ← n, ← m) (λ i. Some (d.member, sym w i))
 
-  pub member_other : (g : Given) (t : SymId) → Some g ≡ given_of s → Some t ≡ single_symbol g.value → false ≡ member_by symbols k t → member_line symbols k s ≡ None
+  pub member_other : (g : StatedDefault) (t : SymId) → Some g ≡ stated_default s → Some t ≡ single_symbol g.value → false ≡ member_by symbols k t → member_line symbols k s ≡ None
   member_other g t h n m = rw (← h, ← n, ← m) refl
 
-  pub member_unnamed : (g : Given) → Some g ≡ given_of s → None ≡ single_symbol g.value → member_line symbols k s ≡ None
+  pub member_unnamed : (g : StatedDefault) → Some g ≡ stated_default s → None ≡ single_symbol g.value → member_line symbols k s ≡ None
   member_unnamed g h n = rw (← h, ← n) refl
 
-  pub member_missing : None ≡ given_of s → member_line symbols k s ≡ None
+  pub member_missing : None ≡ stated_default s → member_line symbols k s ≡ None
   member_missing h = rw (← h) refl

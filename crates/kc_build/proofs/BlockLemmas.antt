@@ -1,4 +1,4 @@
--- The blocks round a statement, from one statement to the next.
+-- The enclosing blocks of a statement, from one statement to the next.
 use Rattle.std.proofs.Common.{◌≡◌, ℕ, zero, suc, ◌+◌, ◌-◌, ◌<◌, ◌≤◌, Bool, true, false, ◌&&◌, if◌then◌else◌, List, [], ◌∷◌, ◌++◌, length, take, filter, Some, refl, ap, sym, ◌∙◌, arith, append_assoc, inl, inr}
 use Rattle.std.specs.List.{slice_get}
 use Rattle.std.specs.Option.{is_some}
@@ -29,7 +29,8 @@ below-pred : (u d : ℕ) → below u (suc d) ≡ below (pred u) d
 below-pred zero d = refl
 below-pred (suc u) d = refl
 
-stays_bracket : (d : ℕ) (b : Bracket) (ss : List Numbered) → ((e : ℕ) → stays_open e ss ≡ below (unmatched ss) e) → (if closes_outer d b then false else stays_open (depth_after d b) ss) ≡ below (after_bracket b (unmatched ss)) d
+stays_bracket : (d : ℕ) (b : Bracket) (ss : List Numbered) → ((e : ℕ) → stays_open e ss ≡ below (unmatched ss) e) →
+    (if closes_outer d b then false else stays_open (depth_after d b) ss) ≡ below (after_bracket b (unmatched ss)) d
 stays_bracket zero (Opens b) ss ih = ih 1 ∙ below-pred (unmatched ss) 0
 stays_bracket (suc d) (Opens b) ss ih = ih (suc (suc d)) ∙ below-pred (unmatched ss) (suc d)
 stays_bracket zero Closes ss ih = refl
@@ -94,7 +95,8 @@ unmatched-opens : (ss : List Numbered) (s : Numbered) (b : _) → bracket s ≡ 
 unmatched-opens [] s b e = rw e refl
 unmatched-opens (x ∷ ss) s b e = ap (after_bracket (bracket x)) (unmatched-opens ss s b e)
 
-closing : (b : Bracket) (p u u' : ℕ) (o : List ℕ) → u' ≡ (if is_nil o then suc u else u) → after_bracket b u' ≡ (if is_nil (if is_some (opened b) && below u 0 then p ∷ o else o) then suc (after_bracket b u) else after_bracket b u)
+closing : (b : Bracket) (p u u' : ℕ) (o : List ℕ) → u' ≡ (if is_nil o then suc u else u) →
+    after_bracket b u' ≡ (if is_nil (if is_some (opened b) && below u 0 then p ∷ o else o) then suc (after_bracket b u) else after_bracket b u)
 closing (Opens b) p zero u' [] h = rw h refl
 closing (Opens b) p zero u' (q ∷ o) h = rw h refl
 closing (Opens b) p (suc u) u' [] h = rw h refl
@@ -133,7 +135,7 @@ open_from-closes p [] s e = rw e refl
 open_from-closes p (x ∷ ss) s e =
     rw (open_from-closes (suc p) ss s e) (dropped (opens x) p (unmatched ss) (unmatched (ss ++ s ∷ [])) (open_from (suc p) ss) (unmatched-closes (suc p) ss s e))
 
--- The same for the places round a statement.
+-- The same for the places that enclose a statement.
 pub take-next : (ss : List Numbered) (i : ℕ) (s : Numbered) → slice_get ss i ≡ Some s → take (suc i) ss ≡ take i ss ++ s ∷ []
 take-next [] i s h = cc
 take-next (x ∷ ss) zero s h = cc
@@ -157,7 +159,7 @@ pub enclosing-closes : (ss : List Numbered) (i : ℕ) (s : Numbered) → slice_g
 enclosing-closes ss i s h e =
     open_places-from (take (suc i) ss) ∙ ap (open_from 0) (take-next ss i s h) ∙ open_from-closes 0 (take i ss) s e ∙ ap front (sym (open_places-from (take i ss)))
 
--- Each place round a statement has before it, among those round it, the places round itself.
+-- Each place that encloses a statement has before it, among those that do, the places that enclose itself.
 pub record IsNested (ss : List Numbered) (i : ℕ) (ys : List ℕ) (k : ℕ) : Type 0 where
   pub before : k < i
   pub round : ys ≡ enclosing ss k
@@ -201,7 +203,9 @@ nested_next ss i s (Opens b) h e ih = λ ys k zs p.
       | inr w ↦ IsNested-later ss i ys k (ih ys k w.0 w.1)
     ]
 nested_next ss i s Closes h e ih = λ ys k zs p.
-    IsNested-later ss i ys k (ih ys k (zs ++ rest_after (enclosing ss i)) (front-rest (enclosing ss i) ∙ ap (λ l. l ++ rest_after (enclosing ss i)) (sym (enclosing-closes ss i s h e) ∙ p) ∙ append_assoc ys (k ∷ zs) (rest_after (enclosing ss i))))
+    IsNested-later ss i ys k (ih ys k (zs ++ rest_after (enclosing ss i))
+    (front-rest (enclosing ss i) ∙ ap (λ l. l ++ rest_after (enclosing ss i)) (sym (enclosing-closes ss i s h e) ∙ p)
+    ∙ append_assoc ys (k ∷ zs) (rest_after (enclosing ss i))))
 nested_next ss i s NoBracket h e ih = λ ys k zs p.
     IsNested-later ss i ys k (ih ys k zs (sym (enclosing-no ss i s h e) ∙ p))
 

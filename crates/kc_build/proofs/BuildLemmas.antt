@@ -6,37 +6,37 @@ use Rattle.std.specs.Option.{is_some}
 use Rattle.std.proofs.lemmas.List.Elements.{All-append, All-head}
 use Rattle.kc_expr.specs.declared.expression.SymId.{SymId}
 use Rattle.kc_expr.specs.Names.{AreDistinct, number_of}
-use Rattle.kc_read.specs.declared.line.Line.{Line}
+use Rattle.kc_read.specs.declared.statement.Line.{Line}
 use Rattle.kc_read.specs.declared.refusal.Code.{Code}
 use Rattle.kc_read.specs.declared.refusal.Code.TheVariants as code
 use Rattle.kc_read.specs.declared.refusal.Refusal.{Refusal}
 use Rattle.kc_read.specs.Expansion.{Expands, Log, OneExpansion, Refused, defined, refused, statements}
 use Rattle.kc_read.specs.Files.{Files}
 use Rattle.kc_read.specs.Numbering.{modules_id, names_of, numbered_lines}
-use Rattle.kc_read.specs.Reads.{line_view}
-use Rattle.kc_read.specs.Statements.{Numbered, Placed, Written}
-use Rattle.kc_read.specs.Steps.{IsMemory, refusal_view}
+use Rattle.kc_read.specs.StatementViews.{line_view}
+use Rattle.kc_read.specs.Statements.{Numbered, Located, Named}
+use Rattle.kc_read.specs.RefusalView.{IsMemory, refusal_view}
 use Rattle.kc_build.specs.declared.numbering.Listing.{Listing}
-use Rattle.kc_build.specs.Assemblies.{assembled_view}
+use Rattle.kc_build.specs.PartsView.{parts_view}
 use Rattle.kc_tree.specs.Words.{listed}
-use Rattle.kc_build.specs.Known.{AreBelow, AreChoicesApart, AreMenusOpened, AreTyped}
+use Rattle.kc_build.specs.SymbolRows.{AreBelow, AreChoicesApart, AreMenusOpened, AreTyped}
 use Rattle.kc_build.specs.Numberings.{IsListing}
-use Rattle.kc_build.specs.Passes.{said_by}
+use Rattle.kc_build.specs.Passes.{statements_of}
 use Rattle.kc_tree.specs.TreeFacts.{TreeFacts, IsWellFormed}
 use Rattle.kc_tree.specs.declared.layout.TreeParts.{TreeParts}
 use Rattle.kc_expr.specs.Limits.{most_symbols}
 use Rattle.kc_build.specs.Trees.{OneTree, facts_with, tree_of_lines, tree_of_log, tree_with, unless_refused}
-use Rattle.kc_build.specs.Warnings.{bad_defaults, bad_members, entry_name, late_refusals, menu_entry_at, entry_symbol, refused_at}
+use Rattle.kc_build.specs.Warnings.{bad_defaults, bad_members, entry_name, whole_list_refusals, menu_entry_at, entry_symbol, refused_at}
 use Rattle.kc_build.proofs.DefinedLemmas.{AreNames, expanded_allowed, expanded_known, numbered_typed}
 use Rattle.kc_build.proofs.ElementLemmas.{All-flat_map, All-map_each}
 use Rattle.kc_build.proofs.NestLemmas.{choice_alone, menu_closed}
 use Rattle.kc_build.proofs.NumberingLemmas.{numbered_below}
-use Rattle.kc_build.proofs.SaidLemmas.{statements-are}
+use Rattle.kc_build.proofs.StatementLemmas.{statements-are}
 use Rattle.kc_build.proofs.ShapeLemmas.{nested}
 use Rattle.kc_build.proofs.WholeLemmas.{IsShaped, shaped, well_formed}
 
--- Each late refusal is of a member or of a default.
-late_codes : (names : List (List ℕ)) (ls : List (Placed Numbered)) → All (λ r. r.code ≢ code.Memory) (late_refusals names ls)
+-- Each refusal of the whole list is of a member or of a default.
+late_codes : (names : List (List ℕ)) (ls : List (Located Numbered)) → All (λ r. r.code ≢ code.Memory) (whole_list_refusals names ls)
 late_codes names ls =
     All-append (λ r. r.code ≢ code.Memory) (flat_map (refused_at names ls code.ChoiceMember) (bad_members said))
     (flat_map (refused_at names ls code.BadDefault) (bad_defaults said))
@@ -48,7 +48,7 @@ late_codes names ls =
 
     one_code : (c : Code) → c ≢ code.Memory → (i : ℕ) → All (λ r. r.code ≢ code.Memory) (refused_at names ls c i)
     one_code c ne i = All-map_each (λ (r : Refused). r.code ≢ code.Memory)
-        (λ (l : Placed Numbered). refused (record { code = c; detail = entry_name names (entry_symbol (menu_entry_at said i)) }) l.file l.line) (λ l. ne) (listed (slice_get ls i))
+        (λ (l : Located Numbered). refused (record { code = c; detail = entry_name names (entry_symbol (menu_entry_at said i)) }) l.file l.line) (λ l. ne) (listed (slice_get ls i))
 
 not_memory : (rs : List Refused) (t : TreeFacts) (v : Refused) → All (λ r. r.code ≢ code.Memory) rs → Err v ≡ unless_refused rs t → v.code ≢ code.Memory
 not_memory [] t v a h = absurd cc
@@ -60,16 +60,16 @@ whole_by : (rs : List Refused) (t u : TreeFacts) → Ok t ≡ unless_refused rs 
 whole_by [] t u h = (refl, (let same : t ≡ u = cc in same))
 whole_by (r ∷ rs) t u h = absurd cc
 
-pub late-memory : (ls : List (Placed Written)) (r : Refusal) → Err (refusal_view r) ≡ tree_of_lines ls → IsMemory r
-late-memory ls r h m =
-    absurd (not_memory (late_refusals (names_of (statements ls)) (numbered_lines ls))
+pub refused-memory : (ls : List (Located Named)) (r : Refusal) → Err (refusal_view r) ≡ tree_of_lines ls → IsMemory r
+refused-memory ls r h m =
+    absurd (not_memory (whole_list_refusals (names_of (statements ls)) (numbered_lines ls))
     (facts_with (names_of (statements ls)) (length (defined (statements ls))) (modules_id (statements ls)) (numbered_lines ls)) (refusal_view r)
     (late_codes (names_of (statements ls)) (numbered_lines ls)) h m)
 
 -- the tree that lines give is well formed
-pub whole-formed : (ls : List (Placed Written)) (t : TreeFacts) → AreNames (defined (statements ls)) → AreDistinct (names_of (statements ls)) → IsShaped ls → Ok t ≡ tree_of_lines ls → IsWellFormed t
+pub whole-formed : (ls : List (Located Named)) (t : TreeFacts) → AreNames (defined (statements ls)) → AreDistinct (names_of (statements ls)) → IsShaped ls → Ok t ≡ tree_of_lines ls → IsWellFormed t
 whole-formed ls t known distinct shaped h =
-    let w = whole_by (late_refusals (names_of (statements ls)) (numbered_lines ls)) t
+    let w = whole_by (whole_list_refusals (names_of (statements ls)) (numbered_lines ls)) t
     (facts_with (names_of (statements ls)) (length (defined (statements ls))) (modules_id (statements ls)) (numbered_lines ls)) h in
     subst IsWellFormed (sym w.1) (well_formed ls known distinct shaped w.0)
 
@@ -78,23 +78,23 @@ module _ (log : Log) (l : Listing) (h : IsListing log l) where
   abbrev given : List Numbered
   given = map (λ x. x.statement) (numbered_lines log.lines)
 
-  said-are : (ls : List Line) → ls ≡ l.lines.items → given ≡ said_by ls
+  said-are : (ls : List Line) → ls ≡ l.lines.items → given ≡ statements_of ls
   said-are ls same =
-      ap (λ (ps : List (Placed Numbered)). map (λ x. x.statement) ps) (sym h.lines_are) ∙ statements-are l.lines.items ∙ ap said_by (sym same)
+      ap (λ (ps : List (Located Numbered)). map (λ x. x.statement) ps) (sym h.lines_are) ∙ statements-are l.lines.items ∙ ap statements_of (sym same)
 
-  pub lines-below : (ls : List Line) → ls ≡ l.lines.items → AreBelow l.count (said_by ls)
+  pub lines-below : (ls : List Line) → ls ≡ l.lines.items → AreBelow l.count (statements_of ls)
   lines-below ls same =
       subst (λ (ss : List Numbered). AreBelow l.count ss) (said-are ls same) (subst (λ (k : ℕ). AreBelow k given) (sym h.count_is) (numbered_below log.lines))
 
-  pub lines-apart : (files : Files) (root : List ℕ) → Expands files root (Ok log) → (ls : List Line) → ls ≡ l.lines.items → AreChoicesApart (said_by ls)
+  pub lines-apart : (files : Files) (root : List ℕ) → Expands files root (Ok log) → (ls : List Line) → ls ≡ l.lines.items → AreChoicesApart (statements_of ls)
   lines-apart files root x ls same =
       subst AreChoicesApart (said-are ls same) (choice_alone given (nested files root log x))
 
-  pub lines-typed : (files : Files) (root : List ℕ) → Expands files root (Ok log) → (ls : List Line) → ls ≡ l.lines.items → AreTyped (said_by ls)
+  pub lines-typed : (files : Files) (root : List ℕ) → Expands files root (Ok log) → (ls : List Line) → ls ≡ l.lines.items → AreTyped (statements_of ls)
   lines-typed files root x ls same =
       subst AreTyped (said-are ls same) (numbered_typed (Some (modules_id (statements log.lines))) (number_of (names_of (statements log.lines))) log.lines (expanded_allowed files root log x))
 
-  pub lines-opened : (files : Files) (root : List ℕ) → Expands files root (Ok log) → (ls : List Line) → ls ≡ l.lines.items → AreMenusOpened (said_by ls)
+  pub lines-opened : (files : Files) (root : List ℕ) → Expands files root (Ok log) → (ls : List Line) → ls ≡ l.lines.items → AreMenusOpened (statements_of ls)
   lines-opened files root x ls same =
       subst AreMenusOpened (said-are ls same) (λ i e. ap is_some (menu_closed given (nested files root log x) i e).1)
 
@@ -105,12 +105,12 @@ module _ (log : Log) (l : Listing) (h : IsListing log l) where
       omega arith
 
   pub assembled-lines : (ls : List Line) (s : Result TreeParts Refusal) → ls ≡ l.lines.items →
-      assembled_view l.names s ≡ tree_with l.names l.count l.modules (map line_view ls) → assembled_view l.names s ≡ tree_of_lines log.lines
+      parts_view l.names s ≡ tree_with l.names l.count l.modules (map line_view ls) → parts_view l.names s ≡ tree_of_lines log.lines
   assembled-lines ls s same a =
       let ss = statements log.lines in
       a
       ∙ ap (λ (xs : List Line). tree_with l.names l.count l.modules (map line_view xs)) same
-      ∙ ap (λ (ps : List (Placed Numbered)). tree_with l.names l.count l.modules ps) h.lines_are
+      ∙ ap (λ (ps : List (Located Numbered)). tree_with l.names l.count l.modules ps) h.lines_are
       ∙ ap (λ (ns : List (List ℕ)). tree_with ns l.count l.modules (numbered_lines log.lines)) h.names_are
       ∙ ap (λ (k : ℕ). tree_with (names_of ss) k l.modules (numbered_lines log.lines)) h.count_is
       ∙ ap (λ (id : SymId). tree_with (names_of ss) (length (defined ss)) id (numbered_lines log.lines)) h.modules_is

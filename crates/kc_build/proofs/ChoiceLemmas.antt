@@ -1,22 +1,17 @@
 -- How many choices open before a place.
-use Rattle.std.proofs.Common.{◌≡◌, ℕ, zero, suc, ◌+◌, ◌<◌, ◌≤◌, Bool, true, cond, List, length, filter, map, Option, Some, None, ap, sym, ◌∙◌, arith, get_or}
+use Rattle.std.proofs.Common.{◌≡◌, ℕ, zero, suc, ◌+◌, ◌<◌, ◌≤◌, Bool, true, cond, List, length, filter, map, ap, sym, ◌∙◌, arith}
 use Rattle.std.specs.Prelude.{◌⊎◌}
 use Rattle.std.proofs.Common.{inl, inr}
 use Rattle.std.specs.List.{count_by}
-use Rattle.std.specs.Option.{option_map}
 use Rattle.std.proofs.lemmas.List.{length-map}
 use Rattle.std.proofs.lemmas.List.Sums.{length-filter}
-use Rattle.kc_read.specs.declared.line.Line.{Line}
 use Rattle.kc_read.specs.declared.statement.Block.TheVariants as block
-use Rattle.kc_read.specs.Reads.{statement_view}
 use Rattle.kc_read.specs.Statements.{Numbered}
-use Rattle.kc_read.specs.Blocks.{numbers, bracket, opened}
+use Rattle.kc_read.specs.Blocks.{numbers}
 use Rattle.kc_tree.specs.TreeFacts.{ChoiceFacts}
-use Rattle.kc_build.specs.Facts.{is_block, of_block, choice_number, choice_facts}
-use Rattle.kc_build.specs.Passes.{said_by}
+use Rattle.kc_build.specs.Facts.{of_block, choice_number, choice_facts}
 use Rattle.kc_build.proofs.ListLemmas.{count_next}
 use Rattle.kc_build.proofs.MemberLemmas.{below_or_past}
-use Rattle.kc_build.proofs.PlaceLemmas.{statement_at}
 
 -- so many choices before a place, and more after one that opens there
 
@@ -43,11 +38,3 @@ module _ (ss : List Numbered) where
   pub so_many : (i : ℕ) → length (choices_before i) ≡ choice_number ss i
   so_many i =
       length-map (filter (of_block ss block.Choice) (numbers i)) (choice_facts ss) ∙ length-filter (of_block ss block.Choice) (numbers i)
-
-pub opens_choice : (ls : List Line) (i : ℕ) (x : Line) (b : Bool) → i < length ls → x ≡ get_or ls i x →
-    b ≡ is_block block.Choice (opened (bracket (statement_view x.statement))) → of_block (said_by ls) block.Choice i ≡ b
-opens_choice ls i x b h at e = rw (statement_at ls i x h at) (sym e)
-
-some_is : {A B : Type 0} (v : A → B) (o : Option A) (x : A) (y : B) → o ≡ Some x → option_map v o ≡ Some y → v x ≡ y
-some_is v (Some z) x y h e = let same : Some (v x) ≡ Some y = sym (ap (option_map v) h) ∙ e in cc
-some_is v None x y h e = cc

@@ -10,27 +10,27 @@ use Rattle.std.proofs.lemmas.List.Elements.{All-filter, All-head, All-nil, All-p
 use Rattle.kc_expr.specs.declared.expression.SymId.{SymId}
 use Rattle.kc_expr.specs.Form.{Form}
 use Rattle.kc_read.specs.declared.statement.Block.TheVariants as block
-use Rattle.kc_read.specs.Statements.{Asked, Numbered, ChoiceLine}
+use Rattle.kc_read.specs.Statements.{InputPrompt, Numbered, ChoiceLine}
 use Rattle.kc_read.specs.Blocks.{attributes, enclosing, is_open, last_of, numbers}
-use Rattle.kc_tree.specs.declared.parts.Choice.{Choice}
-use Rattle.kc_tree.specs.declared.parts.ChoiceDefault.{ChoiceDefault}
-use Rattle.kc_tree.specs.declared.parts.ContextId.{ContextId}
-use Rattle.kc_tree.specs.declared.parts.Definition.{Definition}
-use Rattle.kc_tree.specs.declared.parts.Prompt.{Prompt}
-use Rattle.kc_tree.specs.declared.parts.Symbol.{Symbol}
-use Rattle.kc_tree.specs.declared.parts.Title.{Title}
+use Rattle.kc_tree.specs.declared.rows.Choice.{Choice}
+use Rattle.kc_tree.specs.declared.rows.ChoiceDefault.{ChoiceDefault}
+use Rattle.kc_tree.specs.declared.rows.ContextId.{ContextId}
+use Rattle.kc_tree.specs.declared.rows.Definition.{Definition}
+use Rattle.kc_tree.specs.declared.rows.Prompt.{Prompt}
+use Rattle.kc_tree.specs.declared.rows.Symbol.{Symbol}
+use Rattle.kc_tree.specs.declared.rows.Title.{Title}
 use Rattle.kc_tree.specs.Contexts.{IsPlain, condition_in, in_choice, top}
 use Rattle.kc_tree.specs.Layouts.{choice_default_view, choice_facts as choice_in, prompt_view, with_when}
 use Rattle.kc_tree.specs.TreeFacts.{Condition, ChoiceFacts, Guarded}
 use Rattle.kc_tree.specs.Words.{listed}
 use Rattle.kc_build.specs.Before.{choice_before, choices_before, default_by, members_before}
 use Rattle.kc_build.specs.EntryLines.{choice_default_line, member_line, named_line, prompt_line}
-use Rattle.kc_build.specs.Facts.{Given, asked_of, asked_under, block_parts, choice_number, choice_round, dep, depends_form, entry_number, given_of, is_member_place, of_block, prompt_at, single_symbol, symbol_at, visible_round}
+use Rattle.kc_build.specs.Facts.{StatedDefault, prompt_of, prompt_condition, block_parts, choice_number, enclosing_choice, dependency, depends_form, entry_number, stated_default, is_member_place, of_block, prompt_at, single_symbol, symbol_at, enclosing_visible}
 use Rattle.kc_build.specs.Growth.{IsGrown, Stands, and_all}
-use Rattle.kc_build.specs.Known.{member_by}
-use Rattle.kc_build.specs.Rounds.{block_visible}
-use Rattle.kc_build.specs.Said.{IsEntryThere, IsTitleThere}
-use Rattle.kc_build.specs.Stacks.{AreTitlesWithin, asked_at, block_view}
+use Rattle.kc_build.specs.SymbolRows.{member_by}
+use Rattle.kc_build.specs.Scopes.{block_visible}
+use Rattle.kc_build.specs.WalkResult.{IsEntryThere, IsTitleThere}
+use Rattle.kc_build.specs.Stacks.{AreTitlesWithin, block_facts_at, block_view}
 use Rattle.kc_build.specs.Walks.{Enters, place_after}
 use Rattle.kc_build.specs.declared.blocks.Block.{Block}
 use Rattle.kc_build.specs.declared.entries.Walk.{Walk}
@@ -41,7 +41,7 @@ use Rattle.kc_build.proofs.HeldLemmas.{carries_entry}
 use Rattle.kc_build.proofs.ListLemmas.{count_next}
 use Rattle.kc_build.proofs.OpenLemmas.{open_opens}
 use Rattle.kc_build.proofs.OpenerLemmas.{block_inside}
-use Rattle.kc_build.proofs.TitleLemmas.{dep_is}
+use Rattle.kc_build.proofs.TitleLemmas.{dependency_is}
 use Rattle.kc_build.proofs.WalkLemmas.{choice_count, choice_passed, entry_count, main_menu_stays, walk_passes}
 
 -- What the tables keep with one choice more.
@@ -195,7 +195,7 @@ module _ (ss : List Numbered) where
   pub no_members_yet : (i : ℕ) → members_before ss i (choice_number ss i) ≡ []
   no_members_yet i =
       ap (filter_map (symbol_at ss)) (none_pass (is_member_place ss (choice_number ss i)) i
-      (λ j l. and_false (is_some (symbol_at ss j)) (list_any (λ (d : ℕ). d == choice_number ss i) (listed (choice_round ss j)))
+      (λ j l. and_false (is_some (symbol_at ss j)) (list_any (λ (d : ℕ). d == choice_number ss i) (listed (enclosing_choice ss j)))
       (not_yet i j (last_of (filter (of_block ss block.Choice) (enclosing ss j))) (omega arith) refl)))
 
 -- What the row of a choice says.
@@ -203,7 +203,7 @@ module _ (symbols : List Symbol) (k : ℕ) (c : Condition) where
   abbrev named_of : SymId × Option Form → Guarded SymId
   named_of r = record { what = r.0; when = with_when c r.1 }
 
-  abbrev default_of : Given → Option (Guarded SymId)
+  abbrev default_of : StatedDefault → Option (Guarded SymId)
   default_of g = option_and_then (λ (s : SymId). if member_by symbols k s then Some (named_of (s, g.when)) else None) (single_symbol g.value)
 
   if_member : (b : Bool) (s : SymId) (w : Option Form) → option_map named_of (if b then Some (s, w) else None) ≡ (if b then Some (named_of (s, w)) else None)
@@ -216,7 +216,7 @@ module _ (symbols : List Symbol) (k : ℕ) (c : Condition) where
   by_symbol None w = refl
   by_symbol (Some s) w = if_member (member_by symbols k s) s w
 
-  by_given : (o : Option Given) → option_map named_of (option_and_then (named_line symbols k) o) ≡ option_and_then default_of o
+  by_given : (o : Option StatedDefault) → option_map named_of (option_and_then (named_line symbols k) o) ≡ option_and_then default_of o
   by_given None = refl
   by_given (Some g) = by_symbol (single_symbol g.value) g.when
 
@@ -224,16 +224,16 @@ module _ (symbols : List Symbol) (k : ℕ) (c : Condition) where
   map_cons None xs = refl
   map_cons (Some x) xs = refl
 
-  each : (o : Option Given) (gs : List Given) → filter_map default_of (cons_option o gs) ≡ cons_option (option_and_then default_of o) (filter_map default_of gs)
+  each : (o : Option StatedDefault) (gs : List StatedDefault) → filter_map default_of (cons_option o gs) ≡ cons_option (option_and_then default_of o) (filter_map default_of gs)
   each None gs = refl
   each (Some g) gs = refl
 
-  defaults_named : (own : List Numbered) → map named_of (filter_map (member_line symbols k) own) ≡ filter_map default_of (filter_map given_of own)
+  defaults_named : (own : List Numbered) → map named_of (filter_map (member_line symbols k) own) ≡ filter_map default_of (filter_map stated_default own)
   defaults_named [] = refl
   defaults_named (s ∷ own) =
       map_cons (member_line symbols k s) (filter_map (member_line symbols k) own)
-      ∙ (rw (by_given (given_of s), defaults_named own) refl)
-      ∙ sym (each (given_of s) (filter_map given_of own))
+      ∙ (rw (by_given (stated_default s), defaults_named own) refl)
+      ∙ sym (each (stated_default s) (filter_map stated_default own))
 
   defaults_rows : (conditions : List Condition) (ds : List ChoiceDefault) → map (choice_default_view conditions c) ds ≡ map named_of (map choice_default_line ds)
   defaults_rows conditions [] = refl
@@ -257,7 +257,7 @@ module _ (symbols : List Symbol) (own : List Numbered) (old new : Walk) (rest : 
       Stands middle c.within.0 (and_all (condition_in old.tables.contexts old.blocks.innermost.within.0) (filter_map depends_form own)) →
       new.tables.contexts ≡ middle ++ in_choice (condition_in middle old.blocks.innermost.within.0) id ∷ [] → id ≡ length old.tables.choices.items →
       new.tables.choices.items ≡ old.tables.choices.items ++ c ∷ [] →
-      option_map prompt_line c.prompt ≡ option_map (λ (p : Asked Form). (old.blocks.innermost.visible.0, p.when)) (last_of (filter_map asked_of own)) →
+      option_map prompt_line c.prompt ≡ option_map (λ (p : InputPrompt Form). (old.blocks.innermost.visible.0, p.when)) (last_of (filter_map prompt_of own)) →
       map choice_default_line c.defaults.items ≡ filter_map (member_line symbols id) own → c.members.items ≡ [] → b.within.0 ≡ length middle →
       b.visible ≡ old.blocks.innermost.visible → b.entry ≡ Some number → number ≡ length old.tables.entries.items → new.blocks.innermost ≡ b →
       new.blocks.outside.items ≡ old.blocks.outside.items ++ old.blocks.innermost ∷ [] → Enters symbols ChoiceLine own old new
@@ -273,25 +273,25 @@ module _ (symbols : List Symbol) (own : List Numbered) (old new : Walk) (rest : 
       let round = w.blocks.innermost in
       let opens : of_block ss block.Choice i ≡ true = rw (h.at) refl in
       let counted : id ≡ choice_number ss i = id_is ∙ choice_count ss symbols i old w in
-      let depends : condition_in new.tables.contexts c.within.0 ≡ dep ss i = k.keeps c.within.0 stands.there ∙ stands.is ∙ dep_is ss i own o round_of round h.attributes_are in
-      let shows : (condition_in new.tables.contexts round_of.visible.0).parts ≡ visible_round ss i = ap (λ (y : Condition). y.parts) (g.keeps round_of.visible.0 seen)
+      let depends : condition_in new.tables.contexts c.within.0 ≡ dependency ss i = k.keeps c.within.0 stands.there ∙ stands.is ∙ dependency_is ss i own o round_of round h.attributes_are in
+      let shows : (condition_in new.tables.contexts round_of.visible.0).parts ≡ enclosing_visible ss i = ap (λ (y : Condition). y.parts) (g.keeps round_of.visible.0 seen)
       ∙ ap (λ y. y.visible) round in
       let asked : option_map (prompt_view new.tables.contexts (condition_in new.tables.contexts c.within.0)) c.prompt ≡ prompt_at ss i =
       ap (λ (y : Condition). option_map (prompt_view new.tables.contexts y) c.prompt) depends
-      ∙ prompt_by_line new.tables.contexts (dep ss i) c.prompt
-      ∙ ap (option_map (prompt_under new.tables.contexts (dep ss i))) prompt_is
-      ∙ by_asked new.tables.contexts (dep ss i) round_of.visible.0 (last_of (filter_map asked_of own))
-      ∙ ap (λ (v : List Form). option_map (λ (p : Asked Form). with_when (record { parts = (dep ss i).parts ++ v; mode = (dep ss i).mode }) p.when)
-      (last_of (filter_map asked_of own))) shows
-      ∙ ap (λ (l : List Numbered). option_map (asked_under ss i) (last_of (filter_map asked_of l))) (sym h.attributes_are) in
+      ∙ prompt_by_line new.tables.contexts (dependency ss i) c.prompt
+      ∙ ap (option_map (prompt_under new.tables.contexts (dependency ss i))) prompt_is
+      ∙ by_asked new.tables.contexts (dependency ss i) round_of.visible.0 (last_of (filter_map prompt_of own))
+      ∙ ap (λ (v : List Form). option_map (λ (p : InputPrompt Form). with_when (record { parts = (dependency ss i).parts ++ v; mode = (dependency ss i).mode }) p.when)
+      (last_of (filter_map prompt_of own))) shows
+      ∙ ap (λ (l : List Numbered). option_map (prompt_condition ss i) (last_of (filter_map prompt_of l))) (sym h.attributes_are) in
       let given : map (choice_default_view new.tables.contexts (condition_in new.tables.contexts c.within.0)) c.defaults.items ≡
-      filter_map (default_by ss symbols i) (filter_map given_of (attributes ss i)) =
+      filter_map (default_by ss symbols i) (filter_map stated_default (attributes ss i)) =
       ap (λ (y : Condition). map (choice_default_view new.tables.contexts y) c.defaults.items) depends
-      ∙ defaults_rows symbols id (dep ss i) new.tables.contexts c.defaults.items
-      ∙ ap (map (named_of symbols id (dep ss i))) defaults_are
-      ∙ defaults_named symbols id (dep ss i) own
-      ∙ ap (λ (n : ℕ). filter_map (default_of symbols n (dep ss i)) (filter_map given_of own)) counted
-      ∙ ap (λ (l : List Numbered). filter_map (default_by ss symbols i) (filter_map given_of l)) (sym h.attributes_are) in
+      ∙ defaults_rows symbols id (dependency ss i) new.tables.contexts c.defaults.items
+      ∙ ap (map (named_of symbols id (dependency ss i))) defaults_are
+      ∙ defaults_named symbols id (dependency ss i) own
+      ∙ ap (λ (n : ℕ). filter_map (default_of symbols n (dependency ss i)) (filter_map stated_default own)) counted
+      ∙ ap (λ (l : List Numbered). filter_map (default_by ss symbols i) (filter_map stated_default l)) (sym h.attributes_are) in
       let members : c.members.items ≡ members_before ss i (choice_number ss i) = members_are ∙ sym (no_members_yet ss i) in
       let row : choice_in new.tables c ≡ choice_before ss symbols i i = λ j. record { prompt = asked j; defaults = given j; members = members j } in
       let choices : map (choice_in new.tables) new.tables.choices.items ≡ choices_before ss symbols (place_after i own) =
@@ -305,14 +305,14 @@ module _ (symbols : List Symbol) (own : List Numbered) (old new : Walk) (rest : 
       ∙ ap (λ (l : List Condition). condition_in l (length middle)) added ∙ get_or_push middle (in_choice x id) top (length middle) refl in
       let nothing : block_parts ss i ≡ [] = rw (h.at) refl in
       let unseen : block_visible ss i ≡ [] = rw (h.at) refl in
-      let parts : (condition_in new.tables.contexts b.within.0).parts ≡ (asked_at ss i).parts ++ block_parts ss i = ap (λ (y : Condition). y.parts) made
+      let parts : (condition_in new.tables.contexts b.within.0).parts ≡ (block_facts_at ss i).parts ++ block_parts ss i = ap (λ (y : Condition). y.parts) made
       ∙ ap (λ (y : Condition). y.parts) (f.keeps round_of.within.0 there) ∙ ap (λ y. y.parts) round
-      ∙ sym (ap (λ (l : List Form). (asked_at ss i).parts ++ l) nothing ∙ append-nil (asked_at ss i).parts) in
-      let visible_parts : (condition_in new.tables.contexts b.visible.0).parts ≡ (asked_at ss i).visible ++ block_visible ss i =
+      ∙ sym (ap (λ (l : List Form). (block_facts_at ss i).parts ++ l) nothing ∙ append-nil (block_facts_at ss i).parts) in
+      let visible_parts : (condition_in new.tables.contexts b.visible.0).parts ≡ (block_facts_at ss i).visible ++ block_visible ss i =
       ap (λ (y : ContextId). (condition_in new.tables.contexts y.0).parts) visible ∙ shows
-      ∙ sym (ap (λ (l : List Form). (asked_at ss i).visible ++ l) unseen ∙ append-nil (asked_at ss i).visible) in
-      let mode : (condition_in new.tables.contexts b.within.0).mode ≡ (if of_block ss block.Choice i then Some (choice_number ss i) else (asked_at ss i).mode) =
-      ap (λ (y : Condition). y.mode) made ∙ ap Some counted ∙ sym (ap (λ (t : Bool). if t then Some (choice_number ss i) else (asked_at ss i).mode) opens) in
+      ∙ sym (ap (λ (l : List Form). (block_facts_at ss i).visible ++ l) unseen ∙ append-nil (block_facts_at ss i).visible) in
+      let mode : (condition_in new.tables.contexts b.within.0).mode ≡ (if of_block ss block.Choice i then Some (choice_number ss i) else (block_facts_at ss i).mode) =
+      ap (λ (y : Condition). y.mode) made ∙ ap Some counted ∙ sym (ap (λ (t : Bool). if t then Some (choice_number ss i) else (block_facts_at ss i).mode) opens) in
       let named : b.entry ≡ Some (entry_number ss i) = entry ∙ ap Some (number_is ∙ entry_count ss symbols i old w a.ends) in
       let inside = ap (block_view new.tables.contexts) inner ∙ block_inside ss i new.tables.contexts b parts visible_parts mode named in
       walk_passes ss i ChoiceLine own h symbols old new w
@@ -341,10 +341,10 @@ module _ (symbols : List Symbol) (own : List Numbered) (old new : Walk) (rest : 
       refl
 
 -- The tables with the row of a choice that was made in the innermost block.
-pub kept_row : (w : Walk) (b : Block) (middle : List Condition) (n : ℕ) (r : Bool) (row : Choice) (new : List Choice) (fs : List Form) (x : Option (Asked Form)) →
+pub kept_row : (w : Walk) (b : Block) (middle : List Condition) (n : ℕ) (r : Bool) (row : Choice) (new : List Choice) (fs : List Form) (x : Option (InputPrompt Form)) →
     b ≡ w.blocks.innermost → IsGrown w.tables.contexts middle (condition_in w.tables.contexts b.within.0).mode n →
     Stands middle row.within.0 (and_all (condition_in w.tables.contexts b.within.0) fs) → IsPlain w.tables.contexts w.blocks.innermost.within.0 →
-    option_map prompt_line row.prompt ≡ option_map (λ (p : Asked Form). (b.visible.0, p.when)) x → new ≡ pushed r w.tables.choices.items row →
+    option_map prompt_line row.prompt ≡ option_map (λ (p : InputPrompt Form). (b.visible.0, p.when)) x → new ≡ pushed r w.tables.choices.items row →
     AreKept middle w.tables.definitions.items new w.tables.titles.items
 kept_row w b middle n r row new fs x e grown stands plain asked added =
     let f = carries_entry w b middle n e grown in

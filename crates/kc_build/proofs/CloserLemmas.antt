@@ -8,12 +8,12 @@ use Rattle.std.proofs.lemmas.Option.{slice_get_within}
 use Rattle.kc_read.specs.declared.statement.Block.TheVariants as block
 use Rattle.kc_read.specs.Statements.{Numbered, EndMenuLine}
 use Rattle.kc_read.specs.Blocks.{Closes, bracket, numbers}
-use Rattle.kc_tree.specs.declared.parts.Entry.TheVariants as entry
-use Rattle.kc_tree.specs.declared.parts.Symbol.{Symbol}
+use Rattle.kc_tree.specs.declared.rows.ShownEntry.TheVariants as entry
+use Rattle.kc_tree.specs.declared.rows.Symbol.{Symbol}
 use Rattle.kc_tree.specs.Layouts.{shown_of}
 use Rattle.kc_tree.specs.TreeFacts.{Condition, EndShown}
-use Rattle.kc_build.specs.Facts.{entry_at, entry_number, is_entry, of_block, opener_of, symbol_of, title_of}
-use Rattle.kc_build.specs.Said.{IsEntryThere, IsTitleThere}
+use Rattle.kc_build.specs.Facts.{entry_at, entry_number, is_entry, of_block, enclosing_block, symbol_of, title_of}
+use Rattle.kc_build.specs.WalkResult.{IsEntryThere, IsTitleThere}
 use Rattle.kc_build.specs.Stacks.{AreOpen, IsClosed}
 use Rattle.kc_build.specs.Walks.{Enters}
 use Rattle.kc_build.specs.WalkSteps.{ends_of}
@@ -66,7 +66,7 @@ module _ (ss : List Numbered) where
   one_end None = omega arith
   one_end (Some k) = omega arith
 
-  end_there : (i m n : ℕ) (o : Option ℕ) → i ≤ length ss → opener_of ss i ≡ o → n ≡ entry_number ss i + length (ends_of (option_map (entry_number ss) o)) →
+  end_there : (i m n : ℕ) (o : Option ℕ) → i ≤ length ss → enclosing_block ss i ≡ o → n ≡ entry_number ss i + length (ends_of (option_map (entry_number ss) o)) →
       All (IsEntryThere m n) (ends_of (option_map (entry_number ss) o))
   end_there i m n None l e c = All-nil (IsEntryThere m n)
   end_there i m n (Some k) l e c =
@@ -78,14 +78,14 @@ pub end_enters : (old new : Walk) → AreRest old new → new.tables.contexts �
     new.tables.entries.items ≡ old.tables.entries.items ++ ends_of old.blocks.innermost.entry → IsClosed old.blocks new.blocks → (symbols : List Symbol) (own : List Numbered) →
     Enters symbols EndMenuLine own old new
 end_enters old new r contexts titles entries closed symbols own ss i a h w =
-    let opener : old.blocks.innermost.entry ≡ option_map (entry_number ss) (opener_of ss i) = ap (λ x. x.entry) w.blocks.innermost in
-    let ends : new.tables.entries.items ≡ old.tables.entries.items ++ ends_of (option_map (entry_number ss) (opener_of ss i)) = entries
+    let opener : old.blocks.innermost.entry ≡ option_map (entry_number ss) (enclosing_block ss i) = ap (λ x. x.entry) w.blocks.innermost in
+    let ends : new.tables.entries.items ≡ old.tables.entries.items ++ ends_of (option_map (entry_number ss) (enclosing_block ss i)) = entries
     ∙ ap (λ (o : Option ℕ). old.tables.entries.items ++ ends_of o) opener in
     let other : of_block ss block.Choice i ≡ false = rw (h.at) refl in
     let g = extends_equal old.tables.contexts new.tables.contexts contexts in
-    let many : length new.tables.entries.items ≡ entry_number ss i + length (ends_of (option_map (entry_number ss) (opener_of ss i))) = ap length ends
-    ∙ length-append old.tables.entries.items (ends_of (option_map (entry_number ss) (opener_of ss i)))
-    ∙ ap (λ (n : ℕ). n + length (ends_of (option_map (entry_number ss) (opener_of ss i)))) (entry_count ss symbols i old w a.ends) in
+    let many : length new.tables.entries.items ≡ entry_number ss i + length (ends_of (option_map (entry_number ss) (enclosing_block ss i))) = ap length ends
+    ∙ length-append old.tables.entries.items (ends_of (option_map (entry_number ss) (enclosing_block ss i)))
+    ∙ ap (λ (n : ℕ). n + length (ends_of (option_map (entry_number ss) (enclosing_block ss i)))) (entry_count ss symbols i old w a.ends) in
     walk_passes ss i EndMenuLine own h symbols old new w
     (record {
       contexts = g;
@@ -102,12 +102,12 @@ end_enters old new r contexts titles entries closed symbols own ss i a h w =
       titles = ap (λ v. v.items) titles ∙ sym (append-nil old.tables.titles.items);
       few_titles = omega arith;
       titles_there = All-nil (IsTitleThere new.tables.contexts);
-      entries_more = ends_of (option_map (entry_number ss) (opener_of ss i));
+      entries_more = ends_of (option_map (entry_number ss) (enclosing_block ss i));
       entries = ends;
-      few_entries = one_end ss (option_map (entry_number ss) (opener_of ss i));
-      entries_there = end_there ss i (length new.tables.titles.items) (length new.tables.entries.items) (opener_of ss i)
+      few_entries = one_end ss (option_map (entry_number ss) (enclosing_block ss i));
+      entries_there = end_there ss i (length new.tables.titles.items) (length new.tables.entries.items) (enclosing_block ss i)
           (let l = slice_get_within ss i EndMenuLine h.at in omega arith) refl many;
-      shown = shown_end ss new (opener_of ss i);
+      shown = shown_end ss new (enclosing_block ss i);
       main_menu = ap (λ v. v.items) r.main_menu ∙ w.main_menu ∙ sym (main_menu_stays ss i EndMenuLine own h refl);
     })
     refl

@@ -1,30 +1,12 @@
 -- The form of a copy.
-use Rattle.std.proofs.Common.{◌≡◌, ℕ, List, [], ◌∷◌, ◌++◌, map, refl, ap, sym, ◌∙◌, drop, length, get_or, ◌+◌, ◌<◌, ◌≤◌, append_assoc}
+use Rattle.std.proofs.Common.{◌≡◌, ℕ, List, [], ◌∷◌, ◌++◌, map, ap, sym, ◌∙◌, drop, length, get_or, ◌+◌, ◌<◌, ◌≤◌, append_assoc}
 use Rattle.std.proofs.lemmas.List.{append-nil, map-append}
 use Rattle.std.specs.declared.vec.Vec.{Vec}
 use Rattle.std.specs.declared.alloc.Global.{Global}
 use Rattle.kc_build.proofs.ScanLemmas.{drop_at, drop_past}
-use mathlib.Core.Former.{Count}
-use Rattle.kc_expr.specs.declared.expression.Expr.{Expr, All, All', Any, Row_of-Expr, end_of-Expr, more_of-Expr, items-the_row-Expr, items_hidden-the_row-Expr-0}
-use Rattle.kc_expr.specs.Form.{Form, Forms, Every, Some_of, MoreForms, form_of, forms_of, forms}
-
-abbrev row_of : Expr → (n : Count) × Row_of-Expr n
-row_of (All' shape row) = (_, row)
-row_of _ = (_, end_of-Expr)
-
-forms_of_row : (n : _) (row : Row_of-Expr n) → forms_of row ≡ forms (map form_of (items-the_row-Expr n row))
-forms_of_row n end_of-Expr = refl
-forms_of_row n (more_of-Expr e es) = ap (MoreForms (form_of e)) (forms_of_row _ es)
-
-pub form_of-All : (v : Vec Expr Global) → form_of (All v) ≡ Every (forms (map form_of v.items))
-form_of-All v =
-    let row = row_of (All v) in
-    ap Every (forms_of_row row.0 row.1 ∙ ap (λ l. forms (map form_of l)) (items_hidden-the_row-Expr-0 v))
-
-pub form_of-Any : (v : Vec Expr Global) → form_of (Any v) ≡ Some_of (forms (map form_of v.items))
-form_of-Any v =
-    let row = row_of (All v) in
-    ap Some_of (forms_of_row row.0 row.1 ∙ ap (λ l. forms (map form_of l)) (items_hidden-the_row-Expr-0 v))
+use Rattle.kc_expr.specs.declared.expression.Expr.{Expr, All, Any}
+use Rattle.kc_expr.specs.Form.{Form, Forms, Every, Some_of, form_of, forms}
+use Rattle.kc_expr.proofs.FormLemmas.{form_of-All, form_of-Any}
 
 pub ruleset copy_lemmas = (form_of-All, form_of-Any)
 
@@ -33,10 +15,12 @@ module _ (join : Forms → Form) where
   abbrev pub Copies : Expr → List Expr → ℕ → List Expr → Type 0
   Copies e all i items = join (forms (map form_of all ++ map form_of (drop i items))) ≡ form_of e
 
-  pub copies_next : (e : Expr) (all : List Expr) (i : ℕ) (items : List Expr) (x c : Expr) (new : List Expr) → Copies e all i items → i < length items → x ≡ get_or items i x → form_of c ≡ form_of x → new ≡ all ++ c ∷ [] → Copies e new (i + 1) items
+  pub copies_next : (e : Expr) (all : List Expr) (i : ℕ) (items : List Expr) (x c : Expr) (new : List Expr) → Copies e all i items → i < length items →
+      x ≡ get_or items i x → form_of c ≡ form_of x → new ≡ all ++ c ∷ [] → Copies e new (i + 1) items
   copies_next e all i items x c new h b at same n =
       let d : drop i items ≡ x ∷ drop (i + 1) items = drop_at items i x b at in
-      let moved : map form_of new ++ map form_of (drop (i + 1) items) ≡ map form_of all ++ map form_of (drop i items) = (rw (n, map-append form_of all (c ∷ []), d, same) (append_assoc (map form_of all) (form_of x ∷ []) (map form_of (drop (i + 1) items)))) in
+      let moved : map form_of new ++ map form_of (drop (i + 1) items) ≡ map form_of all ++ map form_of (drop i items) =
+      (rw (n, map-append form_of all (c ∷ []), d, same) (append_assoc (map form_of all) (form_of x ∷ []) (map form_of (drop (i + 1) items)))) in
       ap (λ l. join (forms l)) moved ∙ h
 
   pub copies_end : (e : Expr) (all : List Expr) (i : ℕ) (items : List Expr) → Copies e all i items → length items ≤ i → join (forms (map form_of all)) ≡ form_of e

@@ -12,34 +12,35 @@ use Rattle.std.proofs.lemmas.Option.{slice_get_read}
 use Rattle.kc_expr.specs.declared.expression.SymId.{SymId}
 use Rattle.kc_expr.specs.Form.{Form}
 use Rattle.kc_read.specs.Blocks.{last_of}
-use Rattle.kc_read.specs.Statements.{Asked, Numbered}
-use Rattle.kc_tree.specs.declared.parts.Choice.{Choice}
-use Rattle.kc_tree.specs.declared.parts.ContextId.{ContextId}
-use Rattle.kc_tree.specs.declared.parts.Definition.{Definition}
-use Rattle.kc_tree.specs.declared.parts.Entry.{Entry}
-use Rattle.kc_tree.specs.declared.parts.Prompt.{Prompt}
-use Rattle.kc_tree.specs.declared.parts.Reverse.{Reverse}
-use Rattle.kc_tree.specs.declared.parts.Span.{Span}
-use Rattle.kc_tree.specs.declared.parts.Title.{Title}
+use Rattle.kc_read.specs.Statements.{InputPrompt, Numbered}
+use Rattle.kc_tree.specs.declared.rows.Choice.{Choice}
+use Rattle.kc_tree.specs.declared.rows.ContextId.{ContextId}
+use Rattle.kc_tree.specs.declared.rows.Definition.{Definition}
+use Rattle.kc_tree.specs.declared.rows.ShownEntry.{ShownEntry}
+use Rattle.kc_tree.specs.declared.rows.Prompt.{Prompt}
+use Rattle.kc_tree.specs.declared.rows.Reverse.{Reverse}
+use Rattle.kc_tree.specs.declared.rows.Span.{Span}
+use Rattle.kc_tree.specs.declared.rows.Title.{Title}
 use Rattle.kc_tree.specs.declared.reverses.Reverses.{Reverses}
 use Rattle.kc_tree.specs.Contexts.{IsPlain, condition_in}
 use Rattle.kc_tree.specs.Layouts.{definition_facts, prompt_view, default_view, range_view, with_parts, with_when}
-use Rattle.kc_tree.specs.Parts.{part_of}
+use Rattle.kc_tree.specs.Spans.{slice_of}
 use Rattle.kc_tree.specs.TreeFacts.{Condition}
 use Rattle.kc_build.specs.declared.blocks.Block.{Block}
 use Rattle.kc_build.specs.declared.entries.Walk.{Walk}
 use Rattle.kc_build.specs.EntryLines.{default_line, default_row, prompt_line, range_line, range_row}
-use Rattle.kc_build.specs.Facts.{asked_of, depends_form}
+use Rattle.kc_build.specs.Facts.{prompt_of, depends_form}
 use Rattle.kc_build.specs.Growth.{IsGrown, Stands, and_all}
-use Rattle.kc_build.specs.Said.{AreRowsThere, IsEntryThere, IsSpanBelow, IsTitleThere}
+use Rattle.kc_build.specs.WalkResult.{AreRowsThere, IsEntryThere, IsSpanBelow, IsTitleThere}
 use Rattle.kc_build.specs.ReverseRows.{HaveSources}
 use Rattle.kc_build.specs.Stacks as stacks
 use Rattle.kc_build.specs.Stacks.{block_view}
-use Rattle.kc_build.specs.WalkSteps.{AddsDefinition, dep_in, made_definition, made_prompt}
-use Rattle.kc_build.proofs.GrownLemmas.{AreKept, Carries, Keeping, bounds_under, carries_grown, default_under, defaults_by_row, definition_carries, get_pushed, get_pushed_if, held_by, held_carries, Holding, holding, keeping, kept_by, kept_carries, map_alike, plain_carries, pushed, ranges_by_row, titles_stay}
+use Rattle.kc_build.specs.WalkSteps.{AddsDefinition, dependency_in, made_definition, made_prompt}
+use Rattle.kc_build.proofs.GrownLemmas.{AreKept, Carries, Keeping, guarded_bounds, carries_grown, guarded_default, defaults_by_row, definition_carries, get_pushed, get_pushed_if, held_by, held_carries, Holding, holding, keeping, kept_by, kept_carries, map_alike, plain_carries, pushed, ranges_by_row, titles_stay}
 
 -- Prompts.
-pub prompt_visible : (o : Option Prompt) (v : ℕ) (x : Option (Asked Form)) → option_map prompt_line o ≡ option_map (λ (p : Asked Form). (v, p.when)) x → (p : Prompt) → o ≡ Some p → p.visible.0 ≡ v
+pub prompt_visible : (o : Option Prompt) (v : ℕ) (x : Option (InputPrompt Form)) →
+    option_map prompt_line o ≡ option_map (λ (p : InputPrompt Form). (v, p.when)) x → (p : Prompt) → o ≡ Some p → p.visible.0 ≡ v
 prompt_visible None v x e p q = absurd cc
 prompt_visible (Some r) v None e p q = absurd cc
 prompt_visible (Some r) v (Some a) e p q =
@@ -48,18 +49,20 @@ prompt_visible (Some r) v (Some a) e p q =
     ap (λ (s : Prompt). s.visible.0) (sym same) ∙ ap (λ (l : ℕ × Option Form). l.0) line
 
 abbrev pub prompt_under : List Condition → Condition → ℕ × Option Form → Condition
-prompt_under conditions dep q = with_when (with_parts dep (condition_in conditions q.0).parts) q.1
+prompt_under conditions dependency q = with_when (with_parts dependency (condition_in conditions q.0).parts) q.1
 
-pub prompt_by_line : (conditions : List Condition) (dep : Condition) (o : Option Prompt) → option_map (prompt_view conditions dep) o ≡ option_map (prompt_under conditions dep) (option_map prompt_line o)
-prompt_by_line conditions dep None = refl
-prompt_by_line conditions dep (Some p) = refl
+pub prompt_by_line : (conditions : List Condition) (dependency : Condition) (o : Option Prompt) →
+    option_map (prompt_view conditions dependency) o ≡ option_map (prompt_under conditions dependency) (option_map prompt_line o)
+prompt_by_line conditions dependency None = refl
+prompt_by_line conditions dependency (Some p) = refl
 
-pub by_asked : (conditions : List Condition) (dep : Condition) (v : ℕ) (x : Option (Asked Form)) →
-    option_map (prompt_under conditions dep) (option_map (λ (p : Asked Form). (v, p.when)) x) ≡ option_map (λ (p : Asked Form). with_when (with_parts dep (condition_in conditions v).parts) p.when) x
-by_asked conditions dep v None = refl
-by_asked conditions dep v (Some p) = refl
+pub by_asked : (conditions : List Condition) (dependency : Condition) (v : ℕ) (x : Option (InputPrompt Form)) →
+    option_map (prompt_under conditions dependency) (option_map (λ (p : InputPrompt Form). (v, p.when)) x) ≡ option_map
+    (λ (p : InputPrompt Form). with_when (with_parts dependency (condition_in conditions v).parts) p.when) x
+by_asked conditions dependency v None = refl
+by_asked conditions dependency v (Some p) = refl
 
--- The part of a table that was added last.
+-- The slice of a table that was added last.
 abbrev spanned : {X : Type 0} → List X → Span → Bool → List X
 spanned table s b = if b then take (s.end - s.start) (drop s.start table) else []
 
@@ -67,7 +70,7 @@ longer_by : {X Y : Type 0} (v : X → Y) (old new : List X) (more : List Y) → 
 longer_by v old new more e =
     sym (length-map new v) ∙ ap length e ∙ length-append (map v old) more ∙ ap (λ (k : ℕ). k + length more) (length-map old v)
 
-part_last : {X Y : Type 0} (v : X → Y) (old new : List X) (more : List Y) (s : Span) → s.start ≡ length old → s.end ≡ length new → map v new ≡ map v old ++ more → map v (part_of new s) ≡ more
+part_last : {X Y : Type 0} (v : X → Y) (old new : List X) (more : List Y) (s : Span) → s.start ≡ length old → s.end ≡ length new → map v new ≡ map v old ++ more → map v (slice_of new s) ≡ more
 part_last v old new more s a b e =
     let n = longer_by v old new more e in
     let up : nat_le s.start s.end ≡ true = grind (arith, nat_tests) in
@@ -90,7 +93,8 @@ fewer {A} {B} f (x ∷ xs) = by (f x) (fewer f xs)
     by (Some y) h = omega arith
 
 -- What the walk keeps with one definition more.
-module _ (w : Walk) (new : List Condition) (g : Carries w.tables.contexts new) (d : Definition) (l : d.within.0 < length new) (q : (p : Prompt) → d.prompt ≡ Some p → p.visible.0 ≡ w.blocks.innermost.visible.0) where
+module _ (w : Walk) (new : List Condition) (g : Carries w.tables.contexts new) (d : Definition) (l : d.within.0 < length new)
+    (q : (p : Prompt) → d.prompt ≡ Some p → p.visible.0 ≡ w.blocks.innermost.visible.0) where
   kept : AreKept new w.tables.definitions.items w.tables.choices.items w.tables.titles.items
   kept = kept_carries w.tables.contexts new g w.tables.definitions.items w.tables.choices.items w.tables.titles.items w.titles (kept_by w.tables)
 
@@ -141,7 +145,7 @@ pub record IsMade (symbol : SymId) (own : List Numbered) (old new : Walk) (d : D
   pub pushed_is : new.tables.definitions.items ≡ old.tables.definitions.items ++ d ∷ []
   pub symbol_is : d.symbol ≡ symbol
   pub within : Stands new.tables.contexts d.within.0 (and_all (condition_in old.tables.contexts old.blocks.innermost.within.0) (filter_map depends_form own))
-  pub prompt : option_map prompt_line d.prompt ≡ option_map (λ (p : Asked Form). (old.blocks.innermost.visible.0, p.when)) (last_of (filter_map asked_of own))
+  pub prompt : option_map prompt_line d.prompt ≡ option_map (λ (p : InputPrompt Form). (old.blocks.innermost.visible.0, p.when)) (last_of (filter_map prompt_of own))
   pub defaults : map default_row new.tables.defaults.items ≡ map default_row old.tables.defaults.items ++ filter_map default_line own
   pub defaults_start : d.defaults.start ≡ length old.tables.defaults.items
   pub defaults_end : d.defaults.end ≡ length new.tables.defaults.items
@@ -161,50 +165,52 @@ entry_carries w new n h =
     carries_grown w.tables.contexts new (condition_in w.tables.contexts w.blocks.innermost.within.0).mode n w.blocks.innermost.within.0 (w.within 0 w.blocks.innermost refl) refl h
 
 module _ (symbol : SymId) (own : List Numbered) (old new : Walk) (d : Definition) (m : IsMade symbol own old new d) where
-  abbrev around : stacks.Asked
+  abbrev around : stacks.BlockFacts
   around = block_view old.tables.contexts old.blocks.innermost
 
   carried : Carries old.tables.contexts new.tables.contexts
   carried = entry_carries old new.tables.contexts (length own) m.contexts
 
-  abbrev dep : Condition
-  dep = dep_in around own
+  abbrev dependency : Condition
+  dependency = dependency_in around own
 
-  dep_is : condition_in new.tables.contexts d.within.0 ≡ dep
-  dep_is = m.within.is
+  dependency_is : condition_in new.tables.contexts d.within.0 ≡ dependency
+  dependency_is = m.within.is
 
   visible_is : condition_in new.tables.contexts old.blocks.innermost.visible.0 ≡ condition_in old.tables.contexts old.blocks.innermost.visible.0
   visible_is = carried.keeps old.blocks.innermost.visible.0 (old.visible 0 old.blocks.innermost refl)
 
-  prompt_is : option_map (prompt_view new.tables.contexts (condition_in new.tables.contexts d.within.0)) d.prompt ≡ option_map (made_prompt around own) (last_of (filter_map asked_of own))
+  prompt_is : option_map (prompt_view new.tables.contexts (condition_in new.tables.contexts d.within.0)) d.prompt ≡ option_map (made_prompt around own) (last_of (filter_map prompt_of own))
   prompt_is =
-      ap (λ (c : Condition). option_map (prompt_view new.tables.contexts c) d.prompt) dep_is
-      ∙ prompt_by_line new.tables.contexts dep d.prompt
-      ∙ ap (option_map (prompt_under new.tables.contexts dep)) m.prompt
-      ∙ by_asked new.tables.contexts dep old.blocks.innermost.visible.0 (last_of (filter_map asked_of own))
-      ∙ ap (λ (c : Condition). option_map (λ (p : Asked Form). with_when (with_parts dep c.parts) p.when) (last_of (filter_map asked_of own))) visible_is
+      ap (λ (c : Condition). option_map (prompt_view new.tables.contexts c) d.prompt) dependency_is
+      ∙ prompt_by_line new.tables.contexts dependency d.prompt
+      ∙ ap (option_map (prompt_under new.tables.contexts dependency)) m.prompt
+      ∙ by_asked new.tables.contexts dependency old.blocks.innermost.visible.0 (last_of (filter_map prompt_of own))
+      ∙ ap (λ (c : Condition). option_map (λ (p : InputPrompt Form). with_when (with_parts dependency c.parts) p.when) (last_of (filter_map prompt_of own))) visible_is
 
-  defaults_are : map (default_view new.tables.contexts (condition_in new.tables.contexts d.within.0)) (part_of new.tables.defaults.items d.defaults) ≡ map
-      (default_under dep) (filter_map default_line own)
+  defaults_are : map (default_view new.tables.contexts (condition_in new.tables.contexts d.within.0)) (slice_of new.tables.defaults.items d.defaults) ≡ map
+      (guarded_default dependency) (filter_map default_line own)
   defaults_are =
-      ap (λ (c : Condition). map (default_view new.tables.contexts c) (part_of new.tables.defaults.items d.defaults)) dep_is
-      ∙ defaults_by_row new.tables.contexts dep (part_of new.tables.defaults.items d.defaults)
-      ∙ ap (map (default_under dep)) (part_last default_row old.tables.defaults.items new.tables.defaults.items (filter_map default_line own) d.defaults m.defaults_start m.defaults_end m.defaults)
+      ap (λ (c : Condition). map (default_view new.tables.contexts c) (slice_of new.tables.defaults.items d.defaults)) dependency_is
+      ∙ defaults_by_row new.tables.contexts dependency (slice_of new.tables.defaults.items d.defaults)
+      ∙ ap (map (guarded_default dependency)) (part_last default_row old.tables.defaults.items new.tables.defaults.items (filter_map default_line own)
+      d.defaults m.defaults_start m.defaults_end m.defaults)
 
-  ranges_are : map (range_view new.tables.contexts (condition_in new.tables.contexts d.within.0)) (part_of new.tables.ranges.items d.ranges) ≡ map (bounds_under dep) (filter_map range_line own)
+  ranges_are : map (range_view new.tables.contexts (condition_in new.tables.contexts d.within.0)) (slice_of new.tables.ranges.items d.ranges) ≡ map
+      (guarded_bounds dependency) (filter_map range_line own)
   ranges_are =
-      ap (λ (c : Condition). map (range_view new.tables.contexts c) (part_of new.tables.ranges.items d.ranges)) dep_is
-      ∙ ranges_by_row new.tables.contexts dep (part_of new.tables.ranges.items d.ranges)
-      ∙ ap (map (bounds_under dep)) (part_last range_row old.tables.ranges.items new.tables.ranges.items (filter_map range_line own) d.ranges m.ranges_start m.ranges_end m.ranges)
+      ap (λ (c : Condition). map (range_view new.tables.contexts c) (slice_of new.tables.ranges.items d.ranges)) dependency_is
+      ∙ ranges_by_row new.tables.contexts dependency (slice_of new.tables.ranges.items d.ranges)
+      ∙ ap (map (guarded_bounds dependency)) (part_last range_row old.tables.ranges.items new.tables.ranges.items (filter_map range_line own) d.ranges m.ranges_start m.ranges_end m.ranges)
 
   facts_are : definition_facts new.tables d ≡ made_definition around symbol own
   facts_are =
       let a = m.symbol_is in
-      let b = dep_is in
+      let b = dependency_is in
       let c = prompt_is in
       let e = defaults_are in
       let f = ranges_are in
-      λ i. record { symbol = a i; dep = b i; prompt = c i; defaults = e i; ranges = f i }
+      λ i. record { symbol = a i; dependency = b i; prompt = c i; defaults = e i; ranges = f i }
 
   all_facts : AreRowsThere old.tables →
       map (definition_facts new.tables) new.tables.definitions.items ≡ map (definition_facts old.tables) old.tables.definitions.items ++ made_definition around symbol own ∷ []
@@ -212,7 +218,8 @@ module _ (symbol : SymId) (own : List Numbered) (old new : Walk) (d : Definition
       ap (map (definition_facts new.tables)) m.pushed_is
       ∙ map_push (definition_facts new.tables) old.tables.definitions.items d
       ∙ ap (λ l. l ++ definition_facts new.tables d ∷ [])
-      (map_alike (definition_facts new.tables) (definition_facts old.tables) old.tables.definitions.items (definition_carries old.tables new.tables carried (filter_map default_line own) (filter_map range_line own) rows m.defaults m.ranges))
+      (map_alike (definition_facts new.tables) (definition_facts old.tables) old.tables.definitions.items
+      (definition_carries old.tables new.tables carried (filter_map default_line own) (filter_map range_line own) rows m.defaults m.ranges))
       ∙ ap (λ x. map (definition_facts old.tables) old.tables.definitions.items ++ x ∷ []) facts_are
 
   more_defaults : length new.tables.defaults.items ≡ length old.tables.defaults.items + length (filter_map default_line own)
@@ -259,7 +266,7 @@ module _ (symbol : SymId) (own : List Numbered) (old new : Walk) (d : Definition
     titles = subst (λ (ts : Vec Title). All (IsTitleThere new.tables.contexts) ts.items) (sym m.titles)
         (titles_stay old.tables.contexts new.tables.contexts old.tables.titles.items carried.longer rows.titles);
     entries = subst (λ (ts : Vec Title). All (IsEntryThere (length ts.items) (length new.tables.entries.items)) new.tables.entries.items) (sym m.titles)
-        (subst (λ (es : Vec Entry). All (IsEntryThere (length old.tables.titles.items) (length es.items)) es.items) (sym m.entries) rows.entries);
+        (subst (λ (es : Vec ShownEntry). All (IsEntryThere (length old.tables.titles.items) (length es.items)) es.items) (sym m.entries) rows.entries);
   }
 
   pub adds_definition : AddsDefinition symbol own old new
@@ -278,19 +285,19 @@ module _ (symbol : SymId) (own : List Numbered) (old new : Walk) (d : Definition
   }
 
 -- by a copy of the innermost block
-pub round_grown : (w : Walk) (round : Block) (new : List Condition) (n : ℕ) → round ≡ w.blocks.innermost →
-    IsGrown w.tables.contexts new (condition_in w.tables.contexts round.within.0).mode n →
+pub outer_grown : (w : Walk) (outer : Block) (new : List Condition) (n : ℕ) → outer ≡ w.blocks.innermost →
+    IsGrown w.tables.contexts new (condition_in w.tables.contexts outer.within.0).mode n →
     IsGrown w.tables.contexts new (condition_in w.tables.contexts w.blocks.innermost.within.0).mode n
-round_grown w round new n e h = subst (λ (b : Block). IsGrown w.tables.contexts new (condition_in w.tables.contexts b.within.0).mode n) e h
+outer_grown w outer new n e h = subst (λ (b : Block). IsGrown w.tables.contexts new (condition_in w.tables.contexts b.within.0).mode n) e h
 
-pub round_stands : (w : Walk) (round : Block) (new : List Condition) (i : ℕ) (fs : List Form) → round ≡ w.blocks.innermost →
-    Stands new i (and_all (condition_in w.tables.contexts round.within.0) fs) → Stands new i (and_all (condition_in w.tables.contexts w.blocks.innermost.within.0) fs)
-round_stands w round new i fs e h = subst (λ (b : Block). Stands new i (and_all (condition_in w.tables.contexts b.within.0) fs)) e h
+pub outer_stands : (w : Walk) (outer : Block) (new : List Condition) (i : ℕ) (fs : List Form) → outer ≡ w.blocks.innermost →
+    Stands new i (and_all (condition_in w.tables.contexts outer.within.0) fs) → Stands new i (and_all (condition_in w.tables.contexts w.blocks.innermost.within.0) fs)
+outer_stands w outer new i fs e h = subst (λ (b : Block). Stands new i (and_all (condition_in w.tables.contexts b.within.0) fs)) e h
 
-pub round_prompt : (w : Walk) (round : Block) (o : Option Prompt) (x : Option (Asked Form)) → round ≡ w.blocks.innermost →
-    option_map prompt_line o ≡ option_map (λ (p : Asked Form). (round.visible.0, p.when)) x →
-    option_map prompt_line o ≡ option_map (λ (p : Asked Form). (w.blocks.innermost.visible.0, p.when)) x
-round_prompt w round o x e h = subst (λ (b : Block). option_map prompt_line o ≡ option_map (λ (p : Asked Form). (b.visible.0, p.when)) x) e h
+pub outer_prompt : (w : Walk) (outer : Block) (o : Option Prompt) (x : Option (InputPrompt Form)) → outer ≡ w.blocks.innermost →
+    option_map prompt_line o ≡ option_map (λ (p : InputPrompt Form). (outer.visible.0, p.when)) x →
+    option_map prompt_line o ≡ option_map (λ (p : InputPrompt Form). (w.blocks.innermost.visible.0, p.when)) x
+outer_prompt w outer o x e h = subst (λ (b : Block). option_map prompt_line o ≡ option_map (λ (p : InputPrompt Form). (b.visible.0, p.when)) x) e h
 
 -- A choice with one member more.
 set_found : {A : Type 0} (xs : List A) (k : ℕ) (x y : A) → k < length xs → slice_get xs k ≡ Some y → (j : ℕ) (z : A) → slice_get (slice_set xs k x) j ≡ Some z →

@@ -12,37 +12,37 @@ use Rattle.kc_read.specs.Blocks.{attributes, numbers}
 use Rattle.kc_read.specs.Statements.{ConfigLine, Numbered, RangeLine}
 use Rattle.kc_read.proofs.ListLemmas.{map-filter_map}
 use Rattle.kc_tree.specs.declared.layout.Tables.{Tables}
-use Rattle.kc_tree.specs.declared.parts.Choice.{Choice}
-use Rattle.kc_tree.specs.declared.parts.Definition.{Definition}
-use Rattle.kc_tree.specs.declared.parts.DefinitionId.{DefinitionId}
-use Rattle.kc_tree.specs.declared.parts.Entry.{Entry}
-use Rattle.kc_tree.specs.declared.parts.Entry.TheVariants as entry
-use Rattle.kc_tree.specs.declared.parts.Reverse.{Reverse}
-use Rattle.kc_tree.specs.declared.parts.Symbol.{Symbol}
-use Rattle.kc_tree.specs.declared.parts.SymbolDefault.{SymbolDefault}
-use Rattle.kc_tree.specs.declared.parts.SymbolRange.{SymbolRange}
+use Rattle.kc_tree.specs.declared.rows.Choice.{Choice}
+use Rattle.kc_tree.specs.declared.rows.Definition.{Definition}
+use Rattle.kc_tree.specs.declared.rows.DefinitionId.{DefinitionId}
+use Rattle.kc_tree.specs.declared.rows.ShownEntry.{ShownEntry}
+use Rattle.kc_tree.specs.declared.rows.ShownEntry.TheVariants as entry
+use Rattle.kc_tree.specs.declared.rows.Reverse.{Reverse}
+use Rattle.kc_tree.specs.declared.rows.Symbol.{Symbol}
+use Rattle.kc_tree.specs.declared.rows.SymbolDefault.{SymbolDefault}
+use Rattle.kc_tree.specs.declared.rows.SymbolRange.{SymbolRange}
 use Rattle.kc_tree.specs.Contexts.{condition_in}
 use Rattle.kc_tree.specs.Layouts.{DefinitionFacts, choice_default_view, choice_facts as choice_in, default_view, definition_facts, impliers_at, prompt_view, range_view, selectors_at, shown_of, with_when}
-use Rattle.kc_tree.specs.Parts.{part_of}
+use Rattle.kc_tree.specs.Spans.{slice_of}
 use Rattle.kc_tree.specs.TreeFacts.{ChoiceFacts, Condition, Guarded, SymbolShown}
 use Rattle.kc_build.specs.declared.entries.Walk.{Walk}
 use Rattle.kc_build.specs.declared.lines.ReverseKind.TheVariants as reverse_kind
 use Rattle.kc_build.specs.Before.{choices_before, definition_at, definitions_before, entries_before, impliers_before, selectors_before}
 use Rattle.kc_build.specs.EntryLines.{default_line, range_line}
 use Rattle.kc_build.specs.Facts as facts
-use Rattle.kc_build.specs.Facts.{Given, choice_round, defaults_at, dep, entry_at, given_of, imply_of, is_first_definition, named_under, naming_at, range_under, select_of, symbol_at, symbol_of, under}
-use Rattle.kc_build.specs.Known.{IsWhole, can_be_target, definition_number, first_by}
+use Rattle.kc_build.specs.Facts.{StatedDefault, enclosing_choice, defaults_at, dependency, stated_default, imply_of, is_first_definition, naming_at, guarded_range, select_of, symbol_at, symbol_of}
+use Rattle.kc_build.specs.SymbolRows.{IsWhole, can_be_target, definition_number, first_by}
 use Rattle.kc_build.specs.Passes.{change}
 use Rattle.kc_build.specs.ReverseRows.{AreAdded, HaveSources, KeepSources, added_lines, selects_of, implies_of}
-use Rattle.kc_build.specs.Said.{AreRowsThere, HasHeads, IsEntryThere, IsSmall, IsSpanBelow, IsTitleThere}
-use Rattle.kc_build.specs.Stacks.{AreOpen, Asked, asked_at, block_view}
+use Rattle.kc_build.specs.WalkResult.{AreRowsThere, HasHeads, IsEntryThere, IsSmall, IsSpanBelow, IsTitleThere}
+use Rattle.kc_build.specs.Stacks.{AreOpen, BlockFacts, block_facts_at, block_view}
 use Rattle.kc_build.specs.Walks.{IsHead, IsWalk, place_after}
 use Rattle.kc_build.specs.WalkSteps.{AddsDefinition, KeepsAllButChoices, made_definition, one_more, with_member}
 use Rattle.kc_build.proofs.BlockLemmas.{enclosing-no}
 use Rattle.kc_build.proofs.DefineLemmas.{entry_carries}
 use Rattle.kc_build.proofs.EnterLemmas.{definitions_passed, enclosing_passed, entries_passed, names_passed}
 use Rattle.kc_build.proofs.FirstNumberLemmas.{first_by_number}
-use Rattle.kc_build.proofs.GrownLemmas.{Carries, choice_carries, default_under, bounds_under, entries_stay, map_alike, open_carries, pushed, shown_carries, titles_stay}
+use Rattle.kc_build.proofs.GrownLemmas.{Carries, choice_carries, guarded_default, guarded_bounds, entries_stay, map_alike, open_carries, pushed, shown_carries, titles_stay}
 use Rattle.kc_build.proofs.LayoutLemmas.{length-given}
 use Rattle.kc_build.proofs.MembersLemmas.{members_added}
 use Rattle.kc_build.proofs.NamedLemmas.{added_named, impliers_by_rows, named_in, named_more, naming_is, rows_low, selectors_by_rows, target_known}
@@ -51,26 +51,26 @@ use Rattle.kc_build.proofs.WalkLemmas.{all_at, main_menu_stays}
 
 -- What the entry at a place says as a definition.
 module _ (ss : List Numbered) (i : ℕ) (s : SymId) where
-  range_same : (x : Numbered) → option_map (bounds_under (dep ss i)) (range_line x) ≡ range_under ss i x
+  range_same : (x : Numbered) → option_map (guarded_bounds (dependency ss i)) (range_line x) ≡ guarded_range ss i x
   range_same (RangeLine a b w) = refl
   range_same _ = refl
 
-  default_same : (x : Numbered) → option_map (λ (g : Given). (g.value, g.when)) (given_of x) ≡ default_line x
+  default_same : (x : Numbered) → option_map (λ (g : StatedDefault). (g.value, g.when)) (stated_default x) ≡ default_line x
   default_same x = refl
 
-  defaults_same : map (default_under (dep ss i)) (filter_map default_line (attributes ss i)) ≡ defaults_at ss i
+  defaults_same : map (guarded_default (dependency ss i)) (filter_map default_line (attributes ss i)) ≡ defaults_at ss i
   defaults_same =
-      ap (map (default_under (dep ss i))) (sym (map-filter_map (λ (g : Given). (g.value, g.when)) given_of default_line default_same (attributes ss i)))
-      ∙ twice (filter_map given_of (attributes ss i))
+      ap (map (guarded_default (dependency ss i))) (sym (map-filter_map (λ (g : StatedDefault). (g.value, g.when)) stated_default default_line default_same (attributes ss i)))
+      ∙ twice (filter_map stated_default (attributes ss i))
     where
-      twice : (gs : List Given) → map (default_under (dep ss i)) (map (λ (g : Given). (g.value, g.when)) gs) ≡ map (facts.default_under ss i) gs
+      twice : (gs : List StatedDefault) → map (guarded_default (dependency ss i)) (map (λ (g : StatedDefault). (g.value, g.when)) gs) ≡ map (facts.guarded_default ss i) gs
       twice [] = refl
-      twice (g ∷ gs) = ap (λ l. facts.default_under ss i g ∷ l) (twice gs)
+      twice (g ∷ gs) = ap (λ l. facts.guarded_default ss i g ∷ l) (twice gs)
 
-  ranges_same : map (bounds_under (dep ss i)) (filter_map range_line (attributes ss i)) ≡ filter_map (range_under ss i) (attributes ss i)
-  ranges_same = map-filter_map (bounds_under (dep ss i)) range_line (range_under ss i) range_same (attributes ss i)
+  ranges_same : map (guarded_bounds (dependency ss i)) (filter_map range_line (attributes ss i)) ≡ filter_map (guarded_range ss i) (attributes ss i)
+  ranges_same = map-filter_map (guarded_bounds (dependency ss i)) range_line (guarded_range ss i) range_same (attributes ss i)
 
-  pub made_is : made_definition (asked_at ss i) s (attributes ss i) ≡ definition_at ss i s
+  pub made_is : made_definition (block_facts_at ss i) s (attributes ss i) ≡ definition_at ss i s
   made_is =
       let a = defaults_same in
       let b = ranges_same in
@@ -80,10 +80,10 @@ module _ (ss : List Numbered) (i : ℕ) (s : SymId) where
 abbrev by_tables : List Condition → List SymbolDefault → List SymbolRange → Definition → DefinitionFacts
 by_tables conditions defaults ranges d = record {
   symbol = d.symbol;
-  dep = condition_in conditions d.within.0;
+  dependency = condition_in conditions d.within.0;
   prompt = option_map (prompt_view conditions (condition_in conditions d.within.0)) d.prompt;
-  defaults = map (default_view conditions (condition_in conditions d.within.0)) (part_of defaults d.defaults);
-  ranges = map (range_view conditions (condition_in conditions d.within.0)) (part_of ranges d.ranges);
+  defaults = map (default_view conditions (condition_in conditions d.within.0)) (slice_of defaults d.defaults);
+  ranges = map (range_view conditions (condition_in conditions d.within.0)) (slice_of ranges d.ranges);
 }
 
 same_definitions : (t u : Tables) → u.contexts ≡ t.contexts → u.definitions ≡ t.definitions → u.defaults ≡ t.defaults → u.ranges ≡ t.ranges →
@@ -116,10 +116,12 @@ pub record Defines (symbols : List Symbol) (symbol : SymId) (own : List Numbered
   pub entries : last.tables.entries.items ≡ pushed (first_by symbols symbol source.0) made.tables.entries.items (entry.Symbol symbol)
   pub blocks : last.blocks ≡ made.blocks
   pub main_menu : last.main_menu ≡ made.main_menu
-  pub member : map (choice_in new.tables) new.tables.choices.items ≡ with_member (condition_in last.tables.contexts last.blocks.innermost.within.0).mode symbol (map (choice_in last.tables) last.tables.choices.items)
+  pub member : map (choice_in new.tables) new.tables.choices.items ≡ with_member (condition_in last.tables.contexts last.blocks.innermost.within.0).mode symbol
+      (map (choice_in last.tables) last.tables.choices.items)
   pub others : KeepsAllButChoices last new
 
-module _ (ss : List Numbered) (symbols : List Symbol) (i : ℕ) (s : SymId) (own : List Numbered) (source : DefinitionId) (old made last new : Walk) (whole : IsWhole ss symbols) (h : IsHead ss i (ConfigLine s) own) (w : IsWalk ss symbols i old) (m : Defines symbols s own source old made last new) where
+module _ (ss : List Numbered) (symbols : List Symbol) (i : ℕ) (s : SymId) (own : List Numbered) (source : DefinitionId) (old made last new : Walk)
+    (whole : IsWhole ss symbols) (h : IsHead ss i (ConfigLine s) own) (w : IsWalk ss symbols i old) (m : Defines symbols s own source old made last new) where
   abbrev after : ℕ
   after = place_after i own
 
@@ -148,7 +150,7 @@ module _ (ss : List Numbered) (symbols : List Symbol) (i : ℕ) (s : SymId) (own
 
   made_here : made_definition (block_view old.tables.contexts old.blocks.innermost) s own ≡ here
   made_here =
-      ap (λ (a : Asked). made_definition a s own) w.blocks.innermost ∙ ap (made_definition (asked_at ss i) s) (sym h.attributes_are) ∙ made_is ss i s
+      ap (λ (a : BlockFacts). made_definition a s own) w.blocks.innermost ∙ ap (made_definition (block_facts_at ss i) s) (sym h.attributes_are) ∙ made_is ss i s
 
   definitions_made : map (definition_facts new.tables) new.tables.definitions.items ≡ before ++ here ∷ []
   definitions_made =
@@ -181,7 +183,7 @@ module _ (ss : List Numbered) (symbols : List Symbol) (i : ℕ) (s : SymId) (own
   can k l = target_known ss symbols (symbol k) whole.below whole.symbols_are l
 
   abbrev named : Option Form → Guarded SymId
-  named v = record { what = here.symbol; when = with_when here.dep v }
+  named v = record { what = here.symbol; when = with_when here.dependency v }
 
   join : (b : Bool) (xs ys : List (Guarded SymId)) → (if b then xs else []) ++ (if b then ys else []) ≡ (if b then xs ++ ys else [])
   join true xs ys = refl
@@ -239,13 +241,13 @@ module _ (ss : List Numbered) (symbols : List Symbol) (i : ℕ) (s : SymId) (own
       (added_named symbols source before here number_before k (facts.can_be_target ss (symbol k)) (can k l) reverse_kind.Imply own)
 
   -- Choices.
-  mode_is : (condition_in last.tables.contexts last.blocks.innermost.within.0).mode ≡ choice_round ss i
+  mode_is : (condition_in last.tables.contexts last.blocks.innermost.within.0).mode ≡ enclosing_choice ss i
   mode_is =
       let inner = old.blocks.innermost.within.0 in
       ap (λ bs. (condition_in last.tables.contexts bs.innermost.within.0).mode) (m.blocks ∙ m.added.blocks)
       ∙ ap (λ cs. (condition_in cs inner).mode) m.contexts
       ∙ ap (λ (c : Condition). c.mode) (m.added.contexts.keeps inner (old.within 0 old.blocks.innermost refl))
-      ∙ ap (λ (a : Asked). a.mode) w.blocks.innermost
+      ∙ ap (λ (a : BlockFacts). a.mode) w.blocks.innermost
 
   choices_last : map (choice_in last.tables) last.tables.choices.items ≡ choices_before ss symbols i
   choices_last =
@@ -257,17 +259,18 @@ module _ (ss : List Numbered) (symbols : List Symbol) (i : ℕ) (s : SymId) (own
 
   choices_now : map (choice_in new.tables) new.tables.choices.items ≡ choices_before ss symbols after
   choices_now =
-      m.member ∙ ap (λ o. with_member o s (map (choice_in last.tables) last.tables.choices.items)) mode_is ∙ ap (with_member (choice_round ss i) s) choices_last ∙ members_added ss symbols i s own h
+      m.member ∙ ap (λ o. with_member o s (map (choice_in last.tables) last.tables.choices.items)) mode_is
+      ∙ ap (with_member (enclosing_choice ss i) s) choices_last ∙ members_added ss symbols i s own h
 
   -- Entries.
-  abbrev more_entries : List Entry
+  abbrev more_entries : List ShownEntry
   more_entries = if is_first_definition ss i s then entry.Symbol s ∷ [] else []
 
   first_is : first_by symbols s source.0 ≡ is_first_definition ss i s
   first_is =
       ap (first_by symbols s) number_is ∙ first_by_number ss symbols s i whole.symbols_are below symbol_here within
 
-  pushed_as : (b : Bool) (xs : List Entry) (x : Entry) → pushed b xs x ≡ xs ++ (if b then x ∷ [] else [])
+  pushed_as : (b : Bool) (xs : List ShownEntry) (x : ShownEntry) → pushed b xs x ≡ xs ++ (if b then x ∷ [] else [])
   pushed_as true xs x = refl
   pushed_as false xs x = sym (append-nil xs)
 
@@ -290,7 +293,10 @@ module _ (ss : List Numbered) (symbols : List Symbol) (i : ℕ) (s : SymId) (own
       ap (map (shown_of new.tables)) entries_made
       ∙ map-append (shown_of new.tables) old.tables.entries.items more_entries
       ∙ ap (λ l. l ++ map (shown_of new.tables) more_entries)
-      (map_alike (shown_of new.tables) (shown_of old.tables) old.tables.entries.items (λ k e at. shown_carries old.tables new.tables carried [] (length old.tables.entries.items) e w.rows titles_same (all_at (IsEntryThere (length old.tables.titles.items) (length old.tables.entries.items)) old.tables.entries.items k e w.rows.entries at)) ∙ w.entries)
+      (map_alike (shown_of new.tables) (shown_of old.tables) old.tables.entries.items
+      (λ k e at. shown_carries old.tables new.tables carried [] (length old.tables.entries.items) e w.rows titles_same
+      (all_at (IsEntryThere (length old.tables.titles.items) (length old.tables.entries.items)) old.tables.entries.items k e w.rows.entries at))
+      ∙ w.entries)
       ∙ ap (λ l. entries_before ss i ++ l) (shown_more (is_first_definition ss i s))
       ∙ sym (entries_passed ss i (ConfigLine s) own h)
 
@@ -331,7 +337,11 @@ module _ (ss : List Numbered) (symbols : List Symbol) (i : ℕ) (s : SymId) (own
     titles = subst (All (IsTitleThere new.tables.contexts)) (sym (titles_same ∙ append-nil old.tables.titles.items))
         (titles_stay old.tables.contexts new.tables.contexts old.tables.titles.items carried.longer w.rows.titles);
     entries = subst (All (IsEntryThere (length new.tables.titles.items) (length new.tables.entries.items))) (sym entries_made)
-        (All-append (IsEntryThere (length new.tables.titles.items) (length new.tables.entries.items)) old.tables.entries.items more_entries (entries_stay (length old.tables.titles.items) (length old.tables.entries.items) (length new.tables.titles.items) (length new.tables.entries.items) old.tables.entries.items (let e = ap length (titles_same ∙ append-nil old.tables.titles.items) in omega arith) (let a = more_by in omega arith) w.rows.entries) (entries_there (is_first_definition ss i s) (length new.tables.titles.items) (length new.tables.entries.items)));
+        (All-append (IsEntryThere (length new.tables.titles.items) (length new.tables.entries.items)) old.tables.entries.items more_entries
+        (entries_stay (length old.tables.titles.items) (length old.tables.entries.items) (length new.tables.titles.items)
+        (length new.tables.entries.items) old.tables.entries.items (let e = ap length (titles_same ∙ append-nil old.tables.titles.items) in omega arith)
+        (let a = more_by in omega arith) w.rows.entries)
+        (entries_there (is_first_definition ss i s) (length new.tables.titles.items) (length new.tables.entries.items)));
   }
 
   choices_many : length new.tables.choices.items ≡ length old.tables.choices.items
@@ -354,9 +364,13 @@ module _ (ss : List Numbered) (symbols : List Symbol) (i : ℕ) (s : SymId) (own
   small_now = record {
     contexts = (let a = w.small.contexts in let b = m.added.contexts.few in let c = ap length contexts_are in omega arith);
     definitions = (let a = w.small.definitions in let b = more_definitions in omega arith);
-    defaults = (let a = w.small.defaults in let b = m.added.defaults in let c : length new.tables.defaults.items ≡ length made.tables.defaults.items = ap (λ v. length v.items) (m.others.defaults ∙ m.defaults) in omega arith);
-    ranges = (let a = w.small.ranges in let b = m.added.ranges in let c : length new.tables.ranges.items ≡ length made.tables.ranges.items = ap (λ v. length v.items) (m.others.ranges ∙ m.ranges) in omega arith);
-    lines = (let a = w.small.lines in let b = m.reverses.few in let c : length new.tables.reverses.lines.items ≡ length last.tables.reverses.lines.items = ap (λ r. length r.lines.items) lines_made in let d : length made.tables.reverses.lines.items ≡ length old.tables.reverses.lines.items = ap (λ r. length r.lines.items) m.added.reverses in omega arith);
+    defaults = (let a = w.small.defaults in let b = m.added.defaults in let c : length new.tables.defaults.items ≡ length made.tables.defaults.items =
+        ap (λ v. length v.items) (m.others.defaults ∙ m.defaults) in omega arith);
+    ranges = (let a = w.small.ranges in let b = m.added.ranges in let c : length new.tables.ranges.items ≡ length made.tables.ranges.items =
+        ap (λ v. length v.items) (m.others.ranges ∙ m.ranges) in omega arith);
+    lines = (let a = w.small.lines in let b = m.reverses.few in let c : length new.tables.reverses.lines.items ≡ length last.tables.reverses.lines.items =
+        ap (λ r. length r.lines.items) lines_made in let d : length made.tables.reverses.lines.items ≡ length old.tables.reverses.lines.items =
+        ap (λ r. length r.lines.items) m.added.reverses in omega arith);
     titles = (let a = w.small.titles in let e = ap length (titles_same ∙ append-nil old.tables.titles.items) in omega arith);
     entries = (let a = w.small.entries in let b = more_by in let c = few_more (is_first_definition ss i s) in omega arith);
     choices = (let a = w.small.choices in let b = choices_many in omega arith);

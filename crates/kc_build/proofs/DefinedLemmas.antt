@@ -7,7 +7,7 @@ use Rattle.std.proofs.lemmas.Bool.Decides.{nat_tests}
 use Rattle.std.proofs.lemmas.List.{map-append}
 use Rattle.std.proofs.lemmas.List.Elements.{All-nil, All-push, filter_map-append}
 use Rattle.kc_text.specs.Lexemes.{Lexeme}
-use Rattle.kc_text.specs.Lines.{Left, left}
+use Rattle.kc_text.specs.Lines.{UnreadLines, unread_lines}
 use Rattle.kc_expr.specs.Names.{all_mentioned, mention, same_name}
 use Rattle.kc_expr.specs.Grammar.{Disjunction, if_word}
 use Rattle.kc_expr.specs.declared.expression.Kind.{Kind}
@@ -17,15 +17,15 @@ use Rattle.kc_expr.proofs.NamesLemmas.{all_mentioned-append}
 use Rattle.kc_read.specs.declared.refusal.Code.TheVariants as code
 use Rattle.kc_read.specs.declared.statement.Keyword.{Keyword}
 use Rattle.kc_read.specs.declared.statement.Keyword.TheVariants as key
-use Rattle.kc_read.specs.Blocks.{definitions, name_at}
-use Rattle.kc_read.specs.Expansion.{Around, Log, Refused, Rest, Expands, bytes_cause, context_of, effect_cause, opening, nothing_read, refused, root_around, symbol_cause, statements, with_line, defined, lexemes, at_end, unclosed, too_long, no_tokens, blank, bad_line, bad_effect, statement, bad_source, refused_inside, source}
+use Rattle.kc_read.specs.Blocks.{definitions, defined_name}
+use Rattle.kc_read.specs.Expansion.{FileContext, Log, Refused, Rest, Expands, bytes_cause, context_of, limit_cause, with_file, nothing_read, refused, root_context, symbol_cause, statements, with_line, defined, lexemes, at_end, unclosed, too_long, no_tokens, blank, bad_line, over_limit, statement, bad_source, refused_inside, source}
 use Rattle.kc_read.specs.Files.{Files}
-use Rattle.kc_read.specs.Lines.{Context, After, Cause, ReadsTarget, ReadsType, begins_with, cause, left_out, syntax_cause, ReadsLine, ReadsPlaced, ReadsRest, attribute_words, block_words, left_out_words, type_words, ReadsWhole, ReadsCondition, ReadsValue, ReadsAsked, choice_line, finish, good_name, in_place, is_good_name, keyword_in, keyword_of, keyword_words, known, operand_of, option_line, place_cause, plain_text, target_of, text_of, word_of, expected}
+use Rattle.kc_read.specs.Lines.{LineContext, After, Cause, ReadsTarget, ReadsType, begins_with, cause, left_out, syntax_cause, ReadsLine, ReadsPlaced, ReadsRest, attribute_words, block_words, left_out_words, type_words, ReadsWhole, ReadsCondition, ReadsValue, ReadsPrompt, choice_line, finish, good_name, in_place, is_good_name, keyword_in, keyword_of, keyword_words, known, operand_of, option_line, placement_cause, plain_text, target_of, text_of, word_of, expected}
 use Rattle.kc_read.specs.Progress.{defined_after, naming_cause}
-use Rattle.kc_read.specs.Numbering.{place_numbered}
-use Rattle.kc_read.specs.Statements.{Asked, Written, Placed, numbered, ConfigLine, IfLine, EndIfLine, CommentLine, SourceLine, MenuLine, EndMenuLine, ChoiceLine, EndChoiceLine, MainMenuLine, TypeLine, PromptLine, DefaultLine, DefLine, DependsLine, VisibleLine, SelectLine, ImplyLine, RangeLine, HelpLine, ModulesLine, IgnoredLine}
+use Rattle.kc_read.specs.Numbering.{located_numbered}
+use Rattle.kc_read.specs.Statements.{InputPrompt, Named, Located, numbered, ConfigLine, IfLine, EndIfLine, CommentLine, SourceLine, MenuLine, EndMenuLine, ChoiceLine, EndChoiceLine, MainMenuLine, TypeLine, PromptLine, DefaultLine, DefLine, DependsLine, VisibleLine, SelectLine, ImplyLine, RangeLine, HelpLine, ModulesLine, IgnoredLine}
 use Rattle.kc_build.specs.Facts.{type_of}
-use Rattle.kc_build.specs.Known.{AreTyped}
+use Rattle.kc_build.specs.SymbolRows.{AreTyped}
 use Rattle.kc_build.proofs.ElementLemmas.{get_snoc}
 
 -- a statement defines no name that no symbol may have
@@ -37,13 +37,13 @@ Allows (Some n) = is_good_name n ≡ true
 abbrev pub IsGiven : Kind → Type 0
 IsGiven k = k ≡ kind.Undefined → ⊥
 
-abbrev pub IsAllowed : Written → Type 0
+abbrev pub IsAllowed : Named → Type 0
 IsAllowed (ConfigLine n) = is_good_name n ≡ true
 IsAllowed (TypeLine k p) = IsGiven k
 IsAllowed (DefLine k v w) = IsGiven k
 IsAllowed _ = Unit {0}
 
-allowed_name : (s : Written) → IsAllowed s → Allows (name_at s)
+allowed_name : (s : Named) → IsAllowed s → Allows (defined_name s)
 allowed_name (ConfigLine n) a = a
 allowed_name _ a = tt
 
@@ -83,73 +83,78 @@ allow_left_out = (tt, (tt, (tt, (tt, (tt, (tt, (tt, (tt, (tt, tt)))))))))
 
 key_of : (w : List ℕ) (k : Keyword) → keyword_of w ≡ Some k → AllowsKey k
 key_of w k e =
-    key_in keyword_words w k (allow_both attribute_words (type_words ++ block_words ++ left_out_words) allow_attributes (allow_both type_words (block_words ++ left_out_words) allow_types (allow_both block_words left_out_words allow_blocks allow_left_out))) e
+    key_in keyword_words w k (allow_both attribute_words (type_words ++ block_words ++ left_out_words) allow_attributes
+    (allow_both type_words (block_words ++ left_out_words) allow_types (allow_both block_words left_out_words allow_blocks allow_left_out))) e
 
 -- A line that is read gives such a statement.
-after : {A : Type 0} (o : Result A Cause) (Next : A → Result Written Cause → Type 0) (s : Written) → After o Next (Ok s) → ((a : A) → Next a (Ok s) → IsAllowed s) → IsAllowed s
+after : {A : Type 0} (o : Result A Cause) (Next : A → Result Named Cause → Type 0) (s : Named) → After o Next (Ok s) → ((a : A) → Next a (Ok s) → IsAllowed s) → IsAllowed s
 after (Ok a) Next s h k = k a h
-after (Err c) Next s h k = absurd (let e : ◌≡◌ {A = Result Written Cause} (Ok s) (Err c) = h in cc)
+after (Err c) Next s h k = absurd (let e : ◌≡◌ {A = Result Named Cause} (Ok s) (Err c) = h in cc)
 
-same_allowed : (s x : Written) → s ≡ x → IsAllowed x → IsAllowed s
+same_allowed : (s x : Named) → s ≡ x → IsAllowed x → IsAllowed s
 same_allowed s x e a = subst IsAllowed (sym e) a
 
-finished : (x s : Written) (ts : List Lexeme) → IsAllowed x → Ok s ≡ finish x ts → IsAllowed s
+finished : (x s : Named) (ts : List Lexeme) → IsAllowed x → Ok s ≡ finish x ts → IsAllowed s
 finished x s [] a e = same_allowed s x (let same : s ≡ x = cc in same) a
 finished x s (t ∷ ts) a e = absurd cc
 
-whole : (make : Disjunction → Written) (ts : List Lexeme) (s : Written) → ((d : Disjunction) → IsAllowed (make d)) → ReadsWhole make ts (Ok s) → IsAllowed s
+whole : (make : Disjunction → Named) (ts : List Lexeme) (s : Named) → ((d : Disjunction) → IsAllowed (make d)) → ReadsWhole make ts (Ok s) → IsAllowed s
 whole make ts s a h = same_allowed s (make h.0) h.2 (a h.0)
 
-condition : (make : Option Disjunction → Written) (ts : List Lexeme) (s : Written) → ((w : Option Disjunction) → IsAllowed (make w)) → ReadsCondition make ts (Ok s) → IsAllowed s
+condition : (make : Option Disjunction → Named) (ts : List Lexeme) (s : Named) → ((w : Option Disjunction) → IsAllowed (make w)) → ReadsCondition make ts (Ok s) → IsAllowed s
 condition make ts s a h = same_allowed s (make h.0) h.2 (a h.0)
 
-value : (make : Disjunction → Option Disjunction → Written) (ts : List Lexeme) (s : Written) → ((d : Disjunction) (w : Option Disjunction) → IsAllowed (make d w)) → ReadsValue make ts (Ok s) → IsAllowed s
+value : (make : Disjunction → Option Disjunction → Named) (ts : List Lexeme) (s : Named) → ((d : Disjunction) (w : Option Disjunction) → IsAllowed (make d w)) → ReadsValue make ts (Ok s) → IsAllowed s
 value make ts s a h = same_allowed s (make h.0.tree h.1) h.4 (a h.0.tree h.1)
 
-good : (w : List ℕ) (s : Written) → Ok s ≡ good_name w → IsAllowed s
+good : (w : List ℕ) (s : Named) → Ok s ≡ good_name w → IsAllowed s
 good w s h = by (is_good_name w) refl h
   where
-    by : (b : Bool) → is_good_name w ≡ b → ◌≡◌ {A = Result Written Cause} (Ok s) (if b then Ok (ConfigLine w) else Err (record { code = code.BadName; detail = w })) → IsAllowed s
+    by : (b : Bool) → is_good_name w ≡ b → ◌≡◌ {A = Result Named Cause} (Ok s) (if b then Ok (ConfigLine w) else Err (record { code = code.BadName; detail = w })) → IsAllowed s
     by true e f = same_allowed s (ConfigLine w) (let same : s ≡ ConfigLine w = cc in same) e
     by false e f = absurd cc
 
-choice : (ts : List Lexeme) (s : Written) → Ok s ≡ choice_line ts → IsAllowed s
+choice : (ts : List Lexeme) (s : Named) → Ok s ≡ choice_line ts → IsAllowed s
 choice [] s h = same_allowed s ChoiceLine (let same : s ≡ ChoiceLine = cc in same) tt
 choice (t ∷ ts) s h = absurd cc
 
-option : (ts : List Lexeme) (s : Written) → Ok s ≡ option_line ts → IsAllowed s
+option : (ts : List Lexeme) (s : Named) → Ok s ≡ option_line ts → IsAllowed s
 option ts s h = by (begins_with (codes "modules") ts) (begins_with (codes "allnoconfig_y") ts) (begins_with (codes "env") ts) (begins_with (codes "defconfig_list") ts) h
   where
-    by : (a b c d : Bool) → ◌≡◌ {A = Result Written Cause} (Ok s) (if a then finish ModulesLine (drop 1 ts) else if b then finish IgnoredLine (drop 1 ts) else if c then Err (left_out (codes "option env")) else if d then Err (left_out (codes "option defconfig_list")) else Err syntax_cause) → IsAllowed s
+    by : (a b c d : Bool) → ◌≡◌ {A = Result Named Cause} (Ok s)
+        (if a then finish ModulesLine (drop 1 ts) else if b then finish IgnoredLine (drop 1 ts) else if c then Err (left_out (codes "option env"))
+        else if d then Err (left_out (codes "option defconfig_list")) else Err syntax_cause) → IsAllowed s
     by true b c d e = finished ModulesLine s (drop 1 ts) tt e
     by false true c d e = finished IgnoredLine s (drop 1 ts) tt e
     by false false true d e = absurd cc
     by false false false true e = absurd cc
     by false false false false e = absurd cc
 
-text_line : (make : List ℕ → Written) (ts : List Lexeme) (s : Written) → ((t : List ℕ) → IsAllowed (make t)) → After (text_of ts) (λ t r. r ≡ finish (make t) (drop 1 ts)) (Ok s) → IsAllowed s
+text_line : (make : List ℕ → Named) (ts : List Lexeme) (s : Named) → ((t : List ℕ) → IsAllowed (make t)) → After (text_of ts) (λ t r. r ≡ finish (make t) (drop 1 ts)) (Ok s) → IsAllowed s
 text_line make ts s a h = after (text_of ts) (λ t r. r ≡ finish (make t) (drop 1 ts)) s h (λ t e. finished (make t) s (drop 1 ts) (a t) e)
 
-asked : (make : Asked Disjunction → Written) (ts : List Lexeme) (s : Written) → ((p : Asked Disjunction) → IsAllowed (make p)) → ReadsAsked make ts (Ok s) → IsAllowed s
+asked : (make : InputPrompt Disjunction → Named) (ts : List Lexeme) (s : Named) → ((p : InputPrompt Disjunction) → IsAllowed (make p)) → ReadsPrompt make ts (Ok s) → IsAllowed s
 asked make ts s a h =
-    after (text_of ts) (λ t. ReadsCondition (λ w. make (record { text = t; when = w })) (drop 1 ts)) s h (λ t e. condition (λ w. make (record { text = t; when = w })) (drop 1 ts) s (λ w. a (record { text = t; when = w })) e)
+    after (text_of ts) (λ t. ReadsCondition (λ w. make (record { text = t; when = w })) (drop 1 ts)) s h
+    (λ t e. condition (λ w. make (record { text = t; when = w })) (drop 1 ts) s (λ w. a (record { text = t; when = w })) e)
 
-typed : (k : Kind) (ts : List Lexeme) (s : Written) → IsGiven k → ReadsType k ts (Ok s) → IsAllowed s
-typed k ts s g (inl h) = same_allowed s (TypeLine k None) (let e : ◌≡◌ {A = Result Written Cause} (Ok s) (Ok (TypeLine k None)) = h.1 in let same : s ≡ TypeLine k None = cc in same) g
+typed : (k : Kind) (ts : List Lexeme) (s : Named) → IsGiven k → ReadsType k ts (Ok s) → IsAllowed s
+typed k ts s g (inl h) = same_allowed s (TypeLine k None) (let e : ◌≡◌ {A = Result Named Cause} (Ok s) (Ok (TypeLine k None)) = h.1 in let same : s ≡ TypeLine k None = cc in same) g
 typed k ts s g (inr h) = asked (λ p. TypeLine k (Some p)) ts s (λ p. g) h.1
 
-target : (make : List ℕ → Option Disjunction → Written) (ts : List Lexeme) (s : Written) → ((t : List ℕ) (w : Option Disjunction) → IsAllowed (make t w)) → ReadsTarget make ts (Ok s) → IsAllowed s
+target : (make : List ℕ → Option Disjunction → Named) (ts : List Lexeme) (s : Named) → ((t : List ℕ) (w : Option Disjunction) → IsAllowed (make t w)) → ReadsTarget make ts (Ok s) → IsAllowed s
 target make ts s a h =
     after (target_of ts) (λ t. ReadsCondition (make t) (drop 1 ts)) s h (λ t e. condition (make t) (drop 1 ts) s (a t) e)
 
-rest_of : (w : List ℕ) (k : Keyword) (ts : List Lexeme) (s : Written) → AllowsKey k → ReadsRest w k ts (Ok s) → IsAllowed s
+rest_of : (w : List ℕ) (k : Keyword) (ts : List Lexeme) (s : Named) → AllowsKey k → ReadsRest w k ts (Ok s) → IsAllowed s
 rest_of w key.Config ts s g h =
     after (word_of ts) (λ v. After (finish v (drop 1 ts)) (λ u r. r ≡ good_name u)) s h (λ v e. after (finish v (drop 1 ts)) (λ u r. r ≡ good_name u) s e (λ u f. good u s f))
 rest_of w key.If ts s g h = whole IfLine ts s (λ d. tt) h
 rest_of w key.EndIf ts s g h = finished EndIfLine s ts tt h
 rest_of w key.Comment ts s g h = text_line CommentLine ts s (λ t. tt) h
 rest_of w key.Source ts s g h =
-    after (text_of ts) (λ t. After (plain_text t) (λ u r. r ≡ finish (SourceLine u) (drop 1 ts))) s h (λ t e. after (plain_text t) (λ u r. r ≡ finish (SourceLine u) (drop 1 ts)) s e (λ u f. finished (SourceLine u) s (drop 1 ts) tt f))
+    after (text_of ts) (λ t. After (plain_text t) (λ u r. r ≡ finish (SourceLine u) (drop 1 ts))) s h
+    (λ t e. after (plain_text t) (λ u r. r ≡ finish (SourceLine u) (drop 1 ts)) s e (λ u f. finished (SourceLine u) s (drop 1 ts) tt f))
 rest_of w key.Menu ts s g h = text_line MenuLine ts s (λ t. tt) h
 rest_of w key.EndMenu ts s g h = finished EndMenuLine s ts tt h
 rest_of w key.Choice ts s g h = choice ts s h
@@ -166,24 +171,26 @@ rest_of w key.Visible ts s g h =
 rest_of w key.Select ts s g h = target SelectLine ts s (λ t v. tt) h
 rest_of w key.Imply ts s g h = target ImplyLine ts s (λ t v. tt) h
 rest_of w key.Range ts s g h =
-    after (operand_of ts) (λ a. After (operand_of (drop 1 ts)) (λ b. ReadsCondition (RangeLine a b) (drop 2 ts))) s h (λ a e. after (operand_of (drop 1 ts)) (λ b. ReadsCondition (RangeLine a b) (drop 2 ts)) s e (λ b f. condition (RangeLine a b) (drop 2 ts) s (λ v. tt) f))
+    after (operand_of ts) (λ a. After (operand_of (drop 1 ts)) (λ b. ReadsCondition (RangeLine a b) (drop 2 ts))) s h
+    (λ a e. after (operand_of (drop 1 ts)) (λ b. ReadsCondition (RangeLine a b) (drop 2 ts)) s e
+    (λ b f. condition (RangeLine a b) (drop 2 ts) s (λ v. tt) f))
 rest_of w key.Help ts s g h = finished HelpLine s ts tt h
 rest_of w key.Modules ts s g h = finished ModulesLine s ts tt h
 rest_of w key.«Option» ts s g h = option ts s h
-rest_of w key.LeftOut ts s g h = absurd (let e : ◌≡◌ {A = Result Written Cause} (Ok s) (Err (left_out w)) = h in cc)
+rest_of w key.LeftOut ts s g h = absurd (let e : ◌≡◌ {A = Result Named Cause} (Ok s) (Err (left_out w)) = h in cc)
 
-placed_of : (c : Context) (w : List ℕ) (ts : List Lexeme) (k : Keyword) (s : Written) → AllowsKey k → ReadsPlaced c w ts k (Ok s) → IsAllowed s
-placed_of c w ts k s g h = by (place_cause c w ts k) h
+placed_of : (c : LineContext) (w : List ℕ) (ts : List Lexeme) (k : Keyword) (s : Named) → AllowsKey k → ReadsPlaced c w ts k (Ok s) → IsAllowed s
+placed_of c w ts k s g h = by (placement_cause c w ts k) h
   where
     by : (o : Option Cause) → After (in_place k o) (λ j. ReadsRest w j ts) (Ok s) → IsAllowed s
     by None e = rest_of w k ts s g e
-    by (Some why) e = absurd (let f : ◌≡◌ {A = Result Written Cause} (Ok s) (Err why) = e in cc)
+    by (Some why) e = absurd (let f : ◌≡◌ {A = Result Named Cause} (Ok s) (Err why) = e in cc)
 
-worded_of : (c : Context) (w : List ℕ) (ts : List Lexeme) (o : Option Keyword) (s : Written) → keyword_of w ≡ o → After (known o) (ReadsPlaced c w ts) (Ok s) → IsAllowed s
-worded_of c w ts None s e h = absurd (let f : ◌≡◌ {A = Result Written Cause} (Ok s) (Err syntax_cause) = h in cc)
+worded_of : (c : LineContext) (w : List ℕ) (ts : List Lexeme) (o : Option Keyword) (s : Named) → keyword_of w ≡ o → After (known o) (ReadsPlaced c w ts) (Ok s) → IsAllowed s
+worded_of c w ts None s e h = absurd (let f : ◌≡◌ {A = Result Named Cause} (Ok s) (Err syntax_cause) = h in cc)
 worded_of c w ts (Some k) s e h = placed_of c w ts k s (key_of w k e) h
 
-line_of : (c : Context) (ts : List Lexeme) (s : Written) → ReadsLine c ts (Ok s) → IsAllowed s
+line_of : (c : LineContext) (ts : List Lexeme) (s : Named) → ReadsLine c ts (Ok s) → IsAllowed s
 line_of c ts s h =
     after (word_of ts) (λ w. After (known (keyword_of w)) (ReadsPlaced c w (drop 1 ts))) s h (λ w e. worded_of c w (drop 1 ts) (keyword_of w) s refl e)
 
@@ -210,7 +217,7 @@ named_after : (names : List (List ℕ)) (o : Option (List ℕ)) → AreNames nam
 named_after names None a g c = a
 named_after names (Some n) a g c = named_more names n a g c
 
-naming : (a : Around) (own : List (Placed Written)) (log : Log) (s : Written) → effect_cause a own log s ≡ None → naming_cause (defined (statements log.lines)) (name_at s) ≡ None
+naming : (a : FileContext) (own : List (Located Named)) (log : Log) (s : Named) → limit_cause a own log s ≡ None → naming_cause (defined (statements log.lines)) (defined_name s) ≡ None
 naming a own log (ConfigLine n) h = h
 naming a own log _ h = refl
 
@@ -218,40 +225,45 @@ defined_by : (ds : List (List ℕ)) (o : Option (List ℕ)) → defined_after ds
 defined_by ds None = refl
 defined_by ds (Some n) = refl
 
-defined-push : (ss : List Written) (s : Written) → defined_after (defined ss) (name_at s) ≡ defined (ss ++ s ∷ [])
+defined-push : (ss : List Named) (s : Named) → defined_after (defined ss) (defined_name s) ≡ defined (ss ++ s ∷ [])
 defined-push ss s =
-    defined_by (defined ss) (name_at s) ∙ sym (all_mentioned-append [] (definitions ss) (cons_option (name_at s) [])) ∙ ap (all_mentioned []) (sym (filter_map-append name_at ss (s ∷ [])))
+    defined_by (defined ss) (defined_name s) ∙ sym (all_mentioned-append [] (definitions ss) (cons_option (defined_name s) []))
+    ∙ ap (all_mentioned []) (sym (filter_map-append defined_name ss (s ∷ [])))
 
-abbrev Known : List (Placed Written) → Type 0
+abbrev Known : List (Located Named) → Type 0
 Known ls = AreNames (defined (statements ls))
 
-known_next : (a b : Around) (own ls : List (Placed Written)) (log : Log) (n : ℕ) (s : Written) → ls ≡ log.lines → IsAllowed s → effect_cause a own log s ≡ None → Known ls → Known (with_line ls b n s)
+known_next : (a b : FileContext) (own ls : List (Located Named)) (log : Log) (n : ℕ) (s : Named) → ls ≡ log.lines → IsAllowed s → limit_cause a own log s ≡ None → Known ls → Known (with_line ls b n s)
 known_next a b own ls log n s same g c k =
     let pushed : statements (with_line ls b n s) ≡ statements ls ++ s ∷ [] = map-append (λ l. l.statement) ls (record { file = b.file; line = n; statement = s } ∷ []) in
-    let names : defined (statements (with_line ls b n s)) ≡ defined_after (defined (statements ls)) (name_at s) = ap defined pushed ∙ sym (defined-push (statements ls) s) in
-    let caused : naming_cause (defined (statements ls)) (name_at s) ≡ None = ap (λ (l : List (Placed Written)). naming_cause (defined (statements l)) (name_at s)) same ∙ naming a own log s c in
-    subst AreNames (sym names) (named_after (defined (statements ls)) (name_at s) k (allowed_name s g) caused)
+    let names : defined (statements (with_line ls b n s)) ≡ defined_after (defined (statements ls)) (defined_name s) = ap defined pushed ∙ sym (defined-push (statements ls) s) in
+    let caused : naming_cause (defined (statements ls)) (defined_name s) ≡ None =
+    ap (λ (l : List (Located Named)). naming_cause (defined (statements l)) (defined_name s)) same ∙ naming a own log s c in
+    subst AreNames (sym names) (named_after (defined (statements ls)) (defined_name s) k (allowed_name s g) caused)
 
 module _ (files : Files) where
   abbrev Outcome : Result Log Refused → Type 0
   Outcome (Ok log) = Known log.lines
   Outcome (Err r) = Unit {0}
 
-  rest_known : {a : Around} {l : Left} {own : List (Placed Written)} {log : Log} {r : Result Log Refused} → Rest files a l own log r → Known log.lines → Outcome r
+  rest_known : {a : FileContext} {l : UnreadLines} {own : List (Located Named)} {log : Log} {r : Result Log Refused} → Rest files a l own log r → Known log.lines → Outcome r
   rest_known (at_end a l own log e o) k = k
   rest_known (unclosed a l own log line e u) k = tt
   rest_known (too_long a l own log t) k = tt
   rest_known (no_tokens a l m own log ts why n) k = tt
   rest_known (blank a l m own log r n rest) k = rest_known rest k
   rest_known (bad_line a l m own log c n) k = tt
-  rest_known (bad_effect a l m own log s c n e) k = tt
+  rest_known (over_limit a l m own log s c n e) k = tt
   rest_known (statement a l m own log s r n plain effect rest) k =
       rest_known rest (known_next a a own log.lines log l.number s refl (line_of (context_of a own log) (lexemes n.tokens) s n.reads) effect k)
   rest_known (bad_source a l m own log name c n e) k = tt
   rest_known (refused_inside a l m own log name bytes e n allowed found inner) k = tt
   rest_known (source a l m own log more name bytes r n allowed found inner rest) k = rest_known rest (rest_known inner k)
 
-  by_bytes : (root : List ℕ) (log : Log) (o : Option Cause) → MatchOption o ((bytes : List ℕ) × (files root ≡ Some bytes) × Rest files (root_around root) (left bytes 1) [] (opening nothing_read bytes) (Ok log)) (λ c. Ok log ≡ Err (refused c root 0)) → Known log.lines
+  by_bytes : (root : List ℕ) (log : Log) (o : Option Cause) →
+      MatchOption o ((bytes : List ℕ) × (files root ≡ Some bytes)
+      × Rest files (root_context root) (unread_lines bytes 1) [] (with_file nothing_read bytes) (Ok log)) (λ c. Ok log ≡ Err (refused c root 0)) →
+      Known log.lines
   by_bytes root log None h = rest_known h.2 (record { good = All-nil (λ m. is_good_name m ≡ true); few = omega arith })
   by_bytes root log (Some c) h = absurd (let e : ◌≡◌ {A = Result Log Refused} (Ok log) (Err (refused c root 0)) = h in cc)
 
@@ -259,49 +271,53 @@ module _ (files : Files) where
   expanded_known root log h = by_bytes root log (bytes_cause root 0 (files root)) h
 
   -- Each line is allowed.
-  abbrev AreAllowed : List (Placed Written) → Type 0
-  AreAllowed ls = (i : ℕ) (l : Placed Written) → slice_get ls i ≡ Some l → IsAllowed l.statement
+  abbrev AreAllowed : List (Located Named) → Type 0
+  AreAllowed ls = (i : ℕ) (l : Located Named) → slice_get ls i ≡ Some l → IsAllowed l.statement
 
-  allowed_next : (ls : List (Placed Written)) (l : Placed Written) → IsAllowed l.statement → AreAllowed ls → AreAllowed (ls ++ l ∷ [])
+  allowed_next : (ls : List (Located Named)) (l : Located Named) → IsAllowed l.statement → AreAllowed ls → AreAllowed (ls ++ l ∷ [])
   allowed_next ls l a k = λ i m e.
       elim (get_snoc ls l m i e) as (λ _. IsAllowed m.statement) [
         | inl h ↦ k i m h
-        | inr h ↦ subst (λ (x : Placed Written). IsAllowed x.statement) h.1 a
+        | inr h ↦ subst (λ (x : Located Named). IsAllowed x.statement) h.1 a
       ]
 
   abbrev AllowedOutcome : Result Log Refused → Type 0
   AllowedOutcome (Ok log) = AreAllowed log.lines
   AllowedOutcome (Err r) = Unit {0}
 
-  rest_allowed : {a : Around} {l : Left} {own : List (Placed Written)} {log : Log} {r : Result Log Refused} → Rest files a l own log r → AreAllowed log.lines → AllowedOutcome r
+  rest_allowed : {a : FileContext} {l : UnreadLines} {own : List (Located Named)} {log : Log} {r : Result Log Refused} → Rest files a l own log r → AreAllowed log.lines → AllowedOutcome r
   rest_allowed (at_end a l own log e o) k = k
   rest_allowed (unclosed a l own log line e u) k = tt
   rest_allowed (too_long a l own log t) k = tt
   rest_allowed (no_tokens a l m own log ts why n) k = tt
   rest_allowed (blank a l m own log r n rest) k = rest_allowed rest k
   rest_allowed (bad_line a l m own log c n) k = tt
-  rest_allowed (bad_effect a l m own log s c n e) k = tt
+  rest_allowed (over_limit a l m own log s c n e) k = tt
   rest_allowed (statement a l m own log s r n plain effect rest) k =
       rest_allowed rest (allowed_next log.lines (record { file = a.file; line = l.number; statement = s }) (line_of (context_of a own log) (lexemes n.tokens) s n.reads) k)
   rest_allowed (bad_source a l m own log name c n e) k = tt
   rest_allowed (refused_inside a l m own log name bytes e n allowed found inner) k = tt
   rest_allowed (source a l m own log more name bytes r n allowed found inner rest) k = rest_allowed rest (rest_allowed inner k)
 
-  allowed_by : (root : List ℕ) (log : Log) (o : Option Cause) → MatchOption o ((bytes : List ℕ) × (files root ≡ Some bytes) × Rest files (root_around root) (left bytes 1) [] (opening nothing_read bytes) (Ok log)) (λ c. Ok log ≡ Err (refused c root 0)) → AreAllowed log.lines
+  allowed_by : (root : List ℕ) (log : Log) (o : Option Cause) →
+      MatchOption o ((bytes : List ℕ) × (files root ≡ Some bytes)
+      × Rest files (root_context root) (unread_lines bytes 1) [] (with_file nothing_read bytes) (Ok log)) (λ c. Ok log ≡ Err (refused c root 0)) →
+      AreAllowed log.lines
   allowed_by root log None h = rest_allowed h.2 (λ i l e. absurd cc)
   allowed_by root log (Some c) h = absurd (let e : ◌≡◌ {A = Result Log Refused} (Ok log) (Err (refused c root 0)) = h in cc)
 
-  pub expanded_allowed : (root : List ℕ) (log : Log) → Expands files root (Ok log) → (i : ℕ) (l : Placed Written) → slice_get log.lines i ≡ Some l → IsAllowed l.statement
+  pub expanded_allowed : (root : List ℕ) (log : Log) → Expands files root (Ok log) → (i : ℕ) (l : Located Named) → slice_get log.lines i ≡ Some l → IsAllowed l.statement
   expanded_allowed root log h = allowed_by root log (bytes_cause root 0 (files root)) h
 
 -- The same of numbered lines.
 module _ (modules : Option SymId) (number : List ℕ → ℕ) where
-  untyped_not : (s : Written) → IsAllowed s → type_of (numbered modules number s) ≡ Some kind.Undefined → ⊥
+  untyped_not : (s : Named) → IsAllowed s → type_of (numbered modules number s) ≡ Some kind.Undefined → ⊥
   untyped_not (TypeLine k p) a e = a (let same : k ≡ kind.Undefined = cc in same)
   untyped_not (DefLine k v w) a e = a (let same : k ≡ kind.Undefined = cc in same)
   untyped_not _ a e = absurd cc
 
-  pub numbered_typed : (ls : List (Placed Written)) → ((i : ℕ) (l : Placed Written) → slice_get ls i ≡ Some l → IsAllowed l.statement) → AreTyped (map (λ l. l.statement) (map (place_numbered modules number) ls))
+  pub numbered_typed : (ls : List (Located Named)) → ((i : ℕ) (l : Located Named) → slice_get ls i ≡ Some l → IsAllowed l.statement) →
+      AreTyped (map (λ l. l.statement) (map (located_numbered modules number) ls))
   numbered_typed [] h i s e t = absurd cc
   numbered_typed (l ∷ ls) h zero s e t = untyped_not l.statement (h zero l refl) (ap type_of (let same : numbered modules number l.statement ≡ s = cc in same) ∙ t)
   numbered_typed (l ∷ ls) h (suc i) s e t = numbered_typed ls (λ j. h (suc j)) i s e t

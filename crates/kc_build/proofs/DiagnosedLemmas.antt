@@ -15,33 +15,33 @@ use Rattle.kc_read.specs.declared.refusal.Code.{Code}
 use Rattle.kc_read.specs.declared.refusal.Code.TheVariants as code
 use Rattle.kc_read.specs.Blocks.{attributes, is_attribute, numbers}
 use Rattle.kc_read.specs.Expansion.{Refused}
-use Rattle.kc_read.specs.Statements.{Numbered, Placed, ConfigLine, TypeLine, PromptLine}
-use Rattle.kc_read.specs.Steps.{refusal_view}
-use Rattle.kc_read.specs.Reads.{line_view, statement_view}
-use Rattle.kc_read.specs.declared.line.Line.{Line}
+use Rattle.kc_read.specs.Statements.{Numbered, Located, ConfigLine, TypeLine, PromptLine}
+use Rattle.kc_read.specs.RefusalView.{refusal_view}
+use Rattle.kc_read.specs.StatementViews.{line_view, statement_view}
+use Rattle.kc_read.specs.declared.statement.Line.{Line}
 use Rattle.kc_read.specs.declared.refusal.Refusal.{Refusal}
-use Rattle.kc_tree.specs.declared.parts.ChoiceId.{ChoiceId}
-use Rattle.kc_tree.specs.declared.parts.Symbol.{Symbol}
+use Rattle.kc_tree.specs.declared.rows.ChoiceId.{ChoiceId}
+use Rattle.kc_tree.specs.declared.rows.Symbol.{Symbol}
 use Rattle.kc_tree.specs.TreeFacts.{TreeFacts}
 use Rattle.kc_tree.specs.Words.{listed}
 use Rattle.kc_build.specs.declared.diagnostics.Diagnostics.{Diagnostics}
-use Rattle.kc_build.specs.declared.diagnostics.EntryPlace.{EntryPlace}
+use Rattle.kc_build.specs.declared.diagnostics.EntrySummary.{EntrySummary}
 use Rattle.kc_build.specs.declared.diagnostics.MenuEntry.{MenuEntry}
-use Rattle.kc_build.specs.Diagnosed.{Diagnosis, AreLookedAt, all_looked_at, diagnosis_view, looked_at}
-use Rattle.kc_build.specs.Facts.{asked_of, choice_of, choice_round, first_of, is_member, kind_of, symbol_of}
-use Rattle.kc_build.specs.Firsts.{is_first_at}
-use Rattle.kc_build.specs.Known.{AreBelow, AreSymbols, IsPlace, choice_by, kind_by, member_by, said_by_place}
-use Rattle.kc_build.specs.Late.{late}
-use Rattle.kc_build.specs.Passes.{said_by}
-use Rattle.kc_build.specs.Said.{IsDiagnosed}
+use Rattle.kc_build.specs.Diagnosed.{Diagnosis, AreLinesDiagnosed, lines_diagnosed, diagnosis_view, line_diagnosed}
+use Rattle.kc_build.specs.Facts.{prompt_of, choice_of, enclosing_choice, first_of, is_member, kind_of, symbol_of}
+use Rattle.kc_build.specs.FirstDefinitions.{is_first_definition_at}
+use Rattle.kc_build.specs.SymbolRows.{AreBelow, AreSymbols, IsEntrySummary, choice_by, kind_by, member_by, line_warnings_in}
+use Rattle.kc_build.specs.WholeListRefusals.{entry_refusal}
+use Rattle.kc_build.specs.Passes.{statements_of}
+use Rattle.kc_build.specs.WalkResult.{IsDiagnosed}
 use Rattle.kc_build.specs.Trees.{unless_refused}
-use Rattle.kc_build.specs.Warnings.{bad_defaults, bad_members, is_bad_default, is_bad_member, late_refusals, line_of, menu_entry_at, menu_entry_before, numbered_statements, prompt_before, refused_at, said, said_with, warned_at, warnings}
-use Rattle.kc_build.proofs.KnownLemmas.{choices_known, kinds_known}
+use Rattle.kc_build.specs.Warnings.{bad_defaults, bad_members, is_bad_default, is_bad_member, whole_list_refusals, line_of, menu_entry_at, menu_entry_before, numbered_statements, prompt_before, refused_at, line_warnings, line_warnings_by, warned_at, warnings}
+use Rattle.kc_build.proofs.KindLemmas.{choices_known, kinds_known}
 use Rattle.kc_build.proofs.ListLemmas.{there_in}
 use Rattle.kc_build.proofs.MemberLemmas.{below_or_past, member_is}
 use Rattle.kc_build.proofs.MenuEntryLemmas.{asks, entry_goes_on, entry_here, prompt_begins, prompt_goes_on}
 use Rattle.kc_build.proofs.PlaceLemmas.{filter-next, flat_map-next}
-use Rattle.kc_build.proofs.SaidLemmas.{statements-are}
+use Rattle.kc_build.proofs.StatementLemmas.{statements-are}
 
 -- The places below one, of those that are kept among all.
 below_it : (n i : ℕ) → n < i → nat_lt n i ≡ true
@@ -74,7 +74,8 @@ module _ (q : ℕ → Bool) where
   all_below zero i h = refl
   all_below (suc n) i h =
       let more : filter q (numbers (suc n)) ≡ filter q (numbers n) ++ one_if (q n) n = (rw add-one at (filter-next q n)) in
-      kept_next i n ∙ ap (λ l. l ++ filter (λ j. nat_lt j i) (one_if (q n) n)) (all_below n i (omega arith)) ∙ ap (λ l. filter q (numbers n) ++ l) (one_kept (λ j. nat_lt j i) (q n) n (below_it n i (omega arith))) ∙ sym more
+      kept_next i n ∙ ap (λ l. l ++ filter (λ j. nat_lt j i) (one_if (q n) n)) (all_below n i (omega arith))
+      ∙ ap (λ l. filter q (numbers n) ++ l) (one_kept (λ j. nat_lt j i) (q n) n (below_it n i (omega arith))) ∙ sym more
 
   kept-below : (n i : ℕ) → i ≤ n → kept_below i n ≡ filter q (numbers i)
   kept-below zero i h = let e : i ≡ 0 = omega arith in rw e refl
@@ -94,7 +95,8 @@ module _ {A : Type 0} (R : ℕ → List A) (q : ℕ → Bool) where
   found_one i true c a e f r = rw (e, f, r) refl
   found_one i false c a e f r = rw (e, f) refl
 
-  found_next : (i : ℕ) (b : Bool) (o : Option A) (a : A) → q i ≡ b → R i ≡ a ∷ [] → o ≡ first_of (flat_map R (filter q (numbers i))) → option_or o (if b then Some a else None) ≡ first_of (flat_map R (filter q (numbers (i + 1))))
+  found_next : (i : ℕ) (b : Bool) (o : Option A) (a : A) → q i ≡ b → R i ≡ a ∷ [] → o ≡ first_of (flat_map R (filter q (numbers i))) →
+      option_or o (if b then Some a else None) ≡ first_of (flat_map R (filter q (numbers (i + 1))))
   found_next i b o a e r h =
       ap (λ (p : Option A). option_or p (if b then Some a else None)) h
       ∙ ap (option_or (first_of (flat_map R (filter q (numbers i))))) (sym (found_one i b b a e refl r))
@@ -111,28 +113,29 @@ no_symbol : (s : Numbered) → is_attribute s ≡ true → symbol_of (Some s) �
 no_symbol (ConfigLine t) h = cc
 no_symbol _ h = refl
 
-no_prompt : (s : Numbered) → is_attribute s ≡ false → asked_of s ≡ None
+no_prompt : (s : Numbered) → is_attribute s ≡ false → prompt_of s ≡ None
 no_prompt (TypeLine k p) h = cc
 no_prompt (PromptLine p) h = cc
 no_prompt _ h = refl
 
 module _ (kinds : SymId → Kind) (choices : SymId → Option ℕ) (members : ℕ → SymId → Bool) (o : MenuEntry) where
-  first_unread : (s : Numbered) (before first other : Bool) → is_attribute s ≡ true → said_with kinds choices members o before first s ≡ said_with kinds choices members o before other s
+  first_unread : (s : Numbered) (before first other : Bool) → is_attribute s ≡ true → line_warnings_by kinds choices members o before first s ≡ line_warnings_by kinds choices members o before other s
   first_unread (ConfigLine t) before first other h = cc
   first_unread _ before first other h = refl
 
-  before_unread : (s : Numbered) (before other first : Bool) → is_attribute s ≡ false → said_with kinds choices members o before first s ≡ said_with kinds choices members o other first s
+  before_unread : (s : Numbered) (before other first : Bool) → is_attribute s ≡ false → line_warnings_by kinds choices members o before first s ≡ line_warnings_by kinds choices members o other first s
   before_unread (TypeLine k p) before other first h = cc
   before_unread (PromptLine p) before other first h = cc
   before_unread _ before other first h = refl
 
-  no_member : (s : Numbered) (first : Bool) (round : Option ℕ) → is_attribute s ≡ true → is_bad_member kinds choices first round s ≡ false
-  no_member (ConfigLine t) first round h = cc
-  no_member _ first round h = refl
+  no_member : (s : Numbered) (first : Bool) (within_choice : Option ℕ) → is_attribute s ≡ true → is_bad_member kinds choices first within_choice s ≡ false
+  no_member (ConfigLine t) first within_choice h = cc
+  no_member _ first within_choice h = refl
 
-module _ (names : List (List ℕ)) (ls : List (Placed Numbered)) where
+module _ (names : List (List ℕ)) (ls : List (Located Numbered)) where
   abbrev pub bad_member_at : ℕ → Bool
-  bad_member_at i = list_any (is_bad_member (kind_of (numbered_statements ls)) (choice_of (numbered_statements ls)) (is_first_at (numbered_statements ls) i) (choice_round (numbered_statements ls) i)) (listed (slice_get (numbered_statements ls) i))
+  bad_member_at i = list_any (is_bad_member (kind_of (numbered_statements ls)) (choice_of (numbered_statements ls))
+      (is_first_definition_at (numbered_statements ls) i) (enclosing_choice (numbered_statements ls) i)) (listed (slice_get (numbered_statements ls) i))
 
   abbrev pub bad_default_at : ℕ → Bool
   bad_default_at i = list_any (is_bad_default (kind_of (numbered_statements ls)) (menu_entry_at (numbered_statements ls) i)) (listed (slice_get (numbered_statements ls) i))
@@ -144,7 +147,7 @@ module _ (names : List (List ℕ)) (ls : List (Placed Numbered)) where
     warnings : bad_members (numbered_statements ls) ≡ [] → d.warnings ≡ flat_map (λ j. warned_at names ls j (slice_get ls j)) (numbers i)
 
   statement_count : length (numbered_statements ls) ≡ length ls
-  statement_count = length-map ls (λ (l : Placed Numbered). l.statement)
+  statement_count = length-map ls (λ (l : Located Numbered). l.statement)
 
   members_below : (i : ℕ) → i ≤ length ls → filter (λ j. nat_lt j i) (bad_members (numbered_statements ls)) ≡ filter bad_member_at (numbers i)
   members_below i h = kept-below bad_member_at (length (numbered_statements ls)) i (omega (arith, statement_count))
@@ -174,20 +177,23 @@ module _ (names : List (List ℕ)) (ls : List (Placed Numbered)) where
     warnings = λ none. ap (map (λ v. v.items)) w;
   })
 
-  statement_read : (i : ℕ) (l : Placed Numbered) → slice_get ls i ≡ Some l → slice_get (numbered_statements ls) i ≡ Some l.statement
-  statement_read i l h = slice_get-map (λ (x : Placed Numbered). x.statement) ls i ∙ ap (option_map (λ (x : Placed Numbered). x.statement)) h
+  statement_read : (i : ℕ) (l : Located Numbered) → slice_get ls i ≡ Some l → slice_get (numbered_statements ls) i ≡ Some l.statement
+  statement_read i l h = slice_get-map (λ (x : Located Numbered). x.statement) ls i ∙ ap (option_map (λ (x : Located Numbered). x.statement)) h
 
-  refused_one : (c : Code) (i : ℕ) (l : Placed Numbered) → slice_get ls i ≡ Some l → refused_at names ls c i ≡ late names c (menu_entry_at (numbered_statements ls) i) l ∷ []
-  refused_one c i l h = ap (λ (o : Option (Placed Numbered)). map (late names c (menu_entry_at (numbered_statements ls) i)) (listed o)) h
+  refused_one : (c : Code) (i : ℕ) (l : Located Numbered) → slice_get ls i ≡ Some l → refused_at names ls c i ≡ entry_refusal names c (menu_entry_at (numbered_statements ls) i) l ∷ []
+  refused_one c i l h = ap (λ (o : Option (Located Numbered)). map (entry_refusal names c (menu_entry_at (numbered_statements ls) i)) (listed o)) h
 
 -- What is known of a line is what the list says of it, as far as it counts there.
-record IsKnown (ls : List (Placed Numbered)) (symbols : List Symbol) (place : EntryPlace) (prompted : Bool) (i : ℕ) (l : Placed Numbered) : Type 0 where
+record IsKnown (ls : List (Located Numbered)) (symbols : List Symbol) (summary : EntrySummary) (prompted : Bool) (i : ℕ) (l : Located Numbered) : Type 0 where
   at : slice_get ls i ≡ Some l
-  entry : place.entry ≡ menu_entry_at (numbered_statements ls) i
-  member : is_bad_member (kind_by symbols) (choice_by symbols) place.first (option_map (λ (k : ChoiceId). k.0) place.round) l.statement ≡ is_bad_member (kind_of (numbered_statements ls)) (choice_of (numbered_statements ls)) (is_first_at (numbered_statements ls) i) (choice_round (numbered_statements ls) i) l.statement
-  says : bad_members (numbered_statements ls) ≡ [] → said_by_place symbols place prompted l.statement ≡ said (numbered_statements ls) i l.statement
+  entry : summary.entry ≡ menu_entry_at (numbered_statements ls) i
+  member : is_bad_member (kind_by symbols) (choice_by symbols) summary.first (option_map (λ (k : ChoiceId). k.0) summary.within_choice)
+      l.statement ≡ is_bad_member (kind_of (numbered_statements ls)) (choice_of (numbered_statements ls)) (is_first_definition_at (numbered_statements ls) i)
+      (enclosing_choice (numbered_statements ls) i) l.statement
+  says : bad_members (numbered_statements ls) ≡ [] → line_warnings_in symbols summary prompted l.statement ≡ line_warnings (numbered_statements ls) i l.statement
 
-module _ (names : List (List ℕ)) (ls : List (Placed Numbered)) (symbols : List Symbol) (below : AreBelow (length symbols) (numbered_statements ls)) (are : AreSymbols (numbered_statements ls) symbols) where
+module _ (names : List (List ℕ)) (ls : List (Located Numbered)) (symbols : List Symbol) (below : AreBelow (length symbols) (numbered_statements ls))
+    (are : AreSymbols (numbered_statements ls) symbols) where
   kinds : kind_by symbols ≡ kind_of (numbered_statements ls)
   kinds = kinds_known (numbered_statements ls) symbols below are
 
@@ -196,38 +202,52 @@ module _ (names : List (List ℕ)) (ls : List (Placed Numbered)) (symbols : List
 
   members : bad_members (numbered_statements ls) ≡ [] → member_by symbols ≡ is_member (numbered_statements ls)
   members none =
-      let at : (c : ℕ) (t : SymId) → member_by symbols c t ≡ is_member (numbered_statements ls) c t = λ c t. ap (λ (f : SymId → Option ℕ). list_any (λ d. d == c) (listed (f t))) choices ∙ sym (member_is (numbered_statements ls) t none c) in
+      let at : (c : ℕ) (t : SymId) → member_by symbols c t ≡ is_member (numbered_statements ls) c t =
+      λ c t. ap (λ (f : SymId → Option ℕ). list_any (λ d. d == c) (listed (f t))) choices ∙ sym (member_is (numbered_statements ls) t none c) in
       λ i c t. at c t i
 
   -- with the first walk's knowledge in place of that of the list
-  known_said : (o : MenuEntry) (before first : Bool) (s : Numbered) → bad_members (numbered_statements ls) ≡ [] → said_with (kind_by symbols) (choice_by symbols) (member_by symbols) o before first s ≡ said_with (kind_of (numbered_statements ls)) (choice_of (numbered_statements ls)) (is_member (numbered_statements ls)) o before first s
+  known_said : (o : MenuEntry) (before first : Bool) (s : Numbered) → bad_members (numbered_statements ls) ≡ [] →
+      line_warnings_by (kind_by symbols) (choice_by symbols) (member_by symbols) o before first s ≡ line_warnings_by (kind_of (numbered_statements ls))
+      (choice_of (numbered_statements ls)) (is_member (numbered_statements ls)) o before first s
   known_said o before first s none =
-      ap (λ (f : SymId → Kind). said_with f (choice_by symbols) (member_by symbols) o before first s) kinds
-      ∙ ap (λ (f : SymId → Option ℕ). said_with (kind_of (numbered_statements ls)) f (member_by symbols) o before first s) choices
-      ∙ ap (λ (f : ℕ → SymId → Bool). said_with (kind_of (numbered_statements ls)) (choice_of (numbered_statements ls)) f o before first s) (members none)
+      ap (λ (f : SymId → Kind). line_warnings_by f (choice_by symbols) (member_by symbols) o before first s) kinds
+      ∙ ap (λ (f : SymId → Option ℕ). line_warnings_by (kind_of (numbered_statements ls)) f (member_by symbols) o before first s) choices
+      ∙ ap (λ (f : ℕ → SymId → Bool). line_warnings_by (kind_of (numbered_statements ls)) (choice_of (numbered_statements ls)) f o before first s) (members none)
 
-  known_member : (first : Bool) (round : Option ℕ) (s : Numbered) → is_bad_member (kind_by symbols) (choice_by symbols) first round s ≡ is_bad_member (kind_of (numbered_statements ls)) (choice_of (numbered_statements ls)) first round s
-  known_member first round s =
-      ap (λ (f : SymId → Kind). is_bad_member f (choice_by symbols) first round s) kinds
-      ∙ ap (λ (f : SymId → Option ℕ). is_bad_member (kind_of (numbered_statements ls)) f first round s) choices
+  known_member : (first : Bool) (within_choice : Option ℕ) (s : Numbered) →
+      is_bad_member (kind_by symbols) (choice_by symbols) first within_choice s ≡ is_bad_member (kind_of (numbered_statements ls))
+      (choice_of (numbered_statements ls)) first within_choice s
+  known_member first within_choice s =
+      ap (λ (f : SymId → Kind). is_bad_member f (choice_by symbols) first within_choice s) kinds
+      ∙ ap (λ (f : SymId → Option ℕ). is_bad_member (kind_of (numbered_statements ls)) f first within_choice s) choices
 
   -- one line more
-  line_next : (place : EntryPlace) (prompted : Bool) (i : ℕ) (l : Placed Numbered) (d : Diagnosis) → IsKnown ls symbols place prompted i l → Found names ls i d → Found names ls (i + 1) (looked_at names symbols place prompted l d)
-  line_next place prompted i l d k f =
+  line_next : (summary : EntrySummary) (prompted : Bool) (i : ℕ) (l : Located Numbered) (d : Diagnosis) → IsKnown ls symbols summary prompted i l →
+      Found names ls i d → Found names ls (i + 1) (line_diagnosed names symbols summary prompted l d)
+  line_next summary prompted i l d k f =
       let ss = numbered_statements ls in
       let read = statement_read names ls i l k.at in
-      let member_b = is_bad_member (kind_by symbols) (choice_by symbols) place.first (option_map (λ (c : ChoiceId). c.0) place.round) l.statement in
-      let member_at : bad_member_at names ls i ≡ member_b = ap (λ (o : Option Numbered). list_any (is_bad_member (kind_of ss) (choice_of ss) (is_first_at ss i) (choice_round ss i)) (listed o)) read ∙ or_false _ ∙ sym k.member in
-      let default_b = is_bad_default (kind_by symbols) place.entry l.statement in
-      let default_at : bad_default_at names ls i ≡ default_b = ap (λ (o : Option Numbered). list_any (is_bad_default (kind_of ss) (menu_entry_at ss i)) (listed o)) read ∙ or_false _ ∙ sym (ap (λ (g : SymId → Kind). is_bad_default g place.entry l.statement) kinds ∙ ap (λ (o : MenuEntry). is_bad_default (kind_of ss) o l.statement) k.entry) in
-      let refused_by : (c : Code) → refused_at names ls c i ≡ late names c place.entry l ∷ [] = λ c. refused_one names ls c i l k.at ∙ ap (λ (o : MenuEntry). late names c o l ∷ []) (sym k.entry) in
+      let member_b = is_bad_member (kind_by symbols) (choice_by symbols) summary.first (option_map (λ (c : ChoiceId). c.0) summary.within_choice) l.statement in
+      let member_at : bad_member_at names ls i ≡ member_b =
+      ap (λ (o : Option Numbered). list_any (is_bad_member (kind_of ss) (choice_of ss) (is_first_definition_at ss i) (enclosing_choice ss i))
+      (listed o)) read ∙ or_false _ ∙ sym k.member in
+      let default_b = is_bad_default (kind_by symbols) summary.entry l.statement in
+      let default_at : bad_default_at names ls i ≡ default_b =
+      ap (λ (o : Option Numbered). list_any (is_bad_default (kind_of ss) (menu_entry_at ss i)) (listed o)) read ∙ or_false _
+      ∙ sym (ap (λ (g : SymId → Kind). is_bad_default g summary.entry l.statement) kinds
+      ∙ ap (λ (o : MenuEntry). is_bad_default (kind_of ss) o l.statement) k.entry) in
+      let refused_by : (c : Code) → refused_at names ls c i ≡ entry_refusal names c summary.entry l ∷ [] = λ c. refused_one names ls c i l k.at
+      ∙ ap (λ (o : MenuEntry). entry_refusal names c o l ∷ []) (sym k.entry) in
       let line = line_of names l.file l.line in
-      let warned : warned_at names ls i (slice_get ls i) ≡ map line (said ss i l.statement) = ap (warned_at names ls i) k.at in
+      let warned : warned_at names ls i (slice_get ls i) ≡ map line (line_warnings ss i l.statement) = ap (warned_at names ls i) k.at in
       record {
-        member = found_next (refused_at names ls code.ChoiceMember) (bad_member_at names ls) i member_b d.member (late names code.ChoiceMember place.entry l) member_at (refused_by code.ChoiceMember) f.member;
-        default = found_next (refused_at names ls code.BadDefault) (bad_default_at names ls) i default_b d.default (late names code.BadDefault place.entry l) default_at (refused_by code.BadDefault) f.default;
+        member = found_next (refused_at names ls code.ChoiceMember) (bad_member_at names ls) i member_b d.member
+            (entry_refusal names code.ChoiceMember summary.entry l) member_at (refused_by code.ChoiceMember) f.member;
+        default = found_next (refused_at names ls code.BadDefault) (bad_default_at names ls) i default_b d.default
+            (entry_refusal names code.BadDefault summary.entry l) default_at (refused_by code.BadDefault) f.default;
         warnings = λ none.
-            ap (λ w. w ++ map line (said_by_place symbols place prompted l.statement)) (f.warnings none)
+            ap (λ w. w ++ map line (line_warnings_in symbols summary prompted l.statement)) (f.warnings none)
             ∙ ap (λ w. flat_map (λ j. warned_at names ls j (slice_get ls j)) (numbers i) ++ w) (ap (map line) (k.says none) ∙ sym warned)
             ∙ sym (flat_map-next (λ j. warned_at names ls j (slice_get ls j)) i);
       }
@@ -250,24 +270,32 @@ get_dropped (y ∷ xs) (suc i) x ys h = get_dropped xs i x ys h
 drop_dropped : {A : Type 0} (xs : List A) (i : ℕ) (x : A) (ys : List A) → drop i xs ≡ x ∷ ys → drop (i + 1) xs ≡ ys
 drop_dropped xs i x ys h = sym (drop-drop 1 i xs) ∙ ap (drop 1) h
 
-module _ (names : List (List ℕ)) (ls : List (Placed Numbered)) (symbols : List Symbol) (below : AreBelow (length symbols) (numbered_statements ls)) (are : AreSymbols (numbered_statements ls) symbols) (place : EntryPlace) where
-  -- an attribute: whether a definition is the first, and what is round it, does not count
-  attribute_known : (prompted : Bool) (i : ℕ) (l : Placed Numbered) → slice_get ls i ≡ Some l → is_attribute l.statement ≡ true → menu_entry_before (numbered_statements ls) i ≡ place.entry → prompted ≡ prompt_before (numbered_statements ls) i → IsKnown ls symbols place prompted i l
+module _ (names : List (List ℕ)) (ls : List (Located Numbered)) (symbols : List Symbol) (below : AreBelow (length symbols) (numbered_statements ls))
+    (are : AreSymbols (numbered_statements ls) symbols) (summary : EntrySummary) where
+  -- an attribute: whether a definition is the first, and in which choice it stands, does not count
+  attribute_known : (prompted : Bool) (i : ℕ) (l : Located Numbered) → slice_get ls i ≡ Some l → is_attribute l.statement ≡ true →
+      menu_entry_before (numbered_statements ls) i ≡ summary.entry → prompted ≡ prompt_before (numbered_statements ls) i →
+      IsKnown ls symbols summary prompted i l
   attribute_known prompted i l at a e p =
       let ss = numbered_statements ls in
-      let entry : place.entry ≡ menu_entry_at ss i = sym e ∙ sym (entry_goes_on ss i l.statement (statement_read names ls i l at) a) ∙ entry_here ss i in
+      let entry : summary.entry ≡ menu_entry_at ss i = sym e ∙ sym (entry_goes_on ss i l.statement (statement_read names ls i l at) a) ∙ entry_here ss i in
       record {
         at = at;
         entry = entry;
-        member = no_member (kind_by symbols) (choice_by symbols) (member_by symbols) place.entry l.statement place.first (option_map (λ (k : ChoiceId). k.0) place.round) a ∙ sym (no_member (kind_of ss) (choice_of ss) (member_by symbols) place.entry l.statement (is_first_at ss i) (choice_round ss i) a);
+        member = no_member (kind_by symbols) (choice_by symbols) (member_by symbols) summary.entry l.statement summary.first
+            (option_map (λ (k : ChoiceId). k.0) summary.within_choice) a
+            ∙ sym (no_member (kind_of ss) (choice_of ss) (member_by symbols) summary.entry l.statement (is_first_definition_at ss i) (enclosing_choice ss i) a);
         says = λ none.
-            known_said names ls symbols below are place.entry prompted place.first l.statement none
-            ∙ first_unread (kind_of ss) (choice_of ss) (is_member ss) place.entry l.statement prompted place.first (is_first_at ss i) a
-            ∙ ap (λ (b : Bool). said_with (kind_of ss) (choice_of ss) (is_member ss) place.entry b (is_first_at ss i) l.statement) p
-            ∙ ap (λ (o : MenuEntry). said_with (kind_of ss) (choice_of ss) (is_member ss) o (prompt_before ss i) (is_first_at ss i) l.statement) entry;
+            known_said names ls symbols below are summary.entry prompted summary.first l.statement none
+            ∙ first_unread (kind_of ss) (choice_of ss) (is_member ss) summary.entry l.statement prompted summary.first (is_first_definition_at ss i) a
+            ∙ ap (λ (b : Bool). line_warnings_by (kind_of ss) (choice_of ss) (is_member ss) summary.entry b (is_first_definition_at ss i) l.statement) p
+            ∙ ap (λ (o : MenuEntry). line_warnings_by (kind_of ss) (choice_of ss) (is_member ss) o (prompt_before ss i) (is_first_definition_at ss i) l.statement) entry;
       }
 
-  attributes_next : (own : List (Placed Numbered)) (rest : List (Placed Numbered)) (i : ℕ) (prompted : Bool) (d : Diagnosis) → drop i ls ≡ own ++ rest → All (λ s. is_attribute s ≡ true) (map (λ l. l.statement) own) → menu_entry_before (numbered_statements ls) i ≡ place.entry → prompted ≡ prompt_before (numbered_statements ls) i → Found names ls i d → Found names ls (i + length own) (all_looked_at names symbols place prompted own d)
+  attributes_next : (own : List (Located Numbered)) (rest : List (Located Numbered)) (i : ℕ) (prompted : Bool) (d : Diagnosis) → drop i ls ≡ own ++ rest →
+      All (λ s. is_attribute s ≡ true) (map (λ l. l.statement) own) → menu_entry_before (numbered_statements ls) i ≡ summary.entry →
+      prompted ≡ prompt_before (numbered_statements ls) i → Found names ls i d →
+      Found names ls (i + length own) (lines_diagnosed names symbols summary prompted own d)
   attributes_next [] rest i prompted d h a e p f = let same : i + 0 ≡ i = omega arith in rw same f
   attributes_next (l ∷ own) rest i prompted d h a e p f =
       let ss = numbered_statements ls in
@@ -275,10 +303,12 @@ module _ (names : List (List ℕ)) (ls : List (Placed Numbered)) (symbols : List
       let read = statement_read names ls i l at in
       let one : is_attribute l.statement ≡ true = All-head (λ s. is_attribute s ≡ true) l.statement (map (λ l. l.statement) own) a in
       let more = All-tail (λ s. is_attribute s ≡ true) l.statement (map (λ l. l.statement) own) a in
-      let next = line_next names ls symbols below are place prompted i l d (attribute_known prompted i l at one e p) f in
-      let asked : (prompted || asks l.statement) ≡ prompt_before ss (i + 1) = ap (λ b. b || asks l.statement) p ∙ turned (prompt_before ss i) (asks l.statement) ∙ sym (prompt_goes_on ss i l.statement read one) in
+      let next = line_next names ls symbols below are summary prompted i l d (attribute_known prompted i l at one e p) f in
+      let asked : (prompted || asks l.statement) ≡ prompt_before ss (i + 1) = ap (λ b. b || asks l.statement) p ∙ turned (prompt_before ss i) (asks l.statement)
+      ∙ sym (prompt_goes_on ss i l.statement read one) in
       let there : i + length (l ∷ own) ≡ (i + 1) + length own = omega arith in
-      rw there (attributes_next own rest (i + 1) (prompted || asks l.statement) (looked_at names symbols place prompted l d) (drop_dropped ls i l (own ++ rest) h) more (entry_goes_on ss i l.statement read one ∙ e) asked next)
+      rw there (attributes_next own rest (i + 1) (prompted || asks l.statement) (line_diagnosed names symbols summary prompted l d)
+      (drop_dropped ls i l (own ++ rest) h) more (entry_goes_on ss i l.statement read one ∙ e) asked next)
     where
       turned : (a b : Bool) → (a || b) ≡ (b || a)
       turned true true = refl
@@ -287,23 +317,31 @@ module _ (names : List (List ℕ)) (ls : List (Placed Numbered)) (symbols : List
       turned false false = refl
 
   -- what begins an entry: that a prompt stands before it does not count
-  head_known : (i : ℕ) (l : Placed Numbered) → slice_get ls i ≡ Some l → IsPlace (numbered_statements ls) i place → ((is_attribute l.statement ≡ false) ⊎ (i ≡ 0)) → IsKnown ls symbols place false i l
+  head_known : (i : ℕ) (l : Located Numbered) → slice_get ls i ≡ Some l → IsEntrySummary (numbered_statements ls) i summary →
+      ((is_attribute l.statement ≡ false) ⊎ (i ≡ 0)) → IsKnown ls symbols summary false i l
   head_known i l at is begins = record {
     at = at;
     entry = is.entry;
     member =
-        known_member names ls symbols below are place.first (option_map (λ (k : ChoiceId). k.0) place.round) l.statement
-        ∙ ap (λ (b : Bool). is_bad_member (kind_of (numbered_statements ls)) (choice_of (numbered_statements ls)) b (option_map (λ (k : ChoiceId). k.0) place.round) l.statement) is.first
-        ∙ ap (λ (r : Option ℕ). is_bad_member (kind_of (numbered_statements ls)) (choice_of (numbered_statements ls)) (is_first_at (numbered_statements ls) i) r l.statement) is.round;
+        known_member names ls symbols below are summary.first (option_map (λ (k : ChoiceId). k.0) summary.within_choice) l.statement
+        ∙ ap (λ (b : Bool). is_bad_member (kind_of (numbered_statements ls)) (choice_of (numbered_statements ls)) b (option_map (λ (k : ChoiceId). k.0) summary.within_choice) l.statement) is.first
+        ∙ ap (λ (r : Option ℕ). is_bad_member (kind_of (numbered_statements ls)) (choice_of (numbered_statements ls))
+        (is_first_definition_at (numbered_statements ls) i) r l.statement) is.within_choice;
     says = λ none.
-        known_said names ls symbols below are place.entry false place.first l.statement none
-        ∙ ap (λ (b : Bool). said_with (kind_of (numbered_statements ls)) (choice_of (numbered_statements ls)) (is_member (numbered_statements ls)) place.entry false b l.statement) is.first
-        ∙ ap (λ (o : MenuEntry). said_with (kind_of (numbered_statements ls)) (choice_of (numbered_statements ls)) (is_member (numbered_statements ls)) o false (is_first_at (numbered_statements ls) i) l.statement) is.entry
+        known_said names ls symbols below are summary.entry false summary.first l.statement none
+        ∙ ap (λ (b : Bool). line_warnings_by (kind_of (numbered_statements ls)) (choice_of (numbered_statements ls)) (is_member (numbered_statements ls)) summary.entry false b l.statement) is.first
+        ∙ ap (λ (o : MenuEntry). line_warnings_by (kind_of (numbered_statements ls)) (choice_of (numbered_statements ls)) (is_member (numbered_statements ls))
+        o false (is_first_definition_at (numbered_statements ls) i) l.statement) is.entry
         ∙ unread begins;
   }
     where
-      unread : ((is_attribute l.statement ≡ false) ⊎ (i ≡ 0)) → said_with (kind_of (numbered_statements ls)) (choice_of (numbered_statements ls)) (is_member (numbered_statements ls)) (menu_entry_at (numbered_statements ls) i) false (is_first_at (numbered_statements ls) i) l.statement ≡ said (numbered_statements ls) i l.statement
-      unread (inl a) = before_unread (kind_of (numbered_statements ls)) (choice_of (numbered_statements ls)) (is_member (numbered_statements ls)) (menu_entry_at (numbered_statements ls) i) l.statement false (prompt_before (numbered_statements ls) i) (is_first_at (numbered_statements ls) i) a
+      unread : ((is_attribute l.statement ≡ false) ⊎ (i ≡ 0)) →
+          line_warnings_by (kind_of (numbered_statements ls)) (choice_of (numbered_statements ls)) (is_member (numbered_statements ls))
+          (menu_entry_at (numbered_statements ls) i) false (is_first_definition_at (numbered_statements ls) i) l.statement ≡ line_warnings
+          (numbered_statements ls) i l.statement
+      unread (inl a) = before_unread (kind_of (numbered_statements ls)) (choice_of (numbered_statements ls)) (is_member (numbered_statements ls))
+          (menu_entry_at (numbered_statements ls) i) l.statement false (prompt_before (numbered_statements ls) i)
+          (is_first_definition_at (numbered_statements ls) i) a
       unread (inr z) = rw z refl
 
   -- behind what begins an entry a prompt stands, if it is its own
@@ -317,38 +355,55 @@ module _ (names : List (List ℕ)) (ls : List (Placed Numbered)) (symbols : List
           let none : prompt_before (numbered_statements ls) i ≡ false = rw z refl in
           sym (prompt_goes_on (numbered_statements ls) i s at a ∙ ap (λ b. asks s || b) none ∙ or_false (asks s))
 
-  entry_next : (i : ℕ) (head : Placed Numbered) (own rest : List (Placed Numbered)) (d : Diagnosis) → slice_get ls i ≡ Some head → drop (i + 1) ls ≡ own ++ rest → attributes (numbered_statements ls) i ≡ map (λ l. l.statement) own → ((is_attribute head.statement ≡ false) ⊎ (i ≡ 0)) → IsPlace (numbered_statements ls) i place → Found names ls i d → Found names ls (i + 1 + length own) (all_looked_at names symbols place false (head ∷ own) d)
+  entry_next : (i : ℕ) (head : Located Numbered) (own rest : List (Located Numbered)) (d : Diagnosis) → slice_get ls i ≡ Some head →
+      drop (i + 1) ls ≡ own ++ rest → attributes (numbered_statements ls) i ≡ map (λ l. l.statement) own → ((is_attribute head.statement ≡ false) ⊎ (i ≡ 0)) →
+      IsEntrySummary (numbered_statements ls) i summary → Found names ls i d →
+      Found names ls (i + 1 + length own) (lines_diagnosed names symbols summary false (head ∷ own) d)
   entry_next i head own rest d at tail are_own begins is f =
       let ss = numbered_statements ls in
       let read = statement_read names ls i head at in
-      let passed : All (λ s. is_attribute s ≡ true) (map (λ l. l.statement) own) = All-same (λ s. is_attribute s ≡ true) (map (λ l. l.statement) own) (attributes ss i) (sym are_own) (taken_pass is_attribute (drop (suc i) ss)) in
-      attributes_next own rest (i + 1) (asks head.statement) (looked_at names symbols place false head d) tail passed (entry_here ss i ∙ sym is.entry) (head_asked i head.statement read begins) (line_next names ls symbols below are place false i head d (head_known i head at is begins) f)
+      let passed : All (λ s. is_attribute s ≡ true) (map (λ l. l.statement) own) =
+      All-same (λ s. is_attribute s ≡ true) (map (λ l. l.statement) own) (attributes ss i) (sym are_own) (taken_pass is_attribute (drop (suc i) ss)) in
+      attributes_next own rest (i + 1) (asks head.statement) (line_diagnosed names symbols summary false head d) tail passed (entry_here ss i ∙ sym is.entry)
+      (head_asked i head.statement read begins) (line_next names ls symbols below are summary false i head d (head_known i head at is begins) f)
 
   -- one entry more
-  pub entry_diagnosed : (i k : ℕ) (head : Placed Numbered) (own : List (Placed Numbered)) (old new : Diagnostics) → slice_get ls i ≡ Some head → own ≡ take k (drop (i + 1) ls) → attributes (numbered_statements ls) i ≡ map (λ l. l.statement) own → ((is_attribute head.statement ≡ false) ⊎ (i ≡ 0)) → IsPlace (numbered_statements ls) i place → IsDiagnosed names ls i old → AreLookedAt names symbols place head own old new → IsDiagnosed names ls (i + 1 + length own) new
+  pub entry_diagnosed : (i k : ℕ) (head : Located Numbered) (own : List (Located Numbered)) (old new : Diagnostics) → slice_get ls i ≡ Some head →
+      own ≡ take k (drop (i + 1) ls) → attributes (numbered_statements ls) i ≡ map (λ l. l.statement) own → ((is_attribute head.statement ≡ false) ⊎ (i ≡ 0)) →
+      IsEntrySummary (numbered_statements ls) i summary → IsDiagnosed names ls i old → AreLinesDiagnosed names symbols summary head own old new →
+      IsDiagnosed names ls (i + 1 + length own) new
   entry_diagnosed i k head own old new at from are_own begins is old_is looked =
       let within = slice_get_within ls i head at in
       let tail : drop (i + 1) ls ≡ own ++ drop k (drop (i + 1) ls) = sym (take-append-drop k (drop (i + 1) ls)) ∙ ap (λ l. l ++ drop k (drop (i + 1) ls)) (sym from) in
       let fits : i + 1 + length own ≤ length ls = omega (arith, ap length tail, length-append own (drop k (drop (i + 1) ls)), length-drop (i + 1) ls) in
-      diagnosed names ls (i + 1 + length own) new fits (rw looked (entry_next i head own (drop k (drop (i + 1) ls)) (diagnosis_view old) at tail are_own begins is (found names ls i old (omega arith) old_is)))
+      diagnosed names ls (i + 1 + length own) new fits (rw looked
+      (entry_next i head own (drop k (drop (i + 1) ls)) (diagnosis_view old) at tail are_own begins is (found names ls i old (omega arith) old_is)))
 
 -- The same of lines as the code has them.
 line_read : (lines : List Line) (i : ℕ) (x : Line) → i < length lines → x ≡ get_or lines i x → slice_get (map line_view lines) i ≡ Some (line_view x)
 line_read lines i x h e = slice_get-map line_view lines i ∙ ap (option_map line_view) (slice_get-get_or lines i x h ∙ ap Some (sym e))
 
 -- one entry more, of a walk over lines
-pub entry_of_lines : (names : List (List ℕ)) (lines : List Line) (symbols : List Symbol) (place : EntryPlace) (i k : ℕ) (head : Line) (own : List Line) (old new : Diagnostics) → AreBelow (length symbols) (said_by lines) → AreSymbols (said_by lines) symbols → i < length lines → head ≡ get_or lines i head → own ≡ take k (drop (i + 1) lines) → attributes (said_by lines) i ≡ said_by own → ((is_attribute (statement_view head.statement) ≡ false) ⊎ (i ≡ 0)) → IsPlace (said_by lines) i place → IsDiagnosed names (map line_view lines) i old → AreLookedAt names symbols place (line_view head) (map line_view own) old new → IsDiagnosed names (map line_view lines) (i + 1 + length (said_by own)) new
-entry_of_lines names lines symbols place i k head own old new below are h at from are_own begins is old_is looked =
+pub entry_of_lines : (names : List (List ℕ)) (lines : List Line) (symbols : List Symbol) (summary : EntrySummary) (i k : ℕ) (head : Line) (own : List Line)
+    (old new : Diagnostics) → AreBelow (length symbols) (statements_of lines) → AreSymbols (statements_of lines) symbols → i < length lines →
+    head ≡ get_or lines i head → own ≡ take k (drop (i + 1) lines) → attributes (statements_of lines) i ≡ statements_of own →
+    ((is_attribute (statement_view head.statement) ≡ false) ⊎ (i ≡ 0)) → IsEntrySummary (statements_of lines) i summary →
+    IsDiagnosed names (map line_view lines) i old → AreLinesDiagnosed names symbols summary (line_view head) (map line_view own) old new →
+    IsDiagnosed names (map line_view lines) (i + 1 + length (statements_of own)) new
+entry_of_lines names lines symbols summary i k head own old new below are h at from are_own begins is old_is looked =
     let ls = map line_view lines in
-    let same : said_by lines ≡ numbered_statements ls = sym (statements-are lines) in
+    let same : statements_of lines ≡ numbered_statements ls = sym (statements-are lines) in
     let taken : map line_view own ≡ take k (drop (i + 1) ls) = ap (map line_view) from ∙ sym (take-map line_view k (drop (i + 1) lines)) ∙ ap (take k) (sym (drop-map line_view (i + 1) lines)) in
-    let attributes_are : attributes (numbered_statements ls) i ≡ numbered_statements (map line_view own) = ap (λ (ss : List Numbered). attributes ss i) (sym same) ∙ are_own ∙ sym (statements-are own) in
-    let passed = entry_diagnosed names ls symbols (rw same at below) (rw same at are) place i k (line_view head) (map line_view own) old new (line_read lines i head h at) taken attributes_are begins (rw same at is) old_is looked in
-    let count : length (map line_view own) ≡ length (said_by own) = length-map own line_view ∙ sym (length-map own (λ (l : Line). statement_view l.statement)) in
+    let attributes_are : attributes (numbered_statements ls) i ≡ numbered_statements (map line_view own) =
+    ap (λ (ss : List Numbered). attributes ss i) (sym same) ∙ are_own ∙ sym (statements-are own) in
+    let passed = entry_diagnosed names ls symbols (rw same at below) (rw same at are) summary i k (line_view head) (map line_view own) old new
+    (line_read lines i head h at) taken attributes_are begins (rw same at is) old_is looked in
+    let count : length (map line_view own) ≡ length (statements_of own) = length-map own line_view ∙ sym (length-map own (λ (l : Line). statement_view l.statement)) in
     rw count at passed
 
 -- The line behind an entry begins the next one.
-after_taken : {A : Type 0} (p : A → Bool) (b : Bool) (x y : A) (xs : List A) → p y ≡ b → slice_get (y ∷ xs) (length (take_while p (y ∷ xs))) ≡ Some x → (slice_get xs (length (take_while p xs)) ≡ Some x → p x ≡ false) → p x ≡ false
+after_taken : {A : Type 0} (p : A → Bool) (b : Bool) (x y : A) (xs : List A) → p y ≡ b → slice_get (y ∷ xs) (length (take_while p (y ∷ xs))) ≡ Some x →
+    (slice_get xs (length (take_while p xs)) ≡ Some x → p x ≡ false) → p x ≡ false
 after_taken p true x y xs e h ih = ih (rw (take_while-cons p y xs, e) at h)
 after_taken p false x y xs e h ih =
     let same : y ≡ x = (let q : Some y ≡ Some x = (rw (take_while-cons p y xs, e) at h) in cc) in
@@ -382,7 +437,8 @@ none_first [] h = refl
 none_first (x ∷ xs) h = cc
 
 module _ {A : Type 0} (R : ℕ → List A) (q : ℕ → Bool) where
-  none_more : (n : ℕ) (b : Bool) → q n ≡ b → (R n ≡ [] → ⊥) → flat_map R (filter q (numbers (suc n))) ≡ [] → (flat_map R (filter q (numbers n)) ≡ [] → filter q (numbers n) ≡ []) → filter q (numbers (suc n)) ≡ []
+  none_more : (n : ℕ) (b : Bool) → q n ≡ b → (R n ≡ [] → ⊥) → flat_map R (filter q (numbers (suc n))) ≡ [] →
+      (flat_map R (filter q (numbers n)) ≡ [] → filter q (numbers n) ≡ []) → filter q (numbers (suc n)) ≡ []
   none_more n b e some h ih =
       let more : filter q (numbers (suc n)) ≡ filter q (numbers n) ++ one_if b n = (rw add-one at (filter-next q n)) ∙ ap (λ c. filter q (numbers n) ++ one_if c n) e in
       let none : flat_map R (filter q (numbers n)) ++ flat_map R (one_if b n) ≡ [] = sym (flat_map-append R (filter q (numbers n)) (one_if b n)) ∙ ap (flat_map R) (sym more) ∙ h in
@@ -398,11 +454,11 @@ module _ {A : Type 0} (R : ℕ → List A) (q : ℕ → Bool) where
   none_kept (suc n) some h = none_more n (q n) refl (some n (omega arith)) h (none_kept n (λ i l. some i (omega arith)))
 
 -- no refusal, and the warnings are all there is
-pub record IsAccepted (names : List (List ℕ)) (ls : List (Placed Numbered)) (d : Diagnostics) : Type 0 where
-  pub refusals : late_refusals names ls ≡ []
+pub record IsAccepted (names : List (List ℕ)) (ls : List (Located Numbered)) (d : Diagnostics) : Type 0 where
+  pub refusals : whole_list_refusals names ls ≡ []
   pub warnings_are : map (λ v. v.items) d.warnings.items ≡ warnings names ls
 
-module _ (names : List (List ℕ)) (ls : List (Placed Numbered)) (d : Diagnostics) (is : IsDiagnosed names ls (length ls) d) where
+module _ (names : List (List ℕ)) (ls : List (Located Numbered)) (d : Diagnostics) (is : IsDiagnosed names ls (length ls) d) where
   all_found : Found names ls (length ls) (diagnosis_view d)
   all_found = found names ls (length ls) d (omega arith) is
 
@@ -412,7 +468,7 @@ module _ (names : List (List ℕ)) (ls : List (Placed Numbered)) (d : Diagnostic
   first_default : first_of (flat_map (refused_at names ls code.BadDefault) (bad_defaults (numbered_statements ls))) ≡ option_map refusal_view d.bad_default
   first_default = ap (λ n. first_of (flat_map (refused_at names ls code.BadDefault) (filter (bad_default_at names ls) (numbers n)))) (statement_count names ls) ∙ sym all_found.default
 
-  first_late : first_of (late_refusals names ls) ≡ option_or (option_map refusal_view d.bad_member) (option_map refusal_view d.bad_default)
+  first_late : first_of (whole_list_refusals names ls) ≡ option_or (option_map refusal_view d.bad_member) (option_map refusal_view d.bad_default)
   first_late =
       first_append (flat_map (refused_at names ls code.ChoiceMember) (bad_members (numbered_statements ls))) (flat_map (refused_at names ls code.BadDefault) (bad_defaults (numbered_statements ls)))
       ∙ ap (λ (o : Option Refused). option_or o (first_of (flat_map (refused_at names ls code.BadDefault) (bad_defaults (numbered_statements ls))))) first_member
@@ -427,15 +483,17 @@ module _ (names : List (List ℕ)) (ls : List (Placed Numbered)) (d : Diagnostic
   -- no member is refused where none is found
   no_bad_member : d.bad_member ≡ None → bad_members (numbered_statements ls) ≡ []
   no_bad_member none =
-      none_kept (refused_at names ls code.ChoiceMember) (bad_member_at names ls) (length (numbered_statements ls)) (refused_some code.ChoiceMember) (none_first (flat_map (refused_at names ls code.ChoiceMember) (bad_members (numbered_statements ls))) (first_member ∙ ap (option_map refusal_view) none))
+      none_kept (refused_at names ls code.ChoiceMember) (bad_member_at names ls) (length (numbered_statements ls)) (refused_some code.ChoiceMember)
+      (none_first (flat_map (refused_at names ls code.ChoiceMember) (bad_members (numbered_statements ls)))
+      (first_member ∙ ap (option_map refusal_view) none))
 
   by_option : (o p : Option Refusal) → option_map refusal_view (option_or o p) ≡ option_or (option_map refusal_view o) (option_map refusal_view p)
   by_option None p = refl
   by_option (Some r) p = refl
 
   -- the first refusal is that of the list
-  pub refused_tree : (r : Refusal) (t : TreeFacts) → option_or d.bad_member d.bad_default ≡ Some r → unless_refused (late_refusals names ls) t ≡ Err (refusal_view r)
-  refused_tree r t e = by (late_refusals names ls) (first_late ∙ sym (by_option d.bad_member d.bad_default) ∙ ap (option_map refusal_view) e)
+  pub refused_tree : (r : Refusal) (t : TreeFacts) → option_or d.bad_member d.bad_default ≡ Some r → unless_refused (whole_list_refusals names ls) t ≡ Err (refusal_view r)
+  refused_tree r t e = by (whole_list_refusals names ls) (first_late ∙ sym (by_option d.bad_member d.bad_default) ∙ ap (option_map refusal_view) e)
     where
       by : (rs : List Refused) → first_of rs ≡ Some (refusal_view r) → unless_refused rs t ≡ Err (refusal_view r)
       by [] h = cc
@@ -446,6 +504,6 @@ module _ (names : List (List ℕ)) (ls : List (Placed Numbered)) (d : Diagnostic
   accepted m e =
       let none = first_late ∙ ap (λ (o : Option Refusal). option_or (option_map refusal_view o) (option_map refusal_view d.bad_default)) m ∙ ap (option_map refusal_view) e in
       record {
-        refusals = none_first (late_refusals names ls) none;
+        refusals = none_first (whole_list_refusals names ls) none;
         warnings_are = all_found.warnings (no_bad_member m) ∙ ap (λ n. flat_map (λ j. warned_at names ls j (slice_get ls j)) (numbers n)) (sym (statement_count names ls));
       }

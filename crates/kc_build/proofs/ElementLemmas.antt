@@ -1,5 +1,5 @@
 -- What holds of each element of a list that is made of another one.
-use Rattle.std.proofs.Common.{◌≡◌, ℕ, zero, suc, ◌<◌, Bool, true, false, ◌||◌, if◌then◌else◌, List, [], ◌∷◌, ◌++◌, length, filter, map, Option, Some, None, refl, ap, sym, ◌∙◌, subst, arith, add-one, inl, inr, get_or}
+use Rattle.std.proofs.Common.{◌≡◌, ℕ, zero, suc, ◌<◌, Bool, true, false, ◌||◌, if◌then◌else◌, List, [], ◌∷◌, ◌++◌, length, filter, map, Option, Some, None, refl, ap, sym, ◌∙◌, subst, arith, add-one, inl, inr}
 use Rattle.std.specs.Prelude.{◌⊎◌, All, Contains}
 use Rattle.std.specs.List.{slice_get, list_any, filter_map, flat_map, cons_option, count_by}
 use Rattle.std.proofs.lemmas.Bool.{eqb-true}
@@ -13,9 +13,6 @@ use Rattle.kc_tree.specs.Words.{same_symbol}
 use Rattle.kc_build.proofs.PlaceLemmas.{filter-next}
 
 module _ {Y : Type 0} (P : Y → Type 0) where
-  pub All-each : ((y : Y) → P y) → (ys : List Y) → All P ys
-  All-each h ys k d l = h (get_or ys k d)
-
   pub All-at : (ys : List Y) (i : ℕ) (y : Y) → All P ys → slice_get ys i ≡ Some y → P y
   All-at ys i y a e = subst P (get_or_from_slice_get ys i y y e) (a i y (slice_get_within ys i y e))
 
@@ -41,7 +38,8 @@ module _ {Y : Type 0} (P : Y → Type 0) where
     All-map_each f h (x ∷ xs) = All-cons P (f x) (map f xs) (h x) (All-map_each f h xs)
 
     -- of those that are kept
-    kept : (f : X → Option Y) (q : X → Bool) (b : Bool) (x : X) (xs : List X) → q x ≡ b → ((y : Y) → q x ≡ true → f x ≡ Some y → P y) → All P (filter_map f (filter q xs)) → All P (filter_map f (if b then x ∷ filter q xs else filter q xs))
+    kept : (f : X → Option Y) (q : X → Bool) (b : Bool) (x : X) (xs : List X) → q x ≡ b → ((y : Y) → q x ≡ true → f x ≡ Some y → P y) →
+        All P (filter_map f (filter q xs)) → All P (filter_map f (if b then x ∷ filter q xs else filter q xs))
     kept f q true x xs e h a = All-cons_option (f x) (filter_map f (filter q xs)) (λ y s. h y e s) a
     kept f q false x xs e h a = a
 
@@ -84,7 +82,8 @@ module _ (q : ℕ → Bool) where
   kept_later : (n k p : ℕ) → IsKept n k p → IsKept (suc n) k p
   kept_later n k p h = let l = h.below in record { passes = h.passes; below = omega arith; count = h.count }
 
-  kept_by : (n k p : ℕ) (b : Bool) → q n ≡ b → (slice_get (filter q (numbers n)) k ≡ Some p → IsKept n k p) → slice_get (filter q (numbers n) ++ (if b then n ∷ [] else [])) k ≡ Some p → IsKept (suc n) k p
+  kept_by : (n k p : ℕ) (b : Bool) → q n ≡ b → (slice_get (filter q (numbers n)) k ≡ Some p → IsKept n k p) →
+      slice_get (filter q (numbers n) ++ (if b then n ∷ [] else [])) k ≡ Some p → IsKept (suc n) k p
   kept_by n k p false e before h = kept_later n k p (before (sym (ap (λ (l : List ℕ). slice_get l k) (append-nil (filter q (numbers n)))) ∙ h))
   kept_by n k p true e before h = by (get_snoc (filter q (numbers n)) n p k h)
     where

@@ -1,13 +1,14 @@
--- What an entry does to the walk that is no symbol, block or comment: the ends of an `if` and of a choice, a main menu, another line.
+-- What an entry does to the walk that is no symbol, block or comment: the ends of an `if` and of a choice, a main menu, another
+-- line.
 use Rattle.std.proofs.Common.{◌≡◌, ℕ, List, [], ◌∷◌, ◌++◌, length, take, Some, None, codes, unwrap_or, refl, ap, sym, ◌∙◌, arith, inl, inr}
 use Rattle.std.specs.Prelude.{◌⊎◌}
 use Rattle.std.specs.List.{filter_map}
 use Rattle.kc_read.specs.declared.statement.Statement.{Statement}
 use Rattle.kc_read.specs.declared.statement.Statement.TheVariants as made
-use Rattle.kc_read.specs.Reads.{statement_view}
+use Rattle.kc_read.specs.StatementViews.{statement_view}
 use Rattle.kc_read.specs.Statements.{Numbered, MainMenuLine}
 use Rattle.kc_read.specs.Blocks.{Closes, NoBracket, bracket, last_of}
-use Rattle.kc_tree.specs.declared.parts.Symbol.{Symbol}
+use Rattle.kc_tree.specs.declared.rows.Symbol.{Symbol}
 use Rattle.kc_build.specs.Facts.{entry_at, symbol_of, title_of}
 use Rattle.kc_build.specs.Walks.{Enters}
 use Rattle.kc_build.specs.declared.entries.Walk.{Walk}

@@ -3,14 +3,14 @@ use Rattle.std.proofs.Common.{◌≡◌, ℕ, ◌<◌, Bool, true, false, if◌t
 use Rattle.std.specs.List.{slice_get}
 use Rattle.std.specs.Option.{option_map}
 use Rattle.kc_expr.specs.declared.expression.SymId.{SymId}
-use Rattle.kc_read.specs.Statements.{Numbered, Placed, ConfigLine, MenuLine, EndMenuLine, CommentLine}
+use Rattle.kc_read.specs.Statements.{Numbered, Located, ConfigLine, MenuLine, EndMenuLine, CommentLine}
 use Rattle.kc_tree.specs.TreeFacts.{Condition, Shown, SymbolShown, MenuShown, EndShown, CommentShown, TreeFacts, IsDefined, IsModeBelow, IsEntrySound}
-use Rattle.kc_build.specs.Facts.{dep, entry_at, entry_number, is_first_definition, opener_of, places, shown_when, symbol_at, symbol_of}
-use Rattle.kc_build.specs.Known.{AreBelow}
+use Rattle.kc_build.specs.Facts.{dependency, entry_at, entry_number, is_first_definition, enclosing_block, places, shown_when, symbol_at, symbol_of}
+use Rattle.kc_build.specs.SymbolRows.{AreBelow}
 use Rattle.kc_build.proofs.ElementLemmas.{filter_map-from}
 use Rattle.kc_build.proofs.FormedLemmas.{defined_if, said, sound_at, tree}
 
-module _ (names : List (List ℕ)) (count : ℕ) (modules : SymId) (ls : List (Placed Numbered)) where
+module _ (names : List (List ℕ)) (count : ℕ) (modules : SymId) (ls : List (Located Numbered)) where
   abbrev pub statements : List Numbered
   statements = said names count modules ls
 
@@ -43,10 +43,10 @@ module _ (names : List (List ℕ)) (count : ℕ) (modules : SymId) (ls : List (P
     shown_sound p (Some (MenuLine t)) e at h =
         let same : MenuShown t (shown_when statements p) ≡ e = cc in
         subst IsSoundShown same (sound_at statements p (shown_when statements p) refl)
-    shown_sound p (Some EndMenuLine) e at h = end_sound (opener_of statements p) e h
+    shown_sound p (Some EndMenuLine) e at h = end_sound (enclosing_block statements p) e h
     shown_sound p (Some (CommentLine t)) e at h =
-        let same : CommentShown t (dep statements p) ≡ e = cc in
-        subst IsSoundShown same (sound_at statements p (dep statements p) refl)
+        let same : CommentShown t (dependency statements p) ≡ e = cc in
+        subst IsSoundShown same (sound_at statements p (dependency statements p) refl)
     shown_sound p _ e at h = absurd cc
 
     all_shown : (i : ℕ) (e : Shown) → slice_get whole.entries i ≡ Some e → IsSoundShown e

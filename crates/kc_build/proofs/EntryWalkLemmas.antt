@@ -4,11 +4,11 @@ use Rattle.std.specs.Prelude.{◌⊎◌}
 use Rattle.std.specs.List.{prefix_len, slice_get, take_while}
 use Rattle.std.proofs.lemmas.List.{take-map, drop-map}
 use Rattle.std.proofs.lemmas.List.Folds.{length-prefix_len}
-use Rattle.kc_read.specs.declared.line.Line.{Line}
-use Rattle.kc_read.specs.Reads.{statement_view}
+use Rattle.kc_read.specs.declared.statement.Line.{Line}
+use Rattle.kc_read.specs.StatementViews.{statement_view}
 use Rattle.kc_read.specs.Statements.{Numbered}
 use Rattle.kc_read.specs.Blocks.{attributes, is_attribute}
-use Rattle.kc_build.specs.Passes.{said_by}
+use Rattle.kc_build.specs.Passes.{statements_of}
 use Rattle.kc_build.specs.Walks.{IsHead, place_after}
 use Rattle.kc_build.proofs.EnterLemmas.{get_behind}
 use Rattle.kc_build.proofs.PlaceLemmas.{statement_at}
@@ -28,31 +28,35 @@ run_stops {X} p (y ∷ xs) x h = by (p y) refl (run_stops p xs x) h
     by true e rest q = let n : 1 + prefix_len p xs ≡ suc (prefix_len p xs) = omega arith in rest (rw n at q)
     by false e rest q = let same : y ≡ x = cc in sym (ap p same) ∙ e
 
-module _ (ls : List Line) (i end : ℕ) (counted : end ≡ i + 1 + prefix_len is_attribute (drop (i + 1) (said_by ls))) where
+module _ (ls : List Line) (i end : ℕ) (counted : end ≡ i + 1 + prefix_len is_attribute (drop (i + 1) (statements_of ls))) where
   -- the statements of the slice from the line behind the first one to the end
   abbrev pub own_said : List Numbered
-  own_said = said_by (take (end - (i + 1)) (drop (i + 1) ls))
+  own_said = statements_of (take (end - (i + 1)) (drop (i + 1) ls))
 
-  pub own_is : own_said ≡ attributes (said_by ls) i
+  pub own_is : own_said ≡ attributes (statements_of ls) i
   own_is =
-      let n : end - (i + 1) ≡ prefix_len is_attribute (drop (i + 1) (said_by ls)) = omega arith in
+      let n : end - (i + 1) ≡ prefix_len is_attribute (drop (i + 1) (statements_of ls)) = omega arith in
       let view = λ (l : Line). statement_view l.statement in
-      sym (take-map view (end - (i + 1)) (drop (i + 1) ls)) ∙ ap (take (end - (i + 1))) (sym (drop-map view (i + 1) ls)) ∙ ap (λ k. take k (drop (i + 1) (said_by ls))) n ∙ ap (λ k. take_while is_attribute (drop k (said_by ls))) (add-one i)
+      sym (take-map view (end - (i + 1)) (drop (i + 1) ls)) ∙ ap (take (end - (i + 1))) (sym (drop-map view (i + 1) ls))
+      ∙ ap (λ k. take k (drop (i + 1) (statements_of ls))) n ∙ ap (λ k. take_while is_attribute (drop k (statements_of ls))) (add-one i)
 
   -- the entry, and the place behind it
-  pub head_is : (x : Line) → i < length ls → x ≡ get_or ls i x → Begins (said_by ls) i → IsHead (said_by ls) i (statement_view x.statement) own_said
+  pub head_is : (x : Line) → i < length ls → x ≡ get_or ls i x → Begins (statements_of ls) i → IsHead (statements_of ls) i (statement_view x.statement) own_said
   head_is x h at b =
       let here = statement_at ls i x h at in
       record { at = here; attributes_are = sym own_is; begins = b (statement_view x.statement) here }
 
   pub end_is : end ≡ place_after i own_said
   end_is =
-      let size : length own_said ≡ prefix_len is_attribute (drop (suc i) (said_by ls)) = ap length own_is ∙ length-prefix_len is_attribute (drop (suc i) (said_by ls)) in
-      let same : prefix_len is_attribute (drop (i + 1) (said_by ls)) ≡ prefix_len is_attribute (drop (suc i) (said_by ls)) = ap (λ k. prefix_len is_attribute (drop k (said_by ls))) (add-one i) in
+      let size : length own_said ≡ prefix_len is_attribute (drop (suc i) (statements_of ls)) = ap length own_is ∙ length-prefix_len is_attribute (drop (suc i) (statements_of ls)) in
+      let same : prefix_len is_attribute (drop (i + 1) (statements_of ls)) ≡ prefix_len is_attribute (drop (suc i) (statements_of ls)) =
+      ap (λ k. prefix_len is_attribute (drop k (statements_of ls))) (add-one i) in
       omega arith
 
   -- where the next one begins
-  pub next_begins : Begins (said_by ls) end
+  pub next_begins : Begins (statements_of ls) end
   next_begins = λ s e. inl (
-      let there : slice_get (drop (i + 1) (said_by ls)) (prefix_len is_attribute (drop (i + 1) (said_by ls))) ≡ Some s = get_behind (said_by ls) (i + 1) (prefix_len is_attribute (drop (i + 1) (said_by ls))) ∙ ap (slice_get (said_by ls)) (sym counted) ∙ e in
-      run_stops is_attribute (drop (i + 1) (said_by ls)) s there)
+      let there : slice_get (drop (i + 1) (statements_of ls)) (prefix_len is_attribute (drop (i + 1) (statements_of ls))) ≡ Some s =
+      get_behind (statements_of ls) (i + 1) (prefix_len is_attribute (drop (i + 1) (statements_of ls)))
+      ∙ ap (slice_get (statements_of ls)) (sym counted) ∙ e in
+      run_stops is_attribute (drop (i + 1) (statements_of ls)) s there)

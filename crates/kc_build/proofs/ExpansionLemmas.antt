@@ -5,24 +5,24 @@ use Rattle.std.specs.Prelude.{◌⊎◌}
 use Rattle.std.specs.List.{slice_get, list_any}
 use Rattle.std.proofs.lemmas.List.Folds.{list_any-append}
 use Rattle.kc_text.specs.Lexemes.{Lexeme}
-use Rattle.kc_text.specs.Lines.{Left, left}
+use Rattle.kc_text.specs.Lines.{UnreadLines, unread_lines}
 use Rattle.kc_expr.specs.declared.expression.Kind.{Kind}
 use Rattle.kc_expr.specs.Grammar.{Disjunction, if_word}
 use Rattle.kc_read.specs.declared.statement.Block.{Block}
 use Rattle.kc_read.specs.declared.statement.Block.TheVariants as block
 use Rattle.kc_read.specs.declared.statement.Keyword.{Keyword}
 use Rattle.kc_read.specs.declared.statement.Keyword.TheVariants as key
-use Rattle.kc_read.specs.declared.statement.Opener.{Opener}
+use Rattle.kc_read.specs.declared.statement.OpenBlock.{OpenBlock}
 use Rattle.kc_read.specs.Files.{Files}
-use Rattle.kc_read.specs.Statements.{Statement, Written, Placed, Asked, ConfigLine, IfLine, EndIfLine, CommentLine, SourceLine, MenuLine, EndMenuLine, ChoiceLine, EndChoiceLine, MainMenuLine, TypeLine, PromptLine, DefaultLine, DefLine, DependsLine, VisibleLine, SelectLine, ImplyLine, RangeLine, HelpLine, ModulesLine, IgnoredLine}
-use Rattle.kc_read.specs.Lines.{Context, Cause, place_cause, closes, unless_placed, After, finish, ReadsLine, ReadsPlaced, ReadsRest, ReadsWhole, ReadsCondition, ReadsTextLine, ReadsSource, ReadsConfig, ReadsAsked, ReadsType, ReadsValue, ReadsDepends, ReadsVisible, ReadsTarget, ReadsRange, option_line, choice_line, good_name, is_good_name, begins_with, text_of, plain_text, word_of, target_of, operand_of, expected, keyword_of, known, in_place}
+use Rattle.kc_read.specs.Statements.{Statement, Named, Located, InputPrompt, ConfigLine, IfLine, EndIfLine, CommentLine, SourceLine, MenuLine, EndMenuLine, ChoiceLine, EndChoiceLine, MainMenuLine, TypeLine, PromptLine, DefaultLine, DefLine, DependsLine, VisibleLine, SelectLine, ImplyLine, RangeLine, HelpLine, ModulesLine, IgnoredLine}
+use Rattle.kc_read.specs.Lines.{LineContext, Cause, placement_cause, closes, unless_placed, After, finish, ReadsLine, ReadsPlaced, ReadsRest, ReadsWhole, ReadsCondition, ReadsTextLine, ReadsSource, ReadsConfig, ReadsPrompt, ReadsType, ReadsValue, ReadsDepends, ReadsVisible, ReadsTarget, ReadsRange, option_line, choice_line, good_name, is_good_name, begins_with, text_of, plain_text, word_of, target_of, operand_of, expected, keyword_of, known, in_place}
 use Rattle.kc_read.specs.Blocks.{Bracket, Opens, Closes, NoBracket, bracket, open_blocks, last_of}
-use Rattle.kc_read.specs.Expansion.{Around, Log, Refused, Rest, Expands, lexemes, bytes_cause, root_around, nothing_read, opening, refused, statements, is_choice, context_of, with_line, logged, at_end, unclosed, too_long, no_tokens, blank, bad_line, bad_effect, statement, bad_source, refused_inside, source}
-use Rattle.kc_read.specs.Progress.{open_openers, openers_after}
+use Rattle.kc_read.specs.Expansion.{FileContext, Log, Refused, Rest, Expands, lexemes, bytes_cause, root_context, nothing_read, with_file, refused, statements, is_choice, context_of, with_line, logged, at_end, unclosed, too_long, no_tokens, blank, bad_line, over_limit, statement, bad_source, refused_inside, source}
+use Rattle.kc_read.specs.Progress.{located_blocks, open_blocks_after}
 use Rattle.kc_read.proofs.BlockLemmas.{blocks_of_openers, openers_push}
 use Rattle.kc_read.proofs.ListLemmas.{last_of-append, but_last, but_last-take, but_last-append, map-push}
 
--- What a line asks of the blocks round it: that none is a choice; that the innermost is of this kind.
+-- What a line asks of its enclosing blocks: that none is a choice; that the innermost is of this kind.
 pub data Turn : Type 0 where
   Chooses : Turn
   Leaves : Block → Turn
@@ -44,16 +44,16 @@ Suits bs Stays = Unit {0}
 abbrev pub AreNested : {E L S : Type 0} → List (Statement E L S) → Type 0
 AreNested ss = (i : ℕ) (s : _) → slice_get ss i ≡ Some s → Suits (open_blocks (take i ss)) (turn s)
 
--- The same of a line that is read, by what surrounds it.
-abbrev SuitsHere : Context → Turn → Type 0
+-- The same of a line that is read, by its context.
+abbrev SuitsHere : LineContext → Turn → Type 0
 SuitsHere c Chooses = c.in_choice ≡ false
 SuitsHere c (Leaves b) = c.own ≡ Some b
 SuitsHere c Stays = Unit {0}
 
-stays_here : (c : Context) (s : Written) → turn s ≡ Stays → SuitsHere c (turn s)
+stays_here : (c : LineContext) (s : Named) → turn s ≡ Stays → SuitsHere c (turn s)
 stays_here c s e = subst (SuitsHere c) (sym e) tt
 
-made_here : (c : Context) (s x : Written) → s ≡ x → SuitsHere c (turn x) → SuitsHere c (turn s)
+made_here : (c : LineContext) (s x : Named) → s ≡ x → SuitsHere c (turn x) → SuitsHere c (turn s)
 made_here c s x e h = subst (λ y. SuitsHere c (turn y)) (sym e) h
 
 -- a part that is one token was read, and then what follows
@@ -66,64 +66,67 @@ finish_is x s [] e = cc
 finish_is x s (t ∷ ts) e = absurd cc
 
 -- Lines that say nothing of blocks.
-whole_stays : (make : Disjunction → Written) (ts : List Lexeme) (s : Written) → ((d : Disjunction) → turn (make d) ≡ Stays) → ReadsWhole make ts (Ok s) → turn s ≡ Stays
+whole_stays : (make : Disjunction → Named) (ts : List Lexeme) (s : Named) → ((d : Disjunction) → turn (make d) ≡ Stays) → ReadsWhole make ts (Ok s) → turn s ≡ Stays
 whole_stays make ts s h r = ap turn r.2 ∙ h r.0
 
-condition_stays : (make : Option Disjunction → Written) (ts : List Lexeme) (s : Written) → ((d : Option Disjunction) → turn (make d) ≡ Stays) → ReadsCondition make ts (Ok s) → turn s ≡ Stays
+condition_stays : (make : Option Disjunction → Named) (ts : List Lexeme) (s : Named) → ((d : Option Disjunction) → turn (make d) ≡ Stays) → ReadsCondition make ts (Ok s) → turn s ≡ Stays
 condition_stays make ts s h r = ap turn r.2 ∙ h r.0
 
-text_stays : (make : List ℕ → Written) (ts : List Lexeme) (s : Written) → ((t : List ℕ) → turn (make t) ≡ Stays) → ReadsTextLine make ts (Ok s) → turn s ≡ Stays
+text_stays : (make : List ℕ → Named) (ts : List Lexeme) (s : Named) → ((t : List ℕ) → turn (make t) ≡ Stays) → ReadsTextLine make ts (Ok s) → turn s ≡ Stays
 text_stays make ts s h r = after (text_of ts) (λ t r. r ≡ finish (make t) (drop 1 ts)) s (turn s ≡ Stays) r (λ t e q. ap turn (finish_is (make t) s (drop 1 ts) q) ∙ h t)
 
-asked_stays : (make : Asked Disjunction → Written) (ts : List Lexeme) (s : Written) → ((p : Asked Disjunction) → turn (make p) ≡ Stays) → ReadsAsked make ts (Ok s) → turn s ≡ Stays
+asked_stays : (make : InputPrompt Disjunction → Named) (ts : List Lexeme) (s : Named) → ((p : InputPrompt Disjunction) → turn (make p) ≡ Stays) → ReadsPrompt make ts (Ok s) → turn s ≡ Stays
 asked_stays make ts s h r =
     after (text_of ts) (λ t. ReadsCondition (λ w. make (record { text = t; when = w })) (drop 1 ts)) s (turn s ≡ Stays) r
     (λ t e q. condition_stays (λ w. make (record { text = t; when = w })) (drop 1 ts) s (λ w. h (record { text = t; when = w })) q)
 
-value_stays : (make : Disjunction → Option Disjunction → Written) (ts : List Lexeme) (s : Written) → ((d : Disjunction) (w : Option Disjunction) → turn (make d w) ≡ Stays) → ReadsValue make ts (Ok s) → turn s ≡ Stays
+value_stays : (make : Disjunction → Option Disjunction → Named) (ts : List Lexeme) (s : Named) →
+    ((d : Disjunction) (w : Option Disjunction) → turn (make d w) ≡ Stays) → ReadsValue make ts (Ok s) → turn s ≡ Stays
 value_stays make ts s h r = ap turn r.4 ∙ h (r.0.tree) r.1
 
-target_stays : (make : List ℕ → Option Disjunction → Written) (ts : List Lexeme) (s : Written) → ((n : List ℕ) (w : Option Disjunction) → turn (make n w) ≡ Stays) → ReadsTarget make ts (Ok s) → turn s ≡ Stays
+target_stays : (make : List ℕ → Option Disjunction → Named) (ts : List Lexeme) (s : Named) → ((n : List ℕ) (w : Option Disjunction) → turn (make n w) ≡ Stays) →
+    ReadsTarget make ts (Ok s) → turn s ≡ Stays
 target_stays make ts s h r =
     after (target_of ts) (λ t. ReadsCondition (make t) (drop 1 ts)) s (turn s ≡ Stays) r (λ t e q. condition_stays (make t) (drop 1 ts) s (h t) q)
 
-range_stays : (ts : List Lexeme) (s : Written) → ReadsRange ts (Ok s) → turn s ≡ Stays
+range_stays : (ts : List Lexeme) (s : Named) → ReadsRange ts (Ok s) → turn s ≡ Stays
 range_stays ts s r =
     after (operand_of ts) (λ a. After (operand_of (drop 1 ts)) (λ b. ReadsCondition (RangeLine a b) (drop 2 ts))) s (turn s ≡ Stays) r
     (λ a e q. after (operand_of (drop 1 ts)) (λ b. ReadsCondition (RangeLine a b) (drop 2 ts)) s (turn s ≡ Stays) q (λ b f p. condition_stays (RangeLine a b) (drop 2 ts) s (λ w. refl) p))
 
-type_stays : (k : Kind) (ts : List Lexeme) (s : Written) → ReadsType k ts (Ok s) → turn s ≡ Stays
+type_stays : (k : Kind) (ts : List Lexeme) (s : Named) → ReadsType k ts (Ok s) → turn s ≡ Stays
 type_stays k ts s (inl e) = let same : s ≡ TypeLine k None = (let f = e.1 in cc) in ap turn same
 type_stays k ts s (inr e) = asked_stays (λ p. TypeLine k (Some p)) ts s (λ p. refl) e.1
 
-depends_stays : (ts : List Lexeme) (s : Written) → ReadsDepends ts (Ok s) → turn s ≡ Stays
+depends_stays : (ts : List Lexeme) (s : Named) → ReadsDepends ts (Ok s) → turn s ≡ Stays
 depends_stays ts s r = after (expected (codes "on") ts) (λ us. ReadsWhole DependsLine us) s (turn s ≡ Stays) r (λ us e q. whole_stays DependsLine us s (λ d. refl) q)
 
-visible_stays : (ts : List Lexeme) (s : Written) → ReadsVisible ts (Ok s) → turn s ≡ Stays
+visible_stays : (ts : List Lexeme) (s : Named) → ReadsVisible ts (Ok s) → turn s ≡ Stays
 visible_stays ts s r = after (expected if_word ts) (λ us. ReadsWhole VisibleLine us) s (turn s ≡ Stays) r (λ us e q. whole_stays VisibleLine us s (λ d. refl) q)
 
-source_stays : (ts : List Lexeme) (s : Written) → ReadsSource ts (Ok s) → turn s ≡ Stays
+source_stays : (ts : List Lexeme) (s : Named) → ReadsSource ts (Ok s) → turn s ≡ Stays
 source_stays ts s r =
     after (text_of ts) (λ t. After (plain_text t) (λ u r. r ≡ finish (SourceLine u) (drop 1 ts))) s (turn s ≡ Stays) r
     (λ t e q. after (plain_text t) (λ u r. r ≡ finish (SourceLine u) (drop 1 ts)) s (turn s ≡ Stays) q (λ u f p. ap turn (finish_is (SourceLine u) s (drop 1 ts) p)))
 
-named_stays : (s : Written) (w : List ℕ) (b : Bool) → is_good_name w ≡ b → Ok s ≡ good_name w → turn s ≡ Stays
+named_stays : (s : Named) (w : List ℕ) (b : Bool) → is_good_name w ≡ b → Ok s ≡ good_name w → turn s ≡ Stays
 named_stays s w true e h = let same : s ≡ ConfigLine w = (let f = (rw e at h) in cc) in ap turn same
 named_stays s w false e h = let f = (rw e at h) in absurd cc
 
-config_stays : (ts : List Lexeme) (s : Written) → ReadsConfig ts (Ok s) → turn s ≡ Stays
+config_stays : (ts : List Lexeme) (s : Named) → ReadsConfig ts (Ok s) → turn s ≡ Stays
 config_stays ts s r =
     after (word_of ts) (λ w. After (finish w (drop 1 ts)) (λ v r. r ≡ good_name v)) s (turn s ≡ Stays) r
     (λ w e q. after (finish w (drop 1 ts)) (λ v r. r ≡ good_name v) s (turn s ≡ Stays) q (λ v f p. named_stays s v (is_good_name v) refl p))
 
-option_stays : (s : Written) (ts : List Lexeme) (a b c d : Bool) → begins_with (codes "modules") ts ≡ a → begins_with (codes "allnoconfig_y") ts ≡ b → begins_with (codes "env") ts ≡ c → begins_with (codes "defconfig_list") ts ≡ d → Ok s ≡ option_line ts → turn s ≡ Stays
+option_stays : (s : Named) (ts : List Lexeme) (a b c d : Bool) → begins_with (codes "modules") ts ≡ a → begins_with (codes "allnoconfig_y") ts ≡ b →
+    begins_with (codes "env") ts ≡ c → begins_with (codes "defconfig_list") ts ≡ d → Ok s ≡ option_line ts → turn s ≡ Stays
 option_stays s ts true b c d e f g h r = ap turn (finish_is ModulesLine s (drop 1 ts) (rw e at r))
 option_stays s ts false true c d e f g h r = ap turn (finish_is IgnoredLine s (drop 1 ts) (rw (e, f) at r))
 option_stays s ts false false true d e f g h r = let q = (rw (e, f, g) at r) in absurd cc
 option_stays s ts false false false true e f g h r = let q = (rw (e, f, g, h) at r) in absurd cc
 option_stays s ts false false false false e f g h r = let q = (rw (e, f, g, h) at r) in absurd cc
 
-choice_is : (ts : List Lexeme) (s : Written) → Ok s ≡ choice_line ts → s ≡ ChoiceLine
+choice_is : (ts : List Lexeme) (s : Named) → Ok s ≡ choice_line ts → s ≡ ChoiceLine
 choice_is [] s e = cc
 choice_is (t ∷ ts) s e = absurd cc
 
@@ -145,7 +148,7 @@ not_there : (b : Bool) → unless_placed (not b) ≡ None → b ≡ false
 not_there true e = absurd cc
 not_there false e = refl
 
-kept : (c : Context) (w : List ℕ) (ts : List Lexeme) (k : Keyword) (s : Written) → place_cause c w ts k ≡ None → ReadsRest w k ts (Ok s) → SuitsHere c (turn s)
+kept : (c : LineContext) (w : List ℕ) (ts : List Lexeme) (k : Keyword) (s : Named) → placement_cause c w ts k ≡ None → ReadsRest w k ts (Ok s) → SuitsHere c (turn s)
 kept c w ts key.Config s p r = stays_here c s (config_stays ts s r)
 kept c w ts key.If s p r = stays_here c s (whole_stays IfLine ts s (λ d. refl) r)
 kept c w ts key.EndIf s p r = made_here c s EndIfLine (finish_is EndIfLine s ts r) (own_is block.If c.own p)
@@ -167,17 +170,19 @@ kept c w ts key.Imply s p r = stays_here c s (target_stays ImplyLine ts s (λ n 
 kept c w ts key.Range s p r = stays_here c s (range_stays ts s r)
 kept c w ts key.Help s p r = stays_here c s (ap turn (finish_is HelpLine s ts r))
 kept c w ts key.Modules s p r = stays_here c s (ap turn (finish_is ModulesLine s ts r))
-kept c w ts key.«Option» s p r = stays_here c s (option_stays s ts (begins_with (codes "modules") ts) (begins_with (codes "allnoconfig_y") ts) (begins_with (codes "env") ts) (begins_with (codes "defconfig_list") ts) refl refl refl refl r)
+kept c w ts key.«Option» s p r = stays_here c s (option_stays s ts (begins_with (codes "modules") ts) (begins_with (codes "allnoconfig_y") ts)
+    (begins_with (codes "env") ts) (begins_with (codes "defconfig_list") ts) refl refl refl refl r)
 kept c w ts key.LeftOut s p r = absurd cc
 
-by_place : (c : Context) (w : List ℕ) (ts : List Lexeme) (k : Keyword) (o : Option Cause) (s : Written) → place_cause c w ts k ≡ o → After (in_place k o) (λ j. ReadsRest w j ts) (Ok s) → SuitsHere c (turn s)
+by_place : (c : LineContext) (w : List ℕ) (ts : List Lexeme) (k : Keyword) (o : Option Cause) (s : Named) → placement_cause c w ts k ≡ o →
+    After (in_place k o) (λ j. ReadsRest w j ts) (Ok s) → SuitsHere c (turn s)
 by_place c w ts k None s e r = kept c w ts k s e r
 by_place c w ts k (Some why) s e r = absurd cc
 
-read_suits : (c : Context) (ts : List Lexeme) (s : Written) → ReadsLine c ts (Ok s) → SuitsHere c (turn s)
+read_suits : (c : LineContext) (ts : List Lexeme) (s : Named) → ReadsLine c ts (Ok s) → SuitsHere c (turn s)
 read_suits c ts s r =
     after (word_of ts) (λ w. After (known (keyword_of w)) (ReadsPlaced c w (drop 1 ts))) s (SuitsHere c (turn s)) r
-    (λ w e q. after (known (keyword_of w)) (ReadsPlaced c w (drop 1 ts)) s (SuitsHere c (turn s)) q (λ k f p. by_place c w (drop 1 ts) k (place_cause c w (drop 1 ts) k) s refl p))
+    (λ w e q. after (known (keyword_of w)) (ReadsPlaced c w (drop 1 ts)) s (SuitsHere c (turn s)) q (λ k f p. by_place c w (drop 1 ts) k (placement_cause c w (drop 1 ts) k) s refl p))
 
 -- The open blocks, one line later.
 abbrev pub blocks_after : Bracket → List Block → List Block
@@ -190,18 +195,18 @@ map-but_last f [] = refl
 map-but_last f (x ∷ []) = refl
 map-but_last f (x ∷ y ∷ ys) = ap (λ l. f x ∷ l) (map-but_last f (y ∷ ys))
 
-abbrev block_of : Opener → Block
+abbrev block_of : OpenBlock → Block
 block_of o = o.block
 
-after_openers : (b : Bracket) (n : ℕ) (os : List Opener) → map block_of (openers_after b n os) ≡ blocks_after b (map block_of os)
+after_openers : (b : Bracket) (n : ℕ) (os : List OpenBlock) → map block_of (open_blocks_after b n os) ≡ blocks_after b (map block_of os)
 after_openers (Opens b) n os = map-push block_of os (record { block = b; line = n })
 after_openers Closes n os = ap (map block_of) (but_last-take os) ∙ map-but_last block_of os
 after_openers NoBracket n os = refl
 
-blocks_push : (ls : List (Placed Written)) (l : Placed Written) → open_blocks (statements (ls ++ l ∷ [])) ≡ blocks_after (bracket l.statement) (open_blocks (statements ls))
+blocks_push : (ls : List (Located Named)) (l : Located Named) → open_blocks (statements (ls ++ l ∷ [])) ≡ blocks_after (bracket l.statement) (open_blocks (statements ls))
 blocks_push ls l =
     sym (blocks_of_openers (ls ++ l ∷ [])) ∙ ap (map block_of) (openers_push ls l)
-    ∙ after_openers (bracket l.statement) l.line (open_openers ls)
+    ∙ after_openers (bracket l.statement) l.line (located_blocks ls)
     ∙ ap (blocks_after (bracket l.statement)) (blocks_of_openers ls)
 
 last_there : (bs : List Block) (b : Block) → last_of bs ≡ Some b → (c : Block) × (cs : List Block) × (bs ≡ c ∷ cs)
@@ -221,10 +226,10 @@ after_within Closes outer bs w =
 after_within NoBracket outer bs w = refl
 
 -- The whole list, one line later.
-abbrev At : List Written → Written → ℕ → Written → Type 0
+abbrev At : List Named → Named → ℕ → Named → Type 0
 At ss s i x = ((slice_get ss i ≡ Some x) × (take i (ss ++ s ∷ []) ≡ take i ss)) ⊎ ((x ≡ s) × (take i (ss ++ s ∷ []) ≡ ss))
 
-at_push : (ss : List Written) (s : Written) (i : ℕ) (x : Written) → slice_get (ss ++ s ∷ []) i ≡ Some x → At ss s i x
+at_push : (ss : List Named) (s : Named) (i : ℕ) (x : Named) → slice_get (ss ++ s ∷ []) i ≡ Some x → At ss s i x
 at_push [] s zero x e = inr (cc, refl)
 at_push [] s (suc i) x e = absurd cc
 at_push (y ∷ ys) s zero x e = inl (e, refl)
@@ -234,26 +239,27 @@ at_push (y ∷ ys) s (suc i) x e =
       | inr p ↦ inr (p.0, ap (λ l. y ∷ l) p.1)
     ]
 
-suits_push : (ss : List Written) (s x : Written) (i : ℕ) → AreNested ss → Suits (open_blocks ss) (turn s) → At ss s i x → Suits (open_blocks (take i (ss ++ s ∷ []))) (turn x)
+suits_push : (ss : List Named) (s x : Named) (i : ℕ) → AreNested ss → Suits (open_blocks ss) (turn s) → At ss s i x → Suits (open_blocks (take i (ss ++ s ∷ []))) (turn x)
 suits_push ss s x i n h (inl p) = subst (λ l. Suits (open_blocks l) (turn x)) (sym p.1) (n i x p.0)
 suits_push ss s x i n h (inr p) = subst (λ l. Suits (open_blocks l) (turn x)) (sym p.1) (subst (λ y. Suits (open_blocks ss) (turn y)) (sym p.0) h)
 
-nested_push : (ss : List Written) (s : Written) → AreNested ss → Suits (open_blocks ss) (turn s) → AreNested (ss ++ s ∷ [])
+nested_push : (ss : List Named) (s : Named) → AreNested ss → Suits (open_blocks ss) (turn s) → AreNested (ss ++ s ∷ [])
 nested_push ss s n h = λ i x e. suits_push ss s x i n h (at_push ss s i x e)
 
 -- What is known between the lines of a file: of the whole list so far, and of this file's part.
-record Stands (a : Around) (own : List (Placed Written)) (log : Log) : Type 0 where
+record Stands (a : FileContext) (own : List (Located Named)) (log : Log) : Type 0 where
   nested : AreNested (statements log.lines)
   blocks : open_blocks (statements log.lines) ≡ a.blocks ++ open_blocks (statements own)
 
--- what suits the surroundings of a line suits the whole list
-suits_all : (outer inner : List Block) (t : Turn) (c : Context) → c.own ≡ last_of inner → c.in_choice ≡ (list_any is_choice outer || list_any is_choice inner) → SuitsHere c t → Suits (outer ++ inner) t
+-- what suits the context of a line suits the whole list
+suits_all : (outer inner : List Block) (t : Turn) (c : LineContext) → c.own ≡ last_of inner →
+    c.in_choice ≡ (list_any is_choice outer || list_any is_choice inner) → SuitsHere c t → Suits (outer ++ inner) t
 suits_all outer inner Chooses c e f h = list_any-append is_choice outer inner ∙ sym f ∙ h
 suits_all outer inner (Leaves b) c e f h = last_of-append outer inner b (sym e ∙ h)
 suits_all outer inner Stays c e f h = tt
 
 -- a closer closes a block of its own file
-within_own : (s : Written) (c : Context) (bs : List Block) → c.own ≡ last_of bs → SuitsHere c (turn s) → Within bs (bracket s)
+within_own : (s : Named) (c : LineContext) (bs : List Block) → c.own ≡ last_of bs → SuitsHere c (turn s) → Within bs (bracket s)
 within_own EndIfLine c bs e h = last_there bs block.If (sym e ∙ h)
 within_own EndMenuLine c bs e h = last_there bs block.Menu (sym e ∙ h)
 within_own EndChoiceLine c bs e h = last_there bs block.Choice (sym e ∙ h)
@@ -262,7 +268,8 @@ within_own (MenuLine t) c bs e h = tt
 within_own ChoiceLine c bs e h = tt
 within_own _ c bs e h = tt
 
-line_stands : (a : Around) (own : List (Placed Written)) (log : Log) (s : Written) (n : ℕ) → Stands a own log → SuitsHere (context_of a own log) (turn s) → Stands a (with_line own a n s) (logged log a n s)
+line_stands : (a : FileContext) (own : List (Located Named)) (log : Log) (s : Named) (n : ℕ) → Stands a own log → SuitsHere (context_of a own log) (turn s) →
+    Stands a (with_line own a n s) (logged log a n s)
 line_stands a own log s n i h =
     let now = open_blocks (statements own) in
     let said : statements (with_line log.lines a n s) ≡ statements log.lines ++ s ∷ [] = map-push (λ l. l.statement) log.lines (record { file = a.file; line = n; statement = s }) in
@@ -281,20 +288,21 @@ abbrev Leaving : List Block → Result Log Refused → Type 0
 Leaving bs (Ok log) = AreNested (statements log.lines) × (open_blocks (statements log.lines) ≡ bs)
 Leaving bs (Err r) = Unit {0}
 
-sourced_stands : (a : Around) (own : List (Placed Written)) (more : Log) (name : List ℕ) (n : ℕ) → AreNested (statements more.lines) → open_blocks (statements more.lines) ≡ a.blocks ++ open_blocks (statements own) → Stands a (with_line own a n (SourceLine name)) more
+sourced_stands : (a : FileContext) (own : List (Located Named)) (more : Log) (name : List ℕ) (n : ℕ) → AreNested (statements more.lines) →
+    open_blocks (statements more.lines) ≡ a.blocks ++ open_blocks (statements own) → Stands a (with_line own a n (SourceLine name)) more
 sourced_stands a own more name n h e = record {
   nested = h;
   blocks = e ∙ ap (λ bs. a.blocks ++ bs) (sym (blocks_push own (record { file = a.file; line = n; statement = SourceLine name })));
 }
 
-rest_leaves : {files : Files} {a : Around} {l : Left} {own : List (Placed Written)} {log : Log} {r : Result Log Refused} → Rest files a l own log r → Stands a own log → Leaving a.blocks r
+rest_leaves : {files : Files} {a : FileContext} {l : UnreadLines} {own : List (Located Named)} {log : Log} {r : Result Log Refused} → Rest files a l own log r → Stands a own log → Leaving a.blocks r
 rest_leaves (at_end a l own log e none) i = (i.nested, i.blocks ∙ ap (λ bs. a.blocks ++ bs) none ∙ append-nil a.blocks)
 rest_leaves (unclosed a l own log line e u) i = tt
 rest_leaves (too_long a l own log t) i = tt
 rest_leaves (no_tokens a l m own log ts why n) i = tt
 rest_leaves (blank a l m own log r n rest) i = rest_leaves rest i
 rest_leaves (bad_line a l m own log c n) i = tt
-rest_leaves (bad_effect a l m own log s c n e) i = tt
+rest_leaves (over_limit a l m own log s c n e) i = tt
 rest_leaves (statement a l m own log s r n e f rest) i = rest_leaves rest (line_stands a own log s l.number i (read_suits (context_of a own log) (lexemes n.tokens) s n.reads))
 rest_leaves (bad_source a l m own log name c n e) i = tt
 rest_leaves (refused_inside a l m own log name bytes e n f g inner) i = tt
@@ -302,10 +310,12 @@ rest_leaves (source a l m own log more name bytes r n e f inner rest) i =
     let inside_is = rest_leaves inner (record { nested = i.nested; blocks = i.blocks ∙ sym (append-nil (a.blocks ++ open_blocks (statements own))) }) in
     rest_leaves rest (sourced_stands a own more name l.number inside_is.0 inside_is.1)
 
--- In the expanded list each line suits the blocks round it, and no block is open at the end.
+-- In the expanded list each line suits its enclosing blocks, and no block is open at the end.
 pub expansion_nested : (files : Files) (root : List ℕ) (log : Log) → Expands files root (Ok log) → AreNested (statements log.lines) × (open_blocks (statements log.lines) ≡ [])
 expansion_nested files root log x = by (bytes_cause root 0 (files root)) x
   where
-    by : (o : Option Cause) → MatchOption o ((bytes : List ℕ) × (files root ≡ Some bytes) × Rest files (root_around root) (left bytes 1) [] (opening nothing_read bytes) (Ok log)) (λ c. Ok log ≡ Err (refused c root 0)) → AreNested (statements log.lines) × (open_blocks (statements log.lines) ≡ [])
+    by : (o : Option Cause) → MatchOption o ((bytes : List ℕ) × (files root ≡ Some bytes)
+        × Rest files (root_context root) (unread_lines bytes 1) [] (with_file nothing_read bytes) (Ok log)) (λ c. Ok log ≡ Err (refused c root 0)) →
+        AreNested (statements log.lines) × (open_blocks (statements log.lines) ≡ [])
     by None e = rest_leaves e.2 (record { nested = λ i s f. absurd cc; blocks = refl })
     by (Some c) e = absurd cc

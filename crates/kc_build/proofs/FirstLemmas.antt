@@ -8,7 +8,7 @@ use Rattle.std.proofs.lemmas.List.Folds.{list_any-append}
 use Rattle.kc_expr.specs.declared.expression.SymId.{SymId}
 use Rattle.kc_expr.specs.Names.{symbol}
 use Rattle.kc_read.specs.Statements.{Numbered, ConfigLine}
-use Rattle.kc_read.specs.Blocks.{numbers, definitions, name_at}
+use Rattle.kc_read.specs.Blocks.{numbers, definitions, defined_name}
 use Rattle.kc_tree.specs.Words.{same_symbol, is_symbol_of}
 use Rattle.kc_build.specs.Facts.{symbol_at, symbol_of, is_first_definition}
 use Rattle.kc_build.proofs.BlockLemmas.{take-next, there}
@@ -45,7 +45,7 @@ some_append [] true i = refl
 some_append [] false i = refl
 some_append (d ∷ ds) b i = refl
 
-by_name : (s : SymId) (x : Numbered) → list_any (same_symbol s) (cons_option (name_at x) []) ≡ is_symbol_of s (symbol_of (Some x))
+by_name : (s : SymId) (x : Numbered) → list_any (same_symbol s) (cons_option (defined_name x) []) ≡ is_symbol_of s (symbol_of (Some x))
 by_name s (ConfigLine t) = or_false (same_symbol s t)
   where
     or_false : (b : Bool) → (b || false) ≡ b
@@ -62,10 +62,14 @@ module _ (ss : List Numbered) where
   any-before zero s h = refl
   any-before (suc i) s h =
       let x = there ss i (omega arith) in
-      let more : definitions (take (suc i) ss) ≡ definitions (take i ss) ++ cons_option (name_at x.0) [] = ap definitions (take-next ss i x.0 x.1) ∙ filter_map-append name_at (take i ss) (x.0 ∷ []) in
+      let more : definitions (take (suc i) ss) ≡ definitions (take i ss) ++ cons_option (defined_name x.0) [] = ap definitions (take-next ss i x.0 x.1)
+      ∙ filter_map-append defined_name (take i ss) (x.0 ∷ []) in
       let here : is_symbol_of (symbol s) (symbol_at ss i) ≡ is_symbol_of (symbol s) (symbol_of (Some x.0)) = ap (λ o. is_symbol_of (symbol s) (symbol_of o)) x.1 in
-      let next : defined_before ss (suc i) s ≡ defined_before ss i s ++ (if is_symbol_of (symbol s) (symbol_at ss i) then i ∷ [] else []) = (rw add-one at (filter-next (λ j. is_symbol_of (symbol s) (symbol_at ss j)) i)) in
-      ap (list_any (same_symbol (symbol s))) more ∙ list_any-append (same_symbol (symbol s)) (definitions (take i ss)) (cons_option (name_at x.0) []) ∙ (rw (any-before i s (omega arith), by_name (symbol s) x.0, ← here) (sym (ap some_places next ∙ some_append (defined_before ss i s) (is_symbol_of (symbol s) (symbol_at ss i)) i)))
+      let next : defined_before ss (suc i) s ≡ defined_before ss i s ++ (if is_symbol_of (symbol s) (symbol_at ss i) then i ∷ [] else []) =
+      (rw add-one at (filter-next (λ j. is_symbol_of (symbol s) (symbol_at ss j)) i)) in
+      ap (list_any (same_symbol (symbol s))) more ∙ list_any-append (same_symbol (symbol s)) (definitions (take i ss)) (cons_option (defined_name x.0) [])
+      ∙ (rw (any-before i s (omega arith), by_name (symbol s) x.0, ← here)
+      (sym (ap some_places next ∙ some_append (defined_before ss i s) (is_symbol_of (symbol s) (symbol_at ss i)) i)))
 
   pub first-is : (i : ℕ) (s : SymId) → i ≤ length ss → is_first_definition ss i s ≡ not (some_places (defined_before ss i s.0))
   first-is i s h = none-any (same_symbol s) (definitions (take i ss)) ∙ ap not (any-before i s.0 h)

@@ -9,12 +9,12 @@ use Rattle.std.proofs.lemmas.Option.{slice_get-map}
 use Rattle.kc_expr.specs.declared.expression.SymId.{SymId}
 use Rattle.kc_read.specs.Blocks.{numbers}
 use Rattle.kc_read.specs.Statements.{Numbered}
-use Rattle.kc_tree.specs.declared.parts.DefinitionId.{DefinitionId}
-use Rattle.kc_tree.specs.declared.parts.Symbol.{Symbol}
-use Rattle.kc_tree.specs.Parts.{more_of}
+use Rattle.kc_tree.specs.declared.rows.DefinitionId.{DefinitionId}
+use Rattle.kc_tree.specs.declared.rows.Symbol.{Symbol}
+use Rattle.kc_tree.specs.Spans.{more_of}
 use Rattle.kc_tree.specs.Words.{is_symbol_of, listed}
 use Rattle.kc_build.specs.Facts.{definitions_of, is_first_definition, symbol_at}
-use Rattle.kc_build.specs.Known.{AreSymbols, Row, definition_number, first_by, row_of, row_view}
+use Rattle.kc_build.specs.SymbolRows.{AreSymbols, SymbolRow, definition_number, first_by, row_of, row_view}
 use Rattle.kc_build.proofs.FirstLemmas.{first-is, some_places}
 use Rattle.kc_build.proofs.PlaceLemmas.{get-map_numbers}
 
@@ -125,7 +125,7 @@ first_id n (Some d) more = or_false (d.0 == n)
     or_false true = refl
     or_false false = refl
 
-abbrev row_begins : ℕ → Option Row → Bool
+abbrev row_begins : ℕ → Option SymbolRow → Bool
 row_begins n None = false
 row_begins n (Some r) = begins n r.definitions
 
@@ -138,5 +138,5 @@ pub first_by_number : (ss : List Numbered) (symbols : List Symbol) (s : SymId) (
 first_by_number ss symbols s i are l here within =
     let n = definition_number ss i in
     seen_first n (slice_get symbols s.0)
-    ∙ ap (row_begins n) (sym (slice_get-map row_view symbols s.0) ∙ ap (λ (rs : List Row). slice_get rs s.0) are ∙ get-map_numbers (row_of ss) (length symbols) s.0 l)
+    ∙ ap (row_begins n) (sym (slice_get-map row_view symbols s.0) ∙ ap (λ (rs : List SymbolRow). slice_get rs s.0) are ∙ get-map_numbers (row_of ss) (length symbols) s.0 l)
     ∙ begins_first ss s i here within

@@ -8,11 +8,11 @@ use Rattle.kc_expr.specs.declared.expression.SymId.{SymId}
 use Rattle.kc_expr.specs.Form.{Form}
 use Rattle.kc_expr.specs.Names.{symbol}
 use Rattle.kc_read.specs.Blocks.{numbers, attributes, last_of}
-use Rattle.kc_read.specs.Statements.{Asked, Numbered, Placed, RangeLine}
+use Rattle.kc_read.specs.Statements.{InputPrompt, Numbered, Located, RangeLine}
 use Rattle.kc_tree.specs.TreeFacts.{Condition, Guarded, Bounds, TreeFacts, AreLinesSound, IsModeBelow, IsDefined}
 use Rattle.kc_tree.specs.Words.{listed}
-use Rattle.kc_build.specs.Facts.{asked_of, asked_under, can_be_target, choice_round, choices, defaults_at, default_under, definitions_of, dep, imply_of, named_under, naming_at, places, prompt_at, range_under, select_of, given_of, symbol_at, symbol_facts}
-use Rattle.kc_build.specs.Known.{AreBelow}
+use Rattle.kc_build.specs.Facts.{prompt_of, prompt_condition, can_be_target, enclosing_choice, choices, defaults_at, guarded_default, definitions_of, dependency, imply_of, guarded_symbol, naming_at, places, prompt_at, guarded_range, select_of, stated_default, symbol_at, symbol_facts}
+use Rattle.kc_build.specs.SymbolRows.{AreBelow}
 use Rattle.kc_build.specs.Trees.{facts_with}
 use Rattle.kc_build.proofs.ElementLemmas.{All-if, All-filter_map, All-flat_map, All-map_each}
 use Rattle.kc_build.proofs.PlaceLemmas.{get-map_numbers, length-map_numbers}
@@ -26,22 +26,23 @@ module _ (ss : List Numbered) where
   pub few_taken : (i : ℕ) → length (take i ss) ≤ length ss
   few_taken i = simp length-take (omega arith)
 
-  pub sound_at : (i : ℕ) (c : Condition) → c.mode ≡ choice_round ss i → IsSound c
+  pub sound_at : (i : ℕ) (c : Condition) → c.mode ≡ enclosing_choice ss i → IsSound c
   sound_at i c e k h = mode_below ss i k (few_taken i) (sym e ∙ h)
 
-  asked_mode : (i : ℕ) (o : Option (Asked Form)) (c : Condition) → option_map (asked_under ss i) o ≡ Some c → c.mode ≡ choice_round ss i
+  asked_mode : (i : ℕ) (o : Option (InputPrompt Form)) (c : Condition) → option_map (prompt_condition ss i) o ≡ Some c → c.mode ≡ enclosing_choice ss i
   asked_mode i None c h = absurd cc
-  asked_mode i (Some p) c h = let same : asked_under ss i p ≡ c = cc in sym (ap (λ (d : Condition). d.mode) same)
+  asked_mode i (Some p) c h = let same : prompt_condition ss i p ≡ c = cc in sym (ap (λ (d : Condition). d.mode) same)
 
-  pub prompt_mode : (i : ℕ) (c : Condition) → prompt_at ss i ≡ Some c → c.mode ≡ choice_round ss i
-  prompt_mode i c h = asked_mode i (last_of (filter_map asked_of (attributes ss i))) c h
+  pub prompt_mode : (i : ℕ) (c : Condition) → prompt_at ss i ≡ Some c → c.mode ≡ enclosing_choice ss i
+  prompt_mode i c h = asked_mode i (last_of (filter_map prompt_of (attributes ss i))) c h
 
-  range_mode : (i : ℕ) (s : Numbered) (g : Guarded Bounds) → range_under ss i s ≡ Some g → g.when.mode ≡ choice_round ss i
-  range_mode i (RangeLine a b w) g h = let same : Some (choice_round ss i) ≡ Some g.when.mode = ap (option_map (λ (x : Guarded Bounds). x.when.mode)) h in (let e : choice_round ss i ≡ g.when.mode = cc in sym e)
+  range_mode : (i : ℕ) (s : Numbered) (g : Guarded Bounds) → guarded_range ss i s ≡ Some g → g.when.mode ≡ enclosing_choice ss i
+  range_mode i (RangeLine a b w) g h = let same : Some (enclosing_choice ss i) ≡ Some g.when.mode =
+      ap (option_map (λ (x : Guarded Bounds). x.when.mode)) h in (let e : enclosing_choice ss i ≡ g.when.mode = cc in sym e)
   range_mode i _ g h = absurd cc
 
 -- Symbols and their lines.
-module _ (names : List (List ℕ)) (count : ℕ) (modules : SymId) (ls : List (Placed Numbered)) where
+module _ (names : List (List ℕ)) (count : ℕ) (modules : SymId) (ls : List (Located Numbered)) where
   abbrev pub said : List Numbered
   said = map (λ l. l.statement) ls
 
@@ -58,22 +59,30 @@ module _ (names : List (List ℕ)) (count : ℕ) (modules : SymId) (ls : List (P
   NamesSound g = IsDefined tree g.what × IsModeBelow (length tree.choices) g.when
 
   module _ (below : AreBelow count said) where
-    names_by : (line : Numbered → Option (Option Form)) (i : ℕ) (o : Option SymId) → symbol_at said i ≡ o → All NamesSound (flat_map (λ s. map (named_under said i s) (filter_map line (attributes said i))) (listed o))
+    names_by : (line : Numbered → Option (Option Form)) (i : ℕ) (o : Option SymId) → symbol_at said i ≡ o →
+        All NamesSound (flat_map (λ s. map (guarded_symbol said i s) (filter_map line (attributes said i))) (listed o))
     names_by line i None e = All-nil NamesSound
     names_by line i (Some s) e =
         let d = defined_if s (below i s e) in
-        All-append NamesSound (map (named_under said i s) (filter_map line (attributes said i))) [] (All-map_each NamesSound (named_under said i s) (λ w. (d, sound_at said i (named_under said i s w).when refl)) (filter_map line (attributes said i))) (All-nil NamesSound)
+        All-append NamesSound (map (guarded_symbol said i s) (filter_map line (attributes said i))) []
+        (All-map_each NamesSound (guarded_symbol said i s) (λ w. (d, sound_at said i (guarded_symbol said i s w).when refl))
+        (filter_map line (attributes said i))) (All-nil NamesSound)
 
     names_sound : (line : Numbered → Option (Option Form)) (t : SymId) → All NamesSound (if can_be_target said t then flat_map (naming_at said line) (places said) else [])
     names_sound line t =
-        All-if NamesSound (can_be_target said t) (flat_map (naming_at said line) (places said)) (All-flat_map NamesSound (naming_at said line) (λ i. names_by line i (symbol_at said i) refl) (places said))
+        All-if NamesSound (can_be_target said t) (flat_map (naming_at said line) (places said))
+        (All-flat_map NamesSound (naming_at said line) (λ i. names_by line i (symbol_at said i) refl) (places said))
 
     lines_sound : (s : SymId) → AreLinesSound tree (symbol_facts said s)
     lines_sound s = record {
-      deps = All-map_each (IsSound said) (dep said) (λ i. sound_at said i (dep said i) refl) (definitions_of said s);
+      dependencies = All-map_each (IsSound said) (dependency said) (λ i. sound_at said i (dependency said i) refl) (definitions_of said s);
       prompts = All-filter_map (IsSound said) (prompt_at said) (λ i c h. sound_at said i c (prompt_mode said i c h)) (definitions_of said s);
-      defaults = All-flat_map (λ (g : Guarded Form). IsSound said g.when) (defaults_at said) (λ i. All-map_each (λ (g : Guarded Form). IsSound said g.when) (default_under said i) (λ g. sound_at said i (default_under said i g).when refl) (filter_map given_of (attributes said i))) (definitions_of said s);
-      ranges = All-flat_map (λ (g : Guarded Bounds). IsSound said g.when) (λ i. filter_map (range_under said i) (attributes said i)) (λ i. All-filter_map (λ (g : Guarded Bounds). IsSound said g.when) (range_under said i) (λ x g h. sound_at said i g.when (range_mode said i x g h)) (attributes said i)) (definitions_of said s);
+      defaults = All-flat_map (λ (g : Guarded Form). IsSound said g.when) (defaults_at said)
+          (λ i. All-map_each (λ (g : Guarded Form). IsSound said g.when) (guarded_default said i) (λ g. sound_at said i (guarded_default said i g).when refl)
+          (filter_map stated_default (attributes said i))) (definitions_of said s);
+      ranges = All-flat_map (λ (g : Guarded Bounds). IsSound said g.when) (λ i. filter_map (guarded_range said i) (attributes said i))
+          (λ i. All-filter_map (λ (g : Guarded Bounds). IsSound said g.when) (guarded_range said i) (λ x g h. sound_at said i g.when (range_mode said i x g h))
+          (attributes said i)) (definitions_of said s);
       selectors = names_sound (select_of s) s;
       impliers = names_sound (imply_of s) s;
     }

@@ -11,28 +11,28 @@ use Rattle.kc_expr.specs.Form.{Form, Leaf}
 use Rattle.kc_expr.specs.When.{when_view}
 use Rattle.kc_read.specs.Statements.{Numbered}
 use Rattle.kc_tree.specs.declared.layout.Tables.{Tables}
-use Rattle.kc_tree.specs.declared.parts.Choice.{Choice}
-use Rattle.kc_tree.specs.declared.parts.Definition.{Definition}
-use Rattle.kc_tree.specs.declared.parts.DefinitionId.{DefinitionId}
-use Rattle.kc_tree.specs.declared.parts.Entry.{Entry}
-use Rattle.kc_tree.specs.declared.parts.Entry.TheVariants as entry
-use Rattle.kc_tree.specs.declared.parts.Prompt.{Prompt}
-use Rattle.kc_tree.specs.declared.parts.Reverse.{Reverse}
-use Rattle.kc_tree.specs.declared.parts.ReverseId.{ReverseId}
-use Rattle.kc_tree.specs.declared.parts.Span.{Span}
-use Rattle.kc_tree.specs.declared.parts.SymbolDefault.{SymbolDefault}
-use Rattle.kc_tree.specs.declared.parts.SymbolRange.{SymbolRange}
-use Rattle.kc_tree.specs.declared.parts.Title.{Title}
+use Rattle.kc_tree.specs.declared.rows.Choice.{Choice}
+use Rattle.kc_tree.specs.declared.rows.Definition.{Definition}
+use Rattle.kc_tree.specs.declared.rows.DefinitionId.{DefinitionId}
+use Rattle.kc_tree.specs.declared.rows.ShownEntry.{ShownEntry}
+use Rattle.kc_tree.specs.declared.rows.ShownEntry.TheVariants as entry
+use Rattle.kc_tree.specs.declared.rows.Prompt.{Prompt}
+use Rattle.kc_tree.specs.declared.rows.Reverse.{Reverse}
+use Rattle.kc_tree.specs.declared.rows.ReverseId.{ReverseId}
+use Rattle.kc_tree.specs.declared.rows.Span.{Span}
+use Rattle.kc_tree.specs.declared.rows.SymbolDefault.{SymbolDefault}
+use Rattle.kc_tree.specs.declared.rows.SymbolRange.{SymbolRange}
+use Rattle.kc_tree.specs.declared.rows.Title.{Title}
 use Rattle.kc_tree.specs.declared.reverses.Reverses.{Reverses}
 use Rattle.kc_tree.specs.Chains.{chain_of, chains_of}
 use Rattle.kc_tree.specs.Contexts.{IsPlain, and_also, condition_in, top}
 use Rattle.kc_tree.specs.Layouts.{DefinitionFacts, with_when, prompt_view, default_view, range_view, choice_default_view, definition_facts, definition_at, reverse_facts, reverse_at, reverses_from, selectors_at, impliers_at, choice_facts, title_condition, title_text, shown_when, shown_of}
-use Rattle.kc_tree.specs.Parts.{part_of}
+use Rattle.kc_tree.specs.Spans.{slice_of}
 use Rattle.kc_tree.specs.Soundness.{AreChoicePromptsPlain, AreChoicePromptsWithin, AreChoicesPlain, AreChoicesWithin, AreModePromptsBehind, AreModesBehind, AreModesBelow, ArePromptsPlain, ArePromptsWithin, AreTitlesPlain, AreWithin}
 use Rattle.kc_tree.specs.TreeFacts.{Condition, Guarded, Bounds, MenuShown, CommentShown}
 use Rattle.kc_build.specs.EntryLines.{default_row, range_row}
 use Rattle.kc_build.specs.Growth.{IsGrown}
-use Rattle.kc_build.specs.Said.{AreRowsThere, IsEntryThere, IsSpanBelow, IsTitleThere}
+use Rattle.kc_build.specs.WalkResult.{AreRowsThere, IsEntryThere, IsSpanBelow, IsTitleThere}
 use Rattle.kc_build.specs.Stacks.{AreBlocksPlain, AreBlocksVisible, AreBlocksWithin, AreOpen, AreTitlesWithin, AsksNothing, block_view}
 use Rattle.kc_build.specs.declared.blocks.Block.{Block}
 use Rattle.kc_build.specs.declared.blocks.Blocks.{Blocks}
@@ -211,26 +211,27 @@ module _ (old new : List Condition) (g : Carries old new) where
   }
 
 -- One definition says the same: where the contexts that it leads to and its parts of the other tables do.
-prompt_alike : (old new : List Condition) (dep : Condition) (o : Option Prompt) → ((p : Prompt) → o ≡ Some p → condition_in new p.visible.0 ≡ condition_in old p.visible.0) →
-    option_map (prompt_view new dep) o ≡ option_map (prompt_view old dep) o
-prompt_alike old new dep None h = refl
-prompt_alike old new dep (Some p) h = rw (h p refl) refl
+prompt_alike : (old new : List Condition) (dependency : Condition) (o : Option Prompt) → ((p : Prompt) → o ≡ Some p → condition_in new p.visible.0 ≡ condition_in old p.visible.0) →
+    option_map (prompt_view new dependency) o ≡ option_map (prompt_view old dependency) o
+prompt_alike old new dependency None h = refl
+prompt_alike old new dependency (Some p) h = rw (h p refl) refl
 
-abbrev pub default_under : Condition → Form × Option Form → Guarded Form
-default_under dep r = record { what = r.0; when = with_when dep r.1 }
+abbrev pub guarded_default : Condition → Form × Option Form → Guarded Form
+guarded_default dependency r = record { what = r.0; when = with_when dependency r.1 }
 
-pub defaults_by_row : (conditions : List Condition) (dep : Condition) (xs : List SymbolDefault) → map (default_view conditions dep) xs ≡ map (default_under dep) (map default_row xs)
-defaults_by_row conditions dep [] = refl
-defaults_by_row conditions dep (x ∷ xs) = rw (defaults_by_row conditions dep xs) refl
+pub defaults_by_row : (conditions : List Condition) (dependency : Condition) (xs : List SymbolDefault) →
+    map (default_view conditions dependency) xs ≡ map (guarded_default dependency) (map default_row xs)
+defaults_by_row conditions dependency [] = refl
+defaults_by_row conditions dependency (x ∷ xs) = rw (defaults_by_row conditions dependency xs) refl
 
-abbrev pub bounds_under : Condition → Leaf × Leaf × Option Form → Guarded Bounds
-bounds_under dep r = record { what = record { low = r.0; high = r.1 }; when = with_when dep r.2 }
+abbrev pub guarded_bounds : Condition → Leaf × Leaf × Option Form → Guarded Bounds
+guarded_bounds dependency r = record { what = record { low = r.0; high = r.1 }; when = with_when dependency r.2 }
 
-pub ranges_by_row : (conditions : List Condition) (dep : Condition) (xs : List SymbolRange) → map (range_view conditions dep) xs ≡ map (bounds_under dep) (map range_row xs)
-ranges_by_row conditions dep [] = refl
-ranges_by_row conditions dep (x ∷ xs) = rw (ranges_by_row conditions dep xs) refl
+pub ranges_by_row : (conditions : List Condition) (dependency : Condition) (xs : List SymbolRange) → map (range_view conditions dependency) xs ≡ map (guarded_bounds dependency) (map range_row xs)
+ranges_by_row conditions dependency [] = refl
+ranges_by_row conditions dependency (x ∷ xs) = rw (ranges_by_row conditions dependency xs) refl
 
--- the part of a table that a span names, when the table has more
+-- the slice of a table that a span names, when the table has more
 abbrev spanned : {X : Type 0} → List X → Span → Bool → List X
 spanned table s b = if b then take (s.end - s.start) (drop s.start table) else []
 
@@ -243,7 +244,7 @@ spans s n m h l =
     rw (a, b) refl
 
 pub part_grown : {X Y : Type 0} (v : X → Y) (old new : List X) (more : List Y) (s : Span) → IsSpanBelow (length old) s → map v new ≡ map v old ++ more →
-    map v (part_of new s) ≡ map v (part_of old s)
+    map v (slice_of new s) ≡ map v (slice_of old s)
 part_grown v old new more s h e =
     let n : length new ≡ length old + length more = sym (length-map new v) ∙ ap length e ∙ length-append (map v old) more ∙ ap (λ (k : ℕ). k + length more) (length-map old v) in
     let up = h.goes_up in
@@ -261,22 +262,22 @@ part_grown v old new more s h e =
 module _ (old new : Tables) where
   pub definition_alike : (d : Definition) → condition_in new.contexts d.within.0 ≡ condition_in old.contexts d.within.0 →
       ((p : Prompt) → d.prompt ≡ Some p → condition_in new.contexts p.visible.0 ≡ condition_in old.contexts p.visible.0) →
-      map default_row (part_of new.defaults.items d.defaults) ≡ map default_row (part_of old.defaults.items d.defaults) →
-      map range_row (part_of new.ranges.items d.ranges) ≡ map range_row (part_of old.ranges.items d.ranges) → definition_facts new d ≡ definition_facts old d
+      map default_row (slice_of new.defaults.items d.defaults) ≡ map default_row (slice_of old.defaults.items d.defaults) →
+      map range_row (slice_of new.ranges.items d.ranges) ≡ map range_row (slice_of old.ranges.items d.ranges) → definition_facts new d ≡ definition_facts old d
   definition_alike d within visible defaults ranges =
       let before = condition_in old.contexts d.within.0 in
       let prompt : option_map (prompt_view new.contexts (condition_in new.contexts d.within.0)) d.prompt ≡ option_map (prompt_view old.contexts before) d.prompt =
       ap (λ (c : Condition). option_map (prompt_view new.contexts c) d.prompt) within ∙ prompt_alike old.contexts new.contexts before d.prompt visible in
-      let given : map (default_view new.contexts (condition_in new.contexts d.within.0)) (part_of new.defaults.items d.defaults) ≡
-      map (default_view old.contexts before) (part_of old.defaults.items d.defaults) =
-      ap (λ (c : Condition). map (default_view new.contexts c) (part_of new.defaults.items d.defaults)) within
-      ∙ defaults_by_row new.contexts before (part_of new.defaults.items d.defaults) ∙ ap (map (default_under before)) defaults
-      ∙ sym (defaults_by_row old.contexts before (part_of old.defaults.items d.defaults)) in
-      let bounds : map (range_view new.contexts (condition_in new.contexts d.within.0)) (part_of new.ranges.items d.ranges) ≡
-      map (range_view old.contexts before) (part_of old.ranges.items d.ranges) = ap (λ (c : Condition). map (range_view new.contexts c) (part_of new.ranges.items d.ranges)) within
-      ∙ ranges_by_row new.contexts before (part_of new.ranges.items d.ranges) ∙ ap (map (bounds_under before)) ranges
-      ∙ sym (ranges_by_row old.contexts before (part_of old.ranges.items d.ranges)) in
-      λ i. record { symbol = d.symbol; dep = within i; prompt = prompt i; defaults = given i; ranges = bounds i }
+      let given : map (default_view new.contexts (condition_in new.contexts d.within.0)) (slice_of new.defaults.items d.defaults) ≡
+      map (default_view old.contexts before) (slice_of old.defaults.items d.defaults) =
+      ap (λ (c : Condition). map (default_view new.contexts c) (slice_of new.defaults.items d.defaults)) within
+      ∙ defaults_by_row new.contexts before (slice_of new.defaults.items d.defaults) ∙ ap (map (guarded_default before)) defaults
+      ∙ sym (defaults_by_row old.contexts before (slice_of old.defaults.items d.defaults)) in
+      let bounds : map (range_view new.contexts (condition_in new.contexts d.within.0)) (slice_of new.ranges.items d.ranges) ≡
+      map (range_view old.contexts before) (slice_of old.ranges.items d.ranges) = ap (λ (c : Condition). map (range_view new.contexts c) (slice_of new.ranges.items d.ranges)) within
+      ∙ ranges_by_row new.contexts before (slice_of new.ranges.items d.ranges) ∙ ap (map (guarded_bounds before)) ranges
+      ∙ sym (ranges_by_row old.contexts before (slice_of old.ranges.items d.ranges)) in
+      λ i. record { symbol = d.symbol; dependency = within i; prompt = prompt i; defaults = given i; ranges = bounds i }
 
   pub choice_alike : (c : Choice) → condition_in new.contexts c.within.0 ≡ condition_in old.contexts c.within.0 →
       ((p : Prompt) → c.prompt ≡ Some p → condition_in new.contexts p.visible.0 ≡ condition_in old.contexts p.visible.0) → choice_facts new c ≡ choice_facts old c
@@ -306,8 +307,8 @@ module _ (old new : Tables) where
         definition_alike d
         (g.keeps d.within.0 (old.within i d at))
         (λ p q. g.keeps p.visible.0 (old.prompts_within i d p at q))
-        (ap (λ (l : List SymbolDefault). map default_row (part_of l d.defaults)) e)
-        (ap (λ (l : List SymbolRange). map range_row (part_of l d.ranges)) f)
+        (ap (λ (l : List SymbolDefault). map default_row (slice_of l d.defaults)) e)
+        (ap (λ (l : List SymbolRange). map range_row (slice_of l d.ranges)) f)
 
     pub choice_extends : (k : ℕ) (c : Choice) → slice_get old.choices.items k ≡ Some c → choice_facts new c ≡ choice_facts old c
     choice_extends k c at =
@@ -342,7 +343,7 @@ module _ (old new : Tables) where
         let t = there_is old.titles.items i h in
         (ap (title_text old) o, ap (shown_when new) o ∙ by_title (slice_get old.titles.items i) (λ s q. title_there i s rows q) t.0 t.1)
 
-    pub shown_extends : (rest : List Title) (m : ℕ) (e : Entry) → AreRowsThere old → new.titles.items ≡ old.titles.items ++ rest → IsEntryThere (length old.titles.items) m e →
+    pub shown_extends : (rest : List Title) (m : ℕ) (e : ShownEntry) → AreRowsThere old → new.titles.items ≡ old.titles.items ++ rest → IsEntryThere (length old.titles.items) m e →
         shown_of new e ≡ shown_of old e
     shown_extends rest m (entry.Symbol s) rows e h = refl
     shown_extends rest m (entry.Menu id) rows e h =
@@ -362,14 +363,14 @@ module _ (old new : Tables) where
     pub choice_carries : (k : ℕ) (c : Choice) → slice_get old.choices.items k ≡ Some c → choice_facts new c ≡ choice_facts old c
     choice_carries = choice_extends (extends old.contexts new.contexts g)
 
-    pub shown_carries : (rest : List Title) (m : ℕ) (e : Entry) → AreRowsThere old → new.titles.items ≡ old.titles.items ++ rest → IsEntryThere (length old.titles.items) m e →
+    pub shown_carries : (rest : List Title) (m : ℕ) (e : ShownEntry) → AreRowsThere old → new.titles.items ≡ old.titles.items ++ rest → IsEntryThere (length old.titles.items) m e →
         shown_of new e ≡ shown_of old e
     shown_carries = shown_extends (extends old.contexts new.contexts g)
 
   -- What selects and implies a symbol: where the lines are the same, and the definitions that they stand in say the same.
   at_source : ((id : DefinitionId) → definition_at new id ≡ definition_at old id) → (o : Option Reverse) → option_and_then (reverse_facts new) o ≡ option_and_then (reverse_facts old) o
   at_source h None = refl
-  at_source h (Some r) = ap (option_map (λ (d : DefinitionFacts). record { what = d.symbol; when = with_when d.dep (when_view r.when) })) (h r.source)
+  at_source h (Some r) = ap (option_map (λ (d : DefinitionFacts). record { what = d.symbol; when = with_when d.dependency (when_view r.when) })) (h r.source)
 
   abbrev pub SaySame : Type 0
   SaySame = (i : ℕ) (d : Definition) → slice_get old.definitions.items i ≡ Some d → definition_facts new d ≡ definition_facts old d
@@ -405,13 +406,13 @@ pub titles_stay : (old new : List Condition) (ts : List Title) → length old �
 titles_stay old new ts h = All-weaker (IsTitleThere old) (IsTitleThere new)
     (λ t w. record { within = (let a = w.within in omega arith); visible = (let a = w.visible in omega arith) }) ts
 
-entry_stays : (m n k l : ℕ) → m ≤ k → n ≤ l → (e : Entry) → IsEntryThere m n e → IsEntryThere k l e
+entry_stays : (m n k l : ℕ) → m ≤ k → n ≤ l → (e : ShownEntry) → IsEntryThere m n e → IsEntryThere k l e
 entry_stays m n k l a b (entry.Symbol s) h = h
 entry_stays m n k l a b (entry.Menu id) h = omega arith
 entry_stays m n k l a b (entry.End menu) h = omega arith
 entry_stays m n k l a b (entry.Comment id) h = omega arith
 
-pub entries_stay : (m n k l : ℕ) (es : List Entry) → m ≤ k → n ≤ l → All (IsEntryThere m n) es → All (IsEntryThere k l) es
+pub entries_stay : (m n k l : ℕ) (es : List ShownEntry) → m ≤ k → n ≤ l → All (IsEntryThere m n) es → All (IsEntryThere k l) es
 entries_stay m n k l es a b = All-weaker (IsEntryThere m n) (IsEntryThere k l) (entry_stays m n k l a b) es
 
 -- The open blocks say the same under more contexts.

@@ -13,16 +13,16 @@ use Rattle.kc_read.specs.Blocks.{numbers}
 use Rattle.kc_read.specs.Statements.{Numbered}
 use Rattle.kc_tree.specs.declared.layout.Layout.{Layout}
 use Rattle.kc_tree.specs.declared.layout.Tables.{Tables}
-use Rattle.kc_tree.specs.declared.parts.DefinitionId.{DefinitionId}
-use Rattle.kc_tree.specs.declared.parts.Symbol.{Symbol}
+use Rattle.kc_tree.specs.declared.rows.DefinitionId.{DefinitionId}
+use Rattle.kc_tree.specs.declared.rows.Symbol.{Symbol}
 use Rattle.kc_tree.specs.Layouts as layouts
 use Rattle.kc_tree.specs.Layouts.{DefinitionFacts, facts_at, facts_by, facts_of, impliers_at, selectors_at, symbols_in}
 use Rattle.kc_tree.specs.Contexts.{mode_view}
-use Rattle.kc_tree.specs.Parts.{definition_ids}
+use Rattle.kc_tree.specs.Spans.{definition_ids}
 use Rattle.kc_tree.specs.Words.{is_symbol_of}
 use Rattle.kc_build.specs.Before.{definition_at, definition_line, definitions_before}
 use Rattle.kc_build.specs.Facts.{choice_of, definitions_of, impliers_of, kind_of, selectors_of, symbol_at, symbol_facts}
-use Rattle.kc_build.specs.Known.{AreSymbols, Row, definition_number, row_of, row_view}
+use Rattle.kc_build.specs.SymbolRows.{AreSymbols, SymbolRow, definition_number, row_of, row_view}
 use Rattle.kc_build.proofs.BlockLemmas.{numbers_from, numbers-from}
 use Rattle.kc_build.proofs.ElementLemmas.{same_is}
 use Rattle.kc_build.proofs.ListLemmas.{end_get, front_get, there_in}
@@ -133,14 +133,14 @@ module _ (ss : List Numbered) where
   facts_are s =
       let at = λ (j : ℕ). definition_at ss j s in
       let ds = definitions_of ss s in
-      let d = map-twice (λ (f : DefinitionFacts). f.dep) at ds in
+      let d = map-twice (λ (f : DefinitionFacts). f.dependency) at ds in
       let p = filter_map-map (λ (f : DefinitionFacts). f.prompt) at ds in
       let v = flat_map-map (λ (f : DefinitionFacts). f.defaults) at ds in
       let r = flat_map-map (λ (f : DefinitionFacts). f.ranges) at ds in
       λ i. record {
         kind = kind_of ss s;
         choice = choice_of ss s;
-        deps = d i;
+        dependencies = d i;
         prompts = p i;
         defaults = v i;
         ranges = r i;
@@ -166,9 +166,9 @@ module _ (ss : List Numbered) (t : Tables) (definitions_are : map (layouts.defin
   row_facts : (i : ℕ) (s : Symbol) → row_view s ≡ row_of ss i → selectors_at t i ≡ selectors_of ss (symbol i) → impliers_at t i ≡ impliers_of ss (symbol i) →
       facts_by s.kind (mode_view s.choice) (filter_map (layouts.definition_at t) (definition_ids s)) (selectors_at t i) (impliers_at t i) ≡ symbol_facts ss (symbol i)
   row_facts i s e a b =
-      let k = ap (λ (r : Row). r.kind) e in
-      let c = ap (λ (r : Row). r.choice) e in
-      let d = row_definitions (symbol i) (definition_ids s) (ap (λ (r : Row). r.definitions) e) in
+      let k = ap (λ (r : SymbolRow). r.kind) e in
+      let c = ap (λ (r : SymbolRow). r.choice) e in
+      let d = row_definitions (symbol i) (definition_ids s) (ap (λ (r : SymbolRow). r.definitions) e) in
       let now = facts_by s.kind (mode_view s.choice) (filter_map (layouts.definition_at t) (definition_ids s)) (selectors_at t i) (impliers_at t i) in
       let defined = map (λ j. definition_at ss j (symbol i)) (definitions_of ss (symbol i)) in
       let said : now ≡ facts_by (kind_of ss (symbol i)) (choice_of ss (symbol i)) defined (selectors_of ss (symbol i)) (impliers_of ss (symbol i)) =
@@ -184,7 +184,7 @@ from_each f g (suc n) h =
 row_at : (ss : List Numbered) (symbols : List Symbol) (i : ℕ) (s : Symbol) → AreSymbols ss symbols → i < length symbols → slice_get symbols i ≡ Some s → row_view s ≡ row_of ss i
 row_at ss symbols i s a l e =
     let said : Some (row_view s) ≡ Some (row_of ss i) = ap (option_map row_view) (sym e) ∙ sym (slice_get-map row_view symbols i)
-    ∙ ap (λ (rs : List Row). slice_get rs i) a ∙ get-map_numbers (row_of ss) (length symbols) i l in
+    ∙ ap (λ (rs : List SymbolRow). slice_get rs i) a ∙ get-map_numbers (row_of ss) (length symbols) i l in
     cc
 
 -- What the rows say of the symbols is what the statements say.

@@ -1,4 +1,4 @@
-mod AssemblyLemmas
+mod PartsLemmas
 mod AttributeLemmas
 mod BlockLemmas
 mod BuildLemmas
@@ -14,7 +14,7 @@ mod DiagnosedLemmas
 mod ElementLemmas
 mod EnterLemmas
 mod EnteredLemmas
-mod EntryPlaceLemmas
+mod EntrySummaryLemmas
 mod EntrySoundLemmas
 mod EntryWalkLemmas
 mod ExpansionLemmas
@@ -24,7 +24,7 @@ mod FirstNumberLemmas
 mod FormedLemmas
 mod GrownLemmas
 mod HeldLemmas
-mod KnownLemmas
+mod KindLemmas
 mod LayoutLemmas
 mod LineTextLemmas
 mod LineWalkLemmas
@@ -45,15 +45,15 @@ mod ReadTextLemmas
 mod RenamedLemmas
 mod RenamingLemmas
 mod ReverseLemmas
-mod RoundLemmas
+mod ScopeLemmas
 mod Rows
-mod SaidLemmas
+mod StatementLemmas
 mod ScanLemmas
 mod ShapeLemmas
 mod ShownLemmas
 mod SoundLemmas
 mod StackLemmas
-mod SurroundingLemmas
+mod ChoiceScopeLemmas
 mod SymbolRowLemmas
 mod TableLemmas
 mod TitleLemmas

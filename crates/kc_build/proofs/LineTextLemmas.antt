@@ -11,9 +11,9 @@ use Rattle.kc_text.specs.declared.tokens.Op.TheVariants as op
 use Rattle.kc_text.specs.Escapes.{unescape}
 use Rattle.kc_text.specs.Help.{after_help, after_text, column, from_other, is_help_line}
 use Rattle.kc_text.specs.Lexemes.{Lexeme, AWord, AQuoted, AnOp, Spells}
-use Rattle.kc_text.specs.Lines.{Physical, Left, TakesLine, continues, joined_text, lines_of_parts, physical_lines, share}
-use Rattle.kc_text.specs.Tokens.{Piece, Cuts, IsCut}
-use Rattle.kc_expr.specs.Grammar.{Atom, WordAtom, QuotedAtom, Terminal, Plain, Compares, Bang, Joins, Open, Close, Keyword, Chain, Part, Negation, only, joined, negation, conjunction, bang, group, lone, compare, atom_words, if_word, is_letter, leaf, meaning, meaning_not, meaning_part, op_terminal, plain_under, spell, spell_not, spell_part, terminal_of, terminal_words, terminals, words_of}
+use Rattle.kc_text.specs.Lines.{Physical, UnreadLines, TakesLine, continues, joined_text, lines_of_parts, physical_lines, without_continuation}
+use Rattle.kc_text.specs.Tokens.{TokenView, Cuts, IsCut}
+use Rattle.kc_expr.specs.Grammar.{Atom, WordAtom, QuotedAtom, Terminal, Plain, Compares, Bang, Joins, Open, Close, Keyword, Chain, Part, Negation, only, joined, negation, conjunction, bang, group, lone, compare, names_in_atom, if_word, is_tristate_constant, leaf, meaning, meaning_not, meaning_part, op_terminal, plain_form, spell, spell_not, spell_part, terminal_of, names_in_terminal, terminals, names_in_terminals}
 use Rattle.kc_expr.specs.Names.{same_name}
 use Rattle.kc_tree.specs.TreeFacts.{IsLineText, IsLineForm}
 
@@ -65,7 +65,8 @@ lines_by (x ∷ []) h = by (length x == 0)
     by true = All-nil (λ (l : Physical). HasNoLf l.text)
     by false = All-cons (λ (l : Physical). HasNoLf l.text) (record { text = x; ended = false }) [] (All-head HasNoLf x [] h) (All-nil (λ (l : Physical). HasNoLf l.text))
 lines_by (x ∷ y ∷ more) h =
-    All-cons (λ (l : Physical). HasNoLf l.text) (record { text = strip_carriage_return x; ended = true }) (lines_of_parts (y ∷ more)) (stripped x (All-head HasNoLf x (y ∷ more) h)) (lines_by (y ∷ more) (All-tail HasNoLf x (y ∷ more) h))
+    All-cons (λ (l : Physical). HasNoLf l.text) (record { text = strip_carriage_return x; ended = true }) (lines_of_parts (y ∷ more))
+    (stripped x (All-head HasNoLf x (y ∷ more) h)) (lines_by (y ∷ more) (All-tail HasNoLf x (y ∷ more) h))
 
 -- the lines of a file
 pub file_lines : (file : List ℕ) → AreOneLine (physical_lines file)
@@ -73,7 +74,7 @@ unfolding physical_lines
 file_lines file = lines_by (slice_split is_lf file) (each_part file)
 
 -- A logical line, and what is left after it.
-shared : (l : Physical) → HasNoLf l.text → HasNoLf (share l)
+shared : (l : Physical) → HasNoLf l.text → HasNoLf (without_continuation l)
 shared l h = by (continues l)
   where
     by : (b : Bool) → HasNoLf (if b then take (length l.text - 1) l.text else l.text)
@@ -83,9 +84,10 @@ shared l h = by (continues l)
 joined_lines : (front : List Physical) → AreOneLine front → HasNoLf (joined_text front)
 joined_lines [] h = All-nil (λ b. (b == 10) ≡ false)
 joined_lines (l ∷ ls) h =
-    All-append (λ b. (b == 10) ≡ false) (share l) (joined_text ls) (shared l (All-head (λ (l : Physical). HasNoLf l.text) l ls h)) (joined_lines ls (All-tail (λ (l : Physical). HasNoLf l.text) l ls h))
+    All-append (λ b. (b == 10) ≡ false) (without_continuation l) (joined_text ls) (shared l (All-head (λ (l : Physical). HasNoLf l.text) l ls h))
+    (joined_lines ls (All-tail (λ (l : Physical). HasNoLf l.text) l ls h))
 
-pub taken_line : (old new : Left) (text : List ℕ) → TakesLine old new text → AreOneLine old.lines → IsLineText text × AreOneLine new.lines
+pub taken_line : (old new : UnreadLines) (text : List ℕ) → TakesLine old new text → AreOneLine old.lines → IsLineText text × AreOneLine new.lines
 taken_line old new text (front, first, is, short, number, refusal) h =
     let both : AreOneLine (front ++ new.lines) = subst AreOneLine first.split h in
     let here : HasNoLf (joined_text front) = joined_lines front (all_front (λ (l : Physical). HasNoLf l.text) front new.lines both) in
@@ -156,13 +158,15 @@ spelled text (AQuoted t) h (q, quote, inside, dollars, is) =
     record { within = omega arith; one_line = unescaped t one }
 spelled text (AnOp o) h s = tt
 
-cut_by : (line : List ℕ) (p q : ℕ) (ts : List Piece) → IsLineText line → Cuts line p ts q → All IsLineLexeme (map (λ t. t.lexeme) ts)
+cut_by : (line : List ℕ) (p q : ℕ) (ts : List TokenView) → IsLineText line → Cuts line p ts q → All IsLineLexeme (map (λ t. t.lexeme) ts)
 cut_by line p q [] h c = All-nil IsLineLexeme
 cut_by line p q (t ∷ ts) h (blanks, piece, rest) =
-    All-cons IsLineLexeme t.lexeme (map (λ t. t.lexeme) ts) (spelled (take (t.end - t.start) (drop t.start line)) t.lexeme (part_of_line line t.start (t.end - t.start) h) piece.longest.spelled) (cut_by line t.end q ts h rest)
+    All-cons IsLineLexeme t.lexeme (map (λ t. t.lexeme) ts)
+    (spelled (take (t.end - t.start) (drop t.start line)) t.lexeme (part_of_line line t.start (t.end - t.start) h) piece.longest.spelled)
+    (cut_by line t.end q ts h rest)
 
 -- the tokens of a line
-pub cut_line : (line : List ℕ) (ts : List Piece) (out : Option TextFault) → IsLineText line → IsCut line ts out → All IsLineLexeme (map (λ t. t.lexeme) ts)
+pub cut_line : (line : List ℕ) (ts : List TokenView) (out : Option TextFault) → IsLineText line → IsCut line ts out → All IsLineLexeme (map (λ t. t.lexeme) ts)
 cut_line line ts out h (q, within, cuts, goes) = cut_by line 0 q ts h cuts
 
 -- The same as the grammar sees them.
@@ -210,11 +214,11 @@ word_line : (w : List ℕ) (b : Bool) → IsLineText w → All IsLineText (if b 
 word_line w true h = All-nil IsLineText
 word_line w false h = All-cons IsLineText w [] h (All-nil IsLineText)
 
-pub atom_lines : (a : Atom) → IsLineAtom a → All IsLineText (atom_words a)
-atom_lines (WordAtom w) h = word_line w (is_letter w) h
+pub atom_lines : (a : Atom) → IsLineAtom a → All IsLineText (names_in_atom a)
+atom_lines (WordAtom w) h = word_line w (is_tristate_constant w) h
 atom_lines (QuotedAtom t) h = All-nil IsLineText
 
-mentioned_by : (t : Terminal) → IsLineTerminal t → All IsLineText (terminal_words t)
+mentioned_by : (t : Terminal) → IsLineTerminal t → All IsLineText (names_in_terminal t)
 mentioned_by (Plain a) h = atom_lines a h
 mentioned_by (Compares o) h = All-nil IsLineText
 mentioned_by Bang h = All-nil IsLineText
@@ -223,17 +227,17 @@ mentioned_by Open h = All-nil IsLineText
 mentioned_by Close h = All-nil IsLineText
 mentioned_by Keyword h = All-nil IsLineText
 
-pub word_lines : (ts : List Terminal) → All IsLineTerminal ts → All IsLineText (words_of ts)
+pub word_lines : (ts : List Terminal) → All IsLineTerminal ts → All IsLineText (names_in_terminals ts)
 word_lines [] h = All-nil IsLineText
-word_lines (t ∷ ts) h = All-append IsLineText (terminal_words t) (words_of ts) (mentioned_by t (All-head IsLineTerminal t ts h)) (word_lines ts (All-tail IsLineTerminal t ts h))
+word_lines (t ∷ ts) h = All-append IsLineText (names_in_terminal t) (names_in_terminals ts) (mentioned_by t (All-head IsLineTerminal t ts h)) (word_lines ts (All-tail IsLineTerminal t ts h))
 
 -- Their value: a constant that stands alone is one of their texts.
-leaf_by : (number : List ℕ → ℕ) (w : List ℕ) (b : Bool) → is_letter w ≡ b → IsLineText w → IsLineForm (plain_under None (leaf number (WordAtom w)))
+leaf_by : (number : List ℕ → ℕ) (w : List ℕ) (b : Bool) → is_tristate_constant w ≡ b → IsLineText w → IsLineForm (plain_form None (leaf number (WordAtom w)))
 leaf_by number w true e h = rw e h
 leaf_by number w false e h = rw e tt
 
-leaf_line : (number : List ℕ → ℕ) (a : Atom) → IsLineAtom a → IsLineForm (plain_under None (leaf number a))
-leaf_line number (WordAtom w) h = leaf_by number w (is_letter w) refl h
+leaf_line : (number : List ℕ → ℕ) (a : Atom) → IsLineAtom a → IsLineForm (plain_form None (leaf number a))
+leaf_line number (WordAtom w) h = leaf_by number w (is_tristate_constant w) refl h
 leaf_line number (QuotedAtom t) h = h
 
 mutual

@@ -5,30 +5,30 @@ use Rattle.std.specs.List.{slice_get, filter_map, take_while, prefix_len}
 use Rattle.std.proofs.lemmas.List.{take-map, drop-map}
 use Rattle.std.proofs.lemmas.List.Elements.{All-nil}
 use Rattle.kc_expr.specs.Names.{symbol}
-use Rattle.kc_read.specs.declared.line.Line.{Line}
+use Rattle.kc_read.specs.declared.statement.Line.{Line}
 use Rattle.kc_read.specs.Blocks.{attributes, is_attribute}
-use Rattle.kc_read.specs.Reads.{line_view, statement_view}
+use Rattle.kc_read.specs.StatementViews.{line_view, statement_view}
 use Rattle.kc_read.specs.Statements.{Numbered, ChoiceLine}
-use Rattle.kc_tree.specs.declared.parts.Reverse.{Reverse}
-use Rattle.kc_tree.specs.declared.parts.ReverseId.{ReverseId}
-use Rattle.kc_tree.specs.declared.parts.Symbol.{Symbol}
+use Rattle.kc_tree.specs.declared.rows.Reverse.{Reverse}
+use Rattle.kc_tree.specs.declared.rows.ReverseId.{ReverseId}
+use Rattle.kc_tree.specs.declared.rows.Symbol.{Symbol}
 use Rattle.kc_tree.specs.Chains.{chain_of, chains_of}
 use Rattle.kc_tree.specs.Contexts.{condition_in}
 use Rattle.kc_tree.specs.Empty.{AreEmpty}
 use Rattle.kc_tree.specs.Layouts.{choice_facts as choice_in, definition_facts, impliers_at, reverse_at, reverses_from, selectors_at, shown_of}
 use Rattle.kc_tree.specs.TreeFacts.{Condition}
 use Rattle.kc_build.specs.declared.diagnostics.Diagnostics.{Diagnostics}
-use Rattle.kc_build.specs.declared.diagnostics.EntryPlace.{EntryPlace}
+use Rattle.kc_build.specs.declared.diagnostics.EntrySummary.{EntrySummary}
 use Rattle.kc_build.specs.declared.entries.Walk.{Walk}
-use Rattle.kc_build.specs.Diagnosed.{AreLookedAt}
+use Rattle.kc_build.specs.Diagnosed.{AreLinesDiagnosed}
 use Rattle.kc_build.specs.Facts.{can_be_target}
-use Rattle.kc_build.specs.Known.{AreChoicesApart, IsPlace, IsWhole}
-use Rattle.kc_build.specs.Passes.{said_by}
-use Rattle.kc_build.specs.Said.{IsDiagnosed, IsEntryThere, IsTitleThere}
-use Rattle.kc_build.specs.Stacks.{Asked, IsPlainHead, block_view}
+use Rattle.kc_build.specs.SymbolRows.{AreChoicesApart, IsEntrySummary, IsWhole}
+use Rattle.kc_build.specs.Passes.{statements_of}
+use Rattle.kc_build.specs.WalkResult.{IsDiagnosed, IsEntryThere, IsTitleThere}
+use Rattle.kc_build.specs.Stacks.{BlockFacts, IsPlainHead, block_view}
 use Rattle.kc_build.specs.Walks.{Enters, IsHead, IsWalk}
 use Rattle.kc_build.proofs.DiagnosedLemmas.{begins_behind, entry_of_lines}
-use Rattle.kc_build.proofs.PlaceLemmas.{length-said_by, statement_at}
+use Rattle.kc_build.proofs.PlaceLemmas.{length-statements_of, statement_at}
 
 -- A line at which an entry begins: it is no attribute, or it is the first line.
 abbrev pub Begins : List Numbered → ℕ → Type 0
@@ -99,45 +99,46 @@ plain_by _ mode h = tt
 pub plain-head : (ss : List Numbered) (symbols : List Symbol) (i : ℕ) (s : Numbered) (w : Walk) → AreChoicesApart ss → slice_get ss i ≡ Some s → IsWalk ss symbols i w →
     IsPlainHead s (condition_in w.tables.contexts w.blocks.innermost.within.0).mode
 plain-head ss symbols i s w apart at walk =
-    plain_by s (condition_in w.tables.contexts w.blocks.innermost.within.0).mode (λ e. ap (λ (a : Asked). a.mode) walk.blocks.innermost ∙ apart i (at ∙ ap Some e))
+    plain_by s (condition_in w.tables.contexts w.blocks.innermost.within.0).mode (λ e. ap (λ (a : BlockFacts). a.mode) walk.blocks.innermost ∙ apart i (at ∙ ap Some e))
 
 -- One entry more.
 module _ (lines : List Line) (symbols : List Symbol) (i end : ℕ) (head : Line) (h : i < length lines) (at : head ≡ get_or lines i head)
-    (count : end ≡ i + 1 + prefix_len is_attribute (drop (i + 1) (said_by lines))) (within : end ≤ length lines) (begins : Begins (said_by lines) i) where
+    (count : end ≡ i + 1 + prefix_len is_attribute (drop (i + 1) (statements_of lines))) (within : end ≤ length lines) (begins : Begins (statements_of lines) i) where
   abbrev pub own_lines : List Line
   own_lines = take (end - (i + 1)) (drop (i + 1) lines)
 
-  attributes-are : attributes (said_by lines) i ≡ said_by own_lines
+  attributes-are : attributes (statements_of lines) i ≡ statements_of own_lines
   attributes-are =
       let view = λ (l : Line). statement_view l.statement in
-      let many : prefix_len is_attribute (drop (i + 1) (said_by lines)) ≡ end - (i + 1) = omega arith in
-      let behind : drop (suc i) (said_by lines) ≡ drop (i + 1) (said_by lines) = (rw add-one refl) in
-      ap (take_while is_attribute) behind ∙ ap (λ k. take k (drop (i + 1) (said_by lines))) many ∙ ap (take (end - (i + 1))) (drop-map view (i + 1) lines)
+      let many : prefix_len is_attribute (drop (i + 1) (statements_of lines)) ≡ end - (i + 1) = omega arith in
+      let behind : drop (suc i) (statements_of lines) ≡ drop (i + 1) (statements_of lines) = (rw add-one refl) in
+      ap (take_while is_attribute) behind ∙ ap (λ k. take k (drop (i + 1) (statements_of lines))) many ∙ ap (take (end - (i + 1))) (drop-map view (i + 1) lines)
       ∙ take-map view (end - (i + 1)) (drop (i + 1) lines)
 
-  place-is : i + 1 + length (said_by own_lines) ≡ end
+  place-is : i + 1 + length (statements_of own_lines) ≡ end
   place-is =
       let n : length own_lines ≡ end - (i + 1) = simp (length-take, length-drop) (omega arith) in
-      omega (arith, length-said_by own_lines, n)
+      omega (arith, length-statements_of own_lines, n)
 
-  read : slice_get (said_by lines) i ≡ Some (statement_view head.statement)
+  read : slice_get (statements_of lines) i ≡ Some (statement_view head.statement)
   read = statement_at lines i head h at
 
-  pub head-is : IsHead (said_by lines) i (statement_view head.statement) (said_by own_lines)
+  pub head-is : IsHead (statements_of lines) i (statement_view head.statement) (statements_of own_lines)
   head-is = record { at = read; attributes_are = attributes-are; begins = begins (statement_view head.statement) read }
 
-  pub begins-next : Begins (said_by lines) end
+  pub begins-next : Begins (statements_of lines) end
   begins-next s e =
-      let there : i + 1 + length (attributes (said_by lines) i) ≡ end = ap (λ (l : List Numbered). i + 1 + length l) attributes-are ∙ place-is in
-      inl (begins_behind (said_by lines) i s (ap (slice_get (said_by lines)) there ∙ e))
+      let there : i + 1 + length (attributes (statements_of lines) i) ≡ end = ap (λ (l : List Numbered). i + 1 + length l) attributes-are ∙ place-is in
+      inl (begins_behind (statements_of lines) i s (ap (slice_get (statements_of lines)) there ∙ e))
 
-  module _ (whole : IsWhole (said_by lines) symbols) where
-    pub walk-next : (old new : Walk) → Enters symbols (statement_view head.statement) (said_by own_lines) old new → IsWalk (said_by lines) symbols i old → IsWalk (said_by lines) symbols end new
+  module _ (whole : IsWhole (statements_of lines) symbols) where
+    pub walk-next : (old new : Walk) → Enters symbols (statement_view head.statement) (statements_of own_lines) old new →
+        IsWalk (statements_of lines) symbols i old → IsWalk (statements_of lines) symbols end new
     walk-next old new enters walk =
-        subst (λ k. IsWalk (said_by lines) symbols k new) place-is (enters (said_by lines) i whole head-is walk)
+        subst (λ k. IsWalk (statements_of lines) symbols k new) place-is (enters (statements_of lines) i whole head-is walk)
 
-    pub diagnosed-next : (names : List (List ℕ)) (place : EntryPlace) (old new : Diagnostics) → IsPlace (said_by lines) i place →
-        IsDiagnosed names (map line_view lines) i old → AreLookedAt names symbols place (line_view head) (map line_view own_lines) old new → IsDiagnosed names (map line_view lines) end new
+    pub diagnosed-next : (names : List (List ℕ)) (place : EntrySummary) (old new : Diagnostics) → IsEntrySummary (statements_of lines) i place →
+        IsDiagnosed names (map line_view lines) i old → AreLinesDiagnosed names symbols place (line_view head) (map line_view own_lines) old new → IsDiagnosed names (map line_view lines) end new
     diagnosed-next names place old new is old_is looked =
         subst (λ k. IsDiagnosed names (map line_view lines) k new) place-is
         (entry_of_lines names lines symbols place i (end - (i + 1)) head own_lines old new whole.below whole.symbols_are h at refl attributes-are

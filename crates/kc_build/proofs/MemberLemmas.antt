@@ -9,15 +9,17 @@ use Rattle.kc_expr.specs.declared.expression.SymId.{SymId}
 use Rattle.kc_read.specs.Statements.{Numbered}
 use Rattle.kc_read.specs.Blocks.{numbers}
 use Rattle.kc_tree.specs.Words.{same_symbol, is_symbol_of, listed}
-use Rattle.kc_build.specs.Facts.{is_first_definition, symbol_at, symbol_of, first_of, choice_round, choice_of, kind_of, is_member, is_member_place, definitions_of, places}
-use Rattle.kc_build.specs.Firsts.{is_first_at, first_of_symbol}
+use Rattle.kc_build.specs.Facts.{is_first_definition, symbol_at, symbol_of, first_of, enclosing_choice, choice_of, kind_of, is_member, is_member_place, definitions_of, places}
+use Rattle.kc_build.specs.FirstDefinitions.{is_first_definition_at, first_of_symbol}
 use Rattle.kc_build.specs.Warnings.{is_bad_member, bad_members}
 use Rattle.kc_build.proofs.BlockLemmas.{there}
 use Rattle.kc_build.proofs.PlaceLemmas.{filter-next}
 use Rattle.kc_build.proofs.FirstLemmas.{some_places, first-is}
 
 -- some element passes among those that a function gives of the elements that are kept
-kept_any : {A B : Type 0} (p : B → Bool) (f : A → Option B) (q : A → Bool) (b : Bool) (o : Option B) (x : A) (xs : List A) → q x ≡ b → f x ≡ o → list_any p (filter_map f (filter q xs)) ≡ list_any (λ y. q y && list_any p (listed (f y))) xs → list_any p (filter_map f (filter q (x ∷ xs))) ≡ list_any (λ y. q y && list_any p (listed (f y))) (x ∷ xs)
+kept_any : {A B : Type 0} (p : B → Bool) (f : A → Option B) (q : A → Bool) (b : Bool) (o : Option B) (x : A) (xs : List A) → q x ≡ b → f x ≡ o →
+    list_any p (filter_map f (filter q xs)) ≡ list_any (λ y. q y && list_any p (listed (f y))) xs →
+    list_any p (filter_map f (filter q (x ∷ xs))) ≡ list_any (λ y. q y && list_any p (listed (f y))) (x ∷ xs)
 kept_any p f q false o x xs e g h = rw e h
 kept_any p f q true None x xs e g h = rw (e, g) h
 kept_any p f q true (Some y) x xs e g h = rw (e, g) (more (p y) h)
@@ -115,20 +117,28 @@ module _ (ss : List Numbered) (t : SymId) where
       same_number : (a b : ℕ) → (a == b) ≡ true → a ≡ b
       same_number a b h = eqb-true a b h
 
-  pub bad_at : (i : ℕ) (s : Numbered) → bad_members ss ≡ [] → i < length ss → slice_get ss i ≡ Some s → is_bad_member (kind_of ss) (choice_of ss) (is_first_at ss i) (choice_round ss i) s ≡ false
+  pub bad_at : (i : ℕ) (s : Numbered) → bad_members ss ≡ [] → i < length ss → slice_get ss i ≡ Some s →
+      is_bad_member (kind_of ss) (choice_of ss) (is_first_definition_at ss i) (enclosing_choice ss i) s ≡ false
   bad_at i s none l h =
-      let q = λ (j : ℕ). list_any (is_bad_member (kind_of ss) (choice_of ss) (is_first_at ss j) (choice_round ss j)) (listed (slice_get ss j)) in
+      let q = λ (j : ℕ). list_any (is_bad_member (kind_of ss) (choice_of ss) (is_first_definition_at ss j) (enclosing_choice ss j)) (listed (slice_get ss j)) in
       let nothing = passes_none q (length ss) i none l in
-      or_none (is_bad_member (kind_of ss) (choice_of ss) (is_first_at ss i) (choice_round ss i) s) (sym (ap (λ (o : Option Numbered). list_any (is_bad_member (kind_of ss) (choice_of ss) (is_first_at ss i) (choice_round ss i)) (listed o)) h) ∙ nothing)
+      or_none (is_bad_member (kind_of ss) (choice_of ss) (is_first_definition_at ss i) (enclosing_choice ss i) s)
+      (sym (ap (λ (o : Option Numbered). list_any (is_bad_member (kind_of ss) (choice_of ss) (is_first_definition_at ss i) (enclosing_choice ss i))
+      (listed o)) h) ∙ nothing)
 
   -- a definition of a member is its first
-  first_by_place : (i : ℕ) (u : SymId) (other : Bool) → symbol_at ss i ≡ Some u → same_symbol t u ≡ true → (((is_some (choice_of ss u) && not (is_first_at ss i)) || other) || false) ≡ false → is_some (choice_of ss t) ≡ true → is_first_definition ss i t ≡ true
+  first_by_place : (i : ℕ) (u : SymId) (other : Bool) → symbol_at ss i ≡ Some u → same_symbol t u ≡ true →
+      (((is_some (choice_of ss u) && not (is_first_definition_at ss i)) || other) || false) ≡ false → is_some (choice_of ss t) ≡ true →
+      is_first_definition ss i t ≡ true
   first_by_place i u other e same bad member =
       let one = same_is u same in
-      let first : is_first_at ss i ≡ true = not_bad (is_some (choice_of ss u)) (is_first_at ss i) other (or_none _ bad) (ap (λ (v : SymId). is_some (choice_of ss v)) one ∙ member) in
+      let first : is_first_definition_at ss i ≡ true = not_bad (is_some (choice_of ss u)) (is_first_definition_at ss i) other (or_none _ bad)
+      (ap (λ (v : SymId). is_some (choice_of ss v)) one ∙ member) in
       ap (is_first_definition ss i) (sym one) ∙ sym (ap (first_of_symbol ss i) e) ∙ first
 
-  first_by : (i : ℕ) (s : Numbered) (o : Option SymId) → slice_get ss i ≡ Some s → symbol_at ss i ≡ o → is_bad_member (kind_of ss) (choice_of ss) (is_first_at ss i) (choice_round ss i) s ≡ false → is_some (choice_of ss t) ≡ true → defines i ≡ true → is_first_definition ss i t ≡ true
+  first_by : (i : ℕ) (s : Numbered) (o : Option SymId) → slice_get ss i ≡ Some s → symbol_at ss i ≡ o →
+      is_bad_member (kind_of ss) (choice_of ss) (is_first_definition_at ss i) (enclosing_choice ss i) s ≡ false → is_some (choice_of ss t) ≡ true →
+      defines i ≡ true → is_first_definition ss i t ≡ true
   first_by i s None h e bad member d = let no : defines i ≡ false = (rw e refl) in cc
   first_by i s (Some u) h e bad member d =
       let named : symbol_of (Some s) ≡ Some u = sym (ap symbol_of h) ∙ e in
@@ -144,7 +154,7 @@ module _ (ss : List Numbered) (t : SymId) where
   is_number k d = d == k
 
   abbrev chosen : List ℕ → List ℕ
-  chosen ds = filter_map (choice_round ss) ds
+  chosen ds = filter_map (enclosing_choice ss) ds
 
   single : (k : ℕ) (o : Option ℕ) → list_any (is_number k) (cons_option o []) ≡ list_any (is_number k) (listed (first_of (cons_option o [])))
   single k None = refl
@@ -152,24 +162,27 @@ module _ (ss : List Numbered) (t : SymId) where
 
   of_one : (k : ℕ) (ds : List ℕ) → One ds → list_any (is_number k) (chosen ds) ≡ list_any (is_number k) (listed (first_of (chosen ds)))
   of_one k ds (inl e) = rw e refl
-  of_one k ds (inr d) = rw (d.1) (single k (choice_round ss (d.0)))
+  of_one k ds (inr d) = rw (d.1) (single k (enclosing_choice ss (d.0)))
 
   none_first : (xs : List ℕ) → first_of xs ≡ None → xs ≡ []
   none_first [] h = refl
   none_first (x ∷ xs) h = cc
 
-  by_choice : (k : ℕ) (o : Option ℕ) → bad_members ss ≡ [] → choice_of ss t ≡ o → list_any (is_number k) (chosen (definitions_of ss t)) ≡ list_any (is_number k) (listed (first_of (chosen (definitions_of ss t))))
+  by_choice : (k : ℕ) (o : Option ℕ) → bad_members ss ≡ [] → choice_of ss t ≡ o →
+      list_any (is_number k) (chosen (definitions_of ss t)) ≡ list_any (is_number k) (listed (first_of (chosen (definitions_of ss t))))
   by_choice k None none e = rw (none_first (chosen (definitions_of ss t)) e) refl
   by_choice k (Some c) none e =
       of_one k (definitions_of ss t) (one_definition (length ss) (omega arith) (first_if none (ap is_some e)))
 
-  swapped : (k i : ℕ) (o : Option SymId) → symbol_at ss i ≡ o → (is_member_place ss k i && list_any (same_symbol t) (listed (symbol_at ss i))) ≡ (defines i && list_any (is_number k) (listed (choice_round ss i)))
+  swapped : (k i : ℕ) (o : Option SymId) → symbol_at ss i ≡ o →
+      (is_member_place ss k i && list_any (same_symbol t) (listed (symbol_at ss i))) ≡ (defines i && list_any (is_number k) (listed (enclosing_choice ss i)))
   swapped k i None e = rw e refl
-  swapped k i (Some u) e = rw e (turned (list_any (is_number k) (listed (choice_round ss i))) (same_symbol t u))
+  swapped k i (Some u) e = rw e (turned (list_any (is_number k) (listed (enclosing_choice ss i))) (same_symbol t u))
 
   pub member_is : bad_members ss ≡ [] → (k : ℕ) → is_member ss k t ≡ list_any (λ d. d == k) (listed (choice_of ss t))
   member_is none k =
       any_kept (same_symbol t) (symbol_at ss) (is_member_place ss k) (places ss)
-      ∙ same_any (λ (i : ℕ). is_member_place ss k i && list_any (same_symbol t) (listed (symbol_at ss i))) (λ (i : ℕ). defines i && list_any (is_number k) (listed (choice_round ss i))) (places ss) (λ i. swapped k i (symbol_at ss i) refl)
-      ∙ sym (any_kept (is_number k) (choice_round ss) defines (places ss))
+      ∙ same_any (λ (i : ℕ). is_member_place ss k i && list_any (same_symbol t) (listed (symbol_at ss i)))
+      (λ (i : ℕ). defines i && list_any (is_number k) (listed (enclosing_choice ss i))) (places ss) (λ i. swapped k i (symbol_at ss i) refl)
+      ∙ sym (any_kept (is_number k) (enclosing_choice ss) defines (places ss))
       ∙ by_choice k (choice_of ss t) none refl

@@ -13,12 +13,12 @@ use Rattle.kc_expr.specs.Form.{Form}
 use Rattle.kc_expr.specs.Names.{symbol}
 use Rattle.kc_read.specs.declared.statement.Block.TheVariants as block
 use Rattle.kc_read.specs.Blocks.{numbers, attributes}
-use Rattle.kc_read.specs.Statements.{Numbered, Placed}
+use Rattle.kc_read.specs.Statements.{Numbered, Located}
 use Rattle.kc_tree.specs.TreeFacts.{Guarded, SymbolFacts, ChoiceFacts, TreeFacts, IsMemberOf, IsChoiceSound, IsListed}
 use Rattle.kc_tree.specs.Words.{listed, same_symbol}
-use Rattle.kc_build.specs.Facts.{Given, choice_facts, choice_number, choice_of, choice_places, choice_round, choices, definitions_of, first_of, given_of, is_member, is_member_place, kind_of, member_default, members_of, named_under, of_block, places, same_kind, single_symbol, symbol_at, symbol_facts, symbol_of}
-use Rattle.kc_build.specs.Firsts.{is_first_at}
-use Rattle.kc_build.specs.Known.{AreBelow}
+use Rattle.kc_build.specs.Facts.{StatedDefault, choice_facts, choice_number, choice_of, choice_places, enclosing_choice, choices, definitions_of, first_of, stated_default, is_member, is_member_place, kind_of, member_default, members_of, guarded_symbol, of_block, places, same_kind, single_symbol, symbol_at, symbol_facts, symbol_of}
+use Rattle.kc_build.specs.FirstDefinitions.{is_first_definition_at}
+use Rattle.kc_build.specs.SymbolRows.{AreBelow}
 use Rattle.kc_build.specs.Warnings.{bad_members, is_bad_member}
 use Rattle.kc_build.proofs.ElementLemmas.{All-filter_map, All-kept, IsKept, kept_at, filter_map-from, found_is}
 use Rattle.kc_build.proofs.FormedLemmas.{facts_at, few_taken, prompt_mode, tree}
@@ -89,7 +89,9 @@ module _ (ss : List Numbered) (none : bad_members ss ≡ []) where
       let x = symbol_within i s (slice_get ss i) refl h in
       let l : i < length ss = slice_get_within ss i x.0 x.1 in
       let own : list_any (same_symbol s) (listed (symbol_at ss i)) ≡ true = ap (λ (o : Option SymId). list_any (same_symbol s) (listed o)) h ∙ ap (λ (b : Bool). b || false) (eq-eqb s.0 s.0 refl) in
-      any_kept (same_symbol s) (symbol_at ss) (is_member_place ss k) (places ss) ∙ any_at (λ (y : ℕ). is_member_place ss k y && list_any (same_symbol s) (listed (symbol_at ss y))) (length ss) i l (ap (λ (b : Bool). b && list_any (same_symbol s) (listed (symbol_at ss i))) m ∙ own)
+      any_kept (same_symbol s) (symbol_at ss) (is_member_place ss k) (places ss)
+      ∙ any_at (λ (y : ℕ). is_member_place ss k y && list_any (same_symbol s) (listed (symbol_at ss y))) (length ss) i l
+      (ap (λ (b : Bool). b && list_any (same_symbol s) (listed (symbol_at ss i))) m ∙ own)
 
   member_choice : (k i : ℕ) (s : SymId) → is_member_place ss k i ≡ true → symbol_at ss i ≡ Some s → choice_of ss s ≡ Some k
   member_choice k i s m h =
@@ -99,10 +101,13 @@ module _ (ss : List Numbered) (none : bad_members ss ≡ []) where
   member_kind k i s m h =
       let x = symbol_within i s (slice_get ss i) refl h in
       let l : i < length ss = slice_get_within ss i x.0 x.1 in
-      let round : choice_round ss i ≡ Some k = number_listed k (choice_round ss i) (and_parts (is_some (symbol_at ss i)) (list_any (λ j. j == k) (listed (choice_round ss i))) m).1 in
-      let fine : is_bad_member (kind_of ss) (choice_of ss) (is_first_at ss i) (choice_round ss i) x.0 ≡ false = bad_at ss s i x.0 none l x.1 in
-      let plain : list_any (λ t. (is_some (choice_of ss t) && not (is_first_at ss i)) || (is_some (choice_round ss i) && not (same_kind (kind_of ss t) kind.Bool))) (listed (Some s)) ≡ false = ap (λ (o : Option SymId). list_any (λ t. (is_some (choice_of ss t) && not (is_first_at ss i)) || (is_some (choice_round ss i) && not (same_kind (kind_of ss t) kind.Bool))) (listed o)) (sym x.2) ∙ fine in
-      is_bool (kind_of ss s) (not_bad (is_some (choice_of ss s) && not (is_first_at ss i)) (is_some (choice_round ss i)) (same_kind (kind_of ss s) kind.Bool) plain (ap is_some round))
+      let round : enclosing_choice ss i ≡ Some k = number_listed k (enclosing_choice ss i) (and_parts (is_some (symbol_at ss i)) (list_any (λ j. j == k) (listed (enclosing_choice ss i))) m).1 in
+      let fine : is_bad_member (kind_of ss) (choice_of ss) (is_first_definition_at ss i) (enclosing_choice ss i) x.0 ≡ false = bad_at ss s i x.0 none l x.1 in
+      let plain : list_any (λ t. (is_some (choice_of ss t) && not (is_first_definition_at ss i)) ||
+      (is_some (enclosing_choice ss i) && not (same_kind (kind_of ss t) kind.Bool))) (listed (Some s)) ≡ false =
+      ap (λ (o : Option SymId). list_any (λ t. (is_some (choice_of ss t) && not (is_first_definition_at ss i)) ||
+      (is_some (enclosing_choice ss i) && not (same_kind (kind_of ss t) kind.Bool))) (listed o)) (sym x.2) ∙ fine in
+      is_bool (kind_of ss s) (not_bad (is_some (choice_of ss s) && not (is_first_definition_at ss i)) (is_some (enclosing_choice ss i)) (same_kind (kind_of ss s) kind.Bool) plain (ap is_some round))
 
   -- where choice k stands
   record IsChoicePlace (k : ℕ) (c : ChoiceFacts) : Type 0 where
@@ -125,7 +130,7 @@ module _ (ss : List Numbered) (none : bad_members ss ≡ []) where
   -- a choice of some symbol is there
   choice_within : (s : SymId) (k : ℕ) → choice_of ss s ≡ Some k → k < length (choices ss)
   choice_within s k h =
-      let x = filter_map-from (choice_round ss) k (definitions_of ss s) 0 (first_get (filter_map (choice_round ss) (definitions_of ss s)) k h) in
+      let x = filter_map-from (enclosing_choice ss) k (definitions_of ss s) 0 (first_get (filter_map (enclosing_choice ss) (definitions_of ss s)) k h) in
       mode_below ss x.0 k (few_taken ss x.0) x.1
 
   -- a member stands among the members of its choice
@@ -138,26 +143,30 @@ module _ (ss : List Numbered) (none : bad_members ss ≡ []) where
       let member : is_member ss k s ≡ true = member_is ss s none k ∙ ap (λ (o : Option ℕ). list_any (λ d. d == k) (listed o)) h ∙ listed_number k in
       (c, found, subst (λ (ms : List SymId). Contains ms s) (sym (members_are k c found)) (found_is s (members_of ss k) member))
 
-  module _ (alone : (p : ℕ) → of_block ss block.Choice p ≡ true → choice_round ss p ≡ None) where
+  module _ (alone : (p : ℕ) → of_block ss block.Choice p ≡ true → enclosing_choice ss p ≡ None) where
     abbrev DefaultSound : List SymId → Guarded SymId → Type 0
     DefaultSound ms g = Contains ms g.what × (g.when.mode ≡ None)
 
-    default_test : (p : ℕ) (t : SymId) (w : Option Form) (g : Guarded SymId) (b : Bool) → choice_round ss p ≡ None → is_member ss (choice_number ss p) t ≡ b → (if b then Some (named_under ss p t w) else None) ≡ Some g → DefaultSound (members_of ss (choice_number ss p)) g
+    default_test : (p : ℕ) (t : SymId) (w : Option Form) (g : Guarded SymId) (b : Bool) → enclosing_choice ss p ≡ None →
+        is_member ss (choice_number ss p) t ≡ b → (if b then Some (guarded_symbol ss p t w) else None) ≡ Some g →
+        DefaultSound (members_of ss (choice_number ss p)) g
     default_test p t w g false r e h = absurd cc
     default_test p t w g true r e h =
-        let same : named_under ss p t w ≡ g = cc in
+        let same : guarded_symbol ss p t w ≡ g = cc in
         subst (DefaultSound (members_of ss (choice_number ss p))) same (found_is t (members_of ss (choice_number ss p)) e, r)
 
-    default_by : (p : ℕ) (v : Given) (g : Guarded SymId) (o : Option SymId) → choice_round ss p ≡ None → option_and_then (λ t. if is_member ss (choice_number ss p) t then Some (named_under ss p t v.when) else None) o ≡ Some g → DefaultSound (members_of ss (choice_number ss p)) g
+    default_by : (p : ℕ) (v : StatedDefault) (g : Guarded SymId) (o : Option SymId) → enclosing_choice ss p ≡ None →
+        option_and_then (λ t. if is_member ss (choice_number ss p) t then Some (guarded_symbol ss p t v.when) else None) o ≡ Some g →
+        DefaultSound (members_of ss (choice_number ss p)) g
     default_by p v g None r h = absurd cc
     default_by p v g (Some t) r h = default_test p t v.when g (is_member ss (choice_number ss p) t) r refl h
 
-    defaults_sound : (p : ℕ) → choice_round ss p ≡ None → All (DefaultSound (members_of ss (choice_number ss p))) (choice_facts ss p).defaults
+    defaults_sound : (p : ℕ) → enclosing_choice ss p ≡ None → All (DefaultSound (members_of ss (choice_number ss p))) (choice_facts ss p).defaults
     defaults_sound p r =
-        All-filter_map (DefaultSound (members_of ss (choice_number ss p))) (member_default ss p) (λ v g h. default_by p v g (single_symbol v.value) r h) (filter_map given_of (attributes ss p))
+        All-filter_map (DefaultSound (members_of ss (choice_number ss p))) (member_default ss p) (λ v g h. default_by p v g (single_symbol v.value) r h) (filter_map stated_default (attributes ss p))
 
 -- The same of a tree.
-module _ (names : List (List ℕ)) (count : ℕ) (modules : SymId) (ls : List (Placed Numbered)) where
+module _ (names : List (List ℕ)) (count : ℕ) (modules : SymId) (ls : List (Located Numbered)) where
   abbrev pub said : List Numbered
   said = map (λ l. l.statement) ls
 
@@ -167,9 +176,16 @@ module _ (names : List (List ℕ)) (count : ℕ) (modules : SymId) (ls : List (P
   module _ (below : AreBelow count said) (none : bad_members said ≡ []) where
     members_sound : (k : ℕ) → All (IsMemberOf whole k) (members_of said k)
     members_sound k =
-        All-kept (IsMemberOf whole k) (symbol_at said) (is_member_place said k) (λ i s m h. (symbol_facts said (symbol s.0), facts_at names count modules ls s.0 (below i s h), member_choice said none k i s m h, member_kind said none k i s m h)) (places said)
+        All-kept (IsMemberOf whole k) (symbol_at said) (is_member_place said k)
+        (λ i s m h. (
+          symbol_facts said (symbol s.0),
+          facts_at names count modules ls s.0 (below i s h),
+          member_choice said none k i s m h,
+          member_kind said none k i s m h,
+        )) (places said)
 
-    listed_by : (i k : ℕ) (f g : SymbolFacts) → Some g ≡ Some f → g.choice ≡ choice_of said (symbol i) → f.choice ≡ Some k → (c : ChoiceFacts) × (slice_get whole.choices k ≡ Some c) × Contains c.members (symbol i)
+    listed_by : (i k : ℕ) (f g : SymbolFacts) → Some g ≡ Some f → g.choice ≡ choice_of said (symbol i) → f.choice ≡ Some k → (c : ChoiceFacts)
+        × (slice_get whole.choices k ≡ Some c) × Contains c.members (symbol i)
     listed_by i k f g e h c =
         let same : g ≡ f = cc in
         listed_at said none (symbol i) k (sym h ∙ ap (λ (x : SymbolFacts). x.choice) same ∙ c)
@@ -181,7 +197,7 @@ module _ (names : List (List ℕ)) (count : ℕ) (modules : SymId) (ls : List (P
         let l : i < count = omega arith in
         listed_by i k f (symbol_facts said (symbol i)) (sym (facts_at names count modules ls i l) ∙ h) refl c
 
-    module _ (alone : (p : ℕ) → of_block said block.Choice p ≡ true → choice_round said p ≡ None) where
+    module _ (alone : (p : ℕ) → of_block said block.Choice p ≡ true → enclosing_choice said p ≡ None) where
       sound_place : (k p : ℕ) → IsKept (of_block said block.Choice) (length said) k p → IsChoiceSound whole k (choice_facts said p)
       sound_place k p h =
           let r = alone p h.passes in

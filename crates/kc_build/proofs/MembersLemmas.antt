@@ -9,10 +9,10 @@ use Rattle.kc_expr.specs.declared.expression.SymId.{SymId}
 use Rattle.kc_read.specs.declared.statement.Block.TheVariants as block
 use Rattle.kc_read.specs.Blocks.{bracket_of, numbers, opened}
 use Rattle.kc_read.specs.Statements.{ConfigLine, Numbered}
-use Rattle.kc_tree.specs.declared.parts.Symbol.{Symbol}
+use Rattle.kc_tree.specs.declared.rows.Symbol.{Symbol}
 use Rattle.kc_tree.specs.TreeFacts.{ChoiceFacts}
 use Rattle.kc_build.specs.Before.{choice_before, choices_before, members_before}
-use Rattle.kc_build.specs.Facts.{choice_number, choice_round, is_block, of_block, symbol_at, symbol_of}
+use Rattle.kc_build.specs.Facts.{choice_number, enclosing_choice, is_block, of_block, symbol_at, symbol_of}
 use Rattle.kc_build.specs.Passes.{change}
 use Rattle.kc_build.specs.Walks.{IsHead, place_after}
 use Rattle.kc_build.specs.WalkSteps.{one_more, with_member}
@@ -85,10 +85,10 @@ module _ (ss : List Numbered) (symbols : List Symbol) (i : ℕ) (s : SymId) (own
   taken true = ap (λ o. cons_option o []) symbol_here
   taken false = refl
 
-  no_member : (k : ℕ) → choice_round ss i ≡ None → member_line ss i (ConfigLine s) own h k i ≡ []
+  no_member : (k : ℕ) → enclosing_choice ss i ≡ None → member_line ss i (ConfigLine s) own h k i ≡ []
   no_member k e = rw (symbol_here, e) refl
 
-  a_member : (k c : ℕ) → choice_round ss i ≡ Some c → member_line ss i (ConfigLine s) own h k i ≡ (if c == k then s ∷ [] else [])
+  a_member : (k c : ℕ) → enclosing_choice ss i ≡ Some c → member_line ss i (ConfigLine s) own h k i ≡ (if c == k then s ∷ [] else [])
   a_member k c e = rw (symbol_here, e) (taken (c == k))
 
   members_are : (k : ℕ) (more : List SymId) → member_line ss i (ConfigLine s) own h k i ≡ more → members_before ss after k ≡ members_before ss i k ++ more
@@ -97,33 +97,34 @@ module _ (ss : List Numbered) (symbols : List Symbol) (i : ℕ) (s : SymId) (own
   abbrev with_members : ℕ → List SymId → ChoiceFacts
   with_members j l = record (choice_before ss symbols i j) { members = l }
 
-  same_choice : (j : ℕ) → choice_round ss i ≡ None → choice_before ss symbols after j ≡ choice_before ss symbols i j
+  same_choice : (j : ℕ) → enclosing_choice ss i ≡ None → choice_before ss symbols after j ≡ choice_before ss symbols i j
   same_choice j e =
       ap (with_members j) (members_are (choice_number ss j) [] (no_member (choice_number ss j) e) ∙ append-nil (members_before ss i (choice_number ss j)))
 
-  one_by : (c j : ℕ) (b : Bool) → choice_round ss i ≡ Some c → (c == choice_number ss j) ≡ b →
+  one_by : (c j : ℕ) (b : Bool) → enclosing_choice ss i ≡ Some c → (c == choice_number ss j) ≡ b →
       (if b then one_more s (choice_before ss symbols i j) else choice_before ss symbols i j) ≡ choice_before ss symbols after j
   one_by c j true e t =
       sym (ap (with_members j) (members_are (choice_number ss j) (s ∷ []) (a_member (choice_number ss j) c e ∙ ap (λ (b : Bool). if b then s ∷ [] else []) t)))
   one_by c j false e t =
-      sym (ap (with_members j) (members_are (choice_number ss j) [] (a_member (choice_number ss j) c e ∙ ap (λ (b : Bool). if b then s ∷ [] else []) t) ∙ append-nil (members_before ss i (choice_number ss j))))
+      sym (ap (with_members j) (members_are (choice_number ss j) [] (a_member (choice_number ss j) c e ∙ ap (λ (b : Bool). if b then s ∷ [] else []) t)
+      ∙ append-nil (members_before ss i (choice_number ss j))))
 
   turned : (a b : ℕ) (t : Bool) → (a == b) ≡ t → (b == a) ≡ t
   turned a b true e = eq-eqb b a (sym (eqb-true a b e))
   turned a b false e = ne_eqb b a (λ q. false≢true (sym e ∙ eq-eqb a b (sym q)))
 
-  one_more_by : (c j : ℕ) (b : Bool) → choice_round ss i ≡ Some c → (length (filter opens (numbers j)) == c) ≡ b →
+  one_more_by : (c j : ℕ) (b : Bool) → enclosing_choice ss i ≡ Some c → (length (filter opens (numbers j)) == c) ≡ b →
       (if b then one_more s (choice_before ss symbols i j) else choice_before ss symbols i j) ≡ choice_before ss symbols after j
   one_more_by c j b e t =
       one_by c j b e (turned (choice_number ss j) c b (sym (ap (λ k. k == c) (length-filter opens (numbers j))) ∙ t))
 
-  by_round : (o : Option ℕ) → choice_round ss i ≡ o → with_member o s (choices_before ss symbols i) ≡ map (choice_before ss symbols after) (filter opens (numbers i))
+  by_round : (o : Option ℕ) → enclosing_choice ss i ≡ o → with_member o s (choices_before ss symbols i) ≡ map (choice_before ss symbols after) (filter opens (numbers i))
   by_round None e =
       map_alike (choice_before ss symbols i) (choice_before ss symbols after) (filter opens (numbers i)) (λ k j at. sym (same_choice j e))
   by_round (Some c) e =
       change_passing opens (one_more s) (choice_before ss symbols i) (choice_before ss symbols after) c (λ j. one_more_by c j (length (filter opens (numbers j)) == c) e refl) i
 
-  -- the choices get the symbol as a member, where one is round it
-  pub members_added : with_member (choice_round ss i) s (choices_before ss symbols i) ≡ choices_before ss symbols after
+  -- the choices get the symbol as a member, where one encloses it
+  pub members_added : with_member (enclosing_choice ss i) s (choices_before ss symbols i) ≡ choices_before ss symbols after
   members_added =
-      by_round (choice_round ss i) refl ∙ sym (ap (map (choice_before ss symbols after)) openers_same)
+      by_round (enclosing_choice ss i) refl ∙ sym (ap (map (choice_before ss symbols after)) openers_same)

@@ -7,7 +7,7 @@ use Rattle.kc_expr.specs.declared.expression.SymId.{SymId}
 use Rattle.kc_read.specs.Statements.{Numbered, ConfigLine, MenuLine, EndMenuLine}
 use Rattle.kc_read.specs.Blocks.{numbers}
 use Rattle.kc_tree.specs.TreeFacts.{Condition, Shown, SymbolShown, MenuShown, EndShown}
-use Rattle.kc_build.specs.Facts.{opener_of, is_first_definition, is_entry, entry_number, entry_at, entries, shown_when}
+use Rattle.kc_build.specs.Facts.{enclosing_block, is_first_definition, is_entry, entry_number, entry_at, entries, shown_when}
 use Rattle.kc_build.proofs.BlockLemmas.{there, round_last}
 use Rattle.kc_build.proofs.ChoiceLemmas.{fewer_before}
 use Rattle.kc_build.proofs.ExpansionLemmas.{AreNested}
@@ -44,12 +44,15 @@ module _ {X : Type 0} (f : ℕ → Option X) (p : ℕ → Bool) where
   so_many (suc n) h =
       let before = so_many n (λ j l. h j (omega arith)) in
       let here : length (cons_option (f n) []) ≡ cond (p n) 1 0 = one_more (f n) ∙ ap (λ (b : Bool). cond b 1 0) (sym (h n (omega arith))) in
-      let whole : length (filter_map f (numbers (suc n))) ≡ length (filter_map f (numbers n)) + length (cons_option (f n) []) = ap length (given_next n) ∙ length-append (filter_map f (numbers n)) (cons_option (f n) []) in
+      let whole : length (filter_map f (numbers (suc n))) ≡ length (filter_map f (numbers n)) + length (cons_option (f n) []) = ap length (given_next n)
+      ∙ length-append (filter_map f (numbers n)) (cons_option (f n) []) in
       let all = count_next p n in
       omega arith
 
   -- what is given at a number stands after what is given before it
-  stands_by : (n j : ℕ) (x : X) → (j < n) ⊎ (n ≤ j) → Tells (suc n) → j < suc n → f j ≡ Some x → (j < n → slice_get (filter_map f (numbers n)) (count_by p (numbers j)) ≡ Some x) → slice_get (filter_map f (numbers (suc n))) (count_by p (numbers j)) ≡ Some x
+  stands_by : (n j : ℕ) (x : X) → (j < n) ⊎ (n ≤ j) → Tells (suc n) → j < suc n → f j ≡ Some x →
+      (j < n → slice_get (filter_map f (numbers n)) (count_by p (numbers j)) ≡ Some x) →
+      slice_get (filter_map f (numbers (suc n))) (count_by p (numbers j)) ≡ Some x
   stands_by n j x (inl below) h l e before =
       ap (λ (ys : List X). slice_get ys (count_by p (numbers j))) (given_next n)
       ∙ front_get (filter_map f (numbers n)) (cons_option (f n) []) (count_by p (numbers j)) x (before below)
@@ -70,7 +73,8 @@ module _ {X : Type 0} (f : ℕ → Option X) (p : ℕ → Bool) where
   abbrev pub IsGiven : ℕ → ℕ → X → Type 0
   IsGiven n i x = (j : ℕ) × (j < n) × (f j ≡ Some x) × (i ≡ count_by p (numbers j))
 
-  given_by : (n i : ℕ) (x : X) → Tells (suc n) → (slice_get (filter_map f (numbers n)) i ≡ Some x → IsGiven n i x) → (slice_get (filter_map f (numbers n)) i ≡ Some x) ⊎ ((i ≡ length (filter_map f (numbers n))) × (f n ≡ Some x)) → IsGiven (suc n) i x
+  given_by : (n i : ℕ) (x : X) → Tells (suc n) → (slice_get (filter_map f (numbers n)) i ≡ Some x → IsGiven n i x) →
+      (slice_get (filter_map f (numbers n)) i ≡ Some x) ⊎ ((i ≡ length (filter_map f (numbers n))) × (f n ≡ Some x)) → IsGiven (suc n) i x
   given_by n i x h before (inl e) =
       let g = before e in
       let l = g.1 in
@@ -109,13 +113,21 @@ module _ (ss : List Numbered) (nested : AreNested ss) where
       rw (s.1) (tells_by j s.0 s.1)
 
   -- the menu that an `endmenu` line closes stands before it among the entries
-  menu_before : (i : ℕ) → i < length ss → slice_get ss i ≡ Some EndMenuLine → (k : ℕ) × (opener_of ss i ≡ Some k) × ((entry_number ss k < entry_number ss i) × ((text : List ℕ) × (when : Condition) × (slice_get (entries ss) (entry_number ss k) ≡ Some (MenuShown text when))))
+  menu_before : (i : ℕ) → i < length ss → slice_get ss i ≡ Some EndMenuLine → (k : ℕ) × (enclosing_block ss i ≡ Some k)
+      × ((entry_number ss k < entry_number ss i) × ((text : List ℕ) × (when : Condition)
+      × (slice_get (entries ss) (entry_number ss k) ≡ Some (MenuShown text when))))
   menu_before i l e =
       let k = menu_closed ss nested i e in
       let before = (round_last ss i k.0 (omega arith) k.1).before in
       let opens : is_line_entry k.0 ≡ true = ap (is_entry ss k.0) k.2.1 in
-      let shown : line_entry k.0 ≡ Some (MenuShown k.2.0 (shown_when ss k.0)) = ap (entry_at ss k.0) k.2.1 in
-      (k.0, k.1, (fewer_before is_line_entry k.0 i before opens, (k.2.0, shown_when ss k.0, stands_at line_entry is_line_entry (length ss) k.0 (MenuShown k.2.0 (shown_when ss k.0)) tells (omega arith) shown)))
+      let shown : line_entry k.0 ≡ Some (MenuShown k.2.0 (shown_when ss k.0)) = ap (entry_at ss k.0) k.2.1 in (
+        k.0,
+        k.1,
+        (
+          fewer_before is_line_entry k.0 i before opens,
+          (k.2.0, shown_when ss k.0, stands_at line_entry is_line_entry (length ss) k.0 (MenuShown k.2.0 (shown_when ss k.0)) tells (omega arith) shown),
+        ),
+      )
 
   abbrev IsMenuBefore : ℕ → ℕ → Type 0
   IsMenuBefore i menu = (menu < i) × ((text : List ℕ) × (when : Condition) × (slice_get (entries ss) menu ≡ Some (MenuShown text when)))

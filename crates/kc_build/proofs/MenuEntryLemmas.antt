@@ -6,7 +6,7 @@ use Rattle.std.proofs.lemmas.List.{append-nil, reverse-append}
 use Rattle.kc_read.specs.Statements.{Numbered}
 use Rattle.kc_read.specs.Blocks.{numbers, last_of, is_attribute}
 use Rattle.kc_build.specs.declared.diagnostics.MenuEntry.TheVariants as menu_entry
-use Rattle.kc_build.specs.Facts.{choice_number, asked_of}
+use Rattle.kc_build.specs.Facts.{choice_number, prompt_of}
 use Rattle.kc_build.specs.Warnings.{is_some_other, entry_before, begun, begun_at, menu_entry_before, menu_entry_at, prompt_before}
 use Rattle.kc_build.proofs.BlockLemmas.{take-next, last-snoc}
 use Rattle.kc_build.proofs.PlaceLemmas.{filter-next}
@@ -41,7 +41,7 @@ module _ (ss : List Numbered) where
   entry_here i = rw add-one refl
 
 abbrev pub asks : Numbered → Bool
-asks s = is_some (asked_of s)
+asks s = is_some (prompt_of s)
 
 abbrev asks_in : List Numbered → Bool
 asks_in ss = list_any asks (take_while is_attribute ss)

@@ -14,10 +14,10 @@ use Rattle.kc_expr.specs.When.{when_view}
 use Rattle.kc_read.specs.Blocks.{attributes}
 use Rattle.kc_read.specs.Statements.{Numbered, SelectLine, ImplyLine}
 use Rattle.kc_tree.specs.declared.layout.Tables.{Tables}
-use Rattle.kc_tree.specs.declared.parts.DefinitionId.{DefinitionId}
-use Rattle.kc_tree.specs.declared.parts.Reverse.{Reverse}
-use Rattle.kc_tree.specs.declared.parts.ReverseId.{ReverseId}
-use Rattle.kc_tree.specs.declared.parts.Symbol.{Symbol}
+use Rattle.kc_tree.specs.declared.rows.DefinitionId.{DefinitionId}
+use Rattle.kc_tree.specs.declared.rows.Reverse.{Reverse}
+use Rattle.kc_tree.specs.declared.rows.ReverseId.{ReverseId}
+use Rattle.kc_tree.specs.declared.rows.Symbol.{Symbol}
 use Rattle.kc_tree.specs.Chains.{chain_of, chains_of}
 use Rattle.kc_tree.specs.Layouts.{DefinitionFacts, definition_facts, impliers_at, reverse_at, reverse_facts, selectors_at, with_when}
 use Rattle.kc_tree.specs.TreeFacts.{Guarded}
@@ -25,12 +25,12 @@ use Rattle.kc_tree.specs.Words.{listed}
 use Rattle.kc_build.specs.declared.lines.ReverseKind.{ReverseKind}
 use Rattle.kc_build.specs.declared.lines.ReverseKind.TheVariants as reverse_kind
 use Rattle.kc_build.specs.Facts as facts
-use Rattle.kc_build.specs.Facts.{imply_of, named_under, naming_at, select_of, symbol_at}
-use Rattle.kc_build.specs.Known.{AreSymbols, AreBelow, can_be_target, choice_by, kind_by}
+use Rattle.kc_build.specs.Facts.{imply_of, guarded_symbol, naming_at, select_of, symbol_at}
+use Rattle.kc_build.specs.SymbolRows.{AreSymbols, AreBelow, can_be_target, choice_by, kind_by}
 use Rattle.kc_build.specs.ReverseRows.{HaveSources, added_line, added_lines, implies_of, reverse_row, rows_to, selects_of}
 use Rattle.kc_build.specs.Targets.{target_of}
 use Rattle.kc_build.proofs.GrownLemmas.{filter_map_alike, get_front, get_last}
-use Rattle.kc_build.proofs.KnownLemmas.{choices_known, kinds_known}
+use Rattle.kc_build.proofs.KindLemmas.{choices_known, kinds_known}
 use Rattle.kc_build.proofs.WalkLemmas.{all_at}
 
 -- Lists.
@@ -63,7 +63,7 @@ all-reverse {A} P (x ∷ xs) h =
 
 -- A line by the number of its definition, seen by what the definitions say.
 abbrev pub named_in : List DefinitionFacts → ℕ × Option Form → Option (Guarded SymId)
-named_in ds x = option_map (λ (d : DefinitionFacts). record { what = d.symbol; when = with_when d.dep x.1 }) (slice_get ds x.0)
+named_in ds x = option_map (λ (d : DefinitionFacts). record { what = d.symbol; when = with_when d.dependency x.1 }) (slice_get ds x.0)
 
 module _ (t : Tables) where
   abbrev said : List DefinitionFacts
@@ -72,7 +72,7 @@ module _ (t : Tables) where
   by_row : (o : Option Reverse) → option_and_then (reverse_facts t) o ≡ option_and_then (named_in said) (option_map reverse_row o)
   by_row None = refl
   by_row (Some r) =
-      ap (option_map (λ (d : DefinitionFacts). record { what = d.symbol; when = with_when d.dep (when_view r.when) })) (sym (slice_get-map (definition_facts t) t.definitions.items r.source.0))
+      ap (option_map (λ (d : DefinitionFacts). record { what = d.symbol; when = with_when d.dependency (when_view r.when) })) (sym (slice_get-map (definition_facts t) t.definitions.items r.source.0))
 
   from_rows : (last : Option ReverseId) → reverse (filter_map (reverse_at t) (chain_of (chains_of t.reverses.lines.items) last)) ≡ filter_map (named_in said) (rows_to t.reverses.lines.items last)
   from_rows last =
@@ -109,27 +109,28 @@ pub named_more : (ds : List DefinitionFacts) (d : DefinitionFacts) (rows : List 
     filter_map (named_in (ds ++ d ∷ [])) rows ≡ filter_map (named_in ds) rows
 named_more ds d [] h = refl
 named_more ds d (x ∷ rows) h =
-    let same : named_in (ds ++ d ∷ []) x ≡ named_in ds x = ap (option_map (λ (d : DefinitionFacts). record { what = d.symbol; when = with_when d.dep x.1 }))
+    let same : named_in (ds ++ d ∷ []) x ≡ named_in ds x = ap (option_map (λ (d : DefinitionFacts). record { what = d.symbol; when = with_when d.dependency x.1 }))
     (get_front ds (d ∷ []) x.0 (All-head (λ (y : ℕ × Option Form). y.0 < length ds) x rows h)) in
     let rest = named_more ds d rows (All-tail (λ (y : ℕ × Option Form). y.0 < length ds) x rows h) in
     rw (same, rest) refl
 
 -- What a definition adds.
-abbrev pub given_of : ReverseKind → ℕ → Numbered → Option (Option Form)
-given_of reverse_kind.Select s = select_of (symbol s)
-given_of reverse_kind.Imply s = imply_of (symbol s)
+abbrev pub stated_default : ReverseKind → ℕ → Numbered → Option (Option Form)
+stated_default reverse_kind.Select s = select_of (symbol s)
+stated_default reverse_kind.Imply s = imply_of (symbol s)
 
 if_nil : {A : Type 0} (b : Bool) → ◌≡◌ {A = List A} (if b then [] else []) []
 if_nil true = refl
 if_nil false = refl
 
-module _ (symbols : List Symbol) (source : DefinitionId) (ds : List DefinitionFacts) (d : DefinitionFacts) (n : source.0 ≡ length ds) (s : ℕ) (can : Bool) (is : can_be_target symbols (symbol s) ≡ can) where
+module _ (symbols : List Symbol) (source : DefinitionId) (ds : List DefinitionFacts) (d : DefinitionFacts) (n : source.0 ≡ length ds) (s : ℕ) (can : Bool)
+    (is : can_be_target symbols (symbol s) ≡ can) where
   abbrev pub named : Option Form → Guarded SymId
-  named w = record { what = d.symbol; when = with_when d.dep w }
+  named w = record { what = d.symbol; when = with_when d.dependency w }
 
   found : (w : Option Form) → named_in (ds ++ d ∷ []) (source.0, w) ≡ Some (named w)
   found w =
-      ap (option_map (λ (x : DefinitionFacts). record { what = x.symbol; when = with_when x.dep w })) (ap (slice_get (ds ++ d ∷ [])) n ∙ get_last ds d)
+      ap (option_map (λ (x : DefinitionFacts). record { what = x.symbol; when = with_when x.dependency w })) (ap (slice_get (ds ++ d ∷ [])) n ∙ get_last ds d)
 
   abbrev one : Option (Option Form) → List (Guarded SymId)
   one o = if can then map named (cons_option o []) else []
@@ -146,7 +147,7 @@ module _ (symbols : List Symbol) (source : DefinitionId) (ds : List DefinitionFa
       by_can false = refl
   by_name t w false e = sym (if_nil can)
 
-  by_line : (kind : ReverseKind) (x : Numbered) → filter_map (named_in (ds ++ d ∷ [])) (flat_map (added_line symbols source kind s) (listed (target_of x))) ≡ one (given_of kind s x)
+  by_line : (kind : ReverseKind) (x : Numbered) → filter_map (named_in (ds ++ d ∷ [])) (flat_map (added_line symbols source kind s) (listed (target_of x))) ≡ one (stated_default kind s x)
   by_line reverse_kind.Select (SelectLine t w) = by_name t w (t.0 == s) refl
   by_line reverse_kind.Imply (ImplyLine t w) = by_name t w (t.0 == s) refl
   by_line reverse_kind.Select _ = sym (if_nil can)
@@ -164,17 +165,17 @@ module _ (symbols : List Symbol) (source : DefinitionId) (ds : List DefinitionFa
       by false None = refl
       by false (Some w) = refl
 
-  pub added_named : (kind : ReverseKind) (own : List Numbered) → filter_map (named_in (ds ++ d ∷ [])) (added_lines symbols source kind s own) ≡ all (filter_map (given_of kind s) own)
+  pub added_named : (kind : ReverseKind) (own : List Numbered) → filter_map (named_in (ds ++ d ∷ [])) (added_lines symbols source kind s own) ≡ all (filter_map (stated_default kind s) own)
   added_named kind [] = sym (if_nil can)
   added_named kind (x ∷ own) =
       filter_map-append (named_in (ds ++ d ∷ [])) (flat_map (added_line symbols source kind s) (listed (target_of x))) (added_lines symbols source kind s own)
       ∙ ap (λ l. l ++ filter_map (named_in (ds ++ d ∷ [])) (added_lines symbols source kind s own)) (by_line kind x)
-      ∙ ap (λ l. one (given_of kind s x) ++ l) (added_named kind own)
-      ∙ one_more (given_of kind s x) (filter_map (given_of kind s) own)
+      ∙ ap (λ l. one (stated_default kind s x) ++ l) (added_named kind own)
+      ∙ one_more (stated_default kind s x) (filter_map (stated_default kind s) own)
 
 -- the lines of a definition that name a symbol, as the list has them
 pub naming_is : (ss : List Numbered) (line : Numbered → Option (Option Form)) (i : ℕ) (t : SymId) → symbol_at ss i ≡ Some t →
-    naming_at ss line i ≡ map (named_under ss i t) (filter_map line (attributes ss i))
+    naming_at ss line i ≡ map (guarded_symbol ss i t) (filter_map line (attributes ss i))
 naming_is ss line i t e = rw e (append-nil _)
 
 -- a symbol can be a target by the rows as it can by the list
@@ -184,6 +185,6 @@ target_known ss symbols s below are l =
     let there = lt-ltb s.0 (length symbols) l in
     let kinds = kinds_known ss symbols below are in
     let choices = choices_known ss symbols below are in
-    ap (λ (b : Bool). b && (is_none (choice_by symbols s) && facts.takes_kind (kind_by symbols s))) there
-    ∙ ap (λ (f : SymId → Option ℕ). is_none (f s) && facts.takes_kind (kind_by symbols s)) choices
-    ∙ ap (λ (f : SymId → Kind). is_none (facts.choice_of ss s) && facts.takes_kind (f s)) kinds
+    ap (λ (b : Bool). b && (is_none (choice_by symbols s) && facts.is_selectable (kind_by symbols s))) there
+    ∙ ap (λ (f : SymId → Option ℕ). is_none (f s) && facts.is_selectable (kind_by symbols s)) choices
+    ∙ ap (λ (f : SymId → Kind). is_none (facts.choice_of ss s) && facts.is_selectable (f s)) kinds

@@ -1,4 +1,4 @@
--- What the nesting of blocks says of places: what surrounds a choice, and what a closer closes.
+-- What the nesting of blocks says of places: what encloses a choice, and what a closer closes.
 use Rattle.std.proofs.Common.{◌≡◌, ℕ, zero, suc, Bool, true, false, ◌&&◌, ◌||◌, List, [], ◌∷◌, map, filter, length, take, drop, Option, Some, None, Ok, is_some, refl, ap, sym, ◌∙◌, subst}
 use Rattle.std.specs.List.{slice_get, list_any, filter_map}
 use Rattle.std.specs.Option.{option_map}
@@ -7,12 +7,12 @@ use Rattle.std.proofs.lemmas.Option.{slice_get-map}
 use Rattle.kc_expr.specs.declared.expression.SymId.{SymId}
 use Rattle.kc_read.specs.declared.statement.Block.{Block}
 use Rattle.kc_read.specs.declared.statement.Block.TheVariants as block
-use Rattle.kc_read.specs.Statements.{Written, Numbered, Placed, numbered, ConfigLine, IfLine, MenuLine, EndMenuLine, ChoiceLine}
+use Rattle.kc_read.specs.Statements.{Named, Numbered, Located, numbered, ConfigLine, IfLine, MenuLine, EndMenuLine, ChoiceLine}
 use Rattle.kc_read.specs.Blocks.{bracket, bracket_at, bracket_of, opened, depth_after, stays_open, is_open, open_places, open_blocks, enclosing, numbers, last_of}
 use Rattle.kc_read.specs.Expansion.{Log, Expands, statements, is_choice}
 use Rattle.kc_read.specs.Files.{Files}
-use Rattle.kc_read.specs.Numbering.{place_numbered}
-use Rattle.kc_build.specs.Facts.{is_block, of_block, block_at, opener_of, choice_round, choice_number}
+use Rattle.kc_read.specs.Numbering.{located_numbered}
+use Rattle.kc_build.specs.Facts.{is_block, of_block, block_at, enclosing_block, enclosing_choice, choice_number}
 use Rattle.kc_build.proofs.ExpansionLemmas.{Leaves, turn, Suits, AreNested, expansion_nested}
 
 -- Statements that are brackets alike have the same blocks.
@@ -35,30 +35,31 @@ same_filter_map : {Y : Type 0} (f g : ℕ → Option Y) (xs : List ℕ) → ((x 
 same_filter_map f g [] h = refl
 same_filter_map f g (x ∷ xs) h = rw (h x, same_filter_map f g xs h) refl
 
-module _ (f : Written → Numbered) (alike : (x : Written) → bracket (f x) ≡ bracket x) (same_turn : (x : Written) → turn (f x) ≡ turn x) where
-  bracket_at-map : (ss : List Written) (j : ℕ) → bracket_at (map f ss) j ≡ bracket_at ss j
+module _ (f : Named → Numbered) (alike : (x : Named) → bracket (f x) ≡ bracket x) (same_turn : (x : Named) → turn (f x) ≡ turn x) where
+  bracket_at-map : (ss : List Named) (j : ℕ) → bracket_at (map f ss) j ≡ bracket_at ss j
   bracket_at-map [] j = refl
   bracket_at-map (s ∷ ss) zero = alike s
   bracket_at-map (s ∷ ss) (suc j) = bracket_at-map ss j
 
-  stays_open-map : (d : ℕ) (ss : List Written) → stays_open d (map f ss) ≡ stays_open d ss
+  stays_open-map : (d : ℕ) (ss : List Named) → stays_open d (map f ss) ≡ stays_open d ss
   stays_open-map d [] = refl
   stays_open-map d (s ∷ ss) = rw (alike s, stays_open-map (depth_after d (bracket s)) ss) refl
 
-  is_open-map : (ss : List Written) (j : ℕ) → is_open (map f ss) j ≡ is_open ss j
+  is_open-map : (ss : List Named) (j : ℕ) → is_open (map f ss) j ≡ is_open ss j
   is_open-map ss j = rw (bracket_at-map ss j, drop-map f (suc j) ss, stays_open-map 0 (drop (suc j) ss)) refl
 
-  open_blocks-map : (ss : List Written) → open_blocks (map f ss) ≡ open_blocks ss
+  open_blocks-map : (ss : List Named) → open_blocks (map f ss) ≡ open_blocks ss
   open_blocks-map ss =
-      let places : open_places (map f ss) ≡ open_places ss = ap (λ n. filter (is_open (map f ss)) (numbers n)) (length-map ss f) ∙ same_filter (is_open (map f ss)) (is_open ss) (numbers (length ss)) (is_open-map ss) in
+      let places : open_places (map f ss) ≡ open_places ss = ap (λ n. filter (is_open (map f ss)) (numbers n)) (length-map ss f)
+      ∙ same_filter (is_open (map f ss)) (is_open ss) (numbers (length ss)) (is_open-map ss) in
       ap (filter_map (λ j. opened (bracket_at (map f ss) j))) places
       ∙ same_filter_map (λ j. opened (bracket_at (map f ss) j)) (λ j. opened (bracket_at ss j)) (open_places ss) (λ j. ap opened (bracket_at-map ss j))
 
-  said_from : (o : Option Written) (s : Numbered) → option_map f o ≡ Some s → (x : Written) × (o ≡ Some x) × (f x ≡ s)
+  said_from : (o : Option Named) (s : Numbered) → option_map f o ≡ Some s → (x : Named) × (o ≡ Some x) × (f x ≡ s)
   said_from None s e = absurd cc
   said_from (Some x) s e = (x, refl, cc)
 
-  AreNested-map : (ss : List Written) → AreNested ss → AreNested (map f ss)
+  AreNested-map : (ss : List Named) → AreNested ss → AreNested (map f ss)
   AreNested-map ss n = λ i s e.
       let x = said_from (slice_get ss i) s (sym (slice_get-map f ss i) ∙ e) in
       let blocks : open_blocks (take i (map f ss)) ≡ open_blocks (take i ss) = ap open_blocks (take-map f i ss) ∙ open_blocks-map (take i ss) in
@@ -66,32 +67,28 @@ module _ (f : Written → Numbered) (alike : (x : Written) → bracket (f x) ≡
       subst (λ bs. Suits bs (turn s)) (sym blocks) (subst (Suits (open_blocks (take i ss))) here (n i x.0 x.1))
 
 -- The same of numbered statements.
-numbered_bracket : (modules : Option SymId) (number : List ℕ → ℕ) (x : Written) → bracket (numbered modules number x) ≡ bracket x
+numbered_bracket : (modules : Option SymId) (number : List ℕ → ℕ) (x : Named) → bracket (numbered modules number x) ≡ bracket x
 numbered_bracket modules number (ConfigLine n) = refl
 numbered_bracket modules number _ = refl
 
-numbered_turn : (modules : Option SymId) (number : List ℕ → ℕ) (x : Written) → turn (numbered modules number x) ≡ turn x
+numbered_turn : (modules : Option SymId) (number : List ℕ → ℕ) (x : Named) → turn (numbered modules number x) ≡ turn x
 numbered_turn modules number (ConfigLine n) = refl
 numbered_turn modules number _ = refl
 
-said_of : (modules : Option SymId) (number : List ℕ → ℕ) (ls : List (Placed Written)) → map (λ l. l.statement) (map (place_numbered modules number) ls) ≡ map (numbered modules number) (statements ls)
-said_of modules number [] = refl
-said_of modules number (l ∷ ls) = ap (λ xs. numbered modules number l.statement ∷ xs) (said_of modules number ls)
+statements_are_numbered : (modules : Option SymId) (number : List ℕ → ℕ) (ls : List (Located Named)) →
+    map (λ l. l.statement) (map (located_numbered modules number) ls) ≡ map (numbered modules number) (statements ls)
+statements_are_numbered modules number [] = refl
+statements_are_numbered modules number (l ∷ ls) = ap (λ xs. numbered modules number l.statement ∷ xs) (statements_are_numbered modules number ls)
 
-pub numbered_nested : (modules : Option SymId) (number : List ℕ → ℕ) (ls : List (Placed Written)) → AreNested (statements ls) → AreNested (map (λ l. l.statement) (map (place_numbered modules number) ls))
+pub numbered_nested : (modules : Option SymId) (number : List ℕ → ℕ) (ls : List (Located Named)) → AreNested (statements ls) →
+    AreNested (map (λ l. l.statement) (map (located_numbered modules number) ls))
 numbered_nested modules number ls n =
-    subst AreNested (sym (said_of modules number ls)) (AreNested-map (numbered modules number) (numbered_bracket modules number) (numbered_turn modules number) (statements ls) n)
+    subst AreNested (sym (statements_are_numbered modules number ls)) (AreNested-map (numbered modules number) (numbered_bracket modules number) (numbered_turn modules number) (statements ls) n)
 
-pub numbered_blocks : (modules : Option SymId) (number : List ℕ → ℕ) (ls : List (Placed Written)) → open_blocks (map (λ l. l.statement) (map (place_numbered modules number) ls)) ≡ open_blocks (statements ls)
-numbered_blocks modules number ls =
-    ap open_blocks (said_of modules number ls) ∙ open_blocks-map (numbered modules number) (numbered_bracket modules number) (numbered_turn modules number) (statements ls)
-
--- an expanded list, numbered: each line suits the blocks round it, and none is open at the end
-pub expanded_nested : (files : Files) (root : List ℕ) (log : Log) (modules : Option SymId) (number : List ℕ → ℕ) → Expands files root (Ok log) → AreNested (map (λ l. l.statement) (map (place_numbered modules number) log.lines))
+-- an expanded list, numbered: each line suits its enclosing blocks, and none is open at the end
+pub expanded_nested : (files : Files) (root : List ℕ) (log : Log) (modules : Option SymId) (number : List ℕ → ℕ) → Expands files root (Ok log) →
+    AreNested (map (λ l. l.statement) (map (located_numbered modules number) log.lines))
 expanded_nested files root log modules number x = numbered_nested modules number log.lines (expansion_nested files root log x).0
-
-pub expanded_closed : (files : Files) (root : List ℕ) (log : Log) (modules : Option SymId) (number : List ℕ → ℕ) → Expands files root (Ok log) → open_blocks (map (λ l. l.statement) (map (place_numbered modules number) log.lines)) ≡ []
-expanded_closed files root log modules number x = numbered_blocks modules number log.lines ∙ (expansion_nested files root log x).1
 
 -- Lists of places that a function gives blocks of.
 module _ (f : ℕ → Option Block) where
@@ -99,7 +96,9 @@ module _ (f : ℕ → Option Block) where
   Opening j = (b : Block) × (f j ≡ Some b)
 
   -- where no block is a choice, no place is one of a choice
-  none_by : (p q : ℕ → Bool) (t : Bool) (j : ℕ) (js : List ℕ) → p j ≡ t → (p j ≡ true → (b : Block) × (f j ≡ Some b) × (q j ≡ is_choice b)) → (list_any is_choice (filter_map f (filter p js)) ≡ false → filter q (filter p js) ≡ []) → list_any is_choice (filter_map f (filter p (j ∷ js))) ≡ false → filter q (filter p (j ∷ js)) ≡ []
+  none_by : (p q : ℕ → Bool) (t : Bool) (j : ℕ) (js : List ℕ) → p j ≡ t → (p j ≡ true → (b : Block) × (f j ≡ Some b) × (q j ≡ is_choice b)) →
+      (list_any is_choice (filter_map f (filter p js)) ≡ false → filter q (filter p js) ≡ []) → list_any is_choice (filter_map f (filter p (j ∷ js))) ≡ false →
+      filter q (filter p (j ∷ js)) ≡ []
   none_by p q false j js e h later none = rw e (later (rw e at none))
   none_by p q true j js e h later none =
       let b = h e in
@@ -110,7 +109,8 @@ module _ (f : ℕ → Option Block) where
       first true g none = absurd cc
       first false g none = let no : q j ≡ false = (h e).2 ∙ g in rw (e, no) (later none)
 
-  none_chosen : (p q : ℕ → Bool) → ((j : ℕ) → p j ≡ true → (b : Block) × (f j ≡ Some b) × (q j ≡ is_choice b)) → (js : List ℕ) → list_any is_choice (filter_map f (filter p js)) ≡ false → filter q (filter p js) ≡ []
+  none_chosen : (p q : ℕ → Bool) → ((j : ℕ) → p j ≡ true → (b : Block) × (f j ≡ Some b) × (q j ≡ is_choice b)) → (js : List ℕ) →
+      list_any is_choice (filter_map f (filter p js)) ≡ false → filter q (filter p js) ≡ []
   none_chosen p q h [] none = refl
   none_chosen p q h (j ∷ js) none = none_by p q (p j) j js refl (h j) (none_chosen p q h js) none
 
@@ -166,13 +166,15 @@ module _ (ss : List Numbered) where
       (b.0, b.1, ap (is_block block.Choice) (in_front ss i j b.0 b.1) ∙ choice_block b.0)
 
   -- a choice does not stand in a choice
-  pub choice_alone : AreNested ss → (i : ℕ) → slice_get ss i ≡ Some ChoiceLine → choice_round ss i ≡ None
+  pub choice_alone : AreNested ss → (i : ℕ) → slice_get ss i ≡ Some ChoiceLine → enclosing_choice ss i ≡ None
   choice_alone n i e =
-      let none : filter (of_block ss block.Choice) (enclosing ss i) ≡ [] = none_chosen (λ j. opened (bracket_at (take i ss) j)) (is_open (take i ss)) (of_block ss block.Choice) (open_choice i) (numbers (length (take i ss))) (n i ChoiceLine e) in
+      let none : filter (of_block ss block.Choice) (enclosing ss i) ≡ [] =
+      none_chosen (λ j. opened (bracket_at (take i ss) j)) (is_open (take i ss)) (of_block ss block.Choice) (open_choice i)
+      (numbers (length (take i ss))) (n i ChoiceLine e) in
       ap (λ js. option_map (choice_number ss) (last_of js)) none
 
   -- a closer closes an opener of its own kind
-  pub closer_closes : AreNested ss → (i : ℕ) (s : Numbered) (b : Block) → slice_get ss i ≡ Some s → turn s ≡ Leaves b → (k : ℕ) × (opener_of ss i ≡ Some k) × (block_at ss k ≡ Some b)
+  pub closer_closes : AreNested ss → (i : ℕ) (s : Numbered) (b : Block) → slice_get ss i ≡ Some s → turn s ≡ Leaves b → (k : ℕ) × (enclosing_block ss i ≡ Some k) × (block_at ss k ≡ Some b)
   closer_closes n i s b e t =
       let last : last_of (open_blocks (take i ss)) ≡ Some b = subst (Suits (open_blocks (take i ss))) t (n i s e) in
       let each = each_opens (λ j. opened (bracket_at (take i ss) j)) (is_open (take i ss)) (open_block (take i ss)) (numbers (length (take i ss))) in
@@ -187,7 +189,7 @@ module _ (ss : List Numbered) where
   menu_by (Some _) e = absurd cc
 
   -- an `endmenu` line closes a menu
-  pub menu_closed : AreNested ss → (i : ℕ) → slice_get ss i ≡ Some EndMenuLine → (k : ℕ) × (opener_of ss i ≡ Some k) × ((t : List ℕ) × (slice_get ss k ≡ Some (MenuLine t)))
+  pub menu_closed : AreNested ss → (i : ℕ) → slice_get ss i ≡ Some EndMenuLine → (k : ℕ) × (enclosing_block ss i ≡ Some k) × ((t : List ℕ) × (slice_get ss k ≡ Some (MenuLine t)))
   menu_closed n i e =
       let k = closer_closes n i EndMenuLine block.Menu e refl in
       (k.0, k.1, menu_by (slice_get ss k.0) k.2)
@@ -199,5 +201,5 @@ module _ (ss : List Numbered) where
   choice_by (Some (MenuLine t)) e = absurd cc
   choice_by (Some _) e = absurd cc
 
-  pub opener_alone : AreNested ss → (i : ℕ) → of_block ss block.Choice i ≡ true → choice_round ss i ≡ None
+  pub opener_alone : AreNested ss → (i : ℕ) → of_block ss block.Choice i ≡ true → enclosing_choice ss i ≡ None
   opener_alone n i e = choice_alone n i (choice_by (slice_get ss i) e)

@@ -13,22 +13,22 @@ use Rattle.std.proofs.lemmas.Map.Made.{length-from_same_keys}
 use Rattle.std.proofs.lemmas.Option.{get_or_from_slice_get, slice_get-map, slice_get_past, slice_get_within}
 use Rattle.kc_expr.specs.declared.expression.SymId.{SymId}
 use Rattle.kc_expr.specs.Names.{AreDistinct, IsNumber, IsRenumbered, Extends, same_name, number_of, symbol, mention, all_mentioned}
-use Rattle.kc_expr.specs.Order.{place_of, placed as placed_in}
+use Rattle.kc_expr.specs.Order.{rank_of, ranked as ranked_in}
 use Rattle.kc_expr.proofs.NamesLemmas.{all_mentioned_extends, all_mentioned-append, extends_on, mentioned_extends, number_for_later, number_later, same_name-refl}
 use Rattle.kc_read.specs.declared.expansion.Expansion.{Expansion}
-use Rattle.kc_read.specs.declared.line.Line.{Line}
-use Rattle.kc_read.specs.Blocks.{definitions, name_at}
+use Rattle.kc_read.specs.declared.statement.Line.{Line}
+use Rattle.kc_read.specs.Blocks.{definitions, defined_name}
 use Rattle.kc_read.specs.Expansion.{Log, defined, statements}
-use Rattle.kc_read.specs.Numbering.{known_names, modules_name, names_of, modules_id, place_numbered, numbered_lines}
+use Rattle.kc_read.specs.Numbering.{known_names, modules_name, names_of, modules_id, located_numbered, numbered_lines}
 use Rattle.kc_read.specs.Expanded.{AreNumbers, IsExpansion, IsNamed}
-use Rattle.kc_read.specs.Reads.{line_view}
-use Rattle.kc_read.specs.Statements.{Written, Placed, numbered, statement_words, ConfigLine}
+use Rattle.kc_read.specs.StatementViews.{line_view}
+use Rattle.kc_read.specs.Statements.{Named, Located, numbered, names_in_statement, ConfigLine}
 use Rattle.kc_read.proofs.FileLemmas.{same_name_eq}
 use Rattle.kc_read.proofs.NameLemmas.{extends_none, is_known, known_at, numbers_placed, place_is}
 use Rattle.kc_build.specs.Numberings.{IsListing}
 use Rattle.kc_build.specs.Renamings.{final, line_renamed}
 use Rattle.kc_build.specs.Facts.{symbol_of}
-use Rattle.kc_build.specs.Known.{AreBelow}
+use Rattle.kc_build.specs.SymbolRows.{AreBelow}
 use Rattle.kc_build.proofs.RenamingLemmas.{Agrees, Agree, lines_are}
 
 -- Names that are mentioned are known.
@@ -49,7 +49,9 @@ mentioned_once names w = by (list_any (same_name w) names) refl
     by true e = e
     by false e = list_any-append (same_name w) names (w ∷ []) ∙ ap (λ (b : Bool). list_any (same_name w) names || (b || false)) (same_name-refl w) ∙ either_true (list_any (same_name w) names)
 
-mentioned_first : (names ws : List (List ℕ)) (v w : List ℕ) (b : Bool) → same_name w v ≡ b → (b || list_any (same_name w) ws) ≡ true → (list_any (same_name w) ws ≡ true → list_any (same_name w) (all_mentioned (mention names v) ws) ≡ true) → list_any (same_name w) (all_mentioned (mention names v) ws) ≡ true
+mentioned_first : (names ws : List (List ℕ)) (v w : List ℕ) (b : Bool) → same_name w v ≡ b → (b || list_any (same_name w) ws) ≡ true →
+    (list_any (same_name w) ws ≡ true → list_any (same_name w) (all_mentioned (mention names v) ws) ≡ true) →
+    list_any (same_name w) (all_mentioned (mention names v) ws) ≡ true
 mentioned_first names ws v w true e f rest =
     let here : list_any (same_name w) (mention names v) ≡ true = ap (λ (u : List ℕ). list_any (same_name w) (mention names u)) (sym (same_name_eq w v e)) ∙ mentioned_once names w in
     known_longer (mention names v) (all_mentioned (mention names v) ws) w (all_mentioned_extends (mention names v) ws) here
@@ -67,14 +69,16 @@ front_next ws i w h =
     take_more ws i w below ∙ ap (λ (v : List ℕ). take i ws ++ v ∷ []) (get_or_from_slice_get ws i w w h)
 
 -- The names of a front are mentioned again, and have these numbers in all later names.
-pub again_next : (old now new mentioned : List (List ℕ)) (i : ℕ) (w : List ℕ) → now ≡ all_mentioned old (take i mentioned) → slice_get mentioned i ≡ Some w → new ≡ mention now w → new ≡ all_mentioned old (take (i + 1) mentioned)
+pub again_next : (old now new mentioned : List (List ℕ)) (i : ℕ) (w : List ℕ) → now ≡ all_mentioned old (take i mentioned) → slice_get mentioned i ≡ Some w →
+    new ≡ mention now w → new ≡ all_mentioned old (take (i + 1) mentioned)
 again_next old now new mentioned i w h there n =
     n ∙ ap (λ (ns : List (List ℕ)). mention ns w) h ∙ sym (all_mentioned-append old (take i mentioned) (w ∷ [])) ∙ ap (all_mentioned old) (sym (front_next mentioned i w there))
 
 abbrev pub Numbers : List (List ℕ) → List SymId → List (List ℕ) → Type 0
 Numbers names ids ws = (later : List (List ℕ)) → Extends names later → ids ≡ map (λ w. symbol (number_of later w)) ws
 
-pub numbers_next : (now new mentioned : List (List ℕ)) (ids more : List SymId) (i : ℕ) (w : List ℕ) (id : SymId) → Numbers now ids (take i mentioned) → slice_get mentioned i ≡ Some w → new ≡ mention now w → IsNumber new w id → more ≡ ids ++ id ∷ [] → Numbers new more (take (i + 1) mentioned)
+pub numbers_next : (now new mentioned : List (List ℕ)) (ids more : List SymId) (i : ℕ) (w : List ℕ) (id : SymId) → Numbers now ids (take i mentioned) →
+    slice_get mentioned i ≡ Some w → new ≡ mention now w → IsNumber new w id → more ≡ ids ++ id ∷ [] → Numbers new more (take (i + 1) mentioned)
 numbers_next now new mentioned ids more i w id h there n k m later x =
     let longer : Extends now later = extends_on now new later (mentioned_extends now new (w ∷ []) n) x in
     m
@@ -143,9 +147,9 @@ all_mentioned-distinct : (names words : List (List ℕ)) → AreDistinct names �
 all_mentioned-distinct names [] distinct = distinct
 all_mentioned-distinct names (w ∷ words) distinct = all_mentioned-distinct (mention names w) words (mentioned-distinct names w distinct)
 
-pub names-distinct : (ss : List Written) → AreDistinct (names_of ss)
+pub names-distinct : (ss : List Named) → AreDistinct (names_of ss)
 names-distinct ss =
-    all_mentioned-distinct (known_names ss) (flat_map statement_words ss)
+    all_mentioned-distinct (known_names ss) (flat_map names_in_statement ss)
     (all_mentioned-distinct (defined ss) (modules_name ss ∷ []) (all_mentioned-distinct [] (definitions ss) no_names))
 
 -- The modules symbol, by the name that it has or by the name `MODULES`.
@@ -175,7 +179,7 @@ pub number_there : (names : List (List ℕ)) (i : ℕ) (w : List ℕ) (id : SymI
 number_there names i w id h e later x =
     sym e ∙ ap symbol (number_later names w later (x.0, x.1 ∙ ap (λ (l : List (List ℕ)). l ++ x.0) (sym (mention_known names w (known_there names i w h)))))
 
--- The names of a front are placed, behind those that are placed.
+-- The names of a front have ranks, behind the names that had one.
 pub record IsPlaced (names placed : List (List ℕ)) (i : ℕ) (order ids : List SymId) : Type 0 where
   pub order_is : AreNumbers names order (all_mentioned placed (take i names))
   pub places : Numbers (all_mentioned placed (take i names)) ids (take i names)
@@ -188,15 +192,18 @@ pub on_ok_then : {X E : Type 0} (r : Result X E) {P Q : Type 0} → OnOk r P →
 on_ok_then (Ok x) h f = f h
 on_ok_then (Err e) h f = tt
 
-pub placed_next : (names placed : List (List ℕ)) (i : ℕ) (order now ids more : List SymId) (w : List ℕ) (id place : SymId) → IsPlaced names placed i order ids → slice_get names i ≡ Some w → IsNumber names w id → place ≡ symbol (place_of order id) → now ≡ placed_in order id → more ≡ ids ++ place ∷ [] → IsPlaced names placed (i + 1) now more
-placed_next names placed i order now ids more w id place h there own p e m =
+pub placed_next : (names placed : List (List ℕ)) (i : ℕ) (order now ids more : List SymId) (w : List ℕ) (id rank : SymId) → IsPlaced names placed i order ids →
+    slice_get names i ≡ Some w → IsNumber names w id → rank ≡ symbol (rank_of order id) → now ≡ ranked_in order id → more ≡ ids ++ rank ∷ [] →
+    IsPlaced names placed (i + 1) now more
+placed_next names placed i order now ids more w id rank h there own p e m =
     let old : List (List ℕ) = all_mentioned placed (take i names) in
     let next : mention old w ≡ all_mentioned placed (take (i + 1) names) = again_next placed old (mention old w) names i w refl there refl in
-    let number : place ≡ symbol (number_of old w) = p ∙ ap symbol (place_is names order old w id h.order_is own) in
-    let kept : IsNumber (mention old w) w place = number_for_later old (mention old w) w place number refl in
+    let number : rank ≡ symbol (number_of old w) = p ∙ ap symbol (place_is names order old w id h.order_is own) in
+    let kept : IsNumber (mention old w) w rank = number_for_later old (mention old w) w rank number refl in
     record {
-      order_is = subst (λ l. AreNumbers names l (all_mentioned placed (take (i + 1) names))) (sym e) (subst (AreNumbers names (placed_in order id)) next (numbers_placed names names order old w id (extends_none names) h.order_is own));
-      places = subst (λ l. Numbers l more (take (i + 1) names)) next (numbers_next old (mention old w) names ids more i w place h.places there refl kept m);
+      order_is = subst (λ l. AreNumbers names l (all_mentioned placed (take (i + 1) names))) (sym e)
+          (subst (AreNumbers names (ranked_in order id)) next (numbers_placed names names order old w id (extends_none names) h.order_is own));
+      places = subst (λ l. Numbers l more (take (i + 1) names)) next (numbers_next old (mention old w) names ids more i w rank h.places there refl kept m);
     }
 
 take_none : (names : List (List ℕ)) → take 0 names ≡ []
@@ -211,7 +218,8 @@ placed_first names placed order h =
       places = subst (λ l. Numbers (all_mentioned placed l) [] l) (sym none) (λ later x. refl);
     }
 
-pub placed_end : (names placed : List (List ℕ)) (i : ℕ) (order ids : List SymId) → IsPlaced names placed i order ids → length names ≤ i → ids ≡ map (λ n. symbol (number_of (all_mentioned placed names) n)) names
+pub placed_end : (names placed : List (List ℕ)) (i : ℕ) (order ids : List SymId) → IsPlaced names placed i order ids → length names ≤ i →
+    ids ≡ map (λ n. symbol (number_of (all_mentioned placed names) n)) names
 placed_end names placed i order ids h past =
     let all : take i names ≡ names = take_all i names past in
     let places : Numbers (all_mentioned placed names) ids names = subst (λ l. Numbers (all_mentioned placed l) ids l) all h.places in
@@ -223,7 +231,8 @@ both_ways true b f g = sym (f refl)
 both_ways false true f g = g refl
 both_ways false false f g = refl
 
-mentioned_only : (names ws : List (List ℕ)) (w : List ℕ) (goal : Type 0) → (list_any (same_name w) names ≡ true → goal) → (list_any (same_name w) ws ≡ true → goal) → list_any (same_name w) (all_mentioned names ws) ≡ true → goal
+mentioned_only : (names ws : List (List ℕ)) (w : List ℕ) (goal : Type 0) → (list_any (same_name w) names ≡ true → goal) →
+    (list_any (same_name w) ws ≡ true → goal) → list_any (same_name w) (all_mentioned names ws) ≡ true → goal
 mentioned_only names [] w goal f g h = f h
 mentioned_only names (v ∷ ws) w goal f g h =
     mentioned_only (mention names v) ws w goal (first (list_any (same_name v) names)) (λ e. g (ap (λ (b : Bool). same_name w v || b) e ∙ or_true (same_name w v))) h
@@ -245,17 +254,18 @@ numbers_known names (s ∷ ids) (n ∷ ns) w h k = by (same_name w n) refl k (nu
     by true e j rest = ap (λ (u : List ℕ). list_any (same_name u) names) (same_name_eq w n e) ∙ is_known names n s (λ later x. let f = h later x in cc)
     by false e j rest = rest j
 
-all_stand : (ts ws : List (List ℕ)) → ((w : List ℕ) → list_any (same_name w) ws ≡ true → list_any (same_name w) ts ≡ true) → map (λ (id : SymId). slice_get ts id.0) (map (λ n. symbol (number_of ts n)) ws) ≡ map Some ws
+all_stand : (ts ws : List (List ℕ)) → ((w : List ℕ) → list_any (same_name w) ws ≡ true → list_any (same_name w) ts ≡ true) →
+    map (λ (id : SymId). slice_get ts id.0) (map (λ n. symbol (number_of ts n)) ws) ≡ map Some ws
 all_stand ts [] h = refl
 all_stand ts (w ∷ ws) h =
     let one : slice_get ts (number_of ts w) ≡ Some w = known_at ts w (h w (ap (λ (b : Bool). b || list_any (same_name w) ws) (same_name-refl w))) in
     let rest = all_stand ts ws (λ v e. h v (ap (λ (b : Bool). same_name v w || b) e ∙ or_true (same_name v w))) in
     λ j. one j ∷ rest j
 
--- The listing that an expansion gives, once its names have their places.
+-- The listing that an expansion gives, once its names have their ranks.
 module _ (log : Log) (e : Expansion) (mentioned : List (List ℕ)) (unknown : SymId) (x : IsExpansion [] (Some unknown) mentioned log e) where
   abbrev all_words : List (List ℕ)
-  all_words = flat_map statement_words (statements log.lines)
+  all_words = flat_map names_in_statement (statements log.lines)
 
   abbrev word : List ℕ
   word = modules_name (statements log.lines)
@@ -266,14 +276,17 @@ module _ (log : Log) (e : Expansion) (mentioned : List (List ℕ)) (unknown : Sy
   abbrev final_names : List (List ℕ)
   final_names = names_of (statements log.lines)
 
-  module _ (names : List (List ℕ)) (id modules : SymId) (numbers : List SymId) (names_is : names ≡ mention mentioned word) (id_is : IsNumber names word id) (place_was : modules ≡ symbol (place_of e.defined id)) (numbers_are : (placed : List (List ℕ)) → AreNumbers names (placed_in e.defined id) placed → numbers ≡ map (λ n. symbol (number_of (all_mentioned placed names) n)) names) where
+  module _ (names : List (List ℕ)) (id modules : SymId) (numbers : List SymId) (names_is : names ≡ mention mentioned word) (id_is : IsNumber names word id)
+      (place_was : modules ≡ symbol (rank_of e.defined id))
+      (numbers_are : (placed : List (List ℕ)) → AreNumbers names (ranked_in e.defined id) placed →
+      numbers ≡ map (λ n. symbol (number_of (all_mentioned placed names) n)) names) where
     longer : Extends mentioned names
     longer = mentioned_extends mentioned names (word ∷ []) names_is
 
     defined_are : AreNumbers names e.defined (defined (statements log.lines))
     defined_are later y = x.defined_is later (extends_on mentioned names later longer y)
 
-    known_are : AreNumbers names (placed_in e.defined id) known
+    known_are : AreNumbers names (ranked_in e.defined id) known
     known_are = numbers_placed names names e.defined (defined (statements log.lines)) word id (extends_none names) defined_are id_is
 
     word_known : list_any (same_name word) final_names ≡ true
@@ -297,14 +310,16 @@ module _ (log : Log) (e : Expansion) (mentioned : List (List ℕ)) (unknown : Sy
 
     there_named : (w : List ℕ) → list_any (same_name w) final_names ≡ true → list_any (same_name w) names ≡ true
     there_named w h =
-        mentioned_only known names w (list_any (same_name w) names ≡ true) (numbers_known names (placed_in e.defined id) known w known_are) (λ k. k) (ap (list_any (same_name w)) all_are ∙ h)
+        mentioned_only known names w (list_any (same_name w) names ≡ true) (numbers_known names (ranked_in e.defined id) known w known_are) (λ k. k) (ap (list_any (same_name w)) all_are ∙ h)
 
     names_apart : AreDistinct names
-    names_apart = subst AreDistinct (sym (names_is ∙ ap (λ (l : List (List ℕ)). mention l word) x.mentions)) (mentioned-distinct (all_mentioned [] all_words) word (all_mentioned-distinct [] all_words no_names))
+    names_apart = subst AreDistinct (sym (names_is ∙ ap (λ (l : List (List ℕ)). mention l word) x.mentions))
+        (mentioned-distinct (all_mentioned [] all_words) word (all_mentioned-distinct [] all_words no_names))
 
     pub renumbered : IsRenumbered names numbers final_names
     renumbered = record {
-      all = length-from_same_keys nat_list_eq_equiv final_names names (names-distinct (statements log.lines)) names_apart (λ w. both_ways (list_any (same_name w) final_names) (list_any (same_name w) names) (there_named w) (names_there w));
+      all = length-from_same_keys nat_list_eq_equiv final_names names (names-distinct (statements log.lines)) names_apart
+          (λ w. both_ways (list_any (same_name w) final_names) (list_any (same_name w) names) (there_named w) (names_there w));
       there = ap (map (λ (s : SymId). slice_get final_names s.0)) numbers_now ∙ all_stand final_names names names_there;
     }
 
@@ -315,22 +330,25 @@ module _ (log : Log) (e : Expansion) (mentioned : List (List ℕ)) (unknown : Sy
         ∙ ap symbol (number_later (defined (statements log.lines)) word final_names (all_mentioned_extends known all_words))
 
     words_agree : Agree (final numbers modules) (number_of names) (number_of final_names) all_words
-    words_agree = agree_all (final numbers modules) (number_of names) (number_of final_names) all_words (λ w h. number_agrees names final_names modules numbers numbers_now w (known_longer mentioned names w longer (ap (list_any (same_name w)) x.mentions ∙ mentioned_known [] all_words w h)))
+    words_agree = agree_all (final numbers modules) (number_of names) (number_of final_names) all_words
+        (λ w h. number_agrees names final_names modules numbers numbers_now w
+        (known_longer mentioned names w longer (ap (list_any (same_name w)) x.mentions ∙ mentioned_known [] all_words w h)))
 
-    module _ (now : List (List ℕ)) (count : ℕ) (lines : Vec Line Global) (now_is : now ≡ final_names) (count_was : count ≡ length e.defined) (few : length names ≤ unknown.0) (renamed : map line_view lines.items ≡ map (line_renamed (final numbers modules)) (map line_view e.lines.items)) where
-      lines_now : map line_view lines.items ≡ map (place_numbered (Some modules) (number_of final_names)) log.lines
+    module _ (now : List (List ℕ)) (count : ℕ) (lines : Vec Line Global) (now_is : now ≡ final_names) (count_was : count ≡ length e.defined)
+        (few : length names ≤ unknown.0) (renamed : map line_view lines.items ≡ map (line_renamed (final numbers modules)) (map line_view e.lines.items)) where
+      lines_now : map line_view lines.items ≡ map (located_numbered (Some modules) (number_of final_names)) log.lines
       lines_now =
           renamed
           ∙ ap (map (line_renamed (final numbers modules))) (x.lines names longer)
           ∙ lines_are (final numbers modules) (number_of names) (number_of final_names) (Some unknown) log.lines words_agree
-          ∙ ap (λ (s : SymId). map (place_numbered (Some s) (number_of final_names)) log.lines) (unknown_final names final_names modules numbers numbers_now unknown few)
+          ∙ ap (λ (s : SymId). map (located_numbered (Some s) (number_of final_names)) log.lines) (unknown_final names final_names modules numbers numbers_now unknown few)
 
       pub listing-is : IsListing log (record { names = now; count = count; modules = modules; lines = lines })
       listing-is = record {
         names_are = now_is;
         count_is = count_was ∙ ap length (x.defined_is mentioned (extends_none mentioned)) ∙ length-map (defined (statements log.lines)) (λ w. symbol (number_of mentioned w));
         modules_is = modules_are;
-        lines_are = lines_now ∙ ap (λ (s : SymId). map (place_numbered (Some s) (number_of final_names)) log.lines) modules_are;
+        lines_are = lines_now ∙ ap (λ (s : SymId). map (located_numbered (Some s) (number_of final_names)) log.lines) modules_are;
       }
 
 -- a defined name
@@ -348,16 +366,16 @@ defined_rest (Some m) ns n h = ap (λ (b : Bool). same_name n m || b) h ∙ by (
     by true = refl
     by false = refl
 
-defined_at : (ss : List Written) (i : ℕ) (s : Written) (n : List ℕ) → slice_get ss i ≡ Some s → name_at s ≡ Some n → list_any (same_name n) (definitions ss) ≡ true
+defined_at : (ss : List Named) (i : ℕ) (s : Named) (n : List ℕ) → slice_get ss i ≡ Some s → defined_name s ≡ Some n → list_any (same_name n) (definitions ss) ≡ true
 defined_at [] i s n h e = absurd cc
-defined_at (x ∷ ss) zero s n h e = let same : x ≡ s = cc in defined_first (name_at x) (definitions ss) n (ap name_at same ∙ e)
-defined_at (x ∷ ss) (suc i) s n h e = defined_rest (name_at x) (definitions ss) n (defined_at ss i s n h e)
+defined_at (x ∷ ss) zero s n h e = let same : x ≡ s = cc in defined_first (defined_name x) (definitions ss) n (ap defined_name same ∙ e)
+defined_at (x ∷ ss) (suc i) s n h e = defined_rest (defined_name x) (definitions ss) n (defined_at ss i s n h e)
 
-module _ (ss : List Written) where
+module _ (ss : List Named) where
   pub names_extend : Extends (defined ss) (names_of ss)
   names_extend =
       let first = all_mentioned_extends (defined ss) (modules_name ss ∷ []) in
-      let second = all_mentioned_extends (known_names ss) (flat_map statement_words ss) in
+      let second = all_mentioned_extends (known_names ss) (flat_map names_in_statement ss) in
       (first.0 ++ second.0, second.1 ∙ ap (λ (l : List (List ℕ)). l ++ second.0) first.1 ∙ append_assoc (defined ss) first.0 second.0)
 
   number_is : (n : List ℕ) → list_any (same_name n) (defined ss) ≡ true → number_of (names_of ss) n ≡ number_of (defined ss) n
@@ -365,7 +383,7 @@ module _ (ss : List Written) where
       let known : mention (defined ss) n ≡ defined ss = ap (λ (b : Bool). cond b (defined ss) (defined ss ++ n ∷ [])) h in
       sym (number_later (defined ss) n (names_of ss) (names_extend.0, names_extend.1 ∙ ap (λ (l : List (List ℕ)). l ++ names_extend.0) (sym known)))
 
-  pub defined_below : (i : ℕ) (s : Written) (n : List ℕ) → slice_get ss i ≡ Some s → name_at s ≡ Some n → number_of (names_of ss) n < length (defined ss)
+  pub defined_below : (i : ℕ) (s : Named) (n : List ℕ) → slice_get ss i ≡ Some s → defined_name s ≡ Some n → number_of (names_of ss) n < length (defined ss)
   defined_below i s n h e =
       let there : list_any (same_name n) (defined ss) ≡ true = mentioned_known [] (definitions ss) n (defined_at ss i s n h e) in
       let within : number_of (defined ss) n < length (defined ss) = slice_get_within (defined ss) (number_of (defined ss) n) n (known_at (defined ss) n there) in
@@ -373,12 +391,15 @@ module _ (ss : List Written) where
       omega arith
 
 -- a numbered `config` line was one
-config_by : (modules : Option SymId) (number : List ℕ → ℕ) (x : Written) (s : SymId) → symbol_of (Some (numbered modules number x)) ≡ Some s → (n : List ℕ) × (name_at x ≡ Some n) × (s ≡ symbol (number n))
+config_by : (modules : Option SymId) (number : List ℕ → ℕ) (x : Named) (s : SymId) → symbol_of (Some (numbered modules number x)) ≡ Some s → (n : List ℕ)
+    × (defined_name x ≡ Some n) × (s ≡ symbol (number n))
 config_by modules number (ConfigLine n) s h = (n, refl, (let e : symbol (number n) ≡ s = cc in sym e))
 config_by modules number _ s h = absurd cc
 
 module _ (modules : Option SymId) (number : List ℕ → ℕ) (count : ℕ) where
-  below_by : (ls : List (Placed Written)) (o : Option Written) (i : ℕ) (s : SymId) → slice_get (statements ls) i ≡ o → ((x : Written) (n : List ℕ) → slice_get (statements ls) i ≡ Some x → name_at x ≡ Some n → number n < count) → symbol_of (option_map (numbered modules number) o) ≡ Some s → s.0 < count
+  below_by : (ls : List (Located Named)) (o : Option Named) (i : ℕ) (s : SymId) → slice_get (statements ls) i ≡ o →
+      ((x : Named) (n : List ℕ) → slice_get (statements ls) i ≡ Some x → defined_name x ≡ Some n → number n < count) →
+      symbol_of (option_map (numbered modules number) o) ≡ Some s → s.0 < count
   below_by ls None i s e below h = absurd cc
   below_by ls (Some x) i s e below h =
       let found = config_by modules number x s h in
@@ -386,15 +407,17 @@ module _ (modules : Option SymId) (number : List ℕ → ℕ) (count : ℕ) wher
       let same : s.0 ≡ number found.0 = ap (λ (t : SymId). t.0) found.2 in
       omega arith
 
-  pub numbered_at : (ls : List (Placed Written)) (i : ℕ) → slice_get (map (λ l. l.statement) (map (place_numbered modules number) ls)) i ≡ option_map (numbered modules number) (slice_get (statements ls) i)
+  pub numbered_at : (ls : List (Located Named)) (i : ℕ) →
+      slice_get (map (λ l. l.statement) (map (located_numbered modules number) ls)) i ≡ option_map (numbered modules number) (slice_get (statements ls) i)
   numbered_at [] i = refl
   numbered_at (l ∷ ls) zero = refl
   numbered_at (l ∷ ls) (suc i) = numbered_at ls i
 
-  pub are_below : (ls : List (Placed Written)) → ((i : ℕ) (x : Written) (n : List ℕ) → slice_get (statements ls) i ≡ Some x → name_at x ≡ Some n → number n < count) → AreBelow count (map (λ l. l.statement) (map (place_numbered modules number) ls))
+  pub are_below : (ls : List (Located Named)) → ((i : ℕ) (x : Named) (n : List ℕ) → slice_get (statements ls) i ≡ Some x → defined_name x ≡ Some n →
+      number n < count) → AreBelow count (map (λ l. l.statement) (map (located_numbered modules number) ls))
   are_below ls below i s h =
       below_by ls (slice_get (statements ls) i) i s refl (below i) (sym (ap symbol_of (numbered_at ls i)) ∙ h)
 
-pub numbered_below : (ls : List (Placed Written)) → AreBelow (length (defined (statements ls))) (map (λ l. l.statement) (numbered_lines ls))
+pub numbered_below : (ls : List (Located Named)) → AreBelow (length (defined (statements ls))) (map (λ l. l.statement) (numbered_lines ls))
 numbered_below ls =
     are_below (Some (modules_id (statements ls))) (number_of (names_of (statements ls))) (length (defined (statements ls))) ls (defined_below (statements ls))

@@ -11,12 +11,13 @@ use Rattle.kc_read.specs.Statements.{Numbered}
 use Rattle.kc_read.specs.Blocks.{Opens, Closes, NoBracket, bracket, enclosing, last_of}
 use Rattle.kc_tree.specs.TreeFacts.{Condition}
 use Rattle.kc_build.specs.Facts.{block_parts, choice_number, entry_number, of_block, own_visible}
-use Rattle.kc_build.specs.Rounds.{block_visible}
-use Rattle.kc_build.specs.Stacks.{AreOpen, Asked, IsClosed, asked_at, block_view, open_blocks}
+use Rattle.kc_build.specs.Scopes.{block_visible}
+use Rattle.kc_build.specs.Stacks.{AreOpen, BlockFacts, IsClosed, block_facts_at, block_view, open_blocks}
 use Rattle.kc_build.specs.declared.blocks.Block.{Block}
 use Rattle.kc_build.specs.declared.blocks.Blocks.{Blocks}
 use Rattle.kc_build.proofs.BlockLemmas.{front, enclosing-opens, enclosing-closes, enclosing-no, enclosing-last}
-use Rattle.kc_build.proofs.RoundLemmas.{round_snoc}
+use Rattle.kc_build.proofs.ScopeLemmas.{scope_snoc}
+use Rattle.kc_build.proofs.StackLemmas.{front_snoc, split_last}
 
 -- A list that is empty or has a last element.
 pub ends : {X : Type 0} (xs : List X) → (xs ≡ []) ⊎ ((ys : List X) × (y : X) × (xs ≡ ys ++ y ∷ []))
@@ -27,36 +28,9 @@ ends {X} (x ∷ xs) = more (ends xs)
     more (inl e) = inr ([], x, ap (λ l. x ∷ l) e)
     more (inr e) = inr (x ∷ e.0, e.1, ap (λ l. x ∷ l) e.2)
 
-no_snoc : {X : Type 0} (xs : List X) (x : X) → xs ++ x ∷ [] ≡ [] → ⊥
-no_snoc [] x h = cc
-no_snoc (y ∷ xs) x h = cc
-
-front_snoc : (xs : List ℕ) (k : ℕ) → front (xs ++ k ∷ []) ≡ xs
-front_snoc [] k = refl
-front_snoc (x ∷ []) k = refl
-front_snoc (x ∷ y ∷ xs) k = ap (λ l. x ∷ l) (front_snoc (y ∷ xs) k)
-
--- the last of what a function gives
-record Split {Y : Type 0} (ks : List ℕ) (f : ℕ → Y) (outside : List Y) (x : Y) : Type 0 where
-  k : ℕ
-  last : last_of ks ≡ Some k
-  before : outside ≡ map f (front ks)
-  here : x ≡ f k
-
-split_last : {Y : Type 0} (ks : List ℕ) (f : ℕ → Y) (outside : List Y) (x : Y) → outside ++ x ∷ [] ≡ map f ks → Split ks f outside x
-split_last [] f outside x h = absurd (no_snoc outside x h)
-split_last (k ∷ []) f [] x h = let e : x ≡ f k = cc in record { k = k; last = refl; before = refl; here = e }
-split_last (k ∷ []) f (y ∷ ys) x h = let e : ys ++ x ∷ [] ≡ [] = cc in absurd (no_snoc ys x e)
-split_last (k ∷ l ∷ ks) f [] x h = absurd cc
-split_last (k ∷ l ∷ ks) f (y ∷ ys) x h =
-    let tail : ys ++ x ∷ [] ≡ map f (l ∷ ks) = cc in
-    let head : y ≡ f k = cc in
-    let rest = split_last (l ∷ ks) f ys x tail in
-    record { k = rest.k; last = rest.last; before = rw head (ap (λ t. f k ∷ t) rest.before); here = rest.here }
-
 module _ (ss : List Numbered) where
-  -- what surrounds the lines in these blocks, the outermost first
-  abbrev asked_in : List ℕ → Asked
+  -- what the scope of the lines in these blocks asks for, the outermost first
+  abbrev asked_in : List ℕ → BlockFacts
   asked_in places = record {
     parts = flat_map (block_parts ss) places;
     visible = flat_map (own_visible ss) (filter (of_block ss block.Menu) places);
@@ -64,11 +38,8 @@ module _ (ss : List Numbered) where
     entry = option_map (entry_number ss) (last_of places);
   }
 
-  pub asked_same : (i j : ℕ) → enclosing ss i ≡ enclosing ss j → asked_at ss i ≡ asked_at ss j
-  asked_same i j e = ap asked_in e
-
-  -- what surrounds the lines of the block that opens at a place
-  abbrev pub asked_inside : ℕ → Asked → Asked
+  -- what the scope of the lines of the block that begins at a place asks for
+  abbrev pub asked_inside : ℕ → BlockFacts → BlockFacts
   asked_inside i a = record {
     parts = a.parts ++ block_parts ss i;
     visible = a.visible ++ block_visible ss i;
@@ -78,32 +49,32 @@ module _ (ss : List Numbered) where
 
   asked_snoc : (places : List ℕ) (k : ℕ) → asked_in (places ++ k ∷ []) ≡ asked_inside k (asked_in places)
   asked_snoc places k =
-      let r = round_snoc ss places k in
+      let r = scope_snoc ss places k in
       λ j. record { parts = (r j).parts; visible = (r j).visible; mode = (r j).mode; entry = option_map (entry_number ss) ((r j).opener) }
 
   module _ (i : ℕ) (s : Numbered) (at : slice_get ss i ≡ Some s) where
-    pub asked_opened : (b : opener.Block) → bracket s ≡ Opens b → asked_at ss (suc i) ≡ asked_inside i (asked_at ss i)
+    pub asked_opened : (b : opener.Block) → bracket s ≡ Opens b → block_facts_at ss (suc i) ≡ asked_inside i (block_facts_at ss i)
     asked_opened b o = ap asked_in (enclosing-opens ss i s b at o) ∙ asked_snoc (enclosing ss i) i
 
     -- the blocks behind an opener
     pub open_opens : (b : opener.Block) (conditions : List Condition) (old new : Blocks) → bracket s ≡ Opens b → AreOpen ss i conditions old →
-        block_view conditions new.innermost ≡ asked_inside i (asked_at ss i) → new.outside.items ≡ old.outside.items ++ old.innermost ∷ [] → AreOpen ss (suc i) conditions new
+        block_view conditions new.innermost ≡ asked_inside i (block_facts_at ss i) → new.outside.items ≡ old.outside.items ++ old.innermost ∷ [] → AreOpen ss (suc i) conditions new
     open_opens b conditions old new o h inside outside = record {
       innermost = inside ∙ sym (asked_opened b o);
       outside =
           ap (map (block_view conditions)) outside
           ∙ map_push (block_view conditions) old.outside.items old.innermost
-          ∙ ap (λ (l : List Asked). l ++ block_view conditions old.innermost ∷ []) h.outside
-          ∙ ap (λ (a : Asked). map (asked_at ss) (enclosing ss i) ++ a ∷ []) h.innermost
-          ∙ sym (map_push (asked_at ss) (enclosing ss i) i)
-          ∙ ap (map (asked_at ss)) (sym (enclosing-opens ss i s b at o));
+          ∙ ap (λ (l : List BlockFacts). l ++ block_view conditions old.innermost ∷ []) h.outside
+          ∙ ap (λ (a : BlockFacts). map (block_facts_at ss) (enclosing ss i) ++ a ∷ []) h.innermost
+          ∙ sym (map_push (block_facts_at ss) (enclosing ss i) i)
+          ∙ ap (map (block_facts_at ss)) (sym (enclosing-opens ss i s b at o));
     }
 
     -- behind a line that is no bracket
     pub open_passes : (conditions : List Condition) (blocks : Blocks) → bracket s ≡ NoBracket → AreOpen ss i conditions blocks → AreOpen ss (suc i) conditions blocks
     open_passes conditions blocks o h =
         let same = enclosing-no ss i s at o in
-        record { innermost = h.innermost ∙ ap asked_in (sym same); outside = h.outside ∙ ap (map (asked_at ss)) (sym same) }
+        record { innermost = h.innermost ∙ ap asked_in (sym same); outside = h.outside ∙ ap (map (block_facts_at ss)) (sym same) }
 
     -- behind a closer
     pub open_closes : (conditions : List Condition) (old new : Blocks) → bracket s ≡ Closes → AreOpen ss i conditions old → IsClosed old new → AreOpen ss (suc i) conditions new
@@ -112,14 +83,14 @@ module _ (ss : List Numbered) where
         after : enclosing ss (suc i) ≡ front (enclosing ss i)
         after = enclosing-closes ss i s at o
 
-        none_open : (ks : List ℕ) → enclosing ss i ≡ ks → [] ≡ map (asked_at ss) ks → open_blocks new ≡ open_blocks old → AreOpen ss (suc i) conditions new
+        none_open : (ks : List ℕ) → enclosing ss i ≡ ks → [] ≡ map (block_facts_at ss) ks → open_blocks new ≡ open_blocks old → AreOpen ss (suc i) conditions new
         none_open [] e q same =
             let shorter : enclosing ss (suc i) ≡ enclosing ss i = after ∙ ap front e ∙ sym e in
             let inner : new.innermost ≡ old.innermost = cc in
             let outer : new.outside.items ≡ old.outside.items = cc in
             record {
               innermost = ap (block_view conditions) inner ∙ h.innermost ∙ ap asked_in (sym shorter);
-              outside = ap (map (block_view conditions)) outer ∙ h.outside ∙ ap (map (asked_at ss)) (sym shorter);
+              outside = ap (map (block_view conditions)) outer ∙ h.outside ∙ ap (map (block_facts_at ss)) (sym shorter);
             }
         none_open (k ∷ ks) e q same = absurd cc
 
@@ -129,16 +100,16 @@ module _ (ss : List Numbered) where
         by_end (inr e) =
             let left = (c.0 e.0 e.1 e.2).1 in
             let inner = (c.0 e.0 e.1 e.2).0 in
-            let split = split_last (enclosing ss i) (asked_at ss) (map (block_view conditions) e.0) (block_view conditions e.1)
+            let split = split_last (enclosing ss i) (block_facts_at ss) (map (block_view conditions) e.0) (block_view conditions e.1)
             (sym (ap (map (block_view conditions)) e.2 ∙ map_push (block_view conditions) e.0 e.1) ∙ h.outside) in
             let whole = enclosing-last ss i split.k (let w = slice_get_within ss i s at in omega arith) split.last in
             let shorter : enclosing ss (suc i) ≡ enclosing ss split.k = after ∙ ap front whole ∙ front_snoc (enclosing ss split.k) split.k in
             record {
               innermost = ap (block_view conditions) inner ∙ split.here ∙ ap asked_in (sym shorter);
-              outside = ap (map (block_view conditions)) left ∙ split.before ∙ ap (map (asked_at ss)) (sym after);
+              outside = ap (map (block_view conditions)) left ∙ split.before ∙ ap (map (block_facts_at ss)) (sym after);
             }
 
   -- behind an entry
   pub open_moves : (i j : ℕ) (conditions : List Condition) (blocks : Blocks) → enclosing ss j ≡ enclosing ss i → AreOpen ss i conditions blocks → AreOpen ss j conditions blocks
   open_moves i j conditions blocks e h =
-      record { innermost = h.innermost ∙ ap asked_in (sym e); outside = h.outside ∙ ap (map (asked_at ss)) (sym e) }
+      record { innermost = h.innermost ∙ ap asked_in (sym e); outside = h.outside ∙ ap (map (block_facts_at ss)) (sym e) }

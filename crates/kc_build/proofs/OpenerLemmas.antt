@@ -6,14 +6,14 @@ use Rattle.std.proofs.lemmas.List.Elements.{All-nil}
 use Rattle.kc_expr.specs.Form.{Form}
 use Rattle.kc_read.specs.declared.statement.Block.TheVariants as block
 use Rattle.kc_read.specs.Statements.{Numbered, IfLine}
-use Rattle.kc_tree.specs.declared.parts.Symbol.{Symbol}
+use Rattle.kc_tree.specs.declared.rows.Symbol.{Symbol}
 use Rattle.kc_tree.specs.Contexts.{and_also, condition_in, top}
 use Rattle.kc_tree.specs.TreeFacts.{Condition}
 use Rattle.kc_build.specs.Before.{main_menu_before}
 use Rattle.kc_build.specs.Facts.{block_parts, choice_number, entry_at, entry_number, of_block, symbol_of}
-use Rattle.kc_build.specs.Rounds.{block_visible}
-use Rattle.kc_build.specs.Said.{IsEntryThere, IsTitleThere}
-use Rattle.kc_build.specs.Stacks.{AreOpen, asked_at, block_view}
+use Rattle.kc_build.specs.Scopes.{block_visible}
+use Rattle.kc_build.specs.WalkResult.{IsEntryThere, IsTitleThere}
+use Rattle.kc_build.specs.Stacks.{AreOpen, block_facts_at, block_view}
 use Rattle.kc_build.specs.Walks.{Enters, IsHead, IsWalk, place_after}
 use Rattle.kc_build.specs.declared.blocks.Block.{Block}
 use Rattle.kc_build.specs.declared.entries.Walk.{Walk}
@@ -66,11 +66,11 @@ module _ (ss : List Numbered) (symbols : List Symbol) (i : ℕ) (head : Numbered
       })
       q.symbol
 
--- what a block asks for that opens at a place
-pub block_inside : (ss : List Numbered) (i : ℕ) (conditions : List Condition) (b : Block) → (condition_in conditions b.within.0).parts ≡ (asked_at ss i).parts ++ block_parts ss i →
-    (condition_in conditions b.visible.0).parts ≡ (asked_at ss i).visible ++ block_visible ss i →
-    (condition_in conditions b.within.0).mode ≡ (if of_block ss block.Choice i then Some (choice_number ss i) else (asked_at ss i).mode) → b.entry ≡ Some (entry_number ss i) →
-    block_view conditions b ≡ asked_inside ss i (asked_at ss i)
+-- what a block asks for that begins at a place
+pub block_inside : (ss : List Numbered) (i : ℕ) (conditions : List Condition) (b : Block) → (condition_in conditions b.within.0).parts ≡ (block_facts_at ss i).parts ++ block_parts ss i →
+    (condition_in conditions b.visible.0).parts ≡ (block_facts_at ss i).visible ++ block_visible ss i →
+    (condition_in conditions b.within.0).mode ≡ (if of_block ss block.Choice i then Some (choice_number ss i) else (block_facts_at ss i).mode) → b.entry ≡ Some (entry_number ss i) →
+    block_view conditions b ≡ asked_inside ss i (block_facts_at ss i)
 block_inside ss i conditions b p v m e =
     λ j. record { parts = p j; visible = v j; mode = m j; entry = e j }
 
@@ -95,13 +95,13 @@ module _ (e : Form) (entry : ℕ) (b : Block) (old new : Walk) (same : AreSame o
       let opens : block_parts ss i ≡ e ∷ [] = rw (h.at) refl in
       let nothing : block_visible ss i ≡ [] = rw (h.at) refl in
       let other : of_block ss block.Choice i ≡ false = rw (h.at) refl in
-      let parts : (condition_in new.tables.contexts b.within.0).parts ≡ (asked_at ss i).parts ++ block_parts ss i = ap (λ (c : Condition). c.parts) made
-      ∙ ap (λ (l : List Form). l ++ e ∷ []) (ap (λ x. x.parts) round) ∙ ap (λ (l : List Form). (asked_at ss i).parts ++ l) (sym opens) in
-      let seen : (condition_in new.tables.contexts b.visible.0).parts ≡ (asked_at ss i).visible ++ block_visible ss i = ap (λ x. (condition_in new.tables.contexts x.0).parts) visible
+      let parts : (condition_in new.tables.contexts b.within.0).parts ≡ (block_facts_at ss i).parts ++ block_parts ss i = ap (λ (c : Condition). c.parts) made
+      ∙ ap (λ (l : List Form). l ++ e ∷ []) (ap (λ x. x.parts) round) ∙ ap (λ (l : List Form). (block_facts_at ss i).parts ++ l) (sym opens) in
+      let seen : (condition_in new.tables.contexts b.visible.0).parts ≡ (block_facts_at ss i).visible ++ block_visible ss i = ap (λ x. (condition_in new.tables.contexts x.0).parts) visible
       ∙ ap (λ (c : Condition). c.parts) (g.keeps old.blocks.innermost.visible.0 shown) ∙ ap (λ x. x.visible) round
-      ∙ sym (ap (λ (l : List Form). (asked_at ss i).visible ++ l) nothing ∙ append-nil (asked_at ss i).visible) in
-      let mode : (condition_in new.tables.contexts b.within.0).mode ≡ (if of_block ss block.Choice i then Some (choice_number ss i) else (asked_at ss i).mode) =
-      ap (λ (c : Condition). c.mode) made ∙ ap (λ x. x.mode) round ∙ sym (ap (λ (t : Bool). if t then Some (choice_number ss i) else (asked_at ss i).mode) other) in
+      ∙ sym (ap (λ (l : List Form). (block_facts_at ss i).visible ++ l) nothing ∙ append-nil (block_facts_at ss i).visible) in
+      let mode : (condition_in new.tables.contexts b.within.0).mode ≡ (if of_block ss block.Choice i then Some (choice_number ss i) else (block_facts_at ss i).mode) =
+      ap (λ (c : Condition). c.mode) made ∙ ap (λ x. x.mode) round ∙ sym (ap (λ (t : Bool). if t then Some (choice_number ss i) else (block_facts_at ss i).mode) other) in
       let named : b.entry ≡ Some (entry_number ss i) = at ∙ ap Some (number ∙ entry_count ss symbols i old w a.ends) in
       let inside = ap (block_view new.tables.contexts) inner ∙ block_inside ss i new.tables.contexts b parts seen mode named in
       quiet_passes ss symbols i (IfLine e) own h old new w same

@@ -6,10 +6,10 @@ use Rattle.std.proofs.lemmas.List.Elements.{filter-append, filter_map-append}
 use Rattle.std.proofs.lemmas.Grind.{flat_map-append}
 use Rattle.std.specs.Prelude.{option_map}
 use Rattle.std.proofs.lemmas.Option.{slice_get-map, slice_get-get_or}
-use Rattle.kc_read.specs.declared.line.Line.{Line}
-use Rattle.kc_read.specs.Reads.{statement_view}
+use Rattle.kc_read.specs.declared.statement.Line.{Line}
+use Rattle.kc_read.specs.StatementViews.{statement_view}
 use Rattle.kc_read.specs.Blocks.{numbers}
-use Rattle.kc_build.specs.Passes.{said_by}
+use Rattle.kc_build.specs.Passes.{statements_of}
 use Rattle.kc_build.proofs.BlockLemmas.{numbers_from, numbers-from}
 
 pub numbers-next : (i : ℕ) → numbers (i + 1) ≡ numbers i ++ i ∷ []
@@ -48,9 +48,9 @@ view_next v f i out new x h e n =
 
 -- The same of lines.
 -- the statement of a line that was read by its place
-pub statement_at : (ls : List Line) (i : ℕ) (x : Line) → i < length ls → x ≡ get_or ls i x → slice_get (said_by ls) i ≡ Some (statement_view x.statement)
+pub statement_at : (ls : List Line) (i : ℕ) (x : Line) → i < length ls → x ≡ get_or ls i x → slice_get (statements_of ls) i ≡ Some (statement_view x.statement)
 statement_at ls i x h e =
     slice_get-map (λ (l : Line). statement_view l.statement) ls i ∙ ap (option_map (λ (l : Line). statement_view l.statement)) (slice_get-get_or ls i x h ∙ ap Some (sym e))
 
-pub length-said_by : (ls : List Line) → length (said_by ls) ≡ length ls
-length-said_by ls = length-map ls (λ (l : Line). statement_view l.statement)
+pub length-statements_of : (ls : List Line) → length (statements_of ls) ≡ length ls
+length-statements_of ls = length-map ls (λ (l : Line). statement_view l.statement)

@@ -6,18 +6,18 @@ use Rattle.std.proofs.lemmas.List.Elements.{All-nil, All-cons, All-head, All-app
 use Rattle.kc_text.specs.declared.faults.TextFault.{TextFault}
 use Rattle.kc_text.specs.Escapes.{unescape}
 use Rattle.kc_text.specs.Lexemes.{Lexeme, AWord, AQuoted, AnOp}
-use Rattle.kc_text.specs.Lines.{Left, left}
-use Rattle.kc_text.specs.Tokens.{Piece}
+use Rattle.kc_text.specs.Lines.{UnreadLines, unread_lines}
+use Rattle.kc_text.specs.Tokens.{TokenView}
 use Rattle.kc_expr.specs.declared.expression.Kind.{Kind}
-use Rattle.kc_expr.specs.Grammar.{Disjunction, Atom, WordAtom, QuotedAtom, atom_words, if_word, is_letter, spell, terminals, words}
+use Rattle.kc_expr.specs.Grammar.{Disjunction, Atom, WordAtom, QuotedAtom, names_in_atom, if_word, is_tristate_constant, spell, terminals, names_in}
 use Rattle.kc_expr.specs.Names.{same_name}
 use Rattle.kc_read.specs.declared.refusal.Code.TheVariants as code
 use Rattle.kc_read.specs.declared.statement.Keyword.{Keyword}
 use Rattle.kc_read.specs.declared.statement.Keyword.TheVariants as key
-use Rattle.kc_read.specs.Expansion.{Around, Log, Refused, Rest, Expands, NextLine, bytes_cause, context_of, opening, nothing_read, refused, root_around, statements, with_line, is_help, lexemes, without_help, at_end, unclosed, too_long, no_tokens, blank, bad_line, bad_effect, statement, bad_source, refused_inside, source}
+use Rattle.kc_read.specs.Expansion.{FileContext, Log, Refused, Rest, Expands, NextLine, bytes_cause, context_of, with_file, nothing_read, refused, root_context, statements, with_line, is_help, lexemes, without_help, at_end, unclosed, too_long, no_tokens, blank, bad_line, over_limit, statement, bad_source, refused_inside, source}
 use Rattle.kc_read.specs.Files.{Files}
-use Rattle.kc_read.specs.Lines.{Context, After, Cause, Front, IsCondition, IsWhole, ReadsTarget, ReadsType, ReadsLine, ReadsPlaced, ReadsRest, ReadsWhole, ReadsCondition, ReadsTextLine, ReadsValue, ReadsAsked, StartsExpression, begins_with, choice_line, expected, finish, front, good_name, in_place, is_good_name, keyword_of, known, left_out, operand_of, option_line, place_cause, plain_text, syntax_cause, target_of, text_of, word_of}
-use Rattle.kc_read.specs.Statements.{Statement, Asked, Written, Placed, ConfigLine, IfLine, EndIfLine, CommentLine, SourceLine, MenuLine, EndMenuLine, ChoiceLine, EndChoiceLine, MainMenuLine, TypeLine, PromptLine, DefaultLine, DefLine, DependsLine, VisibleLine, SelectLine, ImplyLine, RangeLine, HelpLine, ModulesLine, IgnoredLine, condition_words, statement_words, value_form}
+use Rattle.kc_read.specs.Lines.{LineContext, After, Cause, Front, IsCondition, IsWhole, ReadsTarget, ReadsType, ReadsLine, ReadsPlaced, ReadsRest, ReadsWhole, ReadsCondition, ReadsTextLine, ReadsValue, ReadsPrompt, StartsExpression, begins_with, choice_line, expected, finish, front, good_name, in_place, is_good_name, keyword_of, known, left_out, operand_of, option_line, placement_cause, plain_text, syntax_cause, target_of, text_of, word_of}
+use Rattle.kc_read.specs.Statements.{Statement, InputPrompt, Named, Located, ConfigLine, IfLine, EndIfLine, CommentLine, SourceLine, MenuLine, EndMenuLine, ChoiceLine, EndChoiceLine, MainMenuLine, TypeLine, PromptLine, DefaultLine, DefLine, DependsLine, VisibleLine, SelectLine, ImplyLine, RangeLine, HelpLine, ModulesLine, IgnoredLine, names_in_condition, names_in_statement, value_form}
 use Rattle.kc_tree.specs.TreeFacts.{IsLineText, IsLineForm}
 use Rattle.kc_build.proofs.LineTextLemmas.{AreOneLine, IsLineAtom, IsLineLexeme, IsLineTerminal, all_front, atom_lines, cut_line, file_lines, helped, taken_line, terminal_lines, value_line, word_lines}
 
@@ -35,9 +35,9 @@ HasTexts V (DefLine k v w) = V v
 HasTexts V _ = Unit {0}
 
 -- they are one line's texts, and so are the names that the statement mentions
-pub record IsInLines (s : Written) : Type 0 where
+pub record IsInLines (s : Named) : Type 0 where
   pub texts : HasTexts IsLineValue s
-  pub names : All IsLineText (statement_words s)
+  pub names : All IsLineText (names_in_statement s)
 
 -- A part that is one token.
 after : {A B : Type 0} (o : Result A Cause) (Next : A → Result B Cause → Type 0) (b : B) (P : Type 0) → After o Next (Ok b) → ((a : A) → o ≡ Ok a → Next a (Ok b) → P) → P
@@ -67,7 +67,7 @@ word_line (AnOp o ∷ ts) w h e = absurd cc
 
 target_line : (ts : List Lexeme) (w : List ℕ) → AreInLine ts → target_of ts ≡ Ok w → IsLineText w
 target_line [] w h e = absurd cc
-target_line (AWord v ∷ ts) w h e = unless_word v w (same_name v if_word || is_letter v) (All-head IsLineLexeme (AWord v) ts h) e
+target_line (AWord v ∷ ts) w h e = unless_word v w (same_name v if_word || is_tristate_constant v) (All-head IsLineLexeme (AWord v) ts h) e
 target_line (AQuoted q ∷ ts) w h e = absurd cc
 target_line (AnOp o ∷ ts) w h e = absurd cc
 
@@ -91,10 +91,10 @@ started ts f h s = all_front IsLineTerminal (spell f.tree) (terminals f.rest) (s
 left_over : (ts : List Lexeme) (f : Front) → AreInLine ts → StartsExpression ts f → AreInLine f.rest
 left_over ts f h s = subst AreInLine (sym s.rest_is) (All-drop IsLineLexeme s.used ts h)
 
-whole_names : (ts : List Lexeme) (d : Disjunction) → AreInLine ts → IsWhole ts d → All IsLineText (words d)
+whole_names : (ts : List Lexeme) (d : Disjunction) → AreInLine ts → IsWhole ts d → All IsLineText (names_in d)
 whole_names ts d h s = word_lines (spell d) (started ts (front d []) h s)
 
-condition_names : (ts : List Lexeme) (w : Option Disjunction) → AreInLine ts → IsCondition ts w → All IsLineText (condition_words w)
+condition_names : (ts : List Lexeme) (w : Option Disjunction) → AreInLine ts → IsCondition ts w → All IsLineText (names_in_condition w)
 condition_names ts None h c = All-nil IsLineText
 condition_names ts (Some d) h c = whole_names (drop 1 ts) d (All-drop IsLineLexeme 1 ts h) c.1
 
@@ -106,42 +106,48 @@ expected_line : (w : List ℕ) (ts us : List Lexeme) → AreInLine ts → expect
 expected_line w ts us h e = expected_by ts us (begins_with w ts) h e
 
 -- Statements.
-same_lines : (s x : Written) → s ≡ x → IsInLines x → IsInLines s
+same_lines : (s x : Named) → s ≡ x → IsInLines x → IsInLines s
 same_lines s x e h = subst IsInLines (sym e) h
 
-bare : (s : Written) → HasTexts IsLineValue s → statement_words s ≡ [] → IsInLines s
+bare : (s : Named) → HasTexts IsLineValue s → names_in_statement s ≡ [] → IsInLines s
 bare s t e = record { texts = t; names = subst (All IsLineText) (sym e) (All-nil IsLineText) }
 
-finished : (x s : Written) (ts : List Lexeme) → IsInLines x → Ok s ≡ finish x ts → IsInLines s
+finished : (x s : Named) (ts : List Lexeme) → IsInLines x → Ok s ≡ finish x ts → IsInLines s
 finished x s [] h e = same_lines s x (let same : s ≡ x = cc in same) h
 finished x s (t ∷ ts) h e = absurd cc
 
-whole : (make : Disjunction → Written) (ts : List Lexeme) (s : Written) → AreInLine ts → ((d : Disjunction) → All IsLineText (words d) → IsInLines (make d)) → ReadsWhole make ts (Ok s) → IsInLines s
+whole : (make : Disjunction → Named) (ts : List Lexeme) (s : Named) → AreInLine ts → ((d : Disjunction) → All IsLineText (names_in d) → IsInLines (make d)) → ReadsWhole make ts (Ok s) → IsInLines s
 whole make ts s l k h = same_lines s (make h.0) h.2 (k h.0 (whole_names ts h.0 l h.1))
 
-condition : (make : Option Disjunction → Written) (ts : List Lexeme) (s : Written) → AreInLine ts → ((w : Option Disjunction) → All IsLineText (condition_words w) → IsInLines (make w)) → ReadsCondition make ts (Ok s) → IsInLines s
+condition : (make : Option Disjunction → Named) (ts : List Lexeme) (s : Named) → AreInLine ts →
+    ((w : Option Disjunction) → All IsLineText (names_in_condition w) → IsInLines (make w)) → ReadsCondition make ts (Ok s) → IsInLines s
 condition make ts s l k h = same_lines s (make h.0) h.2 (k h.0 (condition_names ts h.0 l h.1))
 
-value : (make : Disjunction → Option Disjunction → Written) (ts : List Lexeme) (s : Written) → AreInLine ts → ((d : Disjunction) (w : Option Disjunction) → IsLineValue d → All IsLineText (words d ++ condition_words w) → IsInLines (make d w)) → ReadsValue make ts (Ok s) → IsInLines s
+value : (make : Disjunction → Option Disjunction → Named) (ts : List Lexeme) (s : Named) → AreInLine ts →
+    ((d : Disjunction) (w : Option Disjunction) → IsLineValue d → All IsLineText (names_in d ++ names_in_condition w) → IsInLines (make d w)) →
+    ReadsValue make ts (Ok s) → IsInLines s
 value make ts s l k (f, w, starts, asks, is) =
     let spelled = started ts f l starts in
-    same_lines s (make f.tree w) is (k f.tree w (λ number. value_line number f.tree spelled) (All-append IsLineText (words f.tree) (condition_words w) (word_lines (spell f.tree) spelled) (condition_names f.rest w (left_over ts f l starts) asks)))
+    same_lines s (make f.tree w) is (k f.tree w (λ number. value_line number f.tree spelled)
+    (All-append IsLineText (names_in f.tree) (names_in_condition w) (word_lines (spell f.tree) spelled)
+    (condition_names f.rest w (left_over ts f l starts) asks)))
 
-text : (make : List ℕ → Written) (ts : List Lexeme) (s : Written) → AreInLine ts → ((t : List ℕ) → IsLineText t → IsInLines (make t)) → ReadsTextLine make ts (Ok s) → IsInLines s
+text : (make : List ℕ → Named) (ts : List Lexeme) (s : Named) → AreInLine ts → ((t : List ℕ) → IsLineText t → IsInLines (make t)) → ReadsTextLine make ts (Ok s) → IsInLines s
 text make ts s l k h =
     after (text_of ts) (λ t r. r ≡ finish (make t) (drop 1 ts)) s (IsInLines s) h (λ t e f. finished (make t) s (drop 1 ts) (k t (text_line ts t l e)) f)
 
-asked : (make : Asked Disjunction → Written) (ts : List Lexeme) (s : Written) → AreInLine ts → ((p : Asked Disjunction) → All IsLineText (condition_words p.when) → IsInLines (make p)) → ReadsAsked make ts (Ok s) → IsInLines s
+asked : (make : InputPrompt Disjunction → Named) (ts : List Lexeme) (s : Named) → AreInLine ts →
+    ((p : InputPrompt Disjunction) → All IsLineText (names_in_condition p.when) → IsInLines (make p)) → ReadsPrompt make ts (Ok s) → IsInLines s
 asked make ts s l k h =
     after (text_of ts) (λ t. ReadsCondition (λ w. make (record { text = t; when = w })) (drop 1 ts)) s (IsInLines s) h
     (λ t e f. condition (λ w. make (record { text = t; when = w })) (drop 1 ts) s (All-drop IsLineLexeme 1 ts l) (λ w n. k (record { text = t; when = w }) n) f)
 
-typed : (k : Kind) (ts : List Lexeme) (s : Written) → AreInLine ts → ReadsType k ts (Ok s) → IsInLines s
+typed : (k : Kind) (ts : List Lexeme) (s : Named) → AreInLine ts → ReadsType k ts (Ok s) → IsInLines s
 typed k ts s l (inl h) =
-    same_lines s (TypeLine k None) (let e : ◌≡◌ {A = Result Written Cause} (Ok s) (Ok (TypeLine k None)) = h.1 in let same : s ≡ TypeLine k None = cc in same) (bare (TypeLine k None) tt refl)
+    same_lines s (TypeLine k None) (let e : ◌≡◌ {A = Result Named Cause} (Ok s) (Ok (TypeLine k None)) = h.1 in let same : s ≡ TypeLine k None = cc in same) (bare (TypeLine k None) tt refl)
 typed k ts s l (inr h) = asked (λ p. TypeLine k (Some p)) ts s l (λ p n. record { texts = tt; names = n }) h.1
 
-named : (w : List ℕ) (s : Written) (b : Bool) → IsLineText w → ◌≡◌ {A = Result Written Cause} (Ok s) (if b then Ok (ConfigLine w) else Err (record { code = code.BadName; detail = w })) → IsInLines s
+named : (w : List ℕ) (s : Named) (b : Bool) → IsLineText w → ◌≡◌ {A = Result Named Cause} (Ok s) (if b then Ok (ConfigLine w) else Err (record { code = code.BadName; detail = w })) → IsInLines s
 named w s true h e =
     same_lines s (ConfigLine w) (let same : s ≡ ConfigLine w = cc in same) (record { texts = tt; names = All-cons IsLineText w [] h (All-nil IsLineText) })
 named w s false h e = absurd cc
@@ -150,26 +156,29 @@ still_word : (v w : List ℕ) (ts : List Lexeme) → IsLineText v → finish v t
 still_word v w [] h e = let same : v ≡ w = cc in subst IsLineText same h
 still_word v w (t ∷ ts) h e = absurd cc
 
-choice : (ts : List Lexeme) (s : Written) → Ok s ≡ choice_line ts → IsInLines s
+choice : (ts : List Lexeme) (s : Named) → Ok s ≡ choice_line ts → IsInLines s
 choice [] s h = same_lines s ChoiceLine (let same : s ≡ ChoiceLine = cc in same) (bare ChoiceLine tt refl)
 choice (t ∷ ts) s h = absurd cc
 
-option : (ts : List Lexeme) (s : Written) → Ok s ≡ option_line ts → IsInLines s
+option : (ts : List Lexeme) (s : Named) → Ok s ≡ option_line ts → IsInLines s
 option ts s h = by (begins_with (codes "modules") ts) (begins_with (codes "allnoconfig_y") ts) (begins_with (codes "env") ts) (begins_with (codes "defconfig_list") ts) h
   where
-    by : (a b c d : Bool) → ◌≡◌ {A = Result Written Cause} (Ok s) (if a then finish ModulesLine (drop 1 ts) else if b then finish IgnoredLine (drop 1 ts) else if c then Err (left_out (codes "option env")) else if d then Err (left_out (codes "option defconfig_list")) else Err syntax_cause) → IsInLines s
+    by : (a b c d : Bool) → ◌≡◌ {A = Result Named Cause} (Ok s)
+        (if a then finish ModulesLine (drop 1 ts) else if b then finish IgnoredLine (drop 1 ts) else if c then Err (left_out (codes "option env"))
+        else if d then Err (left_out (codes "option defconfig_list")) else Err syntax_cause) → IsInLines s
     by true b c d e = finished ModulesLine s (drop 1 ts) (bare ModulesLine tt refl) e
     by false true c d e = finished IgnoredLine s (drop 1 ts) (bare IgnoredLine tt refl) e
     by false false true d e = absurd cc
     by false false false true e = absurd cc
     by false false false false e = absurd cc
 
-target : (make : List ℕ → Option Disjunction → Written) (ts : List Lexeme) (s : Written) → AreInLine ts → ((t : List ℕ) (w : Option Disjunction) → All IsLineText (t ∷ condition_words w) → IsInLines (make t w)) → ReadsTarget make ts (Ok s) → IsInLines s
+target : (make : List ℕ → Option Disjunction → Named) (ts : List Lexeme) (s : Named) → AreInLine ts →
+    ((t : List ℕ) (w : Option Disjunction) → All IsLineText (t ∷ names_in_condition w) → IsInLines (make t w)) → ReadsTarget make ts (Ok s) → IsInLines s
 target make ts s l k h =
     after (target_of ts) (λ t. ReadsCondition (make t) (drop 1 ts)) s (IsInLines s) h
-    (λ t e f. condition (make t) (drop 1 ts) s (All-drop IsLineLexeme 1 ts l) (λ w n. k t w (All-cons IsLineText t (condition_words w) (target_line ts t l e) n)) f)
+    (λ t e f. condition (make t) (drop 1 ts) s (All-drop IsLineLexeme 1 ts l) (λ w n. k t w (All-cons IsLineText t (names_in_condition w) (target_line ts t l e) n)) f)
 
-rest_of : (w : List ℕ) (k : Keyword) (ts : List Lexeme) (s : Written) → AreInLine ts → ReadsRest w k ts (Ok s) → IsInLines s
+rest_of : (w : List ℕ) (k : Keyword) (ts : List Lexeme) (s : Named) → AreInLine ts → ReadsRest w k ts (Ok s) → IsInLines s
 rest_of w key.Config ts s l h =
     after (word_of ts) (λ v. After (finish v (drop 1 ts)) (λ u r. r ≡ good_name u)) s (IsInLines s) h
     (λ v e f. after (finish v (drop 1 ts)) (λ u r. r ≡ good_name u) s (IsInLines s) f (λ u g m. named u s (is_good_name u) (still_word v u (drop 1 ts) (word_line ts v l e) g) m))
@@ -189,42 +198,45 @@ rest_of w key.Prompt ts s l h = asked PromptLine ts s l (λ p n. record { texts 
 rest_of w key.Default ts s l h = value DefaultLine ts s l (λ d c v n. record { texts = v; names = n }) h
 rest_of w (key.Def k) ts s l h = value (DefLine k) ts s l (λ d c v n. record { texts = v; names = n }) h
 rest_of w key.Depends ts s l h =
-    after (expected (codes "on") ts) (λ us. ReadsWhole DependsLine us) s (IsInLines s) h (λ us e f. whole DependsLine us s (expected_line (codes "on") ts us l e) (λ d n. record { texts = tt; names = n }) f)
+    after (expected (codes "on") ts) (λ us. ReadsWhole DependsLine us) s (IsInLines s) h
+    (λ us e f. whole DependsLine us s (expected_line (codes "on") ts us l e) (λ d n. record { texts = tt; names = n }) f)
 rest_of w key.Visible ts s l h =
     after (expected if_word ts) (λ us. ReadsWhole VisibleLine us) s (IsInLines s) h (λ us e f. whole VisibleLine us s (expected_line if_word ts us l e) (λ d n. record { texts = tt; names = n }) f)
 rest_of w key.Select ts s l h = target SelectLine ts s l (λ t c n. record { texts = tt; names = n }) h
 rest_of w key.Imply ts s l h = target ImplyLine ts s l (λ t c n. record { texts = tt; names = n }) h
 rest_of w key.Range ts s l h =
     after (operand_of ts) (λ a. After (operand_of (drop 1 ts)) (λ b. ReadsCondition (RangeLine a b) (drop 2 ts))) s (IsInLines s) h
-    (λ a e f. after (operand_of (drop 1 ts)) (λ b. ReadsCondition (RangeLine a b) (drop 2 ts)) s (IsInLines s) f (λ b g m. condition (RangeLine a b) (drop 2 ts) s (All-drop IsLineLexeme 2 ts l) (λ c n. record {
+    (λ a e f. after (operand_of (drop 1 ts)) (λ b. ReadsCondition (RangeLine a b) (drop 2 ts)) s (IsInLines s) f
+    (λ b g m. condition (RangeLine a b) (drop 2 ts) s (All-drop IsLineLexeme 2 ts l) (λ c n. record {
       texts = tt;
-      names = All-append IsLineText (atom_words a) (atom_words b ++ condition_words c) (atom_lines a (operand_line ts a l e)) (All-append IsLineText (atom_words b) (condition_words c) (atom_lines b (operand_line (drop 1 ts) b (All-drop IsLineLexeme 1 ts l) g)) n);
+      names = All-append IsLineText (names_in_atom a) (names_in_atom b ++ names_in_condition c) (atom_lines a (operand_line ts a l e))
+          (All-append IsLineText (names_in_atom b) (names_in_condition c) (atom_lines b (operand_line (drop 1 ts) b (All-drop IsLineLexeme 1 ts l) g)) n);
     }) m))
 rest_of w key.Help ts s l h = finished HelpLine s ts (bare HelpLine tt refl) h
 rest_of w key.Modules ts s l h = finished ModulesLine s ts (bare ModulesLine tt refl) h
 rest_of w key.«Option» ts s l h = option ts s h
-rest_of w key.LeftOut ts s l h = absurd (let e : ◌≡◌ {A = Result Written Cause} (Ok s) (Err (left_out w)) = h in cc)
+rest_of w key.LeftOut ts s l h = absurd (let e : ◌≡◌ {A = Result Named Cause} (Ok s) (Err (left_out w)) = h in cc)
 
-line_of : (c : Context) (ts : List Lexeme) (s : Written) → AreInLine ts → ReadsLine c ts (Ok s) → IsInLines s
+line_of : (c : LineContext) (ts : List Lexeme) (s : Named) → AreInLine ts → ReadsLine c ts (Ok s) → IsInLines s
 line_of c ts s l h =
     after (word_of ts) (λ w. After (known (keyword_of w)) (ReadsPlaced c w (drop 1 ts))) s (IsInLines s) h
     (λ w e f. after (known (keyword_of w)) (ReadsPlaced c w (drop 1 ts)) s (IsInLines s) f
-    (λ k g m. after (in_place k (place_cause c w (drop 1 ts) k)) (λ j. ReadsRest w j (drop 1 ts)) s (IsInLines s) m (λ j i n. rest_of w j (drop 1 ts) s (All-drop IsLineLexeme 1 ts l) n)))
+    (λ k g m. after (in_place k (placement_cause c w (drop 1 ts) k)) (λ j. ReadsRest w j (drop 1 ts)) s (IsInLines s) m (λ j i n. rest_of w j (drop 1 ts) s (All-drop IsLineLexeme 1 ts l) n)))
 
 -- The next line: its tokens, and what is left after it.
-after_help_lines : (m : Left) (b : Bool) → AreOneLine m.lines → AreOneLine (if b then without_help m else m).lines
+after_help_lines : (m : UnreadLines) (b : Bool) → AreOneLine m.lines → AreOneLine (if b then without_help m else m).lines
 after_help_lines m true h = helped m.lines h
 after_help_lines m false h = h
 
-next_line : (l m : Left) (ts : List Piece) (out : Option TextFault) → NextLine l m ts out → AreOneLine l.lines → AreInLine (lexemes ts) × AreOneLine m.lines
+next_line : (l m : UnreadLines) (ts : List TokenView) (out : Option TextFault) → NextLine l m ts out → AreOneLine l.lines → AreInLine (lexemes ts) × AreOneLine m.lines
 next_line l m ts out n h =
     let taken = taken_line l n.middle n.text n.taken h in
-    (cut_line n.text ts out taken.0 n.cut, subst (λ (r : Left). AreOneLine r.lines) (sym n.left_after) (after_help_lines n.middle (is_help (lexemes ts)) taken.1))
+    (cut_line n.text ts out taken.0 n.cut, subst (λ (r : UnreadLines). AreOneLine r.lines) (sym n.left_after) (after_help_lines n.middle (is_help (lexemes ts)) taken.1))
 
-abbrev AreInLines : List (Placed Written) → Type 0
+abbrev AreInLines : List (Located Named) → Type 0
 AreInLines ls = All IsInLines (statements ls)
 
-with_next : (ls : List (Placed Written)) (a : Around) (n : ℕ) (s : Written) → IsInLines s → AreInLines ls → AreInLines (with_line ls a n s)
+with_next : (ls : List (Located Named)) (a : FileContext) (n : ℕ) (s : Named) → IsInLines s → AreInLines ls → AreInLines (with_line ls a n s)
 with_next ls a n s i h =
     subst (All IsInLines) (sym (map-append (λ l. l.statement) ls (record { file = a.file; line = n; statement = s } ∷ []))) (All-push IsInLines (statements ls) s h i)
 
@@ -233,14 +245,14 @@ module _ (files : Files) where
   Outcome (Ok log) = AreInLines log.lines
   Outcome (Err r) = Unit {0}
 
-  rest_lines : {a : Around} {l : Left} {own : List (Placed Written)} {log : Log} {r : Result Log Refused} → Rest files a l own log r → AreOneLine l.lines → AreInLines log.lines → Outcome r
+  rest_lines : {a : FileContext} {l : UnreadLines} {own : List (Located Named)} {log : Log} {r : Result Log Refused} → Rest files a l own log r → AreOneLine l.lines → AreInLines log.lines → Outcome r
   rest_lines (at_end a l own log e o) h k = k
   rest_lines (unclosed a l own log line e u) h k = tt
   rest_lines (too_long a l own log t) h k = tt
   rest_lines (no_tokens a l m own log ts why n) h k = tt
   rest_lines (blank a l m own log r n rest) h k = rest_lines rest (next_line l m [] None n h).1 k
   rest_lines (bad_line a l m own log c n) h k = tt
-  rest_lines (bad_effect a l m own log s c n e) h k = tt
+  rest_lines (over_limit a l m own log s c n e) h k = tt
   rest_lines (statement a l m own log s r n plain effect rest) h k =
       let next = next_line l m n.tokens None n.next h in
       rest_lines rest next.1 (with_next log.lines a l.number s (line_of (context_of a own log) (lexemes n.tokens) s next.0 n.reads) k)
@@ -249,7 +261,10 @@ module _ (files : Files) where
   rest_lines (source a l m own log more name bytes r n allowed found inner rest) h k =
       rest_lines rest (next_line l m n.tokens None n.next h).1 (rest_lines inner (file_lines bytes) k)
 
-  by_bytes : (root : List ℕ) (log : Log) (o : Option Cause) → MatchOption o ((bytes : List ℕ) × (files root ≡ Some bytes) × Rest files (root_around root) (left bytes 1) [] (opening nothing_read bytes) (Ok log)) (λ c. Ok log ≡ Err (refused c root 0)) → AreInLines log.lines
+  by_bytes : (root : List ℕ) (log : Log) (o : Option Cause) →
+      MatchOption o ((bytes : List ℕ) × (files root ≡ Some bytes)
+      × Rest files (root_context root) (unread_lines bytes 1) [] (with_file nothing_read bytes) (Ok log)) (λ c. Ok log ≡ Err (refused c root 0)) →
+      AreInLines log.lines
   by_bytes root log None h = rest_lines h.2 (file_lines h.0) (All-nil IsInLines)
   by_bytes root log (Some c) h = absurd (let e : ◌≡◌ {A = Result Log Refused} (Ok log) (Err (refused c root 0)) = h in cc)
 

@@ -16,25 +16,24 @@ use Rattle.kc_expr.specs.declared.expression.Expr.{Expr}
 use Rattle.kc_expr.specs.declared.expression.SymId.{SymId}
 use Rattle.kc_expr.specs.Form.{Form}
 use Rattle.kc_expr.specs.When.{when_view}
-use Rattle.kc_read.specs.declared.line.Line.{Line}
-use Rattle.kc_read.specs.Reads.{statement_view}
-use Rattle.kc_tree.specs.declared.parts.DefinitionId.{DefinitionId}
-use Rattle.kc_tree.specs.declared.parts.Reverse.{Reverse}
-use Rattle.kc_tree.specs.declared.parts.ReverseId.{ReverseId}
-use Rattle.kc_tree.specs.declared.parts.Symbol.{Symbol}
+use Rattle.kc_read.specs.declared.statement.Line.{Line}
+use Rattle.kc_read.specs.StatementViews.{statement_view}
+use Rattle.kc_tree.specs.declared.rows.DefinitionId.{DefinitionId}
+use Rattle.kc_tree.specs.declared.rows.Reverse.{Reverse}
+use Rattle.kc_tree.specs.declared.rows.ReverseId.{ReverseId}
+use Rattle.kc_tree.specs.declared.rows.Symbol.{Symbol}
 use Rattle.kc_tree.specs.declared.reverses.Reverses.{Reverses}
 use Rattle.kc_tree.specs.Chains.{AreChained, AreHeads}
 use Rattle.kc_tree.specs.Words.{listed}
 use Rattle.kc_build.specs.declared.lines.ReverseKind.{ReverseKind}
 use Rattle.kc_build.specs.declared.lines.ReverseKind.TheVariants as reverse_kind
-use Rattle.kc_build.specs.Known.{can_be_target}
-use Rattle.kc_build.specs.Passes.{said_by}
+use Rattle.kc_build.specs.SymbolRows.{can_be_target}
+use Rattle.kc_build.specs.Passes.{statements_of}
 use Rattle.kc_build.specs.Targets.{target_of}
-use Rattle.kc_build.specs.ReverseRows.{reverse_row, rows_to, selects_of, implies_of, same_reverse, added_line, added_lines, HaveSources, KeepSources, IsAdded, AreAdded}
+use Rattle.kc_build.specs.ReverseRows.{reverse_row, rows_to, selects_of, implies_of, added_line, added_lines, HaveSources, KeepSources, IsAdded}
 use Rattle.kc_build.proofs.ChainLemmas.{to-keeps, to-new, get_past}
 use Rattle.kc_build.proofs.GrownLemmas.{get_front, get_last}
-use Rattle.kc_build.proofs.PlaceLemmas.{length-said_by}
-use Rattle.kc_build.proofs.ScanLemmas.{said_from, said_end}
+use Rattle.kc_build.proofs.ScanLemmas.{said_from}
 
 -- a line more, which leads on to the last one of its symbol
 chained-at : (lines : List Reverse) (row : Reverse) → AreChained lines → ((next : ReverseId) → row.next ≡ Some next → next.0 < length lines) →
@@ -130,16 +129,6 @@ target-there symbols s h = ltb-true s.0 (length symbols) (first (nat_lt s.0 (len
     first false b e = e
 
 module _ (symbols : List Symbol) (source : DefinitionId) where
-  -- a line without effect
-  pub not_added : (old : Reverses) (t : ReverseKind × SymId × Option Form) → can_be_target symbols t.1 ≡ false → IsAdded symbols source old t old
-  not_added old t e = record {
-    selects = λ s. sym (ap (λ l. selects_of old s ++ l) (and_false (same_reverse reverse_kind.Select t.0) (t.1.0 == s) (can_be_target symbols t.1) (source.0, t.2) e) ∙ append-nil (selects_of old s));
-    implies = λ s. sym (ap (λ l. implies_of old s ++ l) (and_false (same_reverse reverse_kind.Imply t.0) (t.1.0 == s) (can_be_target symbols t.1) (source.0, t.2) e) ∙ append-nil (implies_of old s));
-    few = omega arith;
-    count = refl;
-    same = refl;
-  }
-
   -- a line of each kind, by the row that stands for it
   pub record IsPushed (old : List Reverse) (heads : List (Option ReverseId)) (s : SymId) (when : Option Form) (new : List Reverse) (after : List (Option ReverseId)) : Type 0 where
     pub row : Reverse
@@ -149,7 +138,8 @@ module _ (symbols : List Symbol) (source : DefinitionId) where
     pub lines_are : new ≡ old ++ row ∷ []
     pub heads_are : after ≡ slice_set heads s.0 (Some (record { 0 = length old }))
 
-  module _ (old : List Reverse) (heads : List (Option ReverseId)) (s : SymId) (when : Option Form) (new : List Reverse) (after : List (Option ReverseId)) (p : IsPushed old heads s when new after) where
+  module _ (old : List Reverse) (heads : List (Option ReverseId)) (s : SymId) (when : Option Form) (new : List Reverse) (after : List (Option ReverseId))
+      (p : IsPushed old heads s when new after) where
     row-is : reverse_row p.row ≡ (source.0, when)
     row-is = let a = p.source_is in let b = p.when_is in λ i. ((a i).0, b i)
 
@@ -230,14 +220,16 @@ module _ (symbols : List Symbol) (source : DefinitionId) where
   pushes (Err x) old new heads now raw after s w when v e a line head stay same = (stay, a ∙ same ∙ e)
 
   -- the same where the heads are those of a vector that was lent as a slice
-  pub pushes_in : (r : Result (Unit {0}) AllocError) (old new : List Reverse) (v : Vec (Option ReverseId)) (now ws : List (Option ReverseId)) (s : SymId) (w : Option (Rc Expr Global)) (when : Option Form) →
+  pub pushes_in : (r : Result (Unit {0}) AllocError) (old new : List Reverse) (v : Vec (Option ReverseId)) (now ws : List (Option ReverseId)) (s : SymId)
+      (w : Option (Rc Expr Global)) (when : Option Form) →
       when_view w ≡ when → now ≡ v.items → length ws ≡ length now → length now ≡ v.len →
       OnOk r (new ≡ old ++ record { source = source; when = w; next = get_or now s.0 None } ∷ []) → OnOk r (ws ≡ slice_set now s.0 (Some (record { 0 = length old }))) →
       OnErr r (new ≡ old) → OnErr r (ws ≡ now) → Pushes old v.items s when new (with_items v ws).items r
   pushes_in r old new v now ws s w when a e m n line head stay same =
       pushes r old new v.items now ws (with_items v ws).items s w when a e (with_items_is v ws (m ∙ n)) line head stay same
 
-  module _ (old : List Reverse) (heads : List (Option ReverseId)) (s : SymId) (when : Option Form) (new : List Reverse) (after : List (Option ReverseId)) (l : s.0 < length heads) (h : AreHeads old heads) where
+  module _ (old : List Reverse) (heads : List (Option ReverseId)) (s : SymId) (when : Option Form) (new : List Reverse) (after : List (Option ReverseId))
+      (l : s.0 < length heads) (h : AreHeads old heads) where
     pub chained_by : (r : Result (Unit {0}) AllocError) → Pushes old heads s when new after r → AreChained old → AreChained new
     chained_by (Ok u) p c = pushed-chained old heads s when new after p h c
     chained_by (Err e) p c = subst AreChained (sym p.0) c
@@ -271,41 +263,31 @@ module _ (symbols : List Symbol) (source : DefinitionId) where
   -- Along the lines of a definition.
   pub record IsAdding (own : List Line) (old : Reverses) (i : ℕ) (new : Reverses) : Type 0 where
     pub selects : (s : ℕ) →
-        selects_of new s ++ added_lines symbols source reverse_kind.Select s (drop i (said_by own)) ≡ selects_of old s ++ added_lines symbols source reverse_kind.Select s (said_by own)
+        selects_of new s ++ added_lines symbols source reverse_kind.Select s (drop i (statements_of own)) ≡ selects_of old s ++ added_lines symbols source reverse_kind.Select s (statements_of own)
     pub implies : (s : ℕ) →
-        implies_of new s ++ added_lines symbols source reverse_kind.Imply s (drop i (said_by own)) ≡ implies_of old s ++ added_lines symbols source reverse_kind.Imply s (said_by own)
+        implies_of new s ++ added_lines symbols source reverse_kind.Imply s (drop i (statements_of own)) ≡ implies_of old s ++ added_lines symbols source reverse_kind.Imply s (statements_of own)
     pub few : length new.lines.items ≤ length old.lines.items + i
     pub count : length new.selects.items ≡ length old.selects.items
     pub same : length new.implies.items ≡ length old.implies.items
     pub sources : KeepSources source.0 old.lines.items new.lines.items
 
-  pub adding_start : (own : List Line) (old : Reverses) → IsAdding own old 0 old
-  adding_start own old = record {
-    selects = λ s. refl;
-    implies = λ s. refl;
-    few = omega arith;
-    count = refl;
-    same = refl;
-    sources = λ n l h. h;
-  }
-
   abbrev given : ReverseKind → ℕ → Option (ReverseKind × SymId × Option Form) → List (ℕ × Option Form)
   given kind s o = flat_map (added_line symbols source kind s) (listed o)
 
   next_lines : (kind : ReverseKind) (s : ℕ) (own : List Line) (i : ℕ) (x : Line) (t : ReverseKind × SymId × Option Form) (now next base : List (ℕ × Option Form)) →
-      i < length own → x ≡ get_or own i x → Some t ≡ target_of (statement_view x.statement) → now ++ added_lines symbols source kind s (drop i (said_by own)) ≡ base →
-      next ≡ now ++ added_line symbols source kind s t → next ++ added_lines symbols source kind s (drop (i + 1) (said_by own)) ≡ base
+      i < length own → x ≡ get_or own i x → Some t ≡ target_of (statement_view x.statement) → now ++ added_lines symbols source kind s (drop i (statements_of own)) ≡ base →
+      next ≡ now ++ added_line symbols source kind s t → next ++ added_lines symbols source kind s (drop (i + 1) (statements_of own)) ≡ base
   next_lines kind s own i x t now next base l at e h n =
-      let rest = added_lines symbols source kind s (drop (i + 1) (said_by own)) in
+      let rest = added_lines symbols source kind s (drop (i + 1) (statements_of own)) in
       let line = added_line symbols source kind s t in
-      let all : added_lines symbols source kind s (drop i (said_by own)) ≡ line ++ rest = rw (said_from own i x l at, ← e) (ap (λ k. k ++ rest) (append-nil line)) in
+      let all : added_lines symbols source kind s (drop i (statements_of own)) ≡ line ++ rest = rw (said_from own i x l at, ← e) (ap (λ k. k ++ rest) (append-nil line)) in
       ap (λ k. k ++ rest) n ∙ append_assoc now line rest ∙ ap (λ k. now ++ k) (sym all) ∙ h
 
   same_lines : (kind : ReverseKind) (s : ℕ) (own : List Line) (i : ℕ) (x : Line) (now base : List (ℕ × Option Form)) → i < length own → x ≡ get_or own i x →
-      None ≡ target_of (statement_view x.statement) → now ++ added_lines symbols source kind s (drop i (said_by own)) ≡ base →
-      now ++ added_lines symbols source kind s (drop (i + 1) (said_by own)) ≡ base
+      None ≡ target_of (statement_view x.statement) → now ++ added_lines symbols source kind s (drop i (statements_of own)) ≡ base →
+      now ++ added_lines symbols source kind s (drop (i + 1) (statements_of own)) ≡ base
   same_lines kind s own i x now base l at e h =
-      let all : added_lines symbols source kind s (drop i (said_by own)) ≡ added_lines symbols source kind s (drop (i + 1) (said_by own)) = rw (said_from own i x l at, ← e) refl in
+      let all : added_lines symbols source kind s (drop i (statements_of own)) ≡ added_lines symbols source kind s (drop (i + 1) (statements_of own)) = rw (said_from own i x l at, ← e) refl in
       ap (λ k. now ++ k) (sym all) ∙ h
 
   pub adding_none : (own : List Line) (old now : Reverses) (i : ℕ) (x : Line) → IsAdding own old i now → i < length own → x ≡ get_or own i x →
@@ -330,14 +312,3 @@ module _ (symbols : List Symbol) (source : DefinitionId) where
     same = a.same ∙ h.same;
     sources = sources-both source.0 _ _ _ h.sources k;
   }
-
-  pub adding_end : (own : List Line) (old new : Reverses) (i : ℕ) → IsAdding own old i new → i ≤ length own → length own ≤ i → AreAdded symbols source old (said_by own) new
-  adding_end own old new i h w l =
-      let none = said_end own i l in
-      record {
-        selects = λ s. sym (append-nil (selects_of new s)) ∙ ap (λ ss. selects_of new s ++ added_lines symbols source reverse_kind.Select s ss) (sym none) ∙ h.selects s;
-        implies = λ s. sym (append-nil (implies_of new s)) ∙ ap (λ ss. implies_of new s ++ added_lines symbols source reverse_kind.Imply s ss) (sym none) ∙ h.implies s;
-        few = (let f = h.few in omega (arith, length-said_by own));
-        count = h.count;
-        same = h.same;
-      }

@@ -10,11 +10,11 @@ use Rattle.kc_expr.specs.Grammar.{Disjunction, Negation, WordAtom, QuotedAtom, o
 use Rattle.kc_expr.specs.Names.{symbol}
 use Rattle.kc_read.specs.declared.refusal.Code.{Code}
 use Rattle.kc_read.specs.declared.refusal.Code.TheVariants as code
-use Rattle.kc_read.specs.Statements.{Written, Numbered, Asked, Placed, ConfigLine, IfLine, EndIfLine, CommentLine, MenuLine, EndMenuLine, ChoiceLine, EndChoiceLine, MainMenuLine, TypeLine, PromptLine, DefaultLine, DefLine, DependsLine, VisibleLine, SelectLine, ImplyLine, RangeLine, ModulesLine}
+use Rattle.kc_read.specs.Statements.{Named, Numbered, InputPrompt, Located, ConfigLine, IfLine, EndIfLine, CommentLine, MenuLine, EndMenuLine, ChoiceLine, EndChoiceLine, MainMenuLine, TypeLine, PromptLine, DefaultLine, DefLine, DependsLine, VisibleLine, SelectLine, ImplyLine, RangeLine, ModulesLine}
 use Rattle.kc_tree.specs.TreeFacts.{TreeFacts, Condition, Guarded, SymbolFacts, SymbolShown, MenuShown, EndShown, CommentShown}
 use Rattle.kc_build.specs.Facts.{symbol_facts, choices, entries}
 use Rattle.kc_read.specs.Expansion.{Refused, refused, statements, defined}
-use Rattle.kc_build.specs.Warnings.{warnings, late_refusals}
+use Rattle.kc_build.specs.Warnings.{warnings, whole_list_refusals}
 use Rattle.kc_read.specs.Numbering.{names_of, modules_id, numbered_lines}
 use Rattle.kc_build.specs.Trees.{tree_of_lines, facts_with}
 
@@ -28,17 +28,17 @@ word w = whole (lone (WordAtom w))
 abbrev both : List ℕ → List ℕ → Disjunction
 both v w = only (conjunction (joined (negation (lone (WordAtom v))) (only (negation (lone (WordAtom w))))))
 
-abbrev asked : List ℕ → Option Disjunction → Asked Disjunction
+abbrev asked : List ℕ → Option Disjunction → InputPrompt Disjunction
 asked t w = record { text = t; when = w }
 
-abbrev bool_line : List ℕ → Written
+abbrev bool_line : List ℕ → Named
 bool_line t = TypeLine kind.Bool (Some (asked t None))
 
-abbrev lines_from : ℕ → List Written → List (Placed Written)
+abbrev lines_from : ℕ → List Named → List (Located Named)
 lines_from n [] = []
 lines_from n (s ∷ ss) = record { file = codes "Kconfig"; line = n; statement = s } ∷ lines_from (suc n) ss
 
-abbrev in_root : List Written → List (Placed Written)
+abbrev in_root : List Named → List (Located Named)
 in_root = lines_from 1
 
 abbrev sym : ℕ → Form
@@ -51,19 +51,20 @@ abbrev cond : List Form → Option ℕ → Condition
 cond ps m = record { parts = ps; mode = m }
 
 -- what lines say, where nothing is to be refused
-abbrev facts_of_lines : List Written → List (Placed Numbered) → TreeFacts
+abbrev facts_of_lines : List Named → List (Located Numbered) → TreeFacts
 facts_of_lines ss ls = facts_with (names_of ss) (length (defined ss)) (modules_id ss) ls
 
 -- A choice with a default, and its members.
-abbrev choice_default : List Written
-choice_default = ChoiceLine ∷ PromptLine (asked (codes "c") None) ∷ DefaultLine (word (codes "B")) None ∷ ConfigLine (codes "A") ∷ bool_line (codes "a") ∷ ConfigLine (codes "B") ∷ bool_line (codes "b") ∷ ConfigLine (codes "C") ∷ bool_line (codes "c") ∷ EndChoiceLine ∷ []
+abbrev choice_default : List Named
+choice_default = ChoiceLine ∷ PromptLine (asked (codes "c") None) ∷ DefaultLine (word (codes "B")) None ∷ ConfigLine (codes "A") ∷ bool_line (codes "a") ∷
+    ConfigLine (codes "B") ∷ bool_line (codes "b") ∷ ConfigLine (codes "C") ∷ bool_line (codes "c") ∷ EndChoiceLine ∷ []
 
 choice_default_tree : tree_of_lines (in_root choice_default) ≡ Ok (record {
   names = codes "A" ∷ codes "B" ∷ codes "C" ∷ codes "MODULES" ∷ [];
   symbols =
-      record { kind = kind.Bool; choice = Some 0; deps = cond [] (Some 0) ∷ []; prompts = cond [] (Some 0) ∷ []; defaults = []; ranges = []; selectors = []; impliers = [] }
-      ∷ record { kind = kind.Bool; choice = Some 0; deps = cond [] (Some 0) ∷ []; prompts = cond [] (Some 0) ∷ []; defaults = []; ranges = []; selectors = []; impliers = [] }
-      ∷ record { kind = kind.Bool; choice = Some 0; deps = cond [] (Some 0) ∷ []; prompts = cond [] (Some 0) ∷ []; defaults = []; ranges = []; selectors = []; impliers = [] }
+      record { kind = kind.Bool; choice = Some 0; dependencies = cond [] (Some 0) ∷ []; prompts = cond [] (Some 0) ∷ []; defaults = []; ranges = []; selectors = []; impliers = [] }
+      ∷ record { kind = kind.Bool; choice = Some 0; dependencies = cond [] (Some 0) ∷ []; prompts = cond [] (Some 0) ∷ []; defaults = []; ranges = []; selectors = []; impliers = [] }
+      ∷ record { kind = kind.Bool; choice = Some 0; dependencies = cond [] (Some 0) ∷ []; prompts = cond [] (Some 0) ∷ []; defaults = []; ranges = []; selectors = []; impliers = [] }
       ∷ [];
   choices = record { prompt = Some (cond [] None); defaults = record { what = symbol 1; when = cond [] None } ∷ []; members = symbol 0 ∷ symbol 1 ∷ symbol 2 ∷ [] } ∷ [];
   entries = SymbolShown (symbol 0) ∷ SymbolShown (symbol 1) ∷ SymbolShown (symbol 2) ∷ [];
@@ -74,7 +75,7 @@ choice_default_tree : tree_of_lines (in_root choice_default) ≡ Ok (record {
 choice_default_tree = refl
 
 abbrev fact : Kind → Option ℕ → List Condition → List Condition → List (Guarded Form) → List (Guarded SymId) → SymbolFacts
-fact k c ds ps vs ns = record { kind = k; choice = c; deps = ds; prompts = ps; defaults = vs; ranges = []; selectors = ns; impliers = [] }
+fact k c ds ps vs ns = record { kind = k; choice = c; dependencies = ds; prompts = ps; defaults = vs; ranges = []; selectors = ns; impliers = [] }
 
 abbrev given : Form → Condition → Guarded Form
 given v c = record { what = v; when = c }
@@ -92,8 +93,10 @@ abbrev modules_word : List ℕ
 modules_word = codes "MODULES"
 
 -- the same, with a symbol before it on which a member depends
-abbrev member_dependency : List Written
-member_dependency = ConfigLine (codes "D") ∷ bool_line (codes "d") ∷ ChoiceLine ∷ PromptLine (asked (codes "c") None) ∷ DefaultLine (word (codes "B")) None ∷ ConfigLine (codes "A") ∷ bool_line (codes "a") ∷ ConfigLine (codes "B") ∷ bool_line (codes "b") ∷ ConfigLine (codes "C") ∷ bool_line (codes "c") ∷ DependsLine (word (codes "D")) ∷ EndChoiceLine ∷ []
+abbrev member_dependency : List Named
+member_dependency = ConfigLine (codes "D") ∷ bool_line (codes "d") ∷ ChoiceLine ∷ PromptLine (asked (codes "c") None) ∷ DefaultLine (word (codes "B")) None ∷
+    ConfigLine (codes "A") ∷ bool_line (codes "a") ∷ ConfigLine (codes "B") ∷ bool_line (codes "b") ∷ ConfigLine (codes "C") ∷ bool_line (codes "c") ∷
+    DependsLine (word (codes "D")) ∷ EndChoiceLine ∷ []
 
 member_dependency_tree : tree_of_lines (in_root member_dependency) ≡ Ok (record {
   names = codes "D" ∷ codes "A" ∷ codes "B" ∷ codes "C" ∷ modules_word ∷ [];
@@ -112,8 +115,10 @@ member_dependency_tree : tree_of_lines (in_root member_dependency) ≡ Ok (recor
 member_dependency_tree = refl
 
 -- `visible if` counts for prompts, and not for defaults, dependencies or comments
-abbrev hidden_menu : List Written
-hidden_menu = ConfigLine (codes "A") ∷ DefLine kind.Bool (word (codes "y")) None ∷ SelectLine (codes "B") None ∷ MenuLine (codes "hidden") ∷ VisibleLine (word (codes "n")) ∷ ConfigLine (codes "B") ∷ bool_line (codes "b") ∷ ConfigLine (codes "C") ∷ bool_line (codes "c") ∷ DefaultLine (word (codes "y")) None ∷ EndMenuLine ∷ CommentLine (codes "end") ∷ []
+abbrev hidden_menu : List Named
+hidden_menu = ConfigLine (codes "A") ∷ DefLine kind.Bool (word (codes "y")) None ∷ SelectLine (codes "B") None ∷ MenuLine (codes "hidden") ∷
+    VisibleLine (word (codes "n")) ∷ ConfigLine (codes "B") ∷ bool_line (codes "b") ∷ ConfigLine (codes "C") ∷ bool_line (codes "c") ∷
+    DefaultLine (word (codes "y")) None ∷ EndMenuLine ∷ CommentLine (codes "end") ∷ []
 
 hidden_menu_tree : tree_of_lines (in_root hidden_menu) ≡ Ok (record {
   names = codes "A" ∷ codes "B" ∷ codes "C" ∷ modules_word ∷ [];
@@ -123,7 +128,8 @@ hidden_menu_tree : tree_of_lines (in_root hidden_menu) ≡ Ok (record {
       ∷ fact kind.Bool None (always ∷ []) (cond (txt (codes "n") ∷ []) None ∷ []) (given (txt (codes "y")) always ∷ []) []
       ∷ [];
   choices = [];
-  entries = SymbolShown (symbol 0) ∷ MenuShown (codes "hidden") (cond (txt (codes "n") ∷ []) None) ∷ SymbolShown (symbol 1) ∷ SymbolShown (symbol 2) ∷ EndShown 1 ∷ CommentShown (codes "end") always ∷ [];
+  entries = SymbolShown (symbol 0) ∷ MenuShown (codes "hidden") (cond (txt (codes "n") ∷ []) None) ∷ SymbolShown (symbol 1) ∷ SymbolShown (symbol 2) ∷
+      EndShown 1 ∷ CommentShown (codes "end") always ∷ [];
   warnings = [];
   main_menu = codes "Main menu";
   modules = None;
@@ -131,14 +137,16 @@ hidden_menu_tree : tree_of_lines (in_root hidden_menu) ≡ Ok (record {
 hidden_menu_tree = refl
 
 -- nested menus
-abbrev nested_menus : List Written
-nested_menus = MainMenuLine (codes "Demo") ∷ MenuLine (codes "one") ∷ MenuLine (codes "two") ∷ ConfigLine (codes "A") ∷ bool_line (codes "a") ∷ EndMenuLine ∷ EndMenuLine ∷ ConfigLine (codes "B") ∷ bool_line (codes "b") ∷ MenuLine (codes "three") ∷ EndMenuLine ∷ []
+abbrev nested_menus : List Named
+nested_menus = MainMenuLine (codes "Demo") ∷ MenuLine (codes "one") ∷ MenuLine (codes "two") ∷ ConfigLine (codes "A") ∷ bool_line (codes "a") ∷ EndMenuLine ∷
+    EndMenuLine ∷ ConfigLine (codes "B") ∷ bool_line (codes "b") ∷ MenuLine (codes "three") ∷ EndMenuLine ∷ []
 
 nested_menus_tree : tree_of_lines (in_root nested_menus) ≡ Ok (record {
   names = codes "A" ∷ codes "B" ∷ modules_word ∷ [];
   symbols = fact kind.Bool None (always ∷ []) (always ∷ []) [] [] ∷ fact kind.Bool None (always ∷ []) (always ∷ []) [] [] ∷ [];
   choices = [];
-  entries = MenuShown (codes "one") always ∷ MenuShown (codes "two") always ∷ SymbolShown (symbol 0) ∷ EndShown 1 ∷ EndShown 0 ∷ SymbolShown (symbol 1) ∷ MenuShown (codes "three") always ∷ EndShown 6 ∷ [];
+  entries = MenuShown (codes "one") always ∷ MenuShown (codes "two") always ∷ SymbolShown (symbol 0) ∷ EndShown 1 ∷ EndShown 0 ∷ SymbolShown (symbol 1) ∷
+      MenuShown (codes "three") always ∷ EndShown 6 ∷ [];
   warnings = [];
   main_menu = codes "Demo";
   modules = None;
@@ -146,11 +154,13 @@ nested_menus_tree : tree_of_lines (in_root nested_menus) ≡ Ok (record {
 nested_menus_tree = refl
 
 -- a file that is sourced twice: two definitions
-abbrev at : List ℕ → ℕ → Written → Placed Written
+abbrev at : List ℕ → ℕ → Named → Located Named
 at f n s = record { file = f; line = n; statement = s }
 
-abbrev sourced_twice : List (Placed Written)
-sourced_twice = at (codes "Kconfig") 1 (ConfigLine (codes "X")) ∷ at (codes "Kconfig") 2 (bool_line (codes "x")) ∷ at (codes "a") 1 (ConfigLine (codes "Z")) ∷ at (codes "a") 2 (bool_line (codes "z")) ∷ at (codes "Kconfig") 4 (IfLine (word (codes "X"))) ∷ at (codes "a") 1 (ConfigLine (codes "Z")) ∷ at (codes "a") 2 (bool_line (codes "z")) ∷ at (codes "Kconfig") 6 EndIfLine ∷ []
+abbrev sourced_twice : List (Located Named)
+sourced_twice = at (codes "Kconfig") 1 (ConfigLine (codes "X")) ∷ at (codes "Kconfig") 2 (bool_line (codes "x")) ∷ at (codes "a") 1 (ConfigLine (codes "Z")) ∷
+    at (codes "a") 2 (bool_line (codes "z")) ∷ at (codes "Kconfig") 4 (IfLine (word (codes "X"))) ∷ at (codes "a") 1 (ConfigLine (codes "Z")) ∷
+    at (codes "a") 2 (bool_line (codes "z")) ∷ at (codes "Kconfig") 6 EndIfLine ∷ []
 
 sourced_twice_tree : tree_of_lines sourced_twice ≡ Ok (record {
   names = codes "X" ∷ codes "Z" ∷ modules_word ∷ [];
@@ -164,12 +174,14 @@ sourced_twice_tree : tree_of_lines sourced_twice ≡ Ok (record {
 sourced_twice_tree = refl
 
 -- a menu's `depends on`; a second definition outside it
-abbrev second_definition : List Written
-second_definition = ConfigLine (codes "A") ∷ bool_line (codes "a") ∷ MenuLine (codes "m") ∷ DependsLine (word (codes "A")) ∷ ConfigLine (codes "B") ∷ bool_line (codes "b") ∷ EndMenuLine ∷ ConfigLine (codes "B") ∷ bool_line (codes "again") ∷ DefaultLine (word (codes "y")) None ∷ []
+abbrev second_definition : List Named
+second_definition = ConfigLine (codes "A") ∷ bool_line (codes "a") ∷ MenuLine (codes "m") ∷ DependsLine (word (codes "A")) ∷ ConfigLine (codes "B") ∷
+    bool_line (codes "b") ∷ EndMenuLine ∷ ConfigLine (codes "B") ∷ bool_line (codes "again") ∷ DefaultLine (word (codes "y")) None ∷ []
 
 second_definition_tree : tree_of_lines (in_root second_definition) ≡ Ok (record {
   names = codes "A" ∷ codes "B" ∷ modules_word ∷ [];
-  symbols = fact kind.Bool None (always ∷ []) (always ∷ []) [] [] ∷ fact kind.Bool None (cond (sym 0 ∷ []) None ∷ always ∷ []) (cond (sym 0 ∷ []) None ∷ always ∷ []) (given (txt (codes "y")) always ∷ []) [] ∷ [];
+  symbols = fact kind.Bool None (always ∷ []) (always ∷ []) [] [] ∷
+      fact kind.Bool None (cond (sym 0 ∷ []) None ∷ always ∷ []) (cond (sym 0 ∷ []) None ∷ always ∷ []) (given (txt (codes "y")) always ∷ []) [] ∷ [];
   choices = [];
   entries = SymbolShown (symbol 0) ∷ MenuShown (codes "m") (cond (sym 0 ∷ []) None) ∷ SymbolShown (symbol 1) ∷ EndShown 1 ∷ [];
   warnings = [];
@@ -179,8 +191,11 @@ second_definition_tree : tree_of_lines (in_root second_definition) ≡ Ok (recor
 second_definition_tree = refl
 
 -- seven warnings
-abbrev lines_without_effect : List Written
-lines_without_effect = ConfigLine (codes "A") ∷ bool_line (codes "a") ∷ TypeLine kind.Str (Some (asked (codes "s") None)) ∷ ConfigLine (codes "B") ∷ ConfigLine (codes "C") ∷ DefLine kind.Bool (word (codes "y")) None ∷ SelectLine (codes "D") None ∷ ImplyLine (codes "D") None ∷ SelectLine (codes "E") None ∷ ConfigLine (codes "D") ∷ TypeLine kind.Int (Some (asked (codes "d") None)) ∷ ChoiceLine ∷ PromptLine (asked (codes "ch") None) ∷ DefaultLine (word (codes "C")) None ∷ ConfigLine (codes "E") ∷ bool_line (codes "e") ∷ EndChoiceLine ∷ []
+abbrev lines_without_effect : List Named
+lines_without_effect = ConfigLine (codes "A") ∷ bool_line (codes "a") ∷ TypeLine kind.Str (Some (asked (codes "s") None)) ∷ ConfigLine (codes "B") ∷
+    ConfigLine (codes "C") ∷ DefLine kind.Bool (word (codes "y")) None ∷ SelectLine (codes "D") None ∷ ImplyLine (codes "D") None ∷ SelectLine (codes "E") None
+    ∷ ConfigLine (codes "D") ∷ TypeLine kind.Int (Some (asked (codes "d") None)) ∷ ChoiceLine ∷ PromptLine (asked (codes "ch") None) ∷
+    DefaultLine (word (codes "C")) None ∷ ConfigLine (codes "E") ∷ bool_line (codes "e") ∷ EndChoiceLine ∷ []
 
 lines_without_effect_said : warnings (names_of lines_without_effect) (numbered_lines (in_root lines_without_effect)) ≡
     codes "Kconfig:3: warning K1: type of A redefined, the first is kept"
@@ -194,7 +209,7 @@ lines_without_effect_said : warnings (names_of lines_without_effect) (numbered_l
 unfolding digits
 lines_without_effect_said = refl
 
-lines_without_effect_not_refused : late_refusals (names_of lines_without_effect) (numbered_lines (in_root lines_without_effect)) ≡ []
+lines_without_effect_not_refused : whole_list_refusals (names_of lines_without_effect) (numbered_lines (in_root lines_without_effect)) ≡ []
 lines_without_effect_not_refused = refl
 
 lines_without_effect_facts : (facts_of_lines lines_without_effect (numbered_lines (in_root lines_without_effect))).symbols ≡
@@ -207,16 +222,19 @@ lines_without_effect_facts : (facts_of_lines lines_without_effect (numbered_line
 lines_without_effect_facts = refl
 
 -- a default that names no member is ignored
-lines_without_effect_choices : (facts_of_lines lines_without_effect (numbered_lines (in_root lines_without_effect))).choices ≡ record { prompt = Some always; defaults = []; members = symbol 4 ∷ [] } ∷ []
+lines_without_effect_choices : (facts_of_lines lines_without_effect (numbered_lines (in_root lines_without_effect))).choices ≡ record
+    { prompt = Some always; defaults = []; members = symbol 4 ∷ [] } ∷ []
 lines_without_effect_choices = refl
 
 -- a modules symbol of another name
-abbrev modules_line : List Written
-modules_line = ConfigLine (codes "LKM") ∷ bool_line (codes "l") ∷ DefaultLine (word (codes "y")) None ∷ ModulesLine ∷ ConfigLine (codes "A") ∷ TypeLine kind.Tristate (Some (asked (codes "a") None)) ∷ DefaultLine (word (codes "m")) None ∷ []
+abbrev modules_line : List Named
+modules_line = ConfigLine (codes "LKM") ∷ bool_line (codes "l") ∷ DefaultLine (word (codes "y")) None ∷ ModulesLine ∷ ConfigLine (codes "A") ∷
+    TypeLine kind.Tristate (Some (asked (codes "a") None)) ∷ DefaultLine (word (codes "m")) None ∷ []
 
 modules_line_tree : tree_of_lines (in_root modules_line) ≡ Ok (record {
   names = codes "LKM" ∷ codes "A" ∷ [];
-  symbols = fact kind.Bool None (always ∷ []) (always ∷ []) (given (txt (codes "y")) always ∷ []) [] ∷ fact kind.Tristate None (always ∷ []) (always ∷ []) (given (txt (codes "m")) always ∷ []) [] ∷ [];
+  symbols = fact kind.Bool None (always ∷ []) (always ∷ []) (given (txt (codes "y")) always ∷ []) [] ∷
+      fact kind.Tristate None (always ∷ []) (always ∷ []) (given (txt (codes "m")) always ∷ []) [] ∷ [];
   choices = [];
   entries = SymbolShown (symbol 0) ∷ SymbolShown (symbol 1) ∷ [];
   warnings = [];
@@ -226,15 +244,16 @@ modules_line_tree : tree_of_lines (in_root modules_line) ≡ Ok (record {
 modules_line_tree = refl
 
 -- the two with a symbol named MODULES after them
-abbrev modules_line_and_name : List Written
+abbrev modules_line_and_name : List Named
 modules_line_and_name = modules_line ++ ConfigLine modules_word ∷ DefLine kind.Bool (word (codes "y")) None ∷ []
 
 modules_line_and_name_modules : (facts_of_lines modules_line_and_name (numbered_lines (in_root modules_line_and_name))).modules ≡ Some (symbol 0)
 modules_line_and_name_modules = refl
 
 -- a prompt's condition in a choice
-abbrev member_prompt_condition : List Written
-member_prompt_condition = ChoiceLine ∷ PromptLine (asked (codes "c") None) ∷ ConfigLine (codes "A") ∷ TypeLine kind.Bool (Some (asked (codes "a") (Some (word (codes "B"))))) ∷ ConfigLine (codes "B") ∷ bool_line (codes "b") ∷ EndChoiceLine ∷ []
+abbrev member_prompt_condition : List Named
+member_prompt_condition = ChoiceLine ∷ PromptLine (asked (codes "c") None) ∷ ConfigLine (codes "A") ∷
+    TypeLine kind.Bool (Some (asked (codes "a") (Some (word (codes "B"))))) ∷ ConfigLine (codes "B") ∷ bool_line (codes "b") ∷ EndChoiceLine ∷ []
 
 member_prompt_condition_tree : tree_of_lines (in_root member_prompt_condition) ≡ Ok (record {
   names = codes "A" ∷ codes "B" ∷ modules_word ∷ [];
@@ -248,45 +267,73 @@ member_prompt_condition_tree : tree_of_lines (in_root member_prompt_condition) �
 member_prompt_condition_tree = refl
 
 -- a prompt of the choice that depends
-abbrev choice_prompt_condition : List Written
-choice_prompt_condition = ConfigLine (codes "D") ∷ bool_line (codes "d") ∷ ChoiceLine ∷ PromptLine (asked (codes "c") (Some (word (codes "D")))) ∷ ConfigLine (codes "A") ∷ bool_line (codes "a") ∷ EndChoiceLine ∷ []
+abbrev choice_prompt_condition : List Named
+choice_prompt_condition = ConfigLine (codes "D") ∷ bool_line (codes "d") ∷ ChoiceLine ∷ PromptLine (asked (codes "c") (Some (word (codes "D")))) ∷
+    ConfigLine (codes "A") ∷ bool_line (codes "a") ∷ EndChoiceLine ∷ []
 
-abbrev numbered_of : List Written → List Numbered
+abbrev numbered_of : List Named → List Numbered
 numbered_of ss = map (λ l. l.statement) (numbered_lines (in_root ss))
 
-abbrev facts_at : List Written → ℕ → SymbolFacts
+abbrev facts_at : List Named → ℕ → SymbolFacts
 facts_at ss i = symbol_facts (numbered_of ss) (symbol i)
 
-abbrev refusals : List Written → List Refused
-refusals ss = late_refusals (names_of ss) (numbered_lines (in_root ss))
+abbrev refusals : List Named → List Refused
+refusals ss = whole_list_refusals (names_of ss) (numbered_lines (in_root ss))
 
-abbrev said_of : List Written → List (List ℕ)
-said_of ss = warnings (names_of ss) (numbered_lines (in_root ss))
+abbrev warnings_of : List Named → List (List ℕ)
+warnings_of ss = warnings (names_of ss) (numbered_lines (in_root ss))
 
 choice_prompt_condition_choices : choices (numbered_of choice_prompt_condition) ≡ record { prompt = Some (cond (sym 0 ∷ []) None); defaults = []; members = symbol 1 ∷ [] } ∷ []
 choice_prompt_condition_choices = refl
 
-tristate_member_refused : tree_of_lines (in_root (ChoiceLine ∷ PromptLine (asked (codes "c") None) ∷ ConfigLine (codes "A") ∷ TypeLine kind.Tristate (Some (asked (codes "a") None)) ∷ EndChoiceLine ∷ [])) ≡ Err (refused (record { code = code.ChoiceMember; detail = codes "A" }) (codes "Kconfig") 3)
+tristate_member_refused : tree_of_lines (in_root (ChoiceLine ∷ PromptLine (asked (codes "c") None) ∷ ConfigLine (codes "A") ∷
+    TypeLine kind.Tristate (Some (asked (codes "a") None)) ∷ EndChoiceLine ∷ [])) ≡ Err
+    (refused (record { code = code.ChoiceMember; detail = codes "A" }) (codes "Kconfig") 3)
 tristate_member_refused = refl
 
-string_default_refused : tree_of_lines (in_root (ConfigLine (codes "S") ∷ TypeLine kind.Str (Some (asked (codes "s") None)) ∷ DefaultLine (both (codes "A") (codes "B")) None ∷ [])) ≡ Err (refused (record { code = code.BadDefault; detail = codes "S" }) (codes "Kconfig") 3)
+string_default_refused : tree_of_lines (in_root (ConfigLine (codes "S") ∷ TypeLine kind.Str (Some (asked (codes "s") None)) ∷
+    DefaultLine (both (codes "A") (codes "B")) None ∷ [])) ≡ Err (refused (record { code = code.BadDefault; detail = codes "S" }) (codes "Kconfig") 3)
 string_default_refused = refl
 
 -- a range, and a default that is no symbol
-abbrev ranged_int : List Written
+abbrev ranged_int : List Named
 ranged_int = ConfigLine (codes "I") ∷ TypeLine kind.Int (Some (asked (codes "i") None)) ∷ RangeLine (WordAtom (codes "-5")) (WordAtom (codes "-2")) None ∷ DefaultLine (word (codes "FOO")) None ∷ []
 
 ranged_int_names : names_of ranged_int ≡ codes "I" ∷ modules_word ∷ codes "-5" ∷ codes "-2" ∷ codes "FOO" ∷ []
 ranged_int_names = refl
 
-ranged_int_facts : facts_at ranged_int 0 ≡ record { kind = kind.Int; choice = None; deps = always ∷ []; prompts = always ∷ []; defaults = given (sym 4) always ∷ []; ranges = record { what = record { low = Symbol (symbol 2); high = Symbol (symbol 3) }; when = always } ∷ []; selectors = []; impliers = [] }
+ranged_int_facts : facts_at ranged_int 0 ≡ record {
+  kind = kind.Int;
+  choice = None;
+  dependencies = always ∷ [];
+  prompts = always ∷ [];
+  defaults =
+      given (sym 4) always ∷ [];
+  ranges = record { what = record { low = Symbol (symbol 2); high = Symbol (symbol 3) }; when = always } ∷ [];
+  selectors =
+      [];
+  impliers = [];
+}
 ranged_int_facts = refl
 
 -- an imply and a dependency on a later symbol
-abbrev implied_symbol : List Written
-implied_symbol = ConfigLine modules_word ∷ DefLine kind.Bool (word (codes "y")) None ∷ ConfigLine (codes "FOO") ∷ TypeLine kind.Tristate (Some (asked (codes "foo") None)) ∷ DefaultLine (word (codes "y")) None ∷ ImplyLine (codes "BAZ") None ∷ ConfigLine (codes "BAR") ∷ TypeLine kind.Tristate (Some (asked (codes "bar") None)) ∷ DefaultLine (word (codes "m")) None ∷ ConfigLine (codes "BAZ") ∷ TypeLine kind.Tristate (Some (asked (codes "baz") None)) ∷ DependsLine (word (codes "BAR")) ∷ []
+abbrev implied_symbol : List Named
+implied_symbol = ConfigLine modules_word ∷ DefLine kind.Bool (word (codes "y")) None ∷ ConfigLine (codes "FOO") ∷
+    TypeLine kind.Tristate (Some (asked (codes "foo") None)) ∷ DefaultLine (word (codes "y")) None ∷ ImplyLine (codes "BAZ") None ∷ ConfigLine (codes "BAR") ∷
+    TypeLine kind.Tristate (Some (asked (codes "bar") None)) ∷ DefaultLine (word (codes "m")) None ∷ ConfigLine (codes "BAZ") ∷
+    TypeLine kind.Tristate (Some (asked (codes "baz") None)) ∷ DependsLine (word (codes "BAR")) ∷ []
 
-implied_symbol_target : facts_at implied_symbol 3 ≡ record { kind = kind.Tristate; choice = None; deps = cond (sym 2 ∷ []) None ∷ []; prompts = cond (sym 2 ∷ []) None ∷ []; defaults = []; ranges = []; selectors = []; impliers = by 1 always ∷ [] }
+implied_symbol_target : facts_at implied_symbol 3 ≡ record {
+  kind = kind.Tristate;
+  choice = None;
+  dependencies = cond (sym 2 ∷ []) None ∷ [];
+  prompts = cond (sym 2 ∷ []) None ∷ [];
+  defaults = [];
+  ranges =
+      [];
+  selectors = [];
+  impliers = by 1 always ∷ [];
+}
 implied_symbol_target = refl
 
 implied_symbol_dependency : facts_at implied_symbol 2 ≡ fact kind.Tristate None (always ∷ []) (always ∷ []) (given (txt (codes "m")) always ∷ []) []
@@ -296,14 +343,16 @@ implied_symbol_modules : (facts_of_lines implied_symbol (numbered_lines (in_root
 implied_symbol_modules = refl
 
 -- a select, and a prompt with a condition
-abbrev selected_symbol : List Written
-selected_symbol = ConfigLine modules_word ∷ DefLine kind.Bool (word (codes "y")) None ∷ ConfigLine (codes "T") ∷ TypeLine kind.Tristate None ∷ DefaultLine (word (codes "m")) None ∷ SelectLine (codes "A") None ∷ ConfigLine (codes "A") ∷ TypeLine kind.Tristate (Some (asked (codes "a") (Some (word (codes "T"))))) ∷ DefaultLine (word (codes "y")) None ∷ []
+abbrev selected_symbol : List Named
+selected_symbol = ConfigLine modules_word ∷ DefLine kind.Bool (word (codes "y")) None ∷ ConfigLine (codes "T") ∷ TypeLine kind.Tristate None ∷
+    DefaultLine (word (codes "m")) None ∷ SelectLine (codes "A") None ∷ ConfigLine (codes "A") ∷
+    TypeLine kind.Tristate (Some (asked (codes "a") (Some (word (codes "T"))))) ∷ DefaultLine (word (codes "y")) None ∷ []
 
 selected_symbol_facts : facts_at selected_symbol 2 ≡ fact kind.Tristate None (always ∷ []) (cond (sym 1 ∷ []) None ∷ []) (given (txt (codes "y")) always ∷ []) (by 1 always ∷ [])
 selected_symbol_facts = refl
 
 -- a plain m of a condition stands with the modules symbol, whose name is not defined here
-abbrev plain_m : List Written
+abbrev plain_m : List Named
 plain_m = ConfigLine (codes "A") ∷ bool_line (codes "a") ∷ DependsLine (word (codes "m")) ∷ []
 
 abbrev m_and : ℕ → Form
@@ -319,56 +368,70 @@ plain_m_modules : (facts_of_lines plain_m (numbered_lines (in_root plain_m))).mo
 plain_m_modules = refl
 
 -- the modules symbol is defined after its use
-late_modules : facts_at (ConfigLine (codes "A") ∷ bool_line (codes "a") ∷ DependsLine (word (codes "m")) ∷ ConfigLine (codes "LKM") ∷ bool_line (codes "l") ∷ ModulesLine ∷ []) 0 ≡ fact kind.Bool None (cond (m_and 1 ∷ []) None ∷ []) (cond (m_and 1 ∷ []) None ∷ []) [] []
+late_modules : facts_at (ConfigLine (codes "A") ∷ bool_line (codes "a") ∷ DependsLine (word (codes "m")) ∷ ConfigLine (codes "LKM") ∷ bool_line (codes "l") ∷
+    ModulesLine ∷ []) 0 ≡ fact kind.Bool None (cond (m_and 1 ∷ []) None ∷ []) (cond (m_and 1 ∷ []) None ∷ []) [] []
 late_modules = refl
 
 -- each `depends on` line of an entry is a part of its condition
-two_dependencies : facts_at (ConfigLine (codes "A") ∷ bool_line (codes "a") ∷ DependsLine (word (codes "B")) ∷ DependsLine (word (codes "C")) ∷ []) 0 ≡ fact kind.Bool None (cond (sym 2 ∷ sym 3 ∷ []) None ∷ []) (cond (sym 2 ∷ sym 3 ∷ []) None ∷ []) [] []
+two_dependencies : facts_at (ConfigLine (codes "A") ∷ bool_line (codes "a") ∷ DependsLine (word (codes "B")) ∷ DependsLine (word (codes "C")) ∷ [])
+    0 ≡ fact kind.Bool None (cond (sym 2 ∷ sym 3 ∷ []) None ∷ []) (cond (sym 2 ∷ sym 3 ∷ []) None ∷ []) [] []
 two_dependencies = refl
 
--- so is each `visible if` line of a menu; a menu in a menu is shown by its own and those round it; a comment by neither
-abbrev menus : List Written
-menus = MenuLine (codes "o") ∷ VisibleLine (word (codes "A")) ∷ VisibleLine (word (codes "B")) ∷ DependsLine (word (codes "C")) ∷ MenuLine (codes "i") ∷ VisibleLine (word (codes "D")) ∷ CommentLine (codes "t") ∷ DependsLine (word (codes "E")) ∷ IfLine (word (codes "F")) ∷ ConfigLine (codes "X") ∷ TypeLine kind.Bool (Some (asked (codes "x") (Some (word (codes "G"))))) ∷ DefaultLine (word (codes "y")) (Some (word (codes "H"))) ∷ EndIfLine ∷ EndMenuLine ∷ EndMenuLine ∷ []
+-- so is each `visible if` line of a menu; a menu in a menu is shown by its own and those that enclose it; a comment by neither
+abbrev menus : List Named
+menus = MenuLine (codes "o") ∷ VisibleLine (word (codes "A")) ∷ VisibleLine (word (codes "B")) ∷ DependsLine (word (codes "C")) ∷ MenuLine (codes "i") ∷
+    VisibleLine (word (codes "D")) ∷ CommentLine (codes "t") ∷ DependsLine (word (codes "E")) ∷ IfLine (word (codes "F")) ∷ ConfigLine (codes "X") ∷
+    TypeLine kind.Bool (Some (asked (codes "x") (Some (word (codes "G"))))) ∷ DefaultLine (word (codes "y")) (Some (word (codes "H"))) ∷ EndIfLine ∷ EndMenuLine
+    ∷ EndMenuLine ∷ []
 
 menus_names : names_of menus ≡ codes "X" ∷ modules_word ∷ codes "A" ∷ codes "B" ∷ codes "C" ∷ codes "D" ∷ codes "E" ∷ codes "F" ∷ codes "G" ∷ codes "H" ∷ []
 menus_names = refl
 
-menus_entries : entries (numbered_of menus) ≡ MenuShown (codes "o") (cond (sym 4 ∷ sym 2 ∷ sym 3 ∷ []) None) ∷ MenuShown (codes "i") (cond (sym 4 ∷ sym 2 ∷ sym 3 ∷ sym 5 ∷ []) None) ∷ CommentShown (codes "t") (cond (sym 4 ∷ sym 6 ∷ []) None) ∷ SymbolShown (symbol 0) ∷ EndShown 1 ∷ EndShown 0 ∷ []
+menus_entries : entries (numbered_of menus) ≡ MenuShown (codes "o") (cond (sym 4 ∷ sym 2 ∷ sym 3 ∷ []) None) ∷
+    MenuShown (codes "i") (cond (sym 4 ∷ sym 2 ∷ sym 3 ∷ sym 5 ∷ []) None) ∷ CommentShown (codes "t") (cond (sym 4 ∷ sym 6 ∷ []) None) ∷ SymbolShown (symbol 0)
+    ∷ EndShown 1 ∷ EndShown 0 ∷ []
 menus_entries = refl
 
-menus_facts : facts_at menus 0 ≡ fact kind.Bool None (cond (sym 4 ∷ sym 7 ∷ []) None ∷ []) (cond (sym 4 ∷ sym 7 ∷ sym 2 ∷ sym 3 ∷ sym 5 ∷ sym 8 ∷ []) None ∷ []) (given (txt (codes "y")) (cond (sym 4 ∷ sym 7 ∷ sym 9 ∷ []) None) ∷ []) []
+menus_facts : facts_at menus 0 ≡ fact kind.Bool None (cond (sym 4 ∷ sym 7 ∷ []) None ∷ []) (cond (sym 4 ∷ sym 7 ∷ sym 2 ∷ sym 3 ∷ sym 5 ∷ sym 8 ∷ []) None ∷ [])
+    (given (txt (codes "y")) (cond (sym 4 ∷ sym 7 ∷ sym 9 ∷ []) None) ∷ []) []
 menus_facts = refl
 
 -- the last of several prompts of one entry counts
-abbrev prompts : List Written
-prompts = ConfigLine (codes "A") ∷ TypeLine kind.Bool (Some (asked (codes "a") (Some (word (codes "X"))))) ∷ PromptLine (asked (codes "b") (Some (word (codes "Y")))) ∷ PromptLine (asked (codes "c") None) ∷ ConfigLine (codes "A") ∷ PromptLine (asked (codes "d") (Some (word (codes "Z")))) ∷ []
+abbrev prompts : List Named
+prompts = ConfigLine (codes "A") ∷ TypeLine kind.Bool (Some (asked (codes "a") (Some (word (codes "X"))))) ∷
+    PromptLine (asked (codes "b") (Some (word (codes "Y")))) ∷ PromptLine (asked (codes "c") None) ∷ ConfigLine (codes "A") ∷
+    PromptLine (asked (codes "d") (Some (word (codes "Z")))) ∷ []
 
 prompts_facts : facts_at prompts 0 ≡ fact kind.Bool None (always ∷ always ∷ []) (always ∷ cond (sym 4 ∷ []) None ∷ []) [] []
 prompts_facts = refl
 
-prompts_said : said_of prompts ≡ codes "Kconfig:3: warning K2: prompt of A redefined, the last is kept" ∷ codes "Kconfig:4: warning K2: prompt of A redefined, the last is kept" ∷ []
+prompts_said : warnings_of prompts ≡ codes "Kconfig:3: warning K2: prompt of A redefined, the last is kept" ∷ codes "Kconfig:4: warning K2: prompt of A redefined, the last is kept" ∷ []
 unfolding digits
 prompts_said = refl
 
 -- a choice's second prompt, and its bool line
-abbrev choice_prompts : List Written
-choice_prompts = ChoiceLine ∷ bool_line (codes "c") ∷ PromptLine (asked (codes "d") (Some (word (codes "X")))) ∷ DefaultLine (word (codes "A")) (Some (word (codes "Y"))) ∷ DependsLine (word (codes "Z")) ∷ ConfigLine (codes "A") ∷ EndChoiceLine ∷ []
+abbrev choice_prompts : List Named
+choice_prompts = ChoiceLine ∷ bool_line (codes "c") ∷ PromptLine (asked (codes "d") (Some (word (codes "X")))) ∷
+    DefaultLine (word (codes "A")) (Some (word (codes "Y"))) ∷ DependsLine (word (codes "Z")) ∷ ConfigLine (codes "A") ∷ EndChoiceLine ∷ []
 
-choice_prompts_said : said_of choice_prompts ≡ codes "Kconfig:3: warning K2: prompt of choice redefined, the last is kept" ∷ []
+choice_prompts_said : warnings_of choice_prompts ≡ codes "Kconfig:3: warning K2: prompt of choice redefined, the last is kept" ∷ []
 unfolding digits
 choice_prompts_said = refl
 
 -- the choice's dependencies count in its prompt and defaults, and for its members by its mode alone
-choice_prompts_choices : choices (numbered_of choice_prompts) ≡ record { prompt = Some (cond (sym 4 ∷ sym 2 ∷ []) None); defaults = by 0 (cond (sym 4 ∷ sym 3 ∷ []) None) ∷ []; members = symbol 0 ∷ [] } ∷ []
+choice_prompts_choices : choices (numbered_of choice_prompts)
+    ≡ record { prompt = Some (cond (sym 4 ∷ sym 2 ∷ []) None); defaults = by 0 (cond (sym 4 ∷ sym 3 ∷ []) None) ∷ []; members = symbol 0 ∷ [] } ∷ []
 choice_prompts_choices = refl
 
--- an untyped member is bool, and has no K3
+-- a member without a type is bool, and has no K3
 choice_prompts_facts : facts_at choice_prompts 0 ≡ fact kind.Bool (Some 0) (mode_0 ∷ []) [] [] []
 choice_prompts_facts = refl
 
--- two choices, an `if` round a member; a member that selects; a member is no target
-abbrev two_choices : List Written
-two_choices = ChoiceLine ∷ ConfigLine (codes "A") ∷ SelectLine (codes "D") None ∷ EndChoiceLine ∷ IfLine (word (codes "X")) ∷ ChoiceLine ∷ PromptLine (asked (codes "c") None) ∷ IfLine (word (codes "Y")) ∷ ConfigLine (codes "B") ∷ ImplyLine (codes "A") None ∷ EndIfLine ∷ EndChoiceLine ∷ EndIfLine ∷ ConfigLine (codes "D") ∷ TypeLine kind.Bool None ∷ []
+-- two choices, an `if` that encloses a member; a member that selects; a member is no target
+abbrev two_choices : List Named
+two_choices = ChoiceLine ∷ ConfigLine (codes "A") ∷ SelectLine (codes "D") None ∷ EndChoiceLine ∷ IfLine (word (codes "X")) ∷ ChoiceLine ∷
+    PromptLine (asked (codes "c") None) ∷ IfLine (word (codes "Y")) ∷ ConfigLine (codes "B") ∷ ImplyLine (codes "A") None ∷ EndIfLine ∷ EndChoiceLine ∷
+    EndIfLine ∷ ConfigLine (codes "D") ∷ TypeLine kind.Bool None ∷ []
 
 two_choices_b : facts_at two_choices 1 ≡ fact kind.Bool (Some 1) (cond (sym 4 ∷ sym 5 ∷ []) (Some 1) ∷ []) [] [] []
 two_choices_b = refl
@@ -379,20 +442,22 @@ two_choices_a = refl
 two_choices_d : facts_at two_choices 2 ≡ fact kind.Bool None (always ∷ []) [] [] (by 0 mode_0 ∷ [])
 two_choices_d = refl
 
-two_choices_choices : choices (numbered_of two_choices) ≡ record { prompt = None; defaults = []; members = symbol 0 ∷ [] } ∷ record { prompt = Some (cond (sym 4 ∷ []) None); defaults = []; members = symbol 1 ∷ [] } ∷ []
+two_choices_choices : choices (numbered_of two_choices) ≡ record { prompt = None; defaults = []; members = symbol 0 ∷ [] } ∷
+    record { prompt = Some (cond (sym 4 ∷ []) None); defaults = []; members = symbol 1 ∷ [] } ∷ []
 two_choices_choices = refl
 
-two_choices_said : said_of two_choices ≡ codes "Kconfig:10: warning K6: A is a choice member, the imply has no effect" ∷ []
+two_choices_said : warnings_of two_choices ≡ codes "Kconfig:10: warning K6: A is a choice member, the imply has no effect" ∷ []
 unfolding digits
 two_choices_said = refl
 
 -- a select of a name that is not defined has no effect and no warning
-undefined_target : said_of (ConfigLine (codes "A") ∷ TypeLine kind.Bool None ∷ SelectLine (codes "Q") None ∷ []) ≡ []
+undefined_target : warnings_of (ConfigLine (codes "A") ∷ TypeLine kind.Bool None ∷ SelectLine (codes "Q") None ∷ []) ≡ []
 undefined_target = refl
 
 -- E13 comes before E14, whichever line is the first
-abbrev late : List Written
-late = ConfigLine (codes "S") ∷ TypeLine kind.Str None ∷ DefaultLine (both (codes "A") (codes "B")) None ∷ ChoiceLine ∷ PromptLine (asked (codes "c") None) ∷ DefaultLine (word (codes "n")) None ∷ ConfigLine (codes "A") ∷ bool_line (codes "a") ∷ EndChoiceLine ∷ ConfigLine (codes "A") ∷ []
+abbrev late : List Named
+late = ConfigLine (codes "S") ∷ TypeLine kind.Str None ∷ DefaultLine (both (codes "A") (codes "B")) None ∷ ChoiceLine ∷ PromptLine (asked (codes "c") None) ∷
+    DefaultLine (word (codes "n")) None ∷ ConfigLine (codes "A") ∷ bool_line (codes "a") ∷ EndChoiceLine ∷ ConfigLine (codes "A") ∷ []
 
 abbrev at_line : Code → List ℕ → ℕ → Refused
 at_line c d n = refused (record { code = c; detail = d }) (codes "Kconfig") n
@@ -411,44 +476,54 @@ later_member = refl
 abbrev grouped : List ℕ → Disjunction
 grouped w = whole (group (word w))
 
-choice_defaults : refusals (ChoiceLine ∷ DefaultLine (grouped (codes "A")) None ∷ DefaultLine (whole (lone (QuotedAtom (codes "A")))) None ∷ DefaultLine (both (codes "A") (codes "A")) None ∷ ConfigLine (codes "A") ∷ EndChoiceLine ∷ []) ≡ at_line code.BadDefault (codes "choice") 3 ∷ at_line code.BadDefault (codes "choice") 4 ∷ []
+choice_defaults : refusals (ChoiceLine ∷ DefaultLine (grouped (codes "A")) None ∷ DefaultLine (whole (lone (QuotedAtom (codes "A")))) None ∷
+    DefaultLine (both (codes "A") (codes "A")) None ∷ ConfigLine (codes "A") ∷ EndChoiceLine ∷ []) ≡ at_line code.BadDefault (codes "choice") 3 ∷
+    at_line code.BadDefault (codes "choice") 4 ∷ []
 choice_defaults = refl
 
 -- a def_bool of a symbol whose first type is string
-wordy_default : refusals (ConfigLine (codes "S") ∷ DefLine kind.Bool (both (codes "A") (codes "B")) None ∷ ConfigLine (codes "T") ∷ TypeLine kind.Hex None ∷ DefLine kind.Bool (both (codes "A") (codes "B")) None ∷ []) ≡ at_line code.BadDefault (codes "T") 5 ∷ []
-wordy_default = refl
+compound_default : refusals (ConfigLine (codes "S") ∷ DefLine kind.Bool (both (codes "A") (codes "B")) None ∷ ConfigLine (codes "T") ∷ TypeLine kind.Hex None ∷
+    DefLine kind.Bool (both (codes "A") (codes "B")) None ∷ []) ≡ at_line code.BadDefault (codes "T") 5 ∷ []
+compound_default = refl
 
 -- m is m in a default's value, also where it is one of several parts, and with the modules symbol in its condition
-m_in_default : facts_at (ConfigLine (codes "A") ∷ TypeLine kind.Tristate None ∷ DefaultLine (both (codes "m") (codes "B")) (Some (word (codes "m"))) ∷ []) 0 ≡ fact kind.Tristate None (always ∷ []) [] (given (Every (MoreForms (txt (codes "m")) (MoreForms (sym 2) NoForms))) (cond (m_and 1 ∷ []) None) ∷ []) []
+m_in_default : facts_at (ConfigLine (codes "A") ∷ TypeLine kind.Tristate None ∷ DefaultLine (both (codes "m") (codes "B")) (Some (word (codes "m"))) ∷ [])
+    0 ≡ fact kind.Tristate None (always ∷ []) [] (given (Every (MoreForms (txt (codes "m")) (MoreForms (sym 2) NoForms))) (cond (m_and 1 ∷ []) None) ∷ []) []
 m_in_default = refl
 
 -- a side of a relation is m alone; `!` takes the whole relation
-m_in_relation : facts_at (ConfigLine (codes "A") ∷ DependsLine (whole (bang (compare op.Eq (WordAtom (codes "B")) (WordAtom (codes "m"))))) ∷ []) 0 ≡ fact kind.Undefined None (cond (Negated (Related op.Eq (Symbol (symbol 2)) (Text (codes "m"))) ∷ []) None ∷ []) [] [] []
+m_in_relation : facts_at (ConfigLine (codes "A") ∷ DependsLine (whole (bang (compare op.Eq (WordAtom (codes "B")) (WordAtom (codes "m"))))) ∷ [])
+    0 ≡ fact kind.Undefined None (cond (Negated (Related op.Eq (Symbol (symbol 2)) (Text (codes "m"))) ∷ []) None ∷ []) [] [] []
 m_in_relation = refl
 
 -- A second prompt is counted within one definition alone.
-abbrev again : List Written
+abbrev again : List Named
 again = ConfigLine (codes "A") ∷ bool_line (codes "a") ∷ ConfigLine (codes "B") ∷ TypeLine kind.Int None ∷ ConfigLine (codes "A") ∷ TypeLine kind.Tristate (Some (asked (codes "b") None)) ∷ []
 
-again_said : said_of again ≡ codes "Kconfig:6: warning K1: type of A redefined, the first is kept" ∷ []
+again_said : warnings_of again ≡ codes "Kconfig:6: warning K1: type of A redefined, the first is kept" ∷ []
 unfolding digits
 again_said = refl
 
 -- a type of a later definition is the symbol's; the first `config` line has no K3 then
-late_type : said_of (ConfigLine (codes "A") ∷ ConfigLine (codes "B") ∷ ConfigLine (codes "A") ∷ TypeLine kind.Str None ∷ SelectLine (codes "A") None ∷ ConfigLine (codes "B") ∷ []) ≡ codes "Kconfig:2: warning K3: B has no type" ∷ codes "Kconfig:5: warning K4: A is not bool or tristate, the select has no effect" ∷ []
+late_type : warnings_of (ConfigLine (codes "A") ∷ ConfigLine (codes "B") ∷ ConfigLine (codes "A") ∷ TypeLine kind.Str None ∷ SelectLine (codes "A") None ∷
+    ConfigLine (codes "B") ∷ []) ≡ codes "Kconfig:2: warning K3: B has no type" ∷
+    codes "Kconfig:5: warning K4: A is not bool or tristate, the select has no effect" ∷ []
 unfolding digits
 late_type = refl
 
 -- warnings name the file of their line
-abbrev two_files : List (Placed Written)
-two_files = at (codes "Kconfig") 1 (ConfigLine (codes "A")) ∷ at (codes "Kconfig") 2 (bool_line (codes "a")) ∷ at (codes "b") 344 (ConfigLine (codes "A")) ∷ at (codes "b") 345 (TypeLine kind.Str None) ∷ []
+abbrev two_files : List (Located Named)
+two_files = at (codes "Kconfig") 1 (ConfigLine (codes "A")) ∷ at (codes "Kconfig") 2 (bool_line (codes "a")) ∷ at (codes "b") 344 (ConfigLine (codes "A")) ∷
+    at (codes "b") 345 (TypeLine kind.Str None) ∷ []
 
 two_files_said : warnings (names_of (statements two_files)) (numbered_lines two_files) ≡ codes "b:345: warning K1: type of A redefined, the first is kept" ∷ []
 unfolding digits
 two_files_said = refl
 
 -- defaults that name another choice's member, and no symbol
-outside_default : said_of (ChoiceLine ∷ DefaultLine (word (codes "B")) None ∷ DefaultLine (word (codes "Q")) None ∷ DefaultLine (word (codes "A")) None ∷ ConfigLine (codes "A") ∷ EndChoiceLine ∷ ChoiceLine ∷ ConfigLine (codes "B") ∷ EndChoiceLine ∷ []) ≡ codes "Kconfig:2: warning K5: B is not a member of the choice" ∷ codes "Kconfig:3: warning K5: Q is not a member of the choice" ∷ []
+outside_default : warnings_of (ChoiceLine ∷ DefaultLine (word (codes "B")) None ∷ DefaultLine (word (codes "Q")) None ∷ DefaultLine (word (codes "A")) None ∷
+    ConfigLine (codes "A") ∷ EndChoiceLine ∷ ChoiceLine ∷ ConfigLine (codes "B") ∷ EndChoiceLine ∷ [])
+    ≡ codes "Kconfig:2: warning K5: B is not a member of the choice" ∷ codes "Kconfig:3: warning K5: Q is not a member of the choice" ∷ []
 unfolding digits
 outside_default = refl
 
@@ -457,7 +532,8 @@ outside_first : refusals (ConfigLine (codes "A") ∷ TypeLine kind.Tristate None
 outside_first = refl
 
 -- one that gets such a type outside later: both lines
-outside_later : refusals (ChoiceLine ∷ ConfigLine (codes "A") ∷ EndChoiceLine ∷ ConfigLine (codes "A") ∷ TypeLine kind.Tristate None ∷ []) ≡ at_line code.ChoiceMember (codes "A") 2 ∷ at_line code.ChoiceMember (codes "A") 4 ∷ []
+outside_later : refusals (ChoiceLine ∷ ConfigLine (codes "A") ∷ EndChoiceLine ∷ ConfigLine (codes "A") ∷ TypeLine kind.Tristate None ∷ [])
+    ≡ at_line code.ChoiceMember (codes "A") 2 ∷ at_line code.ChoiceMember (codes "A") 4 ∷ []
 outside_later = refl
 
 -- the last `mainmenu` counts
@@ -465,12 +541,15 @@ main_menus : (facts_of_lines (MainMenuLine (codes "a") ∷ MainMenuLine (codes "
 main_menus = refl
 
 -- The bytes of a quoted operand: what a `\` takes away stands for itself.
-escaped_operand : facts_at (ConfigLine (codes "S") ∷ TypeLine kind.Str None ∷ DefaultLine (whole (lone (QuotedAtom (97 ∷ 92 ∷ 34 ∷ [])))) None ∷ []) 0 ≡ fact kind.Str None (always ∷ []) [] (given (txt (97 ∷ 34 ∷ [])) always ∷ []) []
+escaped_operand : facts_at (ConfigLine (codes "S") ∷ TypeLine kind.Str None ∷ DefaultLine (whole (lone (QuotedAtom (97 ∷ 92 ∷ 34 ∷ [])))) None ∷ [])
+    0 ≡ fact kind.Str None (always ∷ []) [] (given (txt (97 ∷ 34 ∷ [])) always ∷ []) []
 escaped_operand = refl
 
 -- Relations: a number is a name too; a quoted text is none.
-abbrev relations : List Written
-relations = ConfigLine (codes "I") ∷ TypeLine kind.Int None ∷ DefaultLine (word (codes "10")) None ∷ ConfigLine (codes "A") ∷ DefLine kind.Bool (whole (compare op.Gt (WordAtom (codes "I")) (WordAtom (codes "9")))) None ∷ ConfigLine (codes "B") ∷ DefLine kind.Bool (whole (compare op.Lt (QuotedAtom (codes "10")) (QuotedAtom (codes "9")))) None ∷ []
+abbrev relations : List Named
+relations = ConfigLine (codes "I") ∷ TypeLine kind.Int None ∷ DefaultLine (word (codes "10")) None ∷ ConfigLine (codes "A") ∷
+    DefLine kind.Bool (whole (compare op.Gt (WordAtom (codes "I")) (WordAtom (codes "9")))) None ∷ ConfigLine (codes "B") ∷
+    DefLine kind.Bool (whole (compare op.Lt (QuotedAtom (codes "10")) (QuotedAtom (codes "9")))) None ∷ []
 
 relations_names : names_of relations ≡ codes "I" ∷ codes "A" ∷ codes "B" ∷ modules_word ∷ codes "10" ∷ codes "9" ∷ []
 relations_names = refl

@@ -8,7 +8,7 @@ use Rattle.kc_read.specs.Statements.{Numbered}
 use Rattle.kc_read.specs.Expansion.{Log, Expands, statements}
 use Rattle.kc_read.specs.Numbering.{names_of, modules_id, numbered_lines}
 use Rattle.kc_tree.specs.TreeFacts.{Condition, MenuShown, EndShown}
-use Rattle.kc_build.specs.Facts.{entries, choice_round, of_block}
+use Rattle.kc_build.specs.Facts.{entries, enclosing_choice, of_block}
 use Rattle.kc_build.proofs.ExpansionLemmas.{AreNested}
 use Rattle.kc_build.proofs.MenuEndLemmas.{end_names_menu}
 use Rattle.kc_build.proofs.NestLemmas.{expanded_nested, opener_alone}
@@ -22,9 +22,10 @@ module _ (files : Files) (root : List ℕ) (log : Log) (expands : Expands files 
       expanded_nested files root log (Some (modules_id (statements log.lines))) (number_of (names_of (statements log.lines))) expands
 
   -- a choice does not stand in a choice
-  pub choices_alone : (p : ℕ) → of_block numbered block.Choice p ≡ true → choice_round numbered p ≡ None
+  pub choices_alone : (p : ℕ) → of_block numbered block.Choice p ≡ true → enclosing_choice numbered p ≡ None
   choices_alone p e = opener_alone numbered nested p e
 
   -- the end of a menu names a menu that stands before it
-  pub ends_name_menus : (i menu : ℕ) → slice_get (entries numbered) i ≡ Some (EndShown menu) → (menu < i) × ((text : List ℕ) × (when : Condition) × (slice_get (entries numbered) menu ≡ Some (MenuShown text when)))
+  pub ends_name_menus : (i menu : ℕ) → slice_get (entries numbered) i ≡ Some (EndShown menu) → (menu < i)
+      × ((text : List ℕ) × (when : Condition) × (slice_get (entries numbered) menu ≡ Some (MenuShown text when)))
   ends_name_menus i menu e = end_names_menu numbered nested i menu e

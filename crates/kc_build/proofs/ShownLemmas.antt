@@ -9,10 +9,10 @@ use Rattle.std.proofs.lemmas.Option.{slice_get-get_or, slice_get_within}
 use Rattle.kc_expr.specs.declared.expression.SymId.{SymId}
 use Rattle.kc_expr.specs.Names.{all_mentioned, mention, number_of, same_name, symbol}
 use Rattle.kc_expr.proofs.NamesLemmas.{same_name-refl}
-use Rattle.kc_read.specs.Blocks.{definitions, name_at, numbers}
+use Rattle.kc_read.specs.Blocks.{definitions, defined_name, numbers}
 use Rattle.kc_read.specs.Expansion.{defined, statements}
 use Rattle.kc_read.specs.Numbering.{modules_id, names_of, numbered_lines}
-use Rattle.kc_read.specs.Statements.{Written, Numbered, Placed, ConfigLine, numbered}
+use Rattle.kc_read.specs.Statements.{Named, Numbered, Located, ConfigLine, numbered}
 use Rattle.kc_read.proofs.NameLemmas.{known_at}
 use Rattle.kc_tree.specs.TreeFacts.{TreeFacts, ShowsEach, SymbolShown}
 use Rattle.kc_tree.specs.Words.{is_symbol_of}
@@ -54,7 +54,8 @@ first_snoc [] n = (n, refl)
 first_snoc (x ∷ xs) n = (x, refl)
 
 module _ (q : ℕ → Bool) where
-  first_by : (n p : ℕ) (b : Bool) → q n ≡ b → p < suc n → q p ≡ true → (p < n → (d : ℕ) × (slice_get (filter q (numbers n)) 0 ≡ Some d)) → (d : ℕ) × (slice_get (filter q (numbers n) ++ (if b then n ∷ [] else [])) 0 ≡ Some d)
+  first_by : (n p : ℕ) (b : Bool) → q n ≡ b → p < suc n → q p ≡ true → (p < n → (d : ℕ) × (slice_get (filter q (numbers n)) 0 ≡ Some d)) → (d : ℕ)
+      × (slice_get (filter q (numbers n) ++ (if b then n ∷ [] else [])) 0 ≡ Some d)
   first_by n p true e h t before = first_snoc (filter q (numbers n)) n
   first_by n p false e h t before = elim (cases_eq p n) [
     | inl same ↦ absurd (true≢false (sym t ∙ ap q same ∙ e))
@@ -122,22 +123,23 @@ mentioned_from names (w ∷ ws) n k h = by (mentioned_from (mention names w) ws 
     by (inl e) = first (mention_from names w n k e)
     by (inr s) = inr (suc s.0, s.1)
 
-abbrev IsDefinedAt : List Written → List ℕ → Type 0
-IsDefinedAt ss n = (p : ℕ) × (x : Written) × (slice_get ss p ≡ Some x) × (name_at x ≡ Some n)
+abbrev IsDefinedAt : List Named → List ℕ → Type 0
+IsDefinedAt ss n = (p : ℕ) × (x : Named) × (slice_get ss p ≡ Some x) × (defined_name x ≡ Some n)
 
-definition_from : (ss : List Written) (n : List ℕ) (k : ℕ) → slice_get (definitions ss) k ≡ Some n → IsDefinedAt ss n
+definition_from : (ss : List Named) (n : List ℕ) (k : ℕ) → slice_get (definitions ss) k ≡ Some n → IsDefinedAt ss n
 definition_from [] n k h = absurd cc
-definition_from (x ∷ ss) n k h = by (name_at x) k refl h (definition_from ss n)
+definition_from (x ∷ ss) n k h = by (defined_name x) k refl h (definition_from ss n)
   where
     next : IsDefinedAt ss n → IsDefinedAt (x ∷ ss) n
     next d = (suc d.0, d.1, d.2, d.3)
 
-    by : (o : Option (List ℕ)) (k : ℕ) → name_at x ≡ o → slice_get (cons_option o (definitions ss)) k ≡ Some n → ((k : ℕ) → slice_get (definitions ss) k ≡ Some n → IsDefinedAt ss n) → IsDefinedAt (x ∷ ss) n
+    by : (o : Option (List ℕ)) (k : ℕ) → defined_name x ≡ o → slice_get (cons_option o (definitions ss)) k ≡ Some n →
+        ((k : ℕ) → slice_get (definitions ss) k ≡ Some n → IsDefinedAt ss n) → IsDefinedAt (x ∷ ss) n
     by None k e h rest = next (rest k h)
     by (Some m) zero e h rest = let same : m ≡ n = cc in (0, x, refl, e ∙ ap Some same)
     by (Some m) (suc k) e h rest = next (rest k h)
 
-config_symbol : (modules : Option SymId) (number : List ℕ → ℕ) (x : Written) (n : List ℕ) → name_at x ≡ Some n → symbol_of (Some (numbered modules number x)) ≡ Some (symbol (number n))
+config_symbol : (modules : Option SymId) (number : List ℕ → ℕ) (x : Named) (n : List ℕ) → defined_name x ≡ Some n → symbol_of (Some (numbered modules number x)) ≡ Some (symbol (number n))
 config_symbol modules number (ConfigLine m) n e = let same : m ≡ n = cc in ap (λ (w : List ℕ). Some (symbol (number w))) same
 config_symbol modules number _ n e = absurd cc
 
@@ -150,7 +152,7 @@ any_at (x ∷ xs) n (suc i) h = ap (λ (b : Bool). same_name n x || b) (any_at x
     by true = refl
     by false = refl
 
-module _ (ls : List (Placed Written)) where
+module _ (ls : List (Located Named)) where
   abbrev said : List Numbered
   said = map (λ l. l.statement) (numbered_lines ls)
 

@@ -6,12 +6,13 @@ use Rattle.std.proofs.lemmas.List.Elements.{filter-append}
 use Rattle.kc_read.specs.declared.statement.Block.TheVariants as block
 use Rattle.kc_read.specs.Statements.{Numbered}
 use Rattle.kc_read.specs.Blocks.{numbers, last_of, is_open, enclosing}
-use Rattle.kc_build.specs.Facts.{of_block, choice_number, choice_round, choices}
+use Rattle.kc_build.specs.Facts.{of_block, choice_number, enclosing_choice, choices}
 use Rattle.kc_build.proofs.BlockLemmas.{last-snoc}
 use Rattle.kc_build.proofs.ChoiceLemmas.{fewer_before, so_many}
 
 -- the last of the numbers below m that pass two tests
-last_step : (p q : ℕ → Bool) (m j : ℕ) (a b : Bool) → q m ≡ a → p m ≡ b → (last_of (filter p (filter q (numbers m))) ≡ Some j → (p j ≡ true) × (j < m)) → last_of (filter p (filter q (numbers m)) ++ filter p (if a then m ∷ [] else [])) ≡ Some j → (p j ≡ true) × (j < suc m)
+last_step : (p q : ℕ → Bool) (m j : ℕ) (a b : Bool) → q m ≡ a → p m ≡ b → (last_of (filter p (filter q (numbers m))) ≡ Some j → (p j ≡ true) × (j < m)) →
+    last_of (filter p (filter q (numbers m)) ++ filter p (if a then m ∷ [] else [])) ≡ Some j → (p j ≡ true) × (j < suc m)
 last_step p q m j false b e f before h =
     let found = before (sym (ap last_of (append-nil (filter p (filter q (numbers m))))) ∙ h) in
     (found.0, omega (arith, found.1))
@@ -26,11 +27,13 @@ last_step p q m j true true e f before h =
 pub last_kept : (p q : ℕ → Bool) (m j : ℕ) → last_of (filter p (filter q (numbers m))) ≡ Some j → (p j ≡ true) × (j < m)
 last_kept p q zero j h = cc
 last_kept p q (suc m) j h =
-    let split : filter p (filter q (numbers (suc m))) ≡ filter p (filter q (numbers m)) ++ filter p (if q m then m ∷ [] else []) = ap (filter p) (filter-append q (numbers m) (m ∷ [])) ∙ filter-append p (filter q (numbers m)) (if q m then m ∷ [] else []) in
+    let split : filter p (filter q (numbers (suc m))) ≡ filter p (filter q (numbers m)) ++ filter p (if q m then m ∷ [] else []) =
+    ap (filter p) (filter-append q (numbers m) (m ∷ [])) ∙ filter-append p (filter q (numbers m)) (if q m then m ∷ [] else []) in
     last_step p q m j (q m) (p m) refl refl (last_kept p q m j) (sym (ap last_of split) ∙ h)
 
 module _ (ss : List Numbered) where
-  mode_by : (i k : ℕ) (o : Option ℕ) → length (take i ss) ≤ length ss → last_of (filter (of_block ss block.Choice) (enclosing ss i)) ≡ o → option_map (choice_number ss) o ≡ Some k → k < length (choices ss)
+  mode_by : (i k : ℕ) (o : Option ℕ) → length (take i ss) ≤ length ss → last_of (filter (of_block ss block.Choice) (enclosing ss i)) ≡ o →
+      option_map (choice_number ss) o ≡ Some k → k < length (choices ss)
   mode_by i k None n h e = cc
   mode_by i k (Some j) n h e =
       let found = last_kept (of_block ss block.Choice) (is_open (take i ss)) (length (take i ss)) j h in
@@ -40,5 +43,5 @@ module _ (ss : List Numbered) where
       omega arith
 
   -- the choice whose mode counts at a place is one of the choices
-  pub mode_below : (i k : ℕ) → length (take i ss) ≤ length ss → choice_round ss i ≡ Some k → k < length (choices ss)
+  pub mode_below : (i k : ℕ) → length (take i ss) ≤ length ss → enclosing_choice ss i ≡ Some k → k < length (choices ss)
   mode_below i k n e = mode_by i k (last_of (filter (of_block ss block.Choice) (enclosing ss i))) n refl e

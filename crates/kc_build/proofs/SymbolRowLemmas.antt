@@ -10,13 +10,13 @@ use Rattle.kc_expr.specs.declared.expression.SymId.{SymId}
 use Rattle.kc_expr.specs.Names.{symbol}
 use Rattle.kc_read.specs.Blocks.{attributes, is_attribute, numbers}
 use Rattle.kc_read.specs.Statements.{Numbered}
-use Rattle.kc_tree.specs.declared.parts.ChoiceId.{ChoiceId}
-use Rattle.kc_tree.specs.declared.parts.Symbol.{Symbol}
+use Rattle.kc_tree.specs.declared.rows.ChoiceId.{ChoiceId}
+use Rattle.kc_tree.specs.declared.rows.Symbol.{Symbol}
 use Rattle.kc_tree.specs.Words.{is_symbol_of}
-use Rattle.kc_build.specs.Facts.{choice_of, choice_round, definitions_of, first_of, symbol_at, symbol_of, type_of}
-use Rattle.kc_build.specs.Known.{AreSymbols, AreTyped, Row, definition_number, row_of, row_view}
+use Rattle.kc_build.specs.Facts.{choice_of, enclosing_choice, definitions_of, first_of, symbol_at, symbol_of, type_of}
+use Rattle.kc_build.specs.SymbolRows.{AreSymbols, AreTyped, SymbolRow, definition_number, row_of, row_view}
 use Rattle.kc_build.specs.Passes.{change, changed}
-use Rattle.kc_build.specs.SymbolWalk.{choice_view, first_kind, settled, unknown, with_definition}
+use Rattle.kc_build.specs.SymbolWalk.{choice_view, first_kind, with_member_type, unknown, with_definition}
 use Rattle.kc_build.proofs.EnterLemmas.{attribute_symbol, get_behind, over}
 use Rattle.kc_build.proofs.PlaceLemmas.{length-map_numbers}
 use Rattle.kc_build.proofs.TableLemmas.{defined_before, defined_next, not_defined, same_numbers}
@@ -86,14 +86,14 @@ module _ (ss : List Numbered) where
   entry_type j = first_of (filter_map type_of (attributes ss j))
 
   -- what definitions at these places say of a symbol, and those before a place
-  abbrev pub row_by : List ℕ → Row
+  abbrev pub row_by : List ℕ → SymbolRow
   row_by ds = record {
     kind = unwrap_or (first_of (filter_map entry_type ds)) kind.Undefined;
-    choice = first_of (filter_map (choice_round ss) ds);
+    choice = first_of (filter_map (enclosing_choice ss) ds);
     definitions = map (definition_number ss) ds;
   }
 
-  abbrev pub row_before : ℕ → ℕ → Row
+  abbrev pub row_before : ℕ → ℕ → SymbolRow
   row_before i s = row_by (defined_before ss i s)
 
   -- before all lines nothing is known
@@ -115,10 +115,10 @@ module _ (ss : List Numbered) where
     all_typed ds = no_first entry_type ds (λ i j at. entry_typed j)
 
     -- one definition more
-    row_next : (ds : List ℕ) (i : ℕ) → with_definition (definition_number ss i) (entry_type i) (choice_round ss i) (row_by ds) ≡ row_by (ds ++ i ∷ [])
+    row_next : (ds : List ℕ) (i : ℕ) → with_definition (definition_number ss i) (entry_type i) (enclosing_choice ss i) (row_by ds) ≡ row_by (ds ++ i ∷ [])
     row_next ds i =
         let type = next_type (entry_type i) (first_of (filter_map entry_type ds)) (all_typed ds) ∙ ap (λ o. unwrap_or o kind.Undefined) (first_more entry_type) in
-        let choice = first_more (choice_round ss) in
+        let choice = first_more (enclosing_choice ss) in
         let numbers = sym (map-append (definition_number ss) ds (i ∷ [])) in
         λ k. record { kind = type k; choice = choice k; definitions = numbers k }
       where
@@ -130,26 +130,29 @@ module _ (ss : List Numbered) where
         first_more f =
             ap (option_or (first_of (filter_map f ds))) (single (f i)) ∙ sym (first_or (filter_map f ds) (cons_option (f i) [])) ∙ ap first_of (sym (filter_map-append f ds (i ∷ [])))
 
-    pub rows_next : (i count : ℕ) (table new : List Row) (o : Option SymId) → table ≡ map (row_before i) (numbers count) → symbol_at ss i ≡ o → new ≡ changed (with_definition (definition_number ss i) (entry_type i) (choice_round ss i)) o table → new ≡ map (row_before (i + 1)) (numbers count)
+    pub rows_next : (i count : ℕ) (table new : List SymbolRow) (o : Option SymId) → table ≡ map (row_before i) (numbers count) → symbol_at ss i ≡ o →
+        new ≡ changed (with_definition (definition_number ss i) (entry_type i) (enclosing_choice ss i)) o table → new ≡ map (row_before (i + 1)) (numbers count)
     rows_next i count table new o h e n =
-        n ∙ rw h (defined_next ss (λ s ds. row_by ds) (with_definition (definition_number ss i) (entry_type i) (choice_round ss i)) i count o e (λ s ds q. row_next ds i))
+        n ∙ rw h (defined_next ss (λ s ds. row_by ds) (with_definition (definition_number ss i) (entry_type i) (enclosing_choice ss i)) i count o e (λ s ds q. row_next ds i))
 
     -- when all lines were walked over
-    row_settled : (s : ℕ) → settled (row_before (length ss) s) ≡ row_of ss s
+    row_settled : (s : ℕ) → with_member_type (row_before (length ss) s) ≡ row_of ss s
     row_settled s =
         let ds = definitions_of ss (symbol s) in
-        let type = settled_type (is_some (choice_of ss (symbol s))) (first_of (filter_map entry_type ds)) (all_typed ds) ∙ ap (λ o. unwrap_or o (if is_some (choice_of ss (symbol s)) then kind.Bool else kind.Undefined)) (sym (first_found type_of (attributes ss) ds)) in
+        let type = settled_type (is_some (choice_of ss (symbol s))) (first_of (filter_map entry_type ds)) (all_typed ds)
+        ∙ ap (λ o. unwrap_or o (if is_some (choice_of ss (symbol s)) then kind.Bool else kind.Undefined)) (sym (first_found type_of (attributes ss) ds))
+        in
         λ k. record { kind = type k; choice = choice_of ss (symbol s); definitions = map (definition_number ss) ds }
 
-    all_settled : (ns : List ℕ) → map settled (map (row_before (length ss)) ns) ≡ map (row_of ss) ns
+    all_settled : (ns : List ℕ) → map with_member_type (map (row_before (length ss)) ns) ≡ map (row_of ss) ns
     all_settled [] = refl
     all_settled (s ∷ ns) = rw (row_settled s, all_settled ns) refl
 
-    pub rows_end : (count : ℕ) (table new : List Row) → table ≡ map (row_before (length ss)) (numbers count) → new ≡ map settled table → new ≡ map (row_of ss) (numbers count)
-    rows_end count table new h n = n ∙ ap (map settled) h ∙ all_settled (numbers count)
+    pub rows_end : (count : ℕ) (table new : List SymbolRow) → table ≡ map (row_before (length ss)) (numbers count) → new ≡ map with_member_type table → new ≡ map (row_of ss) (numbers count)
+    rows_end count table new h n = n ∙ ap (map with_member_type) h ∙ all_settled (numbers count)
 
 -- as many as there are rows
-pub so_many : (f : ℕ → Row) (count : ℕ) (symbols : List Symbol) → map row_view symbols ≡ map f (numbers count) → length symbols ≡ count
+pub so_many : (f : ℕ → SymbolRow) (count : ℕ) (symbols : List Symbol) → map row_view symbols ≡ map f (numbers count) → length symbols ≡ count
 so_many f count symbols h = sym (length-map symbols row_view) ∙ ap length h ∙ length-map_numbers f count
 
 pub symbols_are : (ss : List Numbered) (count : ℕ) (symbols : List Symbol) → map row_view symbols ≡ map (row_of ss) (numbers count) → AreSymbols ss symbols
@@ -204,12 +207,12 @@ module _ (x : Symbol) where
   kind_stays kind.Int = refl
   kind_stays kind.Hex = refl
 
-  pub settled_member : (k : Kind) → true ≡ is_some x.choice → k ≡ first_kind x.kind (Some kind.Bool) → row_view (record x { kind = k }) ≡ settled (row_view x)
+  pub settled_member : (k : Kind) → true ≡ is_some x.choice → k ≡ first_kind x.kind (Some kind.Bool) → row_view (record x { kind = k }) ≡ with_member_type (row_view x)
   settled_member k h e =
       let type = e ∙ ap (first_kind x.kind) (sym (member_type x.choice h)) in
       λ i. record (row_view x) { kind = type i }
 
-  pub settled_other : false ≡ is_some x.choice → settled (row_view x) ≡ row_view x
+  pub settled_other : false ≡ is_some x.choice → with_member_type (row_view x) ≡ row_view x
   settled_other h =
       let type = ap (first_kind x.kind) (no_type x.choice h) ∙ kind_stays x.kind in
       λ i. record (row_view x) { kind = type i }

@@ -2,22 +2,18 @@
 use Rattle.std.proofs.Common.{◌≡◌, ℕ, zero, suc, ◌+◌, ◌<◌, ◌≤◌, Bool, true, false, if◌then◌else◌, List, [], ◌∷◌, ◌++◌, length, filter, map, Option, Some, None, refl, ap, sym, ◌∙◌, arith, get_or, slice_set}
 use Rattle.std.proofs.lemmas.Bool.{eq-eqb, ne_eqb}
 use Rattle.std.specs.Prelude.{◌==◌}
-use Rattle.std.specs.List.{filter_map, flat_map, cons_option}
-use Rattle.std.specs.Option.{option_or, option_map}
+use Rattle.std.specs.List.{cons_option}
 use Rattle.std.proofs.lemmas.List.{append-nil, length-map}
-use Rattle.std.proofs.lemmas.List.Elements.{filter_map-append}
 use Rattle.kc_expr.specs.declared.expression.SymId.{SymId}
-use Rattle.kc_expr.specs.declared.expression.Kind.{Kind}
 use Rattle.kc_expr.specs.Names.{symbol}
 use Rattle.kc_read.specs.Statements.{Numbered}
-use Rattle.kc_read.specs.Blocks.{numbers, attributes}
+use Rattle.kc_read.specs.Blocks.{numbers}
 use Rattle.kc_tree.specs.Words.{is_symbol_of}
-use Rattle.kc_build.specs.Facts.{symbol_of, symbol_at, first_of, type_of, choice_round}
-use Rattle.kc_read.specs.declared.line.Line.{Line}
-use Rattle.kc_read.specs.Reads.{statement_view}
-use Rattle.kc_build.specs.Passes.{said_by, change, changed}
+use Rattle.kc_build.specs.Facts.{symbol_at, first_of}
+use Rattle.kc_read.specs.declared.statement.Line.{Line}
+use Rattle.kc_build.specs.Passes.{statements_of, change, changed}
 use Rattle.kc_build.proofs.BlockLemmas.{numbers_from, numbers-from}
-use Rattle.kc_build.proofs.PlaceLemmas.{filter-next, statement_at, length-said_by}
+use Rattle.kc_build.proofs.PlaceLemmas.{filter-next, length-statements_of}
 
 same_from : {A : Type 0} (f h : ℕ → A) (p n : ℕ) → ((j : ℕ) → f (p + j) ≡ h (p + j)) → map f (numbers_from p n) ≡ map h (numbers_from p n)
 same_from f h p zero e = refl
@@ -28,7 +24,8 @@ same_from f h p (suc n) e =
     rw (first, same_from f h (suc p) n rest) refl
 
 -- a table in which at most one element changes
-change_from : {A : Type 0} (g : A → A) (f h : ℕ → A) (p n k : ℕ) → g (f (p + k)) ≡ h (p + k) → ((j : ℕ) → (j ≡ k → ⊥) → f (p + j) ≡ h (p + j)) → change g k (map f (numbers_from p n)) ≡ map h (numbers_from p n)
+change_from : {A : Type 0} (g : A → A) (f h : ℕ → A) (p n k : ℕ) → g (f (p + k)) ≡ h (p + k) → ((j : ℕ) → (j ≡ k → ⊥) → f (p + j) ≡ h (p + j)) →
+    change g k (map f (numbers_from p n)) ≡ map h (numbers_from p n)
 change_from g f h p zero k same other = refl
 change_from g f h p (suc n) zero same other =
     let z : p + 0 ≡ p = omega arith in
@@ -61,10 +58,6 @@ map_self : {A : Type 0} (xs : List A) → map (λ x. x) xs ≡ xs
 map_self [] = refl
 map_self (x ∷ xs) = ap (λ l. x ∷ l) (map_self xs)
 
-pub set_changed_self : {A : Type 0} (g : A → A) (xs : List A) (k : ℕ) (x y : A) → k < length xs → x ≡ get_or xs k x → y ≡ g x → slice_set xs k y ≡ change g k xs
-set_changed_self g xs k x y h at e =
-    sym (map_self (slice_set xs k y)) ∙ set_changed (λ x. x) g xs k x y h at e ∙ ap (change g k) (map_self xs)
-
 change_past : {A : Type 0} (g : A → A) (xs : List A) (k : ℕ) → length xs ≤ k → change g k xs ≡ xs
 change_past g [] k h = refl
 change_past g (x ∷ xs) zero h = absurd (omega arith)
@@ -72,13 +65,6 @@ change_past g (x ∷ xs) (suc k) h = ap (λ l. x ∷ l) (change_past g xs k (ome
 
 pub unchanged_past : {A B : Type 0} (v : A → B) (g : B → B) (xs : List A) (k : ℕ) → length xs ≤ k → map v xs ≡ change g k (map v xs)
 unchanged_past v g xs k h = sym (change_past g (map v xs) k (omega (arith, length-map xs v)))
-
-pub unchanged_past_self : {A : Type 0} (g : A → A) (xs : List A) (k : ℕ) → length xs ≤ k → xs ≡ change g k xs
-unchanged_past_self g xs k h = sym (change_past g xs k h)
-
-pub option_or-map : {A B : Type 0} (v : A → B) (o p : Option A) → option_map v (option_or o p) ≡ option_or (option_map v o) (option_map v p)
-option_or-map v None p = refl
-option_or-map v (Some a) p = refl
 
 -- The definitions of a symbol among the first places.
 module _ (ss : List Numbered) where
@@ -95,40 +81,20 @@ module _ (ss : List Numbered) where
   equal_self n = eq-eqb n n refl
 
   -- what a table by symbol has when it goes by the definitions so far
-  pub defined_next : {A : Type 0} (F : ℕ → List ℕ → A) (g : A → A) (i count : ℕ) (o : Option SymId) → symbol_at ss i ≡ o → ((s : ℕ) (ds : List ℕ) → o ≡ Some (symbol s) → g (F s ds) ≡ F s (ds ++ i ∷ [])) → changed g o (map (λ s. F s (defined_before i s)) (numbers count)) ≡ map (λ s. F s (defined_before (i + 1) s)) (numbers count)
+  pub defined_next : {A : Type 0} (F : ℕ → List ℕ → A) (g : A → A) (i count : ℕ) (o : Option SymId) → symbol_at ss i ≡ o →
+      ((s : ℕ) (ds : List ℕ) → o ≡ Some (symbol s) → g (F s ds) ≡ F s (ds ++ i ∷ [])) →
+      changed g o (map (λ s. F s (defined_before i s)) (numbers count)) ≡ map (λ s. F s (defined_before (i + 1) s)) (numbers count)
   defined_next F g i count None e step =
       same_numbers (λ s. F s (defined_before i s)) (λ s. F s (defined_before (i + 1) s)) count (λ s. ap (F s) (sym (not_defined i s (rw e refl))))
   defined_next F g i count (Some t) e step =
-      change_numbers g (λ s. F s (defined_before i s)) (λ s. F s (defined_before (i + 1) s)) count t.0 (step t.0 (defined_before i t.0) refl ∙ ap (F t.0) (sym (before_next i t.0 true (rw e (equal_self t.0))))) (λ s ne. ap (F s) (sym (not_defined i s (rw e (ne_eqb s t.0 ne)))))
-
-  -- The first types.
-  abbrev pub first_type_of : ℕ → List ℕ → Option Kind
-  first_type_of s ds = first_of (filter_map type_of (flat_map (attributes ss) ds))
-
-  first-append : {A : Type 0} (xs ys : List A) → first_of (xs ++ ys) ≡ option_or (first_of xs) (first_of ys)
-  first-append [] ys = refl
-  first-append (x ∷ xs) ys = refl
-
-  -- The first choices.
-  abbrev pub first_choice_of : ℕ → List ℕ → Option ℕ
-  first_choice_of s ds = first_of (filter_map (choice_round ss) ds)
+      change_numbers g (λ s. F s (defined_before i s)) (λ s. F s (defined_before (i + 1) s)) count t.0
+      (step t.0 (defined_before i t.0) refl ∙ ap (F t.0) (sym (before_next i t.0 true (rw e (equal_self t.0)))))
+      (λ s ne. ap (F s) (sym (not_defined i s (rw e (ne_eqb s t.0 ne)))))
 
   one : {A : Type 0} (o : Option A) → o ≡ first_of (cons_option o [])
   one None = refl
   one (Some a) = refl
 
-  choice_step : (i s : ℕ) (ds : List ℕ) → option_or (first_choice_of s ds) (choice_round ss i) ≡ first_choice_of s (ds ++ i ∷ [])
-  choice_step i s ds =
-      (ap (option_or (first_choice_of s ds)) (one (choice_round ss i))) ∙ sym (first-append (filter_map (choice_round ss) ds) (cons_option (choice_round ss i) [])) ∙ ap first_of (sym (filter_map-append (choice_round ss) ds (i ∷ [])))
-
-  pub choices_next : (i count : ℕ) (table new : List (Option ℕ)) (o : Option SymId) (found : Option ℕ) → table ≡ map (λ s. first_choice_of s (defined_before i s)) (numbers count) → o ≡ symbol_at ss i → found ≡ choice_round ss i → new ≡ changed (λ t. option_or t found) o table → new ≡ map (λ s. first_choice_of s (defined_before (i + 1) s)) (numbers count)
-  choices_next i count table new o found h e f n =
-      n ∙ rw (h, f) (defined_next first_choice_of (λ t. option_or t (choice_round ss i)) i count o (sym e) (λ s ds q. choice_step i s ds))
-
--- The symbol of a line.
-pub symbol-at : (ls : List Line) (i : ℕ) (x : Line) (o : Option SymId) → i < length ls → x ≡ get_or ls i x → o ≡ symbol_of (Some (statement_view x.statement)) → o ≡ symbol_at (said_by ls) i
-symbol-at ls i x o h at e = e ∙ ap symbol_of (sym (statement_at ls i x h at))
-
 -- all places were passed
-pub all_passed : {A : Type 0} (f : ℕ → A) (ls : List Line) (i : ℕ) → i ≤ length ls → length ls ≤ i → f i ≡ f (length (said_by ls))
-all_passed f ls i h b = ap f (omega (arith, length-said_by ls))
+pub all_passed : {A : Type 0} (f : ℕ → A) (ls : List Line) (i : ℕ) → i ≤ length ls → length ls ≤ i → f i ≡ f (length (statements_of ls))
+all_passed f ls i h b = ap f (omega (arith, length-statements_of ls))

@@ -7,20 +7,20 @@ use Rattle.kc_expr.specs.Form.{Form}
 use Rattle.kc_read.specs.declared.statement.Block.TheVariants as block
 use Rattle.kc_read.specs.Blocks.{attributes}
 use Rattle.kc_read.specs.Statements.{Numbered, CommentLine, MenuLine}
-use Rattle.kc_tree.specs.declared.parts.ContextId.{ContextId}
-use Rattle.kc_tree.specs.declared.parts.Entry.{Entry}
-use Rattle.kc_tree.specs.declared.parts.Entry.TheVariants as entry
-use Rattle.kc_tree.specs.declared.parts.Symbol.{Symbol}
-use Rattle.kc_tree.specs.declared.parts.Title.{Title}
-use Rattle.kc_tree.specs.declared.parts.TitleId.{TitleId}
+use Rattle.kc_tree.specs.declared.rows.ContextId.{ContextId}
+use Rattle.kc_tree.specs.declared.rows.ShownEntry.{ShownEntry}
+use Rattle.kc_tree.specs.declared.rows.ShownEntry.TheVariants as entry
+use Rattle.kc_tree.specs.declared.rows.Symbol.{Symbol}
+use Rattle.kc_tree.specs.declared.rows.Title.{Title}
+use Rattle.kc_tree.specs.declared.rows.TitleId.{TitleId}
 use Rattle.kc_tree.specs.Contexts.{condition_in}
 use Rattle.kc_tree.specs.Layouts.{shown_of, shown_when as shown_in, title_condition, title_text}
 use Rattle.kc_tree.specs.TreeFacts.{Condition, CommentShown, MenuShown, Shown}
-use Rattle.kc_build.specs.Facts.{block_parts, choice_number, dep, depends_form, entry_at, entry_number, of_block, own_deps, own_visible, shown_when, symbol_of, title_of, visible_form, visible_round}
+use Rattle.kc_build.specs.Facts.{block_parts, choice_number, dependency, depends_form, entry_at, entry_number, of_block, own_dependencies, own_visible, shown_when, symbol_of, title_of, visible_form, enclosing_visible}
 use Rattle.kc_build.specs.Growth.{IsGrown, Stands, and_all}
-use Rattle.kc_build.specs.Rounds.{block_visible}
-use Rattle.kc_build.specs.Said.{IsEntryThere, IsTitleThere}
-use Rattle.kc_build.specs.Stacks.{AreOpen, asked_at, block_view}
+use Rattle.kc_build.specs.Scopes.{block_visible}
+use Rattle.kc_build.specs.WalkResult.{IsEntryThere, IsTitleThere}
+use Rattle.kc_build.specs.Stacks.{AreOpen, block_facts_at, block_view}
 use Rattle.kc_build.specs.Walks.{Enters, IsHead, IsWalk, place_after}
 use Rattle.kc_build.specs.declared.blocks.Block.{Block}
 use Rattle.kc_build.specs.declared.entries.Walk.{Walk}
@@ -29,15 +29,15 @@ use Rattle.kc_build.proofs.OpenLemmas.{open_opens, open_passes}
 use Rattle.kc_build.proofs.OpenerLemmas.{block_inside}
 use Rattle.kc_build.proofs.WalkLemmas.{choices_say_same, entry_count, main_menu_stays, no_choice_passed, walk_passes}
 
--- What an entry depends on, by the block round it and its own lines.
-module _ (ss : List Numbered) (i : ℕ) (own : List Numbered) (conditions : List Condition) (b : Block) (round : block_view conditions b ≡ asked_at ss i) where
-  pub dep_is : attributes ss i ≡ own → and_all (condition_in conditions b.within.0) (filter_map depends_form own) ≡ dep ss i
-  dep_is a =
-      let lines : filter_map depends_form own ≡ own_deps ss i = sym (ap (filter_map depends_form) a) in
+-- What an entry depends on, by its enclosing block and its own lines.
+module _ (ss : List Numbered) (i : ℕ) (own : List Numbered) (conditions : List Condition) (b : Block) (round : block_view conditions b ≡ block_facts_at ss i) where
+  pub dependency_is : attributes ss i ≡ own → and_all (condition_in conditions b.within.0) (filter_map depends_form own) ≡ dependency ss i
+  dependency_is a =
+      let lines : filter_map depends_form own ≡ own_dependencies ss i = sym (ap (filter_map depends_form) a) in
       λ j. record { parts = (round j).parts ++ lines j; mode = (round j).mode }
 
   -- and what is asked of what is visible
-  pub visible_is : attributes ss i ≡ own → (condition_in conditions b.visible.0).parts ++ filter_map visible_form own ≡ visible_round ss i ++ own_visible ss i
+  pub visible_is : attributes ss i ≡ own → (condition_in conditions b.visible.0).parts ++ filter_map visible_form own ≡ enclosing_visible ss i ++ own_visible ss i
   visible_is a =
       let lines : filter_map visible_form own ≡ own_visible ss i = sym (ap (filter_map visible_form) a) in
       λ j. (round j).visible ++ lines j
@@ -73,7 +73,7 @@ pub record IsTitled (ss : List Numbered) (i : ℕ) (head : Numbered) : Type 0 wh
 
 -- One title and one entry more.
 module _ (ss : List Numbered) (symbols : List Symbol) (i : ℕ) (head : Numbered) (own : List Numbered) (h : IsHead ss i head own) (old new : Walk) (w : IsWalk ss symbols i old) where
-  pub titled_passes : (t : Title) (e : Entry) (s : Shown) → AreRest old new → IsTitled ss i head → Extends old.tables.contexts new.tables.contexts →
+  pub titled_passes : (t : Title) (e : ShownEntry) (s : Shown) → AreRest old new → IsTitled ss i head → Extends old.tables.contexts new.tables.contexts →
       length new.tables.contexts ≤ length old.tables.contexts + 2 * length own + 2 → AreOpen ss (suc i) new.tables.contexts new.blocks →
       new.tables.titles.items ≡ old.tables.titles.items ++ t ∷ [] → IsTitleThere new.tables.contexts t → new.tables.entries.items ≡ old.tables.entries.items ++ e ∷ [] →
       IsEntryThere (length new.tables.titles.items) (length new.tables.entries.items) e → shown_of new.tables e ≡ s → entry_at ss i (Some head) ≡ Some s →
@@ -116,13 +116,13 @@ module _ (text : List ℕ) (own : List Numbered) (old new : Walk) (rest : AreRes
       (length own) old.blocks.innermost.within.0 there refl grown in
       let one : length new.tables.titles.items ≡ length old.tables.titles.items + 1 = ap length titles ∙ length_push old.tables.titles.items t in
       let some : 0 < length new.tables.contexts = (let s = stands.there in omega arith) in
-      let depends : condition_in new.tables.contexts t.within.0 ≡ dep ss i = ap (λ x. condition_in new.tables.contexts x.0) shown_within ∙ stands.is
-      ∙ dep_is ss i own old.tables.contexts old.blocks.innermost w.blocks.innermost h.attributes_are in
+      let depends : condition_in new.tables.contexts t.within.0 ≡ dependency ss i = ap (λ x. condition_in new.tables.contexts x.0) shown_within ∙ stands.is
+      ∙ dependency_is ss i own old.tables.contexts old.blocks.innermost w.blocks.innermost h.attributes_are in
       let nothing : (condition_in new.tables.contexts t.visible.0).parts ≡ [] = ap (λ x. (condition_in new.tables.contexts x.0).parts) shown_visible
       ∙ nil_from_length (condition_in new.tables.contexts 0).parts new.asks_nothing in
-      let condition : title_condition new.tables t ≡ dep ss i = (λ j. record { parts = (depends j).parts ++ nothing j; mode = (depends j).mode })
-      ∙ (λ j. record { parts = append-nil (dep ss i).parts j; mode = (dep ss i).mode }) in
-      titled_passes ss symbols i (CommentLine text) own h old new w t (entry.Comment id) (CommentShown text (dep ss i)) rest
+      let condition : title_condition new.tables t ≡ dependency ss i = (λ j. record { parts = (depends j).parts ++ nothing j; mode = (depends j).mode })
+      ∙ (λ j. record { parts = append-nil (dependency ss i).parts j; mode = (dependency ss i).mode }) in
+      titled_passes ss symbols i (CommentLine text) own h old new w t (entry.Comment id) (CommentShown text (dependency ss i)) rest
       (record { symbol = refl; choice = rw (h.at) refl; title = refl })
       (extends old.tables.contexts new.tables.contexts g)
       (let l = grown.few in omega arith)
@@ -161,26 +161,26 @@ module _ (text : List ℕ) (own : List Numbered) (old new : Walk) (rest : AreRes
       let g = carries_both old.tables.contexts middle new.tables.contexts f k in
       let round = w.blocks.innermost in
       let one : length new.tables.titles.items ≡ length old.tables.titles.items + 1 = ap length titles ∙ length_push old.tables.titles.items t in
-      let depends : condition_in new.tables.contexts within.0 ≡ dep ss i = k.keeps within.0 stands.there ∙ stands.is
-      ∙ dep_is ss i own old.tables.contexts old.blocks.innermost round h.attributes_are in
-      let shows : (condition_in new.tables.contexts visible.0).parts ≡ visible_round ss i ++ own_visible ss i = ap (λ (c : Condition). c.parts) sees.is
+      let depends : condition_in new.tables.contexts within.0 ≡ dependency ss i = k.keeps within.0 stands.there ∙ stands.is
+      ∙ dependency_is ss i own old.tables.contexts old.blocks.innermost round h.attributes_are in
+      let shows : (condition_in new.tables.contexts visible.0).parts ≡ enclosing_visible ss i ++ own_visible ss i = ap (λ (c : Condition). c.parts) sees.is
       ∙ ap (λ (c : Condition). c.parts ++ filter_map visible_form own) (f.keeps old.blocks.innermost.visible.0 seen)
       ∙ visible_is ss i own old.tables.contexts old.blocks.innermost round h.attributes_are in
-      let depends_t : condition_in new.tables.contexts t.within.0 ≡ dep ss i = ap (λ x. condition_in new.tables.contexts x.0) shown_within ∙ depends in
-      let shows_t : (condition_in new.tables.contexts t.visible.0).parts ≡ visible_round ss i ++ own_visible ss i =
+      let depends_t : condition_in new.tables.contexts t.within.0 ≡ dependency ss i = ap (λ x. condition_in new.tables.contexts x.0) shown_within ∙ depends in
+      let shows_t : (condition_in new.tables.contexts t.visible.0).parts ≡ enclosing_visible ss i ++ own_visible ss i =
       ap (λ x. (condition_in new.tables.contexts x.0).parts) shown_visible ∙ shows in
-      let grouped = sym (append_assoc (dep ss i).parts (visible_round ss i) (own_visible ss i)) in
+      let grouped = sym (append_assoc (dependency ss i).parts (enclosing_visible ss i) (own_visible ss i)) in
       let condition : title_condition new.tables t ≡ shown_when ss i = (λ j. record { parts = (depends_t j).parts ++ shows_t j; mode = (depends_t j).mode })
-      ∙ (λ j. record { parts = grouped j; mode = (dep ss i).mode }) in
-      let opens : own_deps ss i ≡ block_parts ss i = rw (h.at) refl in
+      ∙ (λ j. record { parts = grouped j; mode = (dependency ss i).mode }) in
+      let opens : own_dependencies ss i ≡ block_parts ss i = rw (h.at) refl in
       let opens_visible : own_visible ss i ≡ block_visible ss i = rw (h.at) refl in
       let other : of_block ss block.Choice i ≡ false = rw (h.at) refl in
-      let parts : (condition_in new.tables.contexts within.0).parts ≡ (asked_at ss i).parts ++ block_parts ss i = ap (λ (c : Condition). c.parts) depends
-      ∙ ap (λ (l : List Form). (asked_at ss i).parts ++ l) opens in
-      let visible_parts : (condition_in new.tables.contexts visible.0).parts ≡ (asked_at ss i).visible ++ block_visible ss i = shows
-      ∙ ap (λ (l : List Form). (asked_at ss i).visible ++ l) opens_visible in
-      let mode : (condition_in new.tables.contexts within.0).mode ≡ (if of_block ss block.Choice i then Some (choice_number ss i) else (asked_at ss i).mode) =
-      ap (λ (c : Condition). c.mode) depends ∙ sym (ap (λ (x : Bool). if x then Some (choice_number ss i) else (asked_at ss i).mode) other) in
+      let parts : (condition_in new.tables.contexts within.0).parts ≡ (block_facts_at ss i).parts ++ block_parts ss i = ap (λ (c : Condition). c.parts) depends
+      ∙ ap (λ (l : List Form). (block_facts_at ss i).parts ++ l) opens in
+      let visible_parts : (condition_in new.tables.contexts visible.0).parts ≡ (block_facts_at ss i).visible ++ block_visible ss i = shows
+      ∙ ap (λ (l : List Form). (block_facts_at ss i).visible ++ l) opens_visible in
+      let mode : (condition_in new.tables.contexts within.0).mode ≡ (if of_block ss block.Choice i then Some (choice_number ss i) else (block_facts_at ss i).mode) =
+      ap (λ (c : Condition). c.mode) depends ∙ sym (ap (λ (x : Bool). if x then Some (choice_number ss i) else (block_facts_at ss i).mode) other) in
       let named : Some number ≡ Some (entry_number ss i) = ap Some (number_is ∙ entry_count ss symbols i old w a.ends) in
       let inside = ap (block_view new.tables.contexts) (inner ∙ block_is)
       ∙ block_inside ss i new.tables.contexts (record { within = within; visible = visible; entry = Some number }) parts visible_parts mode named in

@@ -7,12 +7,12 @@ use Rattle.std.proofs.lemmas.List.Elements.{All-nil, All-cons, All-head, All-tai
 use Rattle.kc_expr.specs.declared.expression.SymId.{SymId}
 use Rattle.kc_expr.specs.Form.{Form}
 use Rattle.kc_expr.specs.Names.{all_mentioned, mention, number_of, same_name, symbol}
-use Rattle.kc_read.specs.Blocks.{attributes, definitions, is_attribute, is_marked, last_of, modules_of, name_at, numbers}
+use Rattle.kc_read.specs.Blocks.{attributes, definitions, is_attribute, has_modules_line, last_of, modules_of, defined_name, numbers}
 use Rattle.kc_read.specs.Expansion.{defined, statements}
-use Rattle.kc_read.specs.Numbering.{known_names, modules_id, modules_name, names_of, numbered_lines, place_numbered}
-use Rattle.kc_read.specs.Statements.{Written, Numbered, Placed, ConfigLine, CommentLine, MenuLine, EndMenuLine, MainMenuLine, DefaultLine, DefLine, numbered, statement_words}
+use Rattle.kc_read.specs.Numbering.{known_names, modules_id, modules_name, names_of, numbered_lines, located_numbered}
+use Rattle.kc_read.specs.Statements.{Named, Numbered, Located, ConfigLine, CommentLine, MenuLine, EndMenuLine, MainMenuLine, DefaultLine, DefLine, numbered, names_in_statement}
 use Rattle.kc_tree.specs.TreeFacts.{TreeFacts, SymbolFacts, Guarded, Shown, SymbolShown, MenuShown, EndShown, CommentShown, HasLineTexts, IsLineText, IsLineForm, OfTitle}
-use Rattle.kc_build.specs.Facts.{Given, default_under, defaults_at, definitions_of, dep, entry_at, entry_number, given_of, is_first_definition, opener_of, places, shown_when, symbol_facts, title_of}
+use Rattle.kc_build.specs.Facts.{StatedDefault, guarded_default, defaults_at, definitions_of, dependency, entry_at, entry_number, stated_default, is_first_definition, enclosing_block, places, shown_when, symbol_facts, title_of}
 use Rattle.kc_build.specs.Trees.{facts_with}
 use Rattle.kc_build.proofs.ElementLemmas.{All-at, All-cons_option, All-flat_map, All-map_each, filter_map-from}
 use Rattle.kc_build.proofs.ReadTextLemmas.{HasTexts, IsInLines, IsLineValue}
@@ -30,18 +30,18 @@ mentioned_all names [] h k = h
 mentioned_all names (w ∷ ws) h k =
     mentioned_all (mention names w) ws (mentioned_one names w h (All-head IsLineText w ws k)) (All-tail IsLineText w ws k)
 
-statement_names : (ss : List Written) → All IsInLines ss → All IsLineText (flat_map statement_words ss)
+statement_names : (ss : List Named) → All IsInLines ss → All IsLineText (flat_map names_in_statement ss)
 statement_names [] h = All-nil IsLineText
-statement_names (s ∷ ss) h = All-append IsLineText (statement_words s) (flat_map statement_words ss) (All-head IsInLines s ss h).names (statement_names ss (All-tail IsInLines s ss h))
+statement_names (s ∷ ss) h = All-append IsLineText (names_in_statement s) (flat_map names_in_statement ss) (All-head IsInLines s ss h).names (statement_names ss (All-tail IsInLines s ss h))
 
-name_line : (s : Written) (n : List ℕ) → IsInLines s → name_at s ≡ Some n → IsLineText n
+name_line : (s : Named) (n : List ℕ) → IsInLines s → defined_name s ≡ Some n → IsLineText n
 name_line (ConfigLine m) n h e = let same : m ≡ n = cc in subst IsLineText same (All-head IsLineText m [] h.names)
 name_line _ n h e = absurd cc
 
-definition_names : (ss : List Written) → All IsInLines ss → All IsLineText (definitions ss)
+definition_names : (ss : List Named) → All IsInLines ss → All IsLineText (definitions ss)
 definition_names [] h = All-nil IsLineText
 definition_names (s ∷ ss) h =
-    All-cons_option IsLineText (name_at s) (definitions ss) (λ n e. name_line s n (All-head IsInLines s ss h) e) (definition_names ss (All-tail IsInLines s ss h))
+    All-cons_option IsLineText (defined_name s) (definitions ss) (λ n e. name_line s n (All-head IsInLines s ss h) e) (definition_names ss (All-tail IsInLines s ss h))
 
 -- a plain text, byte by byte
 modules_word : IsLineText (codes "MODULES")
@@ -58,33 +58,34 @@ either : (a b : Option (List ℕ)) → IfSome a IsLineText → IfSome b IsLineTe
 either None b h k = k
 either (Some n) b h k = h
 
-name_now : (s : Written) (o : Option (List ℕ)) → name_at s ≡ o → IsInLines s → IfSome o IsLineText
+name_now : (s : Named) (o : Option (List ℕ)) → defined_name s ≡ o → IsInLines s → IfSome o IsLineText
 name_now s None e h = tt
 name_now s (Some n) e h = name_line s n h e
 
-modules_line : (ss : List Written) → All IsInLines ss → IfSome (modules_of ss) IsLineText
+modules_line : (ss : List Named) → All IsInLines ss → IfSome (modules_of ss) IsLineText
 modules_line [] h = tt
-modules_line (s ∷ ss) h = either (if is_marked ss then name_at s else None) (modules_of ss) (by (is_marked ss)) (modules_line ss (All-tail IsInLines s ss h))
+modules_line (s ∷ ss) h = either (if has_modules_line ss then defined_name s else None) (modules_of ss) (by (has_modules_line ss)) (modules_line ss (All-tail IsInLines s ss h))
   where
-    by : (b : Bool) → IfSome (if b then name_at s else None) IsLineText
-    by true = name_now s (name_at s) refl (All-head IsInLines s ss h)
+    by : (b : Bool) → IfSome (if b then defined_name s else None) IsLineText
+    by true = name_now s (defined_name s) refl (All-head IsInLines s ss h)
     by false = tt
 
 unless_named : (o : Option (List ℕ)) (d : List ℕ) → IfSome o IsLineText → IsLineText d → IsLineText (unwrap_or o d)
 unless_named None d h k = k
 unless_named (Some n) d h k = h
 
-name_lines : (ss : List Written) → All IsInLines ss → All IsLineText (names_of ss)
+name_lines : (ss : List Named) → All IsInLines ss → All IsLineText (names_of ss)
 name_lines ss h =
     let first : All IsLineText (defined ss) = mentioned_all [] (definitions ss) (All-nil IsLineText) (definition_names ss h) in
     let modules : IsLineText (modules_name ss) = unless_named (modules_of ss) (codes "MODULES") (modules_line ss h) modules_word in
-    mentioned_all (known_names ss) (flat_map statement_words ss) (mentioned_all (defined ss) (modules_name ss ∷ []) first (All-cons IsLineText (modules_name ss) [] modules (All-nil IsLineText))) (statement_names ss h)
+    mentioned_all (known_names ss) (flat_map names_in_statement ss)
+    (mentioned_all (defined ss) (modules_name ss ∷ []) first (All-cons IsLineText (modules_name ss) [] modules (All-nil IsLineText))) (statement_names ss h)
 
 -- The numbered statements.
 abbrev IsLineNumbered : Numbered → Type 0
 IsLineNumbered s = HasTexts IsLineForm s
 
-numbered_texts : (modules : Option SymId) (number : List ℕ → ℕ) (s : Written) → HasTexts IsLineValue s → IsLineNumbered (numbered modules number s)
+numbered_texts : (modules : Option SymId) (number : List ℕ → ℕ) (s : Named) → HasTexts IsLineValue s → IsLineNumbered (numbered modules number s)
 numbered_texts modules number (CommentLine t) h = h
 numbered_texts modules number (MenuLine t) h = h
 numbered_texts modules number (MainMenuLine t) h = h
@@ -110,9 +111,9 @@ module _ (ss : List Numbered) (texts : All IsLineNumbered ss) where
   shown_by p (Some (MenuLine t)) e at h =
       let same : MenuShown t (shown_when ss p) ≡ e = cc in
       subst (OfTitle IsLineText) same (text_at p (MenuLine t) at)
-  shown_by p (Some EndMenuLine) e at h = end_shown (opener_of ss p) e h
+  shown_by p (Some EndMenuLine) e at h = end_shown (enclosing_block ss p) e h
   shown_by p (Some (CommentLine t)) e at h =
-      let same : CommentShown t (dep ss p) ≡ e = cc in
+      let same : CommentShown t (dependency ss p) ≡ e = cc in
       subst (OfTitle IsLineText) same (text_at p (CommentLine t) at)
   shown_by p _ e at h = absurd cc
 
@@ -140,19 +141,20 @@ module _ (ss : List Numbered) (texts : All IsLineNumbered ss) where
   menu_title = unless_named (last_of (filter_map title_of ss)) (codes "Main menu") (last_line (filter_map title_of ss) (title_lines ss texts)) main_menu_words
 
   -- defaults
-  given_line : (s : Numbered) (g : Given) → IsLineNumbered s → given_of s ≡ Some g → IsLineForm g.value
+  given_line : (s : Numbered) (g : StatedDefault) → IsLineNumbered s → stated_default s ≡ Some g → IsLineForm g.value
   given_line (DefaultLine v w) g h e =
       let same : record { value = v; when = w } ≡ g = cc in
-      subst (λ (x : Given). IsLineForm x.value) same h
+      subst (λ (x : StatedDefault). IsLineForm x.value) same h
   given_line (DefLine k v w) g h e =
       let same : record { value = v; when = w } ≡ g = cc in
-      subst (λ (x : Given). IsLineForm x.value) same h
+      subst (λ (x : StatedDefault). IsLineForm x.value) same h
   given_line _ g h e = absurd cc
 
-  given_lines : (xs : List Numbered) → All IsLineNumbered xs → All (λ (g : Given). IsLineForm g.value) (filter_map given_of xs)
-  given_lines [] h = All-nil (λ (g : Given). IsLineForm g.value)
+  given_lines : (xs : List Numbered) → All IsLineNumbered xs → All (λ (g : StatedDefault). IsLineForm g.value) (filter_map stated_default xs)
+  given_lines [] h = All-nil (λ (g : StatedDefault). IsLineForm g.value)
   given_lines (x ∷ xs) h =
-      All-cons_option (λ (g : Given). IsLineForm g.value) (given_of x) (filter_map given_of xs) (λ g e. given_line x g (All-head IsLineNumbered x xs h) e) (given_lines xs (All-tail IsLineNumbered x xs h))
+      All-cons_option (λ (g : StatedDefault). IsLineForm g.value) (stated_default x) (filter_map stated_default xs)
+      (λ g e. given_line x g (All-head IsLineNumbered x xs h) e) (given_lines xs (All-tail IsLineNumbered x xs h))
 
   abbrev IsLineDefault : Guarded Form → Type 0
   IsLineDefault g = IsLineForm g.what
@@ -163,21 +165,26 @@ module _ (ss : List Numbered) (texts : All IsLineNumbered ss) where
 
   default_lines : (s : SymId) → All IsLineDefault (symbol_facts ss s).defaults
   default_lines s =
-      All-flat_map IsLineDefault (defaults_at ss) (λ i. All-map IsLineDefault (default_under ss i) (filter_map given_of (attributes ss i)) (given_lines (attributes ss i) (attribute_texts i))) (definitions_of ss s)
+      All-flat_map IsLineDefault (defaults_at ss) (λ i. All-map IsLineDefault (guarded_default ss i) (filter_map stated_default (attributes ss i))
+      (given_lines (attributes ss i) (attribute_texts i))) (definitions_of ss s)
 
-module _ (ls : List (Placed Written)) (lines : All IsInLines (statements ls)) where
+module _ (ls : List (Located Named)) (lines : All IsInLines (statements ls)) where
   abbrev said : List Numbered
   said = map (λ l. l.statement) (numbered_lines ls)
 
   abbrev whole : TreeFacts
   whole = facts_with (names_of (statements ls)) (length (defined (statements ls))) (modules_id (statements ls)) (numbered_lines ls)
 
-  all_numbered : (modules : Option SymId) (number : List ℕ → ℕ) (rest : List (Placed Written)) → All IsInLines (statements rest) → All IsLineNumbered (map (λ l. numbered modules number l.statement) rest)
+  all_numbered : (modules : Option SymId) (number : List ℕ → ℕ) (rest : List (Located Named)) → All IsInLines (statements rest) →
+      All IsLineNumbered (map (λ l. numbered modules number l.statement) rest)
   all_numbered modules number [] h = All-nil IsLineNumbered
   all_numbered modules number (l ∷ rest) h =
-      All-cons IsLineNumbered (numbered modules number l.statement) (map (λ l. numbered modules number l.statement) rest) (numbered_texts modules number l.statement (All-head IsInLines l.statement (statements rest) h).texts) (all_numbered modules number rest (All-tail IsInLines l.statement (statements rest) h))
+      All-cons IsLineNumbered (numbered modules number l.statement) (map (λ l. numbered modules number l.statement) rest)
+      (numbered_texts modules number l.statement (All-head IsInLines l.statement (statements rest) h).texts)
+      (all_numbered modules number rest (All-tail IsInLines l.statement (statements rest) h))
 
-  said_is : (modules : Option SymId) (number : List ℕ → ℕ) (rest : List (Placed Written)) → map (λ l. numbered modules number l.statement) rest ≡ map (λ l. l.statement) (map (place_numbered modules number) rest)
+  said_is : (modules : Option SymId) (number : List ℕ → ℕ) (rest : List (Located Named)) →
+      map (λ l. numbered modules number l.statement) rest ≡ map (λ l. l.statement) (map (located_numbered modules number) rest)
   said_is modules number [] = refl
   said_is modules number (l ∷ rest) = ap (λ xs. numbered modules number l.statement ∷ xs) (said_is modules number rest)
 
@@ -193,6 +200,7 @@ module _ (ls : List (Placed Written)) (lines : All IsInLines (statements ls)) wh
     titles = record { main_menu = menu_title said said_texts; entries = entry_title said said_texts };
     names = λ i name h. All-at IsLineText (names_of (statements ls)) i name (name_lines (statements ls) lines) h;
     defaults = λ i f h g c.
-        let each = All-map_each (λ (f : SymbolFacts). All (λ (g : Guarded Form). IsLineForm g.what) f.defaults) (λ i. symbol_facts said (symbol i)) (λ i. default_lines said said_texts (symbol i)) (numbers (length (defined (statements ls)))) in
+        let each = All-map_each (λ (f : SymbolFacts). All (λ (g : Guarded Form). IsLineForm g.what) f.defaults) (λ i. symbol_facts said (symbol i))
+        (λ i. default_lines said said_texts (symbol i)) (numbers (length (defined (statements ls)))) in
         All-contains (λ (g : Guarded Form). IsLineForm g.what) f.defaults g (All-at (λ (f : SymbolFacts). All (λ (g : Guarded Form). IsLineForm g.what) f.defaults) whole.symbols i f each h) c;
   }

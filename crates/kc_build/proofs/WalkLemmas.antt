@@ -12,18 +12,18 @@ use Rattle.kc_expr.specs.Names.{symbol}
 use Rattle.kc_read.specs.declared.statement.Block.TheVariants as block
 use Rattle.kc_read.specs.Statements.{Numbered, ConfigLine, CommentLine, MenuLine, EndMenuLine}
 use Rattle.kc_read.specs.Blocks.{last_of, numbers}
-use Rattle.kc_tree.specs.declared.parts.Definition.{Definition}
-use Rattle.kc_tree.specs.declared.parts.Entry.{Entry}
-use Rattle.kc_tree.specs.declared.parts.Symbol.{Symbol}
-use Rattle.kc_tree.specs.declared.parts.Title.{Title}
+use Rattle.kc_tree.specs.declared.rows.Definition.{Definition}
+use Rattle.kc_tree.specs.declared.rows.ShownEntry.{ShownEntry}
+use Rattle.kc_tree.specs.declared.rows.Symbol.{Symbol}
+use Rattle.kc_tree.specs.declared.rows.Title.{Title}
 use Rattle.kc_tree.specs.declared.reverses.Reverses.{Reverses}
 use Rattle.kc_tree.specs.Layouts.{choice_facts as choice_in, definition_facts, shown_of}
 use Rattle.kc_tree.specs.TreeFacts.{Guarded, Shown, SymbolShown, EndShown}
 use Rattle.kc_build.specs.Before.{choice_before, choices_before, definitions_before, entries_before, impliers_before, main_menu_before, members_before, selectors_before}
-use Rattle.kc_build.specs.Facts.{can_be_target, choice_number, entry_at, entry_number, imply_of, is_entry, is_first_definition, naming_at, of_block, opener_of, select_of, symbol_at, symbol_of, title_of}
-use Rattle.kc_build.specs.Known.{AreMenusOpened}
+use Rattle.kc_build.specs.Facts.{can_be_target, choice_number, entry_at, entry_number, imply_of, is_entry, is_first_definition, naming_at, of_block, enclosing_block, select_of, symbol_at, symbol_of, title_of}
+use Rattle.kc_build.specs.SymbolRows.{AreMenusOpened}
 use Rattle.kc_build.specs.ReverseRows.{HaveSources}
-use Rattle.kc_build.specs.Said.{AreRowsThere, IsEntryThere, IsSmall, IsSpanBelow, IsTitleThere}
+use Rattle.kc_build.specs.WalkResult.{AreRowsThere, IsEntryThere, IsSmall, IsSpanBelow, IsTitleThere}
 use Rattle.kc_build.specs.Stacks.{AreOpen}
 use Rattle.kc_build.specs.Walks.{IsHead, IsWalk, place_after}
 use Rattle.kc_build.specs.declared.entries.Walk.{Walk}
@@ -52,7 +52,7 @@ module _ (ss : List Numbered) (ends : AreMenusOpened ss) where
   tells : (j : ℕ) (o : Option Numbered) → slice_get ss j ≡ o → is_entry ss j o ≡ is_some (entry_at ss j o)
   tells j None e = refl
   tells j (Some (ConfigLine s)) e = if_some (is_first_definition ss j s) s
-  tells j (Some EndMenuLine) e = end_some (opener_of ss j) (ends j e)
+  tells j (Some EndMenuLine) e = end_some (enclosing_block ss j) (ends j e)
   tells j (Some (MenuLine t)) e = refl
   tells j (Some (CommentLine t)) e = refl
   tells j (Some _) e = refl
@@ -156,7 +156,7 @@ module _ (ss : List Numbered) (i : ℕ) (head : Numbered) (own : List Numbered) 
       pub titles : new.tables.titles.items ≡ old.tables.titles.items ++ titles_more
       pub few_titles : length titles_more ≤ 1
       pub titles_there : All (IsTitleThere new.tables.contexts) titles_more
-      pub entries_more : List Entry
+      pub entries_more : List ShownEntry
       pub entries : new.tables.entries.items ≡ old.tables.entries.items ++ entries_more
       pub few_entries : length entries_more ≤ 1
       pub entries_there : All (IsEntryThere (length new.tables.titles.items) (length new.tables.entries.items)) entries_more

@@ -8,7 +8,7 @@ use Rattle.std.proofs.lemmas.List.Elements.{All-nil, All-cons, All-head, All-fro
 use Rattle.std.proofs.lemmas.Option.{slice_get-map}
 use Rattle.kc_expr.specs.declared.expression.SymId.{SymId}
 use Rattle.kc_expr.specs.Names.{AreDistinct, same_name, symbol}
-use Rattle.kc_expr.specs.Grammar.{if_word, is_letter}
+use Rattle.kc_expr.specs.Grammar.{if_word, is_tristate_constant}
 use Rattle.kc_expr.proofs.NamesLemmas.{same_name-refl}
 use Rattle.kc_read.specs.declared.refusal.Code.{Code}
 use Rattle.kc_read.specs.declared.refusal.Code.TheVariants as code
@@ -18,13 +18,13 @@ use Rattle.kc_read.specs.Expansion.{Expands, Log, Refused, refused, defined, sta
 use Rattle.kc_expr.specs.Names.{is_name_byte}
 use Rattle.kc_read.specs.Lines.{is_good_name}
 use Rattle.kc_read.specs.Numbering.{names_of, modules_id, numbered_lines}
-use Rattle.kc_read.specs.Statements.{Written, Numbered, Placed}
+use Rattle.kc_read.specs.Statements.{Named, Numbered, Located}
 use Rattle.kc_tree.specs.TreeFacts.{Condition, EndShown, MenuShown, TreeFacts, IsSymbolName, IsWellFormed}
 use Rattle.kc_tree.specs.Words.{listed}
-use Rattle.kc_build.specs.Facts.{entries, choice_round, choice_of, kind_of, of_block, symbol_facts, places}
+use Rattle.kc_build.specs.Facts.{entries, enclosing_choice, choice_of, kind_of, of_block, symbol_facts, places}
 use Rattle.kc_build.specs.Trees.{facts_with}
-use Rattle.kc_build.specs.Firsts.{is_first_at}
-use Rattle.kc_build.specs.Warnings.{bad_members, bad_defaults, is_bad_member, entry_name, late_refusals, menu_entry_at, entry_symbol, refused_at}
+use Rattle.kc_build.specs.FirstDefinitions.{is_first_definition_at}
+use Rattle.kc_build.specs.Warnings.{bad_members, bad_defaults, is_bad_member, entry_name, whole_list_refusals, menu_entry_at, entry_symbol, refused_at}
 use Rattle.kc_build.proofs.DefinedLemmas.{AreNames}
 use Rattle.kc_build.proofs.ElementLemmas.{All-at}
 use Rattle.kc_build.proofs.EntrySoundLemmas.{entries_sound}
@@ -65,7 +65,8 @@ all_pass : (p : ℕ → Bool) (xs : List ℕ) → list_all p xs ≡ true → All
 all_pass p [] h = All-nil (λ b. p b ≡ true)
 all_pass p (x ∷ xs) h = pass_first p x xs (p x) refl h (all_pass p xs)
 
-name_by : (name : List ℕ) (a b c d : Bool) → nat_le 1 (length name) ≡ b → nat_le (length name) 255 ≡ c → list_all is_name_byte name ≡ d → (if a then false else (b && c && d)) ≡ true → IsSymbolName name
+name_by : (name : List ℕ) (a b c d : Bool) → nat_le 1 (length name) ≡ b → nat_le (length name) 255 ≡ c → list_all is_name_byte name ≡ d →
+    (if a then false else (b && c && d)) ≡ true → IsSymbolName name
 name_by name false true true true l s p h = record {
   some = grind (arith, nat_tests);
   short = grind (arith, nat_tests);
@@ -77,7 +78,7 @@ name_by name false true false d l s p h = absurd cc
 name_by name false true true false l s p h = absurd cc
 
 good_is : (name : List ℕ) → is_good_name name ≡ true → IsSymbolName name
-good_is name h = name_by name (same_name name if_word || is_letter name) (nat_le 1 (length name)) (nat_le (length name) 255) (list_all is_name_byte name) refl refl refl h
+good_is name h = name_by name (same_name name if_word || is_tristate_constant name) (nat_le 1 (length name)) (nat_le (length name) 255) (list_all is_name_byte name) refl refl refl h
 
 -- Where nothing is refused, no member is bad.
 append_none : {A : Type 0} (xs ys : List A) → xs ++ ys ≡ [] → xs ≡ []
@@ -92,16 +93,18 @@ listed_none : {A : Type 0} (o : Option A) → listed o ≡ [] → o ≡ None
 listed_none None h = refl
 listed_none (Some x) h = absurd cc
 
-module _ (names : List (List ℕ)) (ls : List (Placed Numbered)) where
+module _ (names : List (List ℕ)) (ls : List (Located Numbered)) where
   abbrev numbered : List Numbered
   numbered = map (λ l. l.statement) ls
 
   abbrev bad_at : ℕ → Option Numbered → Bool
-  bad_at i o = list_any (is_bad_member (kind_of numbered) (choice_of numbered) (is_first_at numbered i) (choice_round numbered i)) (listed o)
+  bad_at i o = list_any (is_bad_member (kind_of numbered) (choice_of numbered) (is_first_definition_at numbered i) (enclosing_choice numbered i)) (listed o)
 
   not_refused : (c : Code) (i : ℕ) → bad_at i (slice_get numbered i) ≡ true → refused_at names ls c i ≡ [] → ⊥
   not_refused c i h n =
-      let gone : slice_get ls i ≡ None = listed_none (slice_get ls i) (map_none (λ l. refused (record { code = c; detail = entry_name names (entry_symbol (menu_entry_at numbered i)) }) l.file l.line) (listed (slice_get ls i)) n) in
+      let gone : slice_get ls i ≡ None = listed_none (slice_get ls i)
+      (map_none (λ l. refused (record { code = c; detail = entry_name names (entry_symbol (menu_entry_at numbered i)) }) l.file l.line)
+      (listed (slice_get ls i)) n) in
       let none : slice_get numbered i ≡ None = slice_get-map (λ l. l.statement) ls i ∙ ap (option_map (λ l. l.statement)) gone in
       let no : bad_at i (slice_get numbered i) ≡ false = ap (bad_at i) none in
       (let e : true ≡ false = sym h ∙ no in cc)
@@ -109,11 +112,13 @@ module _ (names : List (List ℕ)) (ls : List (Placed Numbered)) where
   none_by : (ms : List ℕ) (rest : List Refused) → bad_members numbered ≡ ms → flat_map (refused_at names ls code.ChoiceMember) ms ++ rest ≡ [] → ms ≡ []
   none_by [] rest e h = refl
   none_by (i ∷ is) rest e h =
-      let bad = All-head (λ (j : ℕ). bad_at j (slice_get numbered j) ≡ true) i is (subst (λ (js : List ℕ). All (λ (j : ℕ). bad_at j (slice_get numbered j) ≡ true) js) e (filter_passes (λ (j : ℕ). bad_at j (slice_get numbered j)) (places numbered))) in
+      let bad = All-head (λ (j : ℕ). bad_at j (slice_get numbered j) ≡ true) i is
+      (subst (λ (js : List ℕ). All (λ (j : ℕ). bad_at j (slice_get numbered j) ≡ true) js) e
+      (filter_passes (λ (j : ℕ). bad_at j (slice_get numbered j)) (places numbered))) in
       let all : flat_map (refused_at names ls code.ChoiceMember) (i ∷ is) ≡ [] = append_none (flat_map (refused_at names ls code.ChoiceMember) (i ∷ is)) rest h in
       absurd (not_refused code.ChoiceMember i bad (append_none (refused_at names ls code.ChoiceMember i) (flat_map (refused_at names ls code.ChoiceMember) is) all))
 
-  pub none_bad : late_refusals names ls ≡ [] → bad_members numbered ≡ []
+  pub none_bad : whole_list_refusals names ls ≡ [] → bad_members numbered ≡ []
   none_bad h = none_by (bad_members numbered) (flat_map (refused_at names ls code.BadDefault) (bad_defaults numbered)) refl h
 
 modules_below : (s : SymId) (count : ℕ) (b : Bool) (t : SymId) → nat_lt s.0 count ≡ b → (if b then Some s else None) ≡ Some t → t.0 < count
@@ -126,10 +131,11 @@ modules_below s count true t e h =
 
 -- What the shape of the expanded list gives: its texts stand in lines, a choice stands in no choice, and the end of a menu
 -- names that menu.
-pub record IsShaped (ls : List (Placed Written)) : Type 0 where
+pub record IsShaped (ls : List (Located Named)) : Type 0 where
   pub lines : All IsInLines (statements ls)
-  pub alone : (p : ℕ) → of_block (map (λ l. l.statement) (numbered_lines ls)) block.Choice p ≡ true → choice_round (map (λ l. l.statement) (numbered_lines ls)) p ≡ None
-  pub ends : (i menu : ℕ) → slice_get (entries (map (λ l. l.statement) (numbered_lines ls))) i ≡ Some (EndShown menu) → (menu < i) × ((text : List ℕ) × (when : Condition) × (slice_get (entries (map (λ l. l.statement) (numbered_lines ls))) menu ≡ Some (MenuShown text when)))
+  pub alone : (p : ℕ) → of_block (map (λ l. l.statement) (numbered_lines ls)) block.Choice p ≡ true → enclosing_choice (map (λ l. l.statement) (numbered_lines ls)) p ≡ None
+  pub ends : (i menu : ℕ) → slice_get (entries (map (λ l. l.statement) (numbered_lines ls))) i ≡ Some (EndShown menu) → (menu < i)
+      × ((text : List ℕ) × (when : Condition) × (slice_get (entries (map (λ l. l.statement) (numbered_lines ls))) menu ≡ Some (MenuShown text when)))
 
 pub shaped : (files : Files) (root : List ℕ) (log : Log) → Expands files root (Ok log) → IsShaped log.lines
 shaped files root log e = record {
@@ -138,7 +144,7 @@ shaped files root log e = record {
   ends = ends_name_menus files root log e;
 }
 
-module _ (ls : List (Placed Written)) where
+module _ (ls : List (Located Named)) where
   abbrev whole : TreeFacts
   whole = facts_with (names_of (statements ls)) (length (defined (statements ls))) (modules_id (statements ls)) (numbered_lines ls)
 
@@ -153,7 +159,8 @@ module _ (ls : List (Placed Written)) where
       let first : slice_get (defined (statements ls)) i ≡ Some name = sym (ap (λ (ns : List (List ℕ)). slice_get ns i) x.1 ∙ get_front (defined (statements ls)) x.0 i b) ∙ h in
       good_is name (All-at (λ m. is_good_name m ≡ true) (defined (statements ls)) i name k.good first)
 
-  pub well_formed : AreNames (defined (statements ls)) → AreDistinct (names_of (statements ls)) → IsShaped ls → late_refusals (names_of (statements ls)) (numbered_lines ls) ≡ [] → IsWellFormed whole
+  pub well_formed : AreNames (defined (statements ls)) → AreDistinct (names_of (statements ls)) → IsShaped ls →
+      whole_list_refusals (names_of (statements ls)) (numbered_lines ls) ≡ [] → IsWellFormed whole
   well_formed known distinct shaped none =
       let n = count_is in
       let few = known.few in
@@ -171,6 +178,8 @@ module _ (ls : List (Placed Written)) where
         choices_sound = choices_sound (names_of (statements ls)) (length (defined (statements ls))) (modules_id (statements ls)) (numbered_lines ls) below good shaped.alone;
         entries_sound = entries_sound (names_of (statements ls)) (length (defined (statements ls))) (modules_id (statements ls)) (numbered_lines ls) below shaped.ends;
         symbols_shown = shows_each ls (names_differ (names_of (statements ls)) distinct);
-        modules_defined = λ s h. defined_if (names_of (statements ls)) (length (defined (statements ls))) (modules_id (statements ls)) (numbered_lines ls) s (modules_below (modules_id (statements ls)) (length (defined (statements ls))) (nat_lt (modules_id (statements ls)).0 (length (defined (statements ls)))) s refl h);
+        modules_defined = λ s h. defined_if (names_of (statements ls)) (length (defined (statements ls))) (modules_id (statements ls)) (numbered_lines ls) s
+            (modules_below (modules_id (statements ls)) (length (defined (statements ls)))
+            (nat_lt (modules_id (statements ls)).0 (length (defined (statements ls)))) s refl h);
         texts = line_texts ls shaped.lines;
       }

@@ -6,9 +6,9 @@ use Rattle.kc_expr.specs.declared.expression.SymId.{SymId}
 use Rattle.kc_read.specs.Blocks.{attributes, last_of, numbers}
 use Rattle.kc_read.specs.Statements.{Numbered}
 use Rattle.kc_read.specs.declared.statement.Block.TheVariants as block
-use Rattle.kc_tree.specs.declared.parts.Symbol.{Symbol}
-use Rattle.kc_build.specs.Facts.{Given, can_be_target, choice_number, defaults_at, dep, entry_at, given_of, imply_of, is_member_place, named_under, naming_at, of_block, prompt_at, range_under, select_of, single_symbol, symbol_at, title_of}
-use Rattle.kc_build.specs.Known.{member_by}
+use Rattle.kc_tree.specs.declared.rows.Symbol.{Symbol}
+use Rattle.kc_build.specs.Facts.{StatedDefault, can_be_target, choice_number, defaults_at, dependency, entry_at, stated_default, imply_of, is_member_place, guarded_symbol, naming_at, of_block, prompt_at, guarded_range, select_of, single_symbol, symbol_at, title_of}
+use Rattle.kc_build.specs.SymbolRows.{member_by}
 use Rattle.kc_tree.specs.Layouts.{DefinitionFacts}
 use Rattle.kc_tree.specs.TreeFacts.{Guarded, ChoiceFacts, Shown}
 
@@ -17,10 +17,10 @@ module _ (ss : List Numbered) where
   abbrev pub definition_at : ℕ → SymId → DefinitionFacts
   definition_at i s = record {
     symbol = s;
-    dep = dep ss i;
+    dependency = dependency ss i;
     prompt = prompt_at ss i;
     defaults = defaults_at ss i;
-    ranges = filter_map (range_under ss i) (attributes ss i);
+    ranges = filter_map (guarded_range ss i) (attributes ss i);
   }
 
   abbrev pub definition_line : ℕ → Option DefinitionFacts
@@ -40,13 +40,13 @@ module _ (ss : List Numbered) where
   abbrev pub members_before : ℕ → ℕ → List SymId
   members_before i k = filter_map (symbol_at ss) (filter (is_member_place ss k) (numbers i))
 
-  abbrev pub default_by : List Symbol → ℕ → Given → Option (Guarded SymId)
-  default_by symbols j g = option_and_then (λ s. if member_by symbols (choice_number ss j) s then Some (named_under ss j s g.when) else None) (single_symbol g.value)
+  abbrev pub default_by : List Symbol → ℕ → StatedDefault → Option (Guarded SymId)
+  default_by symbols j g = option_and_then (λ s. if member_by symbols (choice_number ss j) s then Some (guarded_symbol ss j s g.when) else None) (single_symbol g.value)
 
   abbrev pub choice_before : List Symbol → ℕ → ℕ → ChoiceFacts
   choice_before symbols i j = record {
     prompt = prompt_at ss j;
-    defaults = filter_map (default_by symbols j) (filter_map given_of (attributes ss j));
+    defaults = filter_map (default_by symbols j) (filter_map stated_default (attributes ss j));
     members = members_before i (choice_number ss j);
   }
 

@@ -1,15 +1,15 @@
--- For proofs: What lines have against them, as they are looked at.
+-- For proofs: What lines have against them, as they are diagnosed.
 use Rattle.std.specs.Prelude.{◌≡◌, ℕ, ◌||◌, Bool, false, List, [], ◌∷◌, ◌++◌, map, is_some, Option}
 use Rattle.std.specs.Option.{option_map, option_or}
 use Rattle.kc_read.specs.Expansion.{Refused}
-use Rattle.kc_read.specs.Statements.{Numbered, Placed}
-use Rattle.kc_read.specs.Steps.{refusal_view}
+use Rattle.kc_read.specs.Statements.{Numbered, Located}
+use Rattle.kc_read.specs.RefusalView.{refusal_view}
 use Rattle.kc_build.specs.declared.diagnostics.Diagnostics.{Diagnostics}
-use Rattle.kc_build.specs.declared.diagnostics.EntryPlace.{EntryPlace}
-use Rattle.kc_tree.specs.declared.parts.Symbol.{Symbol}
-use Rattle.kc_build.specs.Facts.{asked_of}
-use Rattle.kc_build.specs.Known.{said_by_place}
-use Rattle.kc_build.specs.Late.{bad_member_of, bad_default_of}
+use Rattle.kc_build.specs.declared.diagnostics.EntrySummary.{EntrySummary}
+use Rattle.kc_tree.specs.declared.rows.Symbol.{Symbol}
+use Rattle.kc_build.specs.Facts.{prompt_of}
+use Rattle.kc_build.specs.SymbolRows.{line_warnings_in}
+use Rattle.kc_build.specs.WholeListRefusals.{bad_member_of, bad_default_of}
 use Rattle.kc_build.specs.Warnings.{line_of}
 
 -- by values: the warnings, the first bad member, the first bad default
@@ -25,22 +25,22 @@ diagnosis_view d = record {
   default = option_map refusal_view d.bad_default;
 }
 
-module _ (names : List (List ℕ)) (symbols : List Symbol) (place : EntryPlace) where
-  -- once a line is looked at
-  abbrev pub looked_at : Bool → Placed Numbered → Diagnosis → Diagnosis
-  looked_at prompted l d = record {
-    warnings = d.warnings ++ map (line_of names l.file l.line) (said_by_place symbols place prompted l.statement);
-    member = option_or d.member (bad_member_of names symbols place l);
-    default = option_or d.default (bad_default_of names symbols place l);
+module _ (names : List (List ℕ)) (symbols : List Symbol) (summary : EntrySummary) where
+  -- once a line is diagnosed
+  abbrev pub line_diagnosed : Bool → Located Numbered → Diagnosis → Diagnosis
+  line_diagnosed prompted l d = record {
+    warnings = d.warnings ++ map (line_of names l.file l.line) (line_warnings_in symbols summary prompted l.statement);
+    member = option_or d.member (bad_member_of names symbols summary l);
+    default = option_or d.default (bad_default_of names symbols summary l);
   }
 
   -- once the lines of an entry are, where a prompt stands before them or not
-  abbrev pub all_looked_at : Bool → List (Placed Numbered) → Diagnosis → Diagnosis
-  all_looked_at prompted [] d = d
-  all_looked_at prompted (l ∷ ls) d = all_looked_at (prompted || is_some (asked_of l.statement)) ls (looked_at prompted l d)
+  abbrev pub lines_diagnosed : Bool → List (Located Numbered) → Diagnosis → Diagnosis
+  lines_diagnosed prompted [] d = d
+  lines_diagnosed prompted (l ∷ ls) d = lines_diagnosed (prompted || is_some (prompt_of l.statement)) ls (line_diagnosed prompted l d)
 
-  abbrev pub IsLookedAt : Bool → Placed Numbered → Diagnostics → Diagnostics → Type 0
-  IsLookedAt prompted l old new = diagnosis_view new ≡ looked_at prompted l (diagnosis_view old)
+  abbrev pub IsLineDiagnosed : Bool → Located Numbered → Diagnostics → Diagnostics → Type 0
+  IsLineDiagnosed prompted l old new = diagnosis_view new ≡ line_diagnosed prompted l (diagnosis_view old)
 
-  abbrev pub AreLookedAt : Placed Numbered → List (Placed Numbered) → Diagnostics → Diagnostics → Type 0
-  AreLookedAt head own old new = diagnosis_view new ≡ all_looked_at false (head ∷ own) (diagnosis_view old)
+  abbrev pub AreLinesDiagnosed : Located Numbered → List (Located Numbered) → Diagnostics → Diagnostics → Type 0
+  AreLinesDiagnosed head own old new = diagnosis_view new ≡ lines_diagnosed false (head ∷ own) (diagnosis_view old)

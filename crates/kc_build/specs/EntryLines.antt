@@ -5,13 +5,13 @@ use Rattle.kc_expr.specs.declared.expression.SymId.{SymId}
 use Rattle.kc_expr.specs.Form.{Form, Leaf, form_of, leaf_of}
 use Rattle.kc_expr.specs.When.{when_view}
 use Rattle.kc_read.specs.Statements.{Numbered, RangeLine}
-use Rattle.kc_tree.specs.declared.parts.ChoiceDefault.{ChoiceDefault}
-use Rattle.kc_tree.specs.declared.parts.Prompt.{Prompt}
-use Rattle.kc_tree.specs.declared.parts.Symbol.{Symbol}
-use Rattle.kc_tree.specs.declared.parts.SymbolDefault.{SymbolDefault}
-use Rattle.kc_tree.specs.declared.parts.SymbolRange.{SymbolRange}
-use Rattle.kc_build.specs.Facts.{Given, given_of, single_symbol}
-use Rattle.kc_build.specs.Known.{member_by}
+use Rattle.kc_tree.specs.declared.rows.ChoiceDefault.{ChoiceDefault}
+use Rattle.kc_tree.specs.declared.rows.Prompt.{Prompt}
+use Rattle.kc_tree.specs.declared.rows.Symbol.{Symbol}
+use Rattle.kc_tree.specs.declared.rows.SymbolDefault.{SymbolDefault}
+use Rattle.kc_tree.specs.declared.rows.SymbolRange.{SymbolRange}
+use Rattle.kc_build.specs.Facts.{StatedDefault, stated_default, single_symbol}
+use Rattle.kc_build.specs.SymbolRows.{member_by}
 
 -- a prompt by the number of its context; a default, a range, a choice's default
 abbrev pub prompt_line : Prompt → ℕ × Option Form
@@ -28,14 +28,14 @@ choice_default_line d = (d.member, when_view d.when)
 
 -- the same, of the line that gives it
 abbrev pub default_line : Numbered → Option (Form × Option Form)
-default_line s = option_map (λ (g : Given). (g.value, g.when)) (given_of s)
+default_line s = option_map (λ (g : StatedDefault). (g.value, g.when)) (stated_default s)
 
 abbrev pub range_line : Numbered → Option (Leaf × Leaf × Option Form)
 range_line (RangeLine a b w) = Some (a, b, w)
 range_line _ = None
 
-abbrev pub named_line : List Symbol → ℕ → Given → Option (SymId × Option Form)
+abbrev pub named_line : List Symbol → ℕ → StatedDefault → Option (SymId × Option Form)
 named_line symbols k g = option_and_then (λ s. if member_by symbols k s then Some (s, g.when) else None) (single_symbol g.value)
 
 abbrev pub member_line : List Symbol → ℕ → Numbered → Option (SymId × Option Form)
-member_line symbols k s = option_and_then (named_line symbols k) (given_of s)
+member_line symbols k s = option_and_then (named_line symbols k) (stated_default s)

@@ -8,7 +8,7 @@ use Rattle.kc_expr.specs.declared.expression.Kind.TheVariants as kind
 use Rattle.kc_expr.specs.Form.{Form, Symbol, Single}
 use Rattle.kc_read.specs.declared.statement.Block.{Block}
 use Rattle.kc_read.specs.declared.statement.Block.TheVariants as block
-use Rattle.kc_read.specs.Statements.{Numbered, Asked, ConfigLine, IfLine, CommentLine, MenuLine, EndMenuLine, MainMenuLine, TypeLine, PromptLine, DefaultLine, DefLine, DependsLine, VisibleLine, SelectLine, ImplyLine, RangeLine}
+use Rattle.kc_read.specs.Statements.{Numbered, InputPrompt, ConfigLine, IfLine, CommentLine, MenuLine, EndMenuLine, MainMenuLine, TypeLine, PromptLine, DefaultLine, DefLine, DependsLine, VisibleLine, SelectLine, ImplyLine, RangeLine}
 use Rattle.kc_tree.specs.Words.{listed, same_symbol, is_symbol_of}
 use Rattle.kc_tree.specs.TreeFacts.{Condition, Guarded, Bounds, SymbolFacts, ChoiceFacts, Shown, SymbolShown, MenuShown, EndShown, CommentShown}
 use Rattle.kc_read.specs.Blocks.{numbers, last_of, enclosing, attributes, definitions, bracket_at, opened}
@@ -40,19 +40,19 @@ type_of (TypeLine k p) = Some k
 type_of (DefLine k v w) = Some k
 type_of _ = None
 
-abbrev pub asked_of : Numbered → Option (Asked Form)
-asked_of (TypeLine k p) = p
-asked_of (PromptLine p) = Some p
-asked_of _ = None
+abbrev pub prompt_of : Numbered → Option (InputPrompt Form)
+prompt_of (TypeLine k p) = p
+prompt_of (PromptLine p) = Some p
+prompt_of _ = None
 
-pub record Given : Type 0 where
+pub record StatedDefault : Type 0 where
   pub value : Form
   pub when : Option Form
 
-abbrev pub given_of : Numbered → Option Given
-given_of (DefaultLine v w) = Some (record { value = v; when = w })
-given_of (DefLine k v w) = Some (record { value = v; when = w })
-given_of _ = None
+abbrev pub stated_default : Numbered → Option StatedDefault
+stated_default (DefaultLine v w) = Some (record { value = v; when = w })
+stated_default (DefLine k v w) = Some (record { value = v; when = w })
+stated_default _ = None
 
 abbrev pub symbol_of : Option Numbered → Option SymId
 symbol_of (Some (ConfigLine s)) = Some s
@@ -83,17 +83,17 @@ if_condition (Some (IfLine e)) = e ∷ []
 if_condition _ = []
 
 -- a select or an imply of a symbol of this type has an effect
-abbrev pub takes_kind : Kind → Bool
-takes_kind kind.Undefined = true
-takes_kind kind.Bool = true
-takes_kind kind.Tristate = true
-takes_kind kind.Str = false
-takes_kind kind.Int = false
-takes_kind kind.Hex = false
+abbrev pub is_selectable : Kind → Bool
+is_selectable kind.Undefined = true
+is_selectable kind.Bool = true
+is_selectable kind.Tristate = true
+is_selectable kind.Str = false
+is_selectable kind.Int = false
+is_selectable kind.Hex = false
 
 -- a type whose value is a text
 abbrev pub has_text : Kind → Bool
-has_text k = if takes_kind k then false else true
+has_text k = if is_selectable k then false else true
 
 -- the condition of a line that selects t; that implies t
 abbrev pub select_of : SymId → Numbered → Option (Option Form)
@@ -117,20 +117,20 @@ module _ (ss : List Numbered) where
   abbrev pub of_block : Block → ℕ → Bool
   of_block b i = is_block b (block_at i)
 
-  -- the opener of the innermost block round a place; of a closer, that of the block that it closes
-  abbrev pub opener_of : ℕ → Option ℕ
-  opener_of i = last_of (enclosing ss i)
+  -- where the innermost enclosing block of a place begins; of a closer, the block that it closes
+  abbrev pub enclosing_block : ℕ → Option ℕ
+  enclosing_block i = last_of (enclosing ss i)
 
   -- the `depends on` lines of the entry at a place, and its `visible if` lines
-  abbrev pub own_deps : ℕ → List Form
-  own_deps i = filter_map depends_form (attributes ss i)
+  abbrev pub own_dependencies : ℕ → List Form
+  own_dependencies i = filter_map depends_form (attributes ss i)
 
   abbrev pub own_visible : ℕ → List Form
   own_visible i = filter_map visible_form (attributes ss i)
 
-  -- what a block that is open at a place asks for
+  -- what a block that begins at a place asks for
   abbrev pub block_parts : ℕ → List Form
-  block_parts i = if of_block block.Menu i then own_deps i else if_condition (slice_get ss i)
+  block_parts i = if of_block block.Menu i then own_dependencies i else if_condition (slice_get ss i)
 
   -- the choices, in order; the number of the choice that begins at a place
   abbrev pub choice_places : List ℕ
@@ -140,39 +140,39 @@ module _ (ss : List Numbered) where
   choice_number i = count_by (of_block block.Choice) (numbers i)
 
   -- the choice that encloses a place
-  abbrev pub choice_round : ℕ → Option ℕ
-  choice_round i = option_map choice_number (last_of (filter (of_block block.Choice) (enclosing ss i)))
+  abbrev pub enclosing_choice : ℕ → Option ℕ
+  enclosing_choice i = option_map choice_number (last_of (filter (of_block block.Choice) (enclosing ss i)))
 
   -- what the entry at a place depends on
-  abbrev pub dep : ℕ → Condition
-  dep i = record { parts = flat_map block_parts (enclosing ss i) ++ own_deps i; mode = choice_round i }
+  abbrev pub dependency : ℕ → Condition
+  dependency i = record { parts = flat_map block_parts (enclosing ss i) ++ own_dependencies i; mode = enclosing_choice i }
 
   -- the condition of one of its lines, of a prompt, of a menu
-  abbrev pub under : ℕ → Option Form → Condition
-  under i w = record { parts = (dep i).parts ++ listed w; mode = (dep i).mode }
+  abbrev pub line_condition : ℕ → Option Form → Condition
+  line_condition i w = record { parts = (dependency i).parts ++ listed w; mode = (dependency i).mode }
 
-  abbrev pub visible_round : ℕ → List Form
-  visible_round i = flat_map own_visible (filter (of_block block.Menu) (enclosing ss i))
+  abbrev pub enclosing_visible : ℕ → List Form
+  enclosing_visible i = flat_map own_visible (filter (of_block block.Menu) (enclosing ss i))
 
-  abbrev pub asked_under : ℕ → Asked Form → Condition
-  asked_under i p = record { parts = (dep i).parts ++ visible_round i ++ listed p.when; mode = (dep i).mode }
+  abbrev pub prompt_condition : ℕ → InputPrompt Form → Condition
+  prompt_condition i p = record { parts = (dependency i).parts ++ enclosing_visible i ++ listed p.when; mode = (dependency i).mode }
 
   abbrev pub shown_when : ℕ → Condition
-  shown_when i = record { parts = (dep i).parts ++ visible_round i ++ own_visible i; mode = (dep i).mode }
+  shown_when i = record { parts = (dependency i).parts ++ enclosing_visible i ++ own_visible i; mode = (dependency i).mode }
 
   -- of several prompts of one entry the last counts
   abbrev pub prompt_at : ℕ → Option Condition
-  prompt_at i = option_map (asked_under i) (last_of (filter_map asked_of (attributes ss i)))
+  prompt_at i = option_map (prompt_condition i) (last_of (filter_map prompt_of (attributes ss i)))
 
-  abbrev pub default_under : ℕ → Given → Guarded Form
-  default_under i g = record { what = g.value; when = under i g.when }
+  abbrev pub guarded_default : ℕ → StatedDefault → Guarded Form
+  guarded_default i g = record { what = g.value; when = line_condition i g.when }
 
   abbrev pub defaults_at : ℕ → List (Guarded Form)
-  defaults_at i = map (default_under i) (filter_map given_of (attributes ss i))
+  defaults_at i = map (guarded_default i) (filter_map stated_default (attributes ss i))
 
-  abbrev pub range_under : ℕ → Numbered → Option (Guarded Bounds)
-  range_under i (RangeLine a b w) = Some (record { what = record { low = a; high = b }; when = under i w })
-  range_under i _ = None
+  abbrev pub guarded_range : ℕ → Numbered → Option (Guarded Bounds)
+  guarded_range i (RangeLine a b w) = Some (record { what = record { low = a; high = b }; when = line_condition i w })
+  guarded_range i _ = None
 
   -- the places of a symbol's definitions
   abbrev pub definitions_of : SymId → List ℕ
@@ -183,21 +183,21 @@ module _ (ss : List Numbered) where
 
   -- the choice of a symbol that is a member in any of its definitions
   abbrev pub choice_of : SymId → Option ℕ
-  choice_of s = first_of (filter_map choice_round (definitions_of s))
+  choice_of s = first_of (filter_map enclosing_choice (definitions_of s))
 
   -- its first type, and Bool for a member without one
   abbrev pub kind_of : SymId → Kind
   kind_of s = unwrap_or (first_of (filter_map type_of (attributes_of s))) (if is_some (choice_of s) then kind.Bool else kind.Undefined)
 
   abbrev pub can_be_target : SymId → Bool
-  can_be_target t = is_none (choice_of t) && takes_kind (kind_of t)
+  can_be_target t = is_none (choice_of t) && is_selectable (kind_of t)
 
-  abbrev pub named_under : ℕ → SymId → Option Form → Guarded SymId
-  named_under i s w = record { what = s; when = under i w }
+  abbrev pub guarded_symbol : ℕ → SymId → Option Form → Guarded SymId
+  guarded_symbol i s w = record { what = s; when = line_condition i w }
 
   -- of the config at a place, the lines of one kind that name t
   abbrev pub naming_at : (Numbered → Option (Option Form)) → ℕ → List (Guarded SymId)
-  naming_at line i = flat_map (λ s. map (named_under i s) (filter_map line (attributes ss i))) (listed (symbol_at i))
+  naming_at line i = flat_map (λ s. map (guarded_symbol i s) (filter_map line (attributes ss i))) (listed (symbol_at i))
 
   abbrev pub selectors_of : SymId → List (Guarded SymId)
   selectors_of t = if can_be_target t then flat_map (naming_at (select_of t)) places else []
@@ -209,17 +209,17 @@ module _ (ss : List Numbered) where
   symbol_facts s = record {
     kind = kind_of s;
     choice = choice_of s;
-    deps = map dep (definitions_of s);
+    dependencies = map dependency (definitions_of s);
     prompts = filter_map prompt_at (definitions_of s);
     defaults = flat_map defaults_at (definitions_of s);
-    ranges = flat_map (λ i. filter_map (range_under i) (attributes ss i)) (definitions_of s);
+    ranges = flat_map (λ i. filter_map (guarded_range i) (attributes ss i)) (definitions_of s);
     selectors = selectors_of s;
     impliers = impliers_of s;
   }
 
   -- the members of the choice with a number
   abbrev pub is_member_place : ℕ → ℕ → Bool
-  is_member_place k i = is_some (symbol_at i) && list_any (λ j. j == k) (listed (choice_round i))
+  is_member_place k i = is_some (symbol_at i) && list_any (λ j. j == k) (listed (enclosing_choice i))
 
   abbrev pub members_of : ℕ → List SymId
   members_of k = filter_map symbol_at (filter (is_member_place k) places)
@@ -228,13 +228,13 @@ module _ (ss : List Numbered) where
   is_member k s = list_any (same_symbol s) (members_of k)
 
   -- a default of the choice at a place, where it names a member
-  abbrev pub member_default : ℕ → Given → Option (Guarded SymId)
-  member_default i g = option_and_then (λ s. if is_member (choice_number i) s then Some (named_under i s g.when) else None) (single_symbol g.value)
+  abbrev pub member_default : ℕ → StatedDefault → Option (Guarded SymId)
+  member_default i g = option_and_then (λ s. if is_member (choice_number i) s then Some (guarded_symbol i s g.when) else None) (single_symbol g.value)
 
   abbrev pub choice_facts : ℕ → ChoiceFacts
   choice_facts i = record {
     prompt = prompt_at i;
-    defaults = filter_map (member_default i) (filter_map given_of (attributes ss i));
+    defaults = filter_map (member_default i) (filter_map stated_default (attributes ss i));
     members = members_of (choice_number i);
   }
 
@@ -258,8 +258,8 @@ module _ (ss : List Numbered) where
   abbrev pub entry_at : ℕ → Option Numbered → Option Shown
   entry_at i (Some (ConfigLine s)) = if is_first_definition i s then Some (SymbolShown s) else None
   entry_at i (Some (MenuLine t)) = Some (MenuShown t (shown_when i))
-  entry_at i (Some EndMenuLine) = option_map (λ j. EndShown (entry_number j)) (opener_of i)
-  entry_at i (Some (CommentLine t)) = Some (CommentShown t (dep i))
+  entry_at i (Some EndMenuLine) = option_map (λ j. EndShown (entry_number j)) (enclosing_block i)
+  entry_at i (Some (CommentLine t)) = Some (CommentShown t (dependency i))
   entry_at i _ = None
 
   abbrev pub entries : List Shown

@@ -2,7 +2,7 @@
 use Rattle.std.specs.Prelude.{◌≡◌, length, map}
 use Rattle.kc_read.specs.Expansion.{Log, defined, statements}
 use Rattle.kc_read.specs.Numbering.{modules_id, names_of, numbered_lines}
-use Rattle.kc_read.specs.Reads.{line_view}
+use Rattle.kc_read.specs.StatementViews.{line_view}
 use Rattle.kc_build.specs.declared.numbering.Listing.{Listing}
 
 -- the lines of this expanded list and its names, the defined symbols and the modules symbol the first of them

@@ -3,27 +3,27 @@ use Rattle.std.specs.Prelude.{ℕ, zero, suc, List, [], ◌∷◌, map, Bool, tr
 use Rattle.std.specs.Prelude.{option_map}
 use Rattle.kc_expr.specs.declared.expression.SymId.{SymId}
 use Rattle.kc_expr.specs.Form.{Form, Leaf, form_of, leaf_of}
-use Rattle.kc_build.specs.declared.lines.Given.{Given}
+use Rattle.kc_build.specs.declared.lines.StatedDefault.{StatedDefault}
 use Rattle.kc_build.specs.declared.lines.Target.{Target}
 use Rattle.kc_build.specs.declared.lines.Range.{Range}
 use Rattle.kc_build.specs.declared.lines.ReverseKind.{ReverseKind}
 use Rattle.kc_build.specs.Facts as spec
-use Rattle.kc_read.specs.declared.line.Line.{Line}
-use Rattle.kc_read.specs.Reads.{statement_view}
+use Rattle.kc_read.specs.declared.statement.Line.{Line}
+use Rattle.kc_read.specs.StatementViews.{statement_view}
 use Rattle.kc_read.specs.Statements.{Numbered, RangeLine}
 use Rattle.kc_read.specs.Blocks.{Bracket, Opens, Closes, NoBracket}
 
 -- the statements of lines
-abbrev pub said_by : List Line → List Numbered
-said_by = map (λ l. statement_view l.statement)
+abbrev pub statements_of : List Line → List Numbered
+statements_of = map (λ l. statement_view l.statement)
 
 abbrev pub closes : Bracket → Bool
 closes Closes = true
 closes (Opens b) = false
 closes NoBracket = false
 
-abbrev pub given_view : Given → spec.Given
-given_view g = record { value = form_of g.value.now.value; when = option_map (λ e. form_of e.now.value) g.when }
+abbrev pub stated_default_view : StatedDefault → spec.StatedDefault
+stated_default_view g = record { value = form_of g.value.now.value; when = option_map (λ e. form_of e.now.value) g.when }
 
 -- a line that selects or implies: which, whom, when
 abbrev pub target_view : Target → ReverseKind × SymId × Option Form

@@ -2,7 +2,7 @@
 use Rattle.std.specs.Prelude.{List, slice_get, unwrap_or, option_map}
 use Rattle.kc_expr.specs.declared.expression.SymId.{SymId}
 use Rattle.kc_expr.specs.Form.{Form, Forms, Leaf, Text, Symbol, Single, Related, Negated, Every, Some_of, NoForms, MoreForms}
-use Rattle.kc_read.specs.Statements.{Numbered, Asked, Placed, ConfigLine, IfLine, EndIfLine, CommentLine, SourceLine, MenuLine, EndMenuLine, ChoiceLine, EndChoiceLine, MainMenuLine, TypeLine, PromptLine, DefaultLine, DefLine, DependsLine, VisibleLine, SelectLine, ImplyLine, RangeLine, HelpLine, ModulesLine, IgnoredLine}
+use Rattle.kc_read.specs.Statements.{Numbered, InputPrompt, Located, ConfigLine, IfLine, EndIfLine, CommentLine, SourceLine, MenuLine, EndMenuLine, ChoiceLine, EndChoiceLine, MainMenuLine, TypeLine, PromptLine, DefaultLine, DefLine, DependsLine, VisibleLine, SelectLine, ImplyLine, RangeLine, HelpLine, ModulesLine, IgnoredLine}
 
 -- the symbol at a symbol's place in the list, and with none there this one
 abbrev pub final : List SymId → SymId → SymId → SymId
@@ -25,7 +25,7 @@ module _ (f : SymId → SymId) where
     all_renamed NoForms = NoForms
     all_renamed (MoreForms x xs) = MoreForms (renamed x) (all_renamed xs)
 
-  abbrev pub asked_renamed : Asked Form → Asked Form
+  abbrev pub asked_renamed : InputPrompt Form → InputPrompt Form
   asked_renamed a = record { text = a.text; when = option_map renamed a.when }
 
   -- the statement with other symbols
@@ -53,5 +53,5 @@ module _ (f : SymId → SymId) where
   statement_renamed ModulesLine = ModulesLine
   statement_renamed IgnoredLine = IgnoredLine
 
-  abbrev pub line_renamed : Placed Numbered → Placed Numbered
+  abbrev pub line_renamed : Located Numbered → Located Numbered
   line_renamed l = record { file = l.file; line = l.line; statement = statement_renamed l.statement }

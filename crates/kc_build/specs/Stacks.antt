@@ -5,21 +5,21 @@ use Rattle.kc_expr.specs.Form.{Form}
 use Rattle.kc_read.specs.Blocks.{enclosing}
 use Rattle.kc_read.specs.Statements.{Numbered, ChoiceLine}
 use Rattle.kc_tree.specs.Contexts.{IsPlain, condition_in}
-use Rattle.kc_build.specs.Facts.{entry_number, opener_of}
-use Rattle.kc_build.specs.Rounds.{round}
+use Rattle.kc_build.specs.Facts.{entry_number, enclosing_block}
+use Rattle.kc_build.specs.Scopes.{scope_at}
 use Rattle.kc_tree.specs.TreeFacts.{Condition}
-use Rattle.kc_tree.specs.declared.parts.Title.{Title}
+use Rattle.kc_tree.specs.declared.rows.Title.{Title}
 use Rattle.kc_build.specs.declared.blocks.Block.{Block}
 use Rattle.kc_build.specs.declared.blocks.Blocks.{Blocks}
 
 -- a block by the conditions of its contexts; its opener is given by the entries before it
-pub record Asked : Type 0 where
+pub record BlockFacts : Type 0 where
   pub parts : List Form
   pub visible : List Form
   pub mode : Option ℕ
   pub entry : Option ℕ
 
-abbrev pub block_view : List Condition → Block → Asked
+abbrev pub block_view : List Condition → Block → BlockFacts
 block_view conditions b = record {
   parts = (condition_in conditions b.within.0).parts;
   visible = (condition_in conditions b.visible.0).parts;
@@ -27,19 +27,19 @@ block_view conditions b = record {
   entry = b.entry;
 }
 
--- what surrounds a place, with the number of the entries before its innermost block's opener
-abbrev pub asked_at : List Numbered → ℕ → Asked
-asked_at ss i = record {
-  parts = (round ss i).parts;
-  visible = (round ss i).visible;
-  mode = (round ss i).mode;
-  entry = option_map (entry_number ss) (opener_of ss i);
+-- the scope of a place, with the number of the entries before its innermost block's opener
+abbrev pub block_facts_at : List Numbered → ℕ → BlockFacts
+block_facts_at ss i = record {
+  parts = (scope_at ss i).parts;
+  visible = (scope_at ss i).visible;
+  mode = (scope_at ss i).mode;
+  entry = option_map (entry_number ss) (enclosing_block ss i);
 }
 
--- the open blocks at a place: that of the place, and those of the openers round it
+-- the open blocks at a place: that of the place, and those of the openers that enclose it
 pub record AreOpen (ss : List Numbered) (i : ℕ) (conditions : List Condition) (blocks : Blocks) : Type 0 where
-  pub innermost : block_view conditions blocks.innermost ≡ asked_at ss i
-  pub outside : map (block_view conditions) blocks.outside.items ≡ map (asked_at ss) (enclosing ss i)
+  pub innermost : block_view conditions blocks.innermost ≡ block_facts_at ss i
+  pub outside : map (block_view conditions) blocks.outside.items ≡ map (block_facts_at ss) (enclosing ss i)
 
 -- the open blocks, the innermost first
 abbrev pub open_blocks : Blocks → List Block
@@ -61,7 +61,7 @@ AreBlocksVisible conditions blocks = (j : ℕ) (b : Block) → slice_get (open_b
 abbrev pub AreBlocksPlain : List Condition → Blocks → Type 0
 AreBlocksPlain conditions blocks = (j : ℕ) (b : Block) → slice_get (open_blocks blocks) j ≡ Some b → IsPlain conditions b.visible.0
 
--- what is asked of what is visible round a title is there
+-- what the enclosing menus of a title ask of what is visible is there
 abbrev pub AreTitlesWithin : List Condition → List Title → Type 0
 AreTitlesWithin conditions ts = (i : ℕ) (t : Title) → slice_get ts i ≡ Some t → t.visible.0 < length conditions
 

@@ -4,17 +4,17 @@ use Rattle.std.specs.List.{filter_map}
 use Rattle.kc_expr.specs.declared.expression.SymId.{SymId}
 use Rattle.kc_expr.specs.Names.{symbol}
 use Rattle.kc_read.specs.Files.{Files}
-use Rattle.kc_read.specs.Statements.{Written, Numbered, Placed}
+use Rattle.kc_read.specs.Statements.{Named, Numbered, Located}
 use Rattle.kc_read.specs.Blocks.{last_of, numbers}
 use Rattle.kc_read.specs.Expansion.{Log, Refused, Expands, statements, defined}
 use Rattle.kc_read.specs.Numbering.{names_of, modules_id, numbered_lines}
 use Rattle.kc_tree.specs.TreeFacts.{TreeFacts, IsWellFormed}
 use Rattle.kc_build.specs.Facts.{symbol_facts, choices, entries, title_of}
-use Rattle.kc_build.specs.Warnings.{warnings, late_refusals}
+use Rattle.kc_build.specs.Warnings.{warnings, whole_list_refusals}
 
 -- what numbered lines say, where nothing is to be refused any more: by the names, how many symbols are defined, and the
 -- modules symbol
-abbrev pub facts_with : List (List ℕ) → ℕ → SymId → List (Placed Numbered) → TreeFacts
+abbrev pub facts_with : List (List ℕ) → ℕ → SymId → List (Located Numbered) → TreeFacts
 facts_with names count modules ls = record {
   names = names;
   symbols = map (λ i. symbol_facts (map (λ l. l.statement) ls) (symbol i)) (numbers count);
@@ -31,11 +31,11 @@ unless_refused [] t = Ok t
 unless_refused (r ∷ rs) t = Err r
 
 -- what numbered lines say, unless the whole list of them shows a refusal
-abbrev pub tree_with : List (List ℕ) → ℕ → SymId → List (Placed Numbered) → Result TreeFacts Refused
-tree_with names count modules ls = unless_refused (late_refusals names ls) (facts_with names count modules ls)
+abbrev pub tree_with : List (List ℕ) → ℕ → SymId → List (Located Numbered) → Result TreeFacts Refused
+tree_with names count modules ls = unless_refused (whole_list_refusals names ls) (facts_with names count modules ls)
 
 -- what lines say as they are written: their names are numbered, the defined ones first
-abbrev pub tree_of_lines : List (Placed Written) → Result TreeFacts Refused
+abbrev pub tree_of_lines : List (Located Named) → Result TreeFacts Refused
 tree_of_lines ls =
     tree_with (names_of (statements ls)) (length (defined (statements ls))) (modules_id (statements ls)) (numbered_lines ls)
 

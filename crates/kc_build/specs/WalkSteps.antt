@@ -5,20 +5,20 @@ use Rattle.std.specs.List.{filter_map}
 use Rattle.kc_expr.specs.declared.expression.SymId.{SymId}
 use Rattle.kc_expr.specs.Form.{Form, Leaf}
 use Rattle.kc_read.specs.Blocks.{last_of}
-use Rattle.kc_read.specs.Statements.{Asked, Numbered}
+use Rattle.kc_read.specs.Statements.{InputPrompt, Numbered}
 use Rattle.kc_build.specs.declared.entries.Walk.{Walk}
-use Rattle.kc_tree.specs.declared.parts.ContextId.{ContextId}
-use Rattle.kc_tree.specs.declared.parts.Entry.{Entry}
-use Rattle.kc_tree.specs.declared.parts.Entry.TheVariants as entry
-use Rattle.kc_tree.specs.declared.parts.Title.{Title}
+use Rattle.kc_tree.specs.declared.rows.ContextId.{ContextId}
+use Rattle.kc_tree.specs.declared.rows.ShownEntry.{ShownEntry}
+use Rattle.kc_tree.specs.declared.rows.ShownEntry.TheVariants as entry
+use Rattle.kc_tree.specs.declared.rows.Title.{Title}
 use Rattle.kc_tree.specs.Contexts.{condition_in}
 use Rattle.kc_tree.specs.Layouts.{DefinitionFacts, definition_facts, with_parts, with_when}
 use Rattle.kc_tree.specs.TreeFacts.{ChoiceFacts, Condition}
 use Rattle.kc_build.specs.EntryLines.{default_line, range_line}
-use Rattle.kc_build.specs.Facts.{asked_of, depends_form}
+use Rattle.kc_build.specs.Facts.{prompt_of, depends_form}
 use Rattle.kc_build.specs.Growth.{IsGrown}
 use Rattle.kc_build.specs.Passes.{change}
-use Rattle.kc_build.specs.Said.{AreRowsThere}
+use Rattle.kc_build.specs.WalkResult.{AreRowsThere}
 use Rattle.kc_build.specs.Stacks as stacks
 use Rattle.kc_build.specs.Stacks.{block_view}
 
@@ -31,26 +31,27 @@ with_member None s cs = cs
 with_member (Some k) s cs = change (one_more s) k cs
 
 -- what an entry with these attributes depends on in a block
-abbrev pub dep_in : stacks.Asked → List Numbered → Condition
-dep_in a own = record { parts = a.parts ++ filter_map depends_form own; mode = a.mode }
+abbrev pub dependency_in : stacks.BlockFacts → List Numbered → Condition
+dependency_in a own = record { parts = a.parts ++ filter_map depends_form own; mode = a.mode }
 
 -- what it says as a definition of a symbol
-abbrev pub made_prompt : stacks.Asked → List Numbered → Asked Form → Condition
-made_prompt a own p = with_when (with_parts (dep_in a own) a.visible) p.when
+abbrev pub made_prompt : stacks.BlockFacts → List Numbered → InputPrompt Form → Condition
+made_prompt a own p = with_when (with_parts (dependency_in a own) a.visible) p.when
 
-abbrev pub made_definition : stacks.Asked → SymId → List Numbered → DefinitionFacts
+abbrev pub made_definition : stacks.BlockFacts → SymId → List Numbered → DefinitionFacts
 made_definition a s own = record {
   symbol = s;
-  dep = dep_in a own;
-  prompt = option_map (made_prompt a own) (last_of (filter_map asked_of own));
-  defaults = map (λ (d : Form × Option Form). record { what = d.0; when = with_when (dep_in a own) d.1 }) (filter_map default_line own);
-  ranges = map (λ (r : Leaf × Leaf × Option Form). record { what = record { low = r.0; high = r.1 }; when = with_when (dep_in a own) r.2 }) (filter_map range_line own);
+  dependency = dependency_in a own;
+  prompt = option_map (made_prompt a own) (last_of (filter_map prompt_of own));
+  defaults = map (λ (d : Form × Option Form). record { what = d.0; when = with_when (dependency_in a own) d.1 }) (filter_map default_line own);
+  ranges = map (λ (r : Leaf × Leaf × Option Form). record { what = record { low = r.0; high = r.1 }; when = with_when (dependency_in a own) r.2 }) (filter_map range_line own);
 }
 
 -- one definition more, with the contexts, defaults and ranges that it leads to, and nothing else
 pub record AddsDefinition (symbol : SymId) (own : List Numbered) (old new : Walk) : Type 0 where
   pub contexts : IsGrown old.tables.contexts new.tables.contexts (condition_in old.tables.contexts old.blocks.innermost.within.0).mode (length own)
-  pub definitions : AreRowsThere old.tables → map (definition_facts new.tables) new.tables.definitions.items ≡ map (definition_facts old.tables) old.tables.definitions.items ++ made_definition (block_view old.tables.contexts old.blocks.innermost) symbol own ∷ []
+  pub definitions : AreRowsThere old.tables → map (definition_facts new.tables) new.tables.definitions.items ≡ map (definition_facts old.tables)
+      old.tables.definitions.items ++ made_definition (block_view old.tables.contexts old.blocks.innermost) symbol own ∷ []
   pub rows : AreRowsThere old.tables → AreRowsThere new.tables
   pub defaults : length new.tables.defaults.items ≤ length old.tables.defaults.items + length own
   pub ranges : length new.tables.ranges.items ≤ length old.tables.ranges.items + length own
@@ -91,7 +92,7 @@ pub record AddsTitle (text : List ℕ) (within visible : ContextId) (old new : W
   pub main_menu : new.main_menu ≡ old.main_menu
 
 -- the end of an entry with a place, among the entries
-abbrev pub ends_of : Option ℕ → List Entry
+abbrev pub ends_of : Option ℕ → List ShownEntry
 ends_of None = []
 ends_of (Some menu) = entry.End menu ∷ []
 

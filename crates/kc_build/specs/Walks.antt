@@ -4,11 +4,11 @@ use Rattle.kc_expr.specs.Names.{symbol}
 use Rattle.kc_read.specs.Blocks.{attributes, is_attribute}
 use Rattle.kc_read.specs.Statements.{Numbered}
 use Rattle.kc_build.specs.declared.entries.Walk.{Walk}
-use Rattle.kc_tree.specs.declared.parts.Symbol.{Symbol}
+use Rattle.kc_tree.specs.declared.rows.Symbol.{Symbol}
 use Rattle.kc_build.specs.Before.{choices_before, definitions_before, entries_before, impliers_before, main_menu_before, selectors_before}
-use Rattle.kc_build.specs.Known.{IsWhole}
+use Rattle.kc_build.specs.SymbolRows.{IsWhole}
 use Rattle.kc_tree.specs.Layouts.{choice_facts as choice_in, definition_facts, impliers_at, selectors_at, shown_of}
-use Rattle.kc_build.specs.Said.{AreRowsThere, HasHeads, IsSmall}
+use Rattle.kc_build.specs.WalkResult.{AreRowsThere, HasHeads, IsSmall}
 use Rattle.kc_build.specs.Stacks.{AreOpen}
 
 -- the walk at the start of the entry at a place, or behind the last line

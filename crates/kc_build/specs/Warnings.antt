@@ -6,8 +6,8 @@ use Rattle.kc_expr.specs.declared.expression.Kind.{Kind}
 use Rattle.kc_expr.specs.declared.expression.Kind.TheVariants as kind
 use Rattle.kc_read.specs.declared.refusal.Code.{Code}
 use Rattle.kc_read.specs.declared.refusal.Code.TheVariants as code
-use Rattle.kc_read.specs.Statements.{Numbered, Placed, ConfigLine, ChoiceLine}
-use Rattle.kc_read.specs.Blocks.{numbers, last_of, is_attribute, is_other}
+use Rattle.kc_read.specs.Statements.{Numbered, Located, ConfigLine, ChoiceLine}
+use Rattle.kc_read.specs.Blocks.{numbers, last_of, is_attribute, is_no_attribute}
 use Rattle.kc_read.specs.Expansion.{Refused, refused}
 use Rattle.kc_build.specs.declared.lines.ReverseKind.{ReverseKind}
 use Rattle.kc_build.specs.declared.lines.ReverseKind.TheVariants as reverse_kind
@@ -15,10 +15,10 @@ use Rattle.kc_build.specs.declared.diagnostics.MenuEntry.{MenuEntry}
 use Rattle.kc_build.specs.declared.diagnostics.MenuEntry.TheVariants as menu_entry
 use Rattle.kc_build.specs.declared.warning.Warning.{Warning}
 use Rattle.kc_build.specs.declared.warning.Warning.TheVariants as warning
-use Rattle.kc_build.specs.Firsts.{is_first_at}
+use Rattle.kc_build.specs.FirstDefinitions.{is_first_definition_at}
 use Rattle.kc_build.specs.Targets.{target_of}
 use Rattle.kc_tree.specs.Words.{listed}
-use Rattle.kc_build.specs.Facts.{symbol_of, kind_of, choice_of, has_text, same_kind, type_of, asked_of, given_of, single_symbol, is_single, is_member, choice_number, places, choice_round}
+use Rattle.kc_build.specs.Facts.{symbol_of, kind_of, choice_of, has_text, same_kind, type_of, prompt_of, stated_default, single_symbol, is_single, is_member, choice_number, places, enclosing_choice}
 
 -- something, where it holds
 abbrev pub when : {A : Type 0} → Bool → A → List A
@@ -43,7 +43,7 @@ begun n _ = menu_entry.Other
 
 abbrev pub is_some_other : Option Numbered → Bool
 is_some_other None = false
-is_some_other (Some s) = is_other s
+is_some_other (Some s) = is_no_attribute s
 
 module _ (ss : List Numbered) where
   -- the last line before a place that is no attribute
@@ -62,24 +62,24 @@ module _ (ss : List Numbered) where
 
   -- a prompt stands among the attributes right before a place
   abbrev pub prompt_before : ℕ → Bool
-  prompt_before i = list_any (λ s. is_some (asked_of s)) (take_while is_attribute (reverse (take i ss)))
+  prompt_before i = list_any (λ s. is_some (prompt_of s)) (take_while is_attribute (reverse (take i ss)))
 
--- What there is to say of a line, by the types and choices of the symbols and by whose entry it belongs to.
+-- The warnings about a line, by the types and choices of the symbols and by whose entry it belongs to.
 
 -- a type line whose type is not the symbol's
-abbrev pub retyped : (SymId → Kind) → MenuEntry → Numbered → List Warning
-retyped kinds o s = flat_map (λ t. flat_map (λ k. when (not (same_kind k (kinds t))) (warning.Retyped t)) (listed (type_of s))) (listed (entry_symbol o))
+abbrev pub type_redefined : (SymId → Kind) → MenuEntry → Numbered → List Warning
+type_redefined kinds o s = flat_map (λ t. flat_map (λ k. when (not (same_kind k (kinds t))) (warning.TypeRedefined t)) (listed (type_of s))) (listed (entry_symbol o))
 
 -- a second prompt in one entry
-abbrev pub prompted : MenuEntry → Bool → Numbered → List Warning
-prompted o before s = when (is_some (asked_of s) && before) (warning.Reprompted (entry_symbol o))
+abbrev pub prompt_redefined : MenuEntry → Bool → Numbered → List Warning
+prompt_redefined o before s = when (is_some (prompt_of s) && before) (warning.PromptRedefined (entry_symbol o))
 
 abbrev pub has_type : Kind → Option ℕ → Bool
 has_type k c = is_some c || not (same_kind k kind.Undefined)
 
 -- the first definition of a symbol without a type
-abbrev pub untyped : (SymId → Kind) → (SymId → Option ℕ) → Bool → Numbered → List Warning
-untyped kinds choices first s = flat_map (λ t. when (first && not (has_type (kinds t) (choices t))) (warning.Untyped t)) (listed (symbol_of (Some s)))
+abbrev pub without_type : (SymId → Kind) → (SymId → Option ℕ) → Bool → Numbered → List Warning
+without_type kinds choices first s = flat_map (λ t. when (first && not (has_type (kinds t) (choices t))) (warning.WithoutType t)) (listed (symbol_of (Some s)))
 
 -- a line that selects or implies a symbol whose value is a text; a member of a choice
 abbrev pub text_target : (SymId → Kind) → Numbered → List Warning
@@ -89,32 +89,35 @@ abbrev pub member_target : (SymId → Option ℕ) → Numbered → List Warning
 member_target choices s = flat_map (λ t. when (is_some (choices (t.1))) (warning.MemberTarget (t.1) (t.0))) (listed (target_of s))
 
 -- a default of a choice that names no member of it
-abbrev pub other_default : (ℕ → SymId → Bool) → MenuEntry → Numbered → List Warning
-other_default members o s = flat_map (λ k. flat_map (λ g. flat_map (λ t. when (not (members k t)) (warning.OtherDefault t)) (listed (single_symbol g.value))) (listed (given_of s))) (listed (entry_choice o))
+abbrev pub default_not_member : (ℕ → SymId → Bool) → MenuEntry → Numbered → List Warning
+default_not_member members o s = flat_map (λ k. flat_map
+    (λ g. flat_map (λ t. when (not (members k t)) (warning.DefaultNotMember t)) (listed (single_symbol g.value))) (listed (stated_default s)))
+    (listed (entry_choice o))
 
 -- by number, but the fourth and the sixth before the fifth
-abbrev pub said_with : (SymId → Kind) → (SymId → Option ℕ) → (ℕ → SymId → Bool) → MenuEntry → Bool → Bool → Numbered → List Warning
-said_with kinds choices members o before first s =
-    retyped kinds o s ++ prompted o before s ++ untyped kinds choices first s ++ text_target kinds s ++ member_target choices s ++ other_default members o s
+abbrev pub line_warnings_by : (SymId → Kind) → (SymId → Option ℕ) → (ℕ → SymId → Bool) → MenuEntry → Bool → Bool → Numbered → List Warning
+line_warnings_by kinds choices members o before first s =
+    type_redefined kinds o s ++ prompt_redefined o before s ++ without_type kinds choices first s ++ text_target kinds s ++ member_target choices s ++ default_not_member members o s
 
-abbrev pub said : List Numbered → ℕ → Numbered → List Warning
-said ss i = said_with (kind_of ss) (choice_of ss) (is_member ss) (menu_entry_at ss i) (prompt_before ss i) (is_first_at ss i)
+abbrev pub line_warnings : List Numbered → ℕ → Numbered → List Warning
+line_warnings ss i = line_warnings_by (kind_of ss) (choice_of ss) (is_member ss) (menu_entry_at ss i) (prompt_before ss i) (is_first_definition_at ss i)
 
--- Refusals after the last line.
+-- Refusals that the whole list shows.
 
 -- A second `config` line of a symbol that is a member; a `config` in a choice whose type is not bool.
 abbrev pub is_bad_member : (SymId → Kind) → (SymId → Option ℕ) → Bool → Option ℕ → Numbered → Bool
-is_bad_member kinds choices first round s =
-    list_any (λ t. (is_some (choices t) && not first) || (is_some round && not (same_kind (kinds t) kind.Bool))) (listed (symbol_of (Some s)))
+is_bad_member kinds choices first within_choice s =
+    list_any (λ t. (is_some (choices t) && not first) || (is_some within_choice && not (same_kind (kinds t) kind.Bool))) (listed (symbol_of (Some s)))
 
 -- A default of a string, int or hex symbol that is no single operand; one of a choice that is no single name.
 abbrev pub is_bad_default : (SymId → Kind) → MenuEntry → Numbered → Bool
 is_bad_default kinds o s =
-    list_any (λ g. (list_any (λ t. has_text (kinds t)) (listed (entry_symbol o)) && not (is_single g.value)) || (is_some (entry_choice o) && is_none (single_symbol g.value))) (listed (given_of s))
+    list_any (λ g. (list_any (λ t. has_text (kinds t)) (listed (entry_symbol o)) && not (is_single g.value)) ||
+    (is_some (entry_choice o) && is_none (single_symbol g.value))) (listed (stated_default s))
 
 module _ (ss : List Numbered) where
   abbrev pub bad_members : List ℕ
-  bad_members = filter (λ i. list_any (is_bad_member (kind_of ss) (choice_of ss) (is_first_at ss i) (choice_round ss i)) (listed (slice_get ss i))) (places ss)
+  bad_members = filter (λ i. list_any (is_bad_member (kind_of ss) (choice_of ss) (is_first_definition_at ss i) (enclosing_choice ss i)) (listed (slice_get ss i))) (places ss)
 
   abbrev pub bad_defaults : List ℕ
   bad_defaults = filter (λ i. list_any (is_bad_default (kind_of ss) (menu_entry_at ss i)) (listed (slice_get ss i))) (places ss)
@@ -133,25 +136,25 @@ module _ (names : List (List ℕ)) where
   entry_name o = unwrap_or (option_map name_of o) (codes "choice")
 
   abbrev pub text_of : Warning → List ℕ
-  text_of (warning.Retyped t) = codes "K1: type of " ++ name_of t ++ codes " redefined, the first is kept"
-  text_of (warning.Reprompted o) = codes "K2: prompt of " ++ entry_name o ++ codes " redefined, the last is kept"
-  text_of (warning.Untyped t) = codes "K3: " ++ name_of t ++ codes " has no type"
+  text_of (warning.TypeRedefined t) = codes "K1: type of " ++ name_of t ++ codes " redefined, the first is kept"
+  text_of (warning.PromptRedefined o) = codes "K2: prompt of " ++ entry_name o ++ codes " redefined, the last is kept"
+  text_of (warning.WithoutType t) = codes "K3: " ++ name_of t ++ codes " has no type"
   text_of (warning.TextTarget t r) = codes "K4: " ++ name_of t ++ codes " is not bool or tristate, the " ++ reverse_word r ++ codes " has no effect"
-  text_of (warning.OtherDefault t) = codes "K5: " ++ name_of t ++ codes " is not a member of the choice"
+  text_of (warning.DefaultNotMember t) = codes "K5: " ++ name_of t ++ codes " is not a member of the choice"
   text_of (warning.MemberTarget t r) = codes "K6: " ++ name_of t ++ codes " is a choice member, the " ++ reverse_word r ++ codes " has no effect"
 
   -- the whole line of a warning about a line
   abbrev pub line_of : List ℕ → ℕ → Warning → List ℕ
   line_of file line w = file ++ codes ":" ++ decimal line ++ codes ": warning " ++ text_of w
 
-abbrev pub numbered_statements : List (Placed Numbered) → List Numbered
+abbrev pub numbered_statements : List (Located Numbered) → List Numbered
 numbered_statements ls = map (λ l. l.statement) ls
 
 -- Of these lines, where names have these numbers.
-module _ (names : List (List ℕ)) (ls : List (Placed Numbered)) where
-  abbrev pub warned_at : ℕ → Option (Placed Numbered) → List (List ℕ)
+module _ (names : List (List ℕ)) (ls : List (Located Numbered)) where
+  abbrev pub warned_at : ℕ → Option (Located Numbered) → List (List ℕ)
   warned_at i None = []
-  warned_at i (Some l) = map (line_of names l.file l.line) (said (numbered_statements ls) i l.statement)
+  warned_at i (Some l) = map (line_of names l.file l.line) (line_warnings (numbered_statements ls) i l.statement)
 
   abbrev pub warnings : List (List ℕ)
   warnings = flat_map (λ i. warned_at i (slice_get ls i)) (places (numbered_statements ls))
@@ -160,5 +163,5 @@ module _ (names : List (List ℕ)) (ls : List (Placed Numbered)) where
   abbrev pub refused_at : Code → ℕ → List Refused
   refused_at c i = map (λ l. refused (record { code = c; detail = entry_name names (entry_symbol (menu_entry_at (numbered_statements ls) i)) }) l.file l.line) (listed (slice_get ls i))
 
-  abbrev pub late_refusals : List Refused
-  late_refusals = flat_map (refused_at code.ChoiceMember) (bad_members (numbered_statements ls)) ++ flat_map (refused_at code.BadDefault) (bad_defaults (numbered_statements ls))
+  abbrev pub whole_list_refusals : List Refused
+  whole_list_refusals = flat_map (refused_at code.ChoiceMember) (bad_members (numbered_statements ls)) ++ flat_map (refused_at code.BadDefault) (bad_defaults (numbered_statements ls))

@@ -5,23 +5,24 @@ ghost use Rattle.std.specs.List.{filter_map, prefix_len};
 ghost use Rattle.kc_expr.specs.Form.{form_of};
 ghost use Rattle.kc_read.specs.Blocks as blocks;
 ghost use Rattle.kc_expr.specs.When.{when_view};
-ghost use Rattle.kc_read.specs.Reads.{asked_view};
+ghost use Rattle.kc_read.specs.StatementViews.{asked_view};
 ghost use Rattle.kc_tree.specs.Contexts.{condition_in};
 ghost use Rattle.kc_build.specs.Facts as facts;
 ghost use Rattle.kc_build.specs.Growth.{and_all, IsGrown, Stands};
 ghost use Rattle.kc_build.specs.EntryLines.{prompt_line, default_line, range_line, member_line, choice_default_line, default_row, range_row};
-ghost use Rattle.kc_build.specs.Passes.{said_by};
+ghost use Rattle.kc_build.specs.Passes.{statements_of};
 
 use crate::copies::operand_copy;
 use crate::lines::{
-    asked_of, depends_of, given_of, is_attribute, range_of, single_symbol, type_of, visible_of,
+    depends_of, is_attribute, prompt_of, range_of, single_symbol, stated_default, type_of,
+    visible_of,
 };
 use crate::symbols::is_member;
 use kc_expr::expression::{Expr, Kind};
-use kc_read::line::Line;
 use kc_read::statement;
+use kc_read::statement::Line;
 use kc_tree::contexts::Contexts;
-use kc_tree::parts::{
+use kc_tree::rows::{
     ChoiceDefault, ChoiceId, ContextId, Prompt, Span, Symbol, SymbolDefault, SymbolRange,
 };
 use std::alloc::{AllocError, Global};
@@ -29,7 +30,7 @@ use std::rc::Rc;
 
 // How many attributes lines begin with.
 fn attribute_count(lines: &[Line]) -> usize
-    ensures count { result ≡ prefix_len blocks.is_attribute (said_by lines.now) }
+    ensures count { result ≡ prefix_len blocks.is_attribute (statements_of lines.now) }
     ensures within { result ≤ length lines.now }
 {
     for (i, line) in lines.iter().enumerate() {
@@ -43,7 +44,7 @@ fn attribute_count(lines: &[Line]) -> usize
 /// The place behind the entry at a place and its attributes.
 pub fn entry_end(lines: &[Line], place: usize) -> usize
     requires { place < length lines.now }
-    ensures count { result ≡ place + 1 + prefix_len blocks.is_attribute (drop (place + 1) (said_by lines.now)) }
+    ensures count { result ≡ place + 1 + prefix_len blocks.is_attribute (drop (place + 1) (statements_of lines.now)) }
     ensures within { result ≤ length lines.now }
 {
     place + 1 + attribute_count(&lines[place + 1..])
@@ -51,7 +52,7 @@ pub fn entry_end(lines: &[Line], place: usize) -> usize
 
 /// The first type that attributes give.
 pub fn first_type(attributes: &[Line]) -> Option<Kind>
-    ensures { result ≡ facts.first_of (filter_map facts.type_of (said_by attributes.now)) }
+    ensures { result ≡ facts.first_of (filter_map facts.type_of (statements_of attributes.now)) }
 {
     for line in attributes {
         if let Some(kind) = type_of(&line.statement) {
@@ -63,17 +64,17 @@ pub fn first_type(attributes: &[Line]) -> Option<Kind>
 
 // The prompt that counts of several: the last.
 fn last_prompt(attributes: &[Line]) -> Option<&statement::Prompt>
-    ensures { option_map (λ p. asked_view p.now) result ≡ blocks.last_of (filter_map facts.asked_of (said_by attributes.now)) }
+    ensures { option_map (λ p. asked_view p.now) result ≡ blocks.last_of (filter_map facts.prompt_of (statements_of attributes.now)) }
 {
     let mut last = None;
     for line in attributes {
-        last = asked_of(&line.statement).or(last);
+        last = prompt_of(&line.statement).or(last);
     }
     last
 }
 
 /// The condition of a line, shared.
-pub fn share(when: Option<&Rc<Expr>>) -> Result<Option<Rc<Expr>>, AllocError>
+pub fn shared_condition(when: Option<&Rc<Expr>>) -> Result<Option<Rc<Expr>>, AllocError>
     ensures { IfOk result (λ o. when_view o ≡ option_map (λ e. form_of e.now.value) when.entry) }
 {
     match when {
@@ -82,14 +83,14 @@ pub fn share(when: Option<&Rc<Expr>>) -> Result<Option<Rc<Expr>>, AllocError>
     }
 }
 
-/// The prompt of an entry, where it has one; `visible` is what the menus round it ask of what is visible.
+/// The prompt of an entry, where it has one; `visible` is what the enclosing menus ask of what is visible.
 pub fn prompt(attributes: &[Line], visible: ContextId) -> Result<Option<Prompt>, AllocError>
-    ensures { IfOk result (λ o. option_map prompt_line o ≡ option_map (λ p. (visible.0, p.when)) (blocks.last_of (filter_map facts.asked_of (said_by attributes.now)))) }
+    ensures { IfOk result (λ o. option_map prompt_line o ≡ option_map (λ p. (visible.0, p.when)) (blocks.last_of (filter_map facts.prompt_of (statements_of attributes.now)))) }
 {
     match last_prompt(attributes) {
         Some(prompt) => Ok(Some(Prompt {
             visible,
-            when: share(prompt.when.as_ref())?,
+            when: shared_condition(prompt.when.as_ref())?,
         })),
         None => Ok(None),
     }
@@ -103,7 +104,7 @@ pub fn entry_context(
 ) -> Result<ContextId, AllocError>
     requires there { outer.0 < length contexts.old }
     requires few { length contexts.old + length attributes.now < 2 ^ 32 }
-    ensures made { IfOk result (λ id. Stands contexts.new id.0 (and_all (condition_in contexts.old outer.0) (filter_map facts.depends_form (said_by attributes.now)))) }
+    ensures made { IfOk result (λ id. Stands contexts.new id.0 (and_all (condition_in contexts.old outer.0) (filter_map facts.depends_form (statements_of attributes.now)))) }
     ensures kept { IsGrown contexts.old contexts.new (condition_in contexts.old outer.0).mode (length attributes.now) }
 {
     let mut at = outer;
@@ -124,7 +125,7 @@ pub fn visible_context(
 ) -> Result<ContextId, AllocError>
     requires there { outer.0 < length contexts.old }
     requires few { length contexts.old + length attributes.now < 2 ^ 32 }
-    ensures made { IfOk result (λ id. Stands contexts.new id.0 (and_all (condition_in contexts.old outer.0) (filter_map facts.visible_form (said_by attributes.now)))) }
+    ensures made { IfOk result (λ id. Stands contexts.new id.0 (and_all (condition_in contexts.old outer.0) (filter_map facts.visible_form (statements_of attributes.now)))) }
     ensures kept { IsGrown contexts.old contexts.new (condition_in contexts.old outer.0).mode (length attributes.now) }
 {
     let mut at = outer;
@@ -142,16 +143,16 @@ pub fn add_defaults(
     defaults: &mut Vec<SymbolDefault>,
 ) -> Result<Span, AllocError>
     requires few { length defaults.old.items + length attributes.now < 2 ^ 32 }
-    ensures added { OnOk result (map default_row defaults.new.items ≡ map default_row defaults.old.items ++ filter_map default_line (said_by attributes.now)) }
+    ensures added { OnOk result (map default_row defaults.new.items ≡ map default_row defaults.old.items ++ filter_map default_line (statements_of attributes.now)) }
     ensures start { IfOk result (λ s. s.start ≡ length defaults.old.items) }
     ensures end { IfOk result (λ s. s.end ≡ length defaults.new.items) }
     ensures longer { length defaults.old.items ≤ length defaults.new.items }
 {
     let start = defaults.len() as u32;
     for line in attributes {
-        if let Some(given) = given_of(&line.statement) {
+        if let Some(given) = stated_default(&line.statement) {
             let value = given.value.clone()?;
-            let when = share(given.when)?;
+            let when = shared_condition(given.when)?;
             defaults.push(SymbolDefault { value, when })?;
         }
     }
@@ -168,7 +169,7 @@ pub fn add_ranges(
     ranges: &mut Vec<SymbolRange>,
 ) -> Result<Span, AllocError>
     requires few { length ranges.old.items + length attributes.now < 2 ^ 32 }
-    ensures added { OnOk result (map range_row ranges.new.items ≡ map range_row ranges.old.items ++ filter_map range_line (said_by attributes.now)) }
+    ensures added { OnOk result (map range_row ranges.new.items ≡ map range_row ranges.old.items ++ filter_map range_line (statements_of attributes.now)) }
     ensures start { IfOk result (λ s. s.start ≡ length ranges.old.items) }
     ensures end { IfOk result (λ s. s.end ≡ length ranges.new.items) }
     ensures longer { length ranges.old.items ≤ length ranges.new.items }
@@ -178,7 +179,7 @@ pub fn add_ranges(
         if let Some(range) = range_of(&line.statement) {
             let low = operand_copy(alloc, range.low)?;
             let high = operand_copy(alloc, range.high)?;
-            let when = share(range.when)?;
+            let when = shared_condition(range.when)?;
             ranges.push(SymbolRange { low, high, when })?;
         }
     }
@@ -195,14 +196,14 @@ pub fn choice_defaults(
     choice: ChoiceId,
     attributes: &[Line],
 ) -> Result<Vec<ChoiceDefault>, AllocError>
-    ensures { IfOk result (λ v. map choice_default_line v.items ≡ filter_map (member_line symbols.now choice.0) (said_by attributes.now)) }
+    ensures { IfOk result (λ v. map choice_default_line v.items ≡ filter_map (member_line symbols.now choice.0) (statements_of attributes.now)) }
 {
     let mut defaults = Vec::new(alloc);
     for line in attributes {
-        if let Some(given) = given_of(&line.statement) {
+        if let Some(given) = stated_default(&line.statement) {
             if let Some(member) = single_symbol(given.value) {
                 if is_member(symbols, choice, member) {
-                    let when = share(given.when)?;
+                    let when = shared_condition(given.when)?;
                     defaults.push(ChoiceDefault { member, when })?;
                 }
             }

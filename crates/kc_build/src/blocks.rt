@@ -1,4 +1,4 @@
-//! The open blocks round a line, by their contexts.
+//! The enclosing blocks of a line, by their contexts.
 
 ghost use Rattle.std.specs.Prelude.{◌≡◌, ◌<◌, ◌++◌, ◌∷◌, [], ◌^◌, None, Some, length, IfOk, OnOk, OnErr};
 ghost use Rattle.kc_expr.specs.Form.{form_of};
@@ -7,7 +7,7 @@ ghost use Rattle.kc_build.specs.Stacks.{IsClosed, open_blocks};
 
 use kc_expr::expression::Expr;
 use kc_tree::contexts::Contexts;
-use kc_tree::parts::{ChoiceId, ContextId};
+use kc_tree::rows::{ChoiceId, ContextId};
 use std::alloc::{AllocError, Global};
 use std::rc::Rc;
 

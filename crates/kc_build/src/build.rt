@@ -2,12 +2,12 @@
 
 ghost use Rattle.std.specs.Prelude.{◌≢◌, IfOk, IfErr, Ok, Err};
 ghost use Rattle.kc_read.specs.Files.{bytes_in};
-ghost use Rattle.kc_read.specs.Steps.{IsMemory, refusal_view};
+ghost use Rattle.kc_read.specs.RefusalView.{IsMemory, refusal_view};
 ghost use Rattle.kc_read.specs.declared.refusal.Code.TheVariants.{Memory};
 ghost use Rattle.kc_build.specs.Trees.{IsTreeOf};
 
-use crate::assembly::assemble;
 use crate::numbering::{Listing, memory, read_listing};
+use crate::tree_parts::build_parts;
 use kc_read::file_map::FileMap;
 use kc_read::refusal::Refusal;
 use kc_tree::tree::Tree;
@@ -21,8 +21,8 @@ use std::alloc::Global;
 /// choice's member and is not the first to define it, or that stands in a choice while its symbol is no bool. So of
 /// a symbol that is first defined outside its choice the line is the one in the choice. Without such a line E14
 /// comes at the first default line of a string, int or hex symbol that is no single operand, or of a choice that is
-/// no single name, parentheses aside. Both name the symbol, or `choice`. E20, which has no place and no detail, is
-/// being out of memory.
+/// no single name, parentheses aside. Both name the symbol, or `choice`. E20, which has no location and no detail,
+/// is being out of memory.
 ///
 /// The meaning of the statements is that of the kernel's kconfig-language document and of kconfiglib's
 /// documentation; the limits, the order of checks and the warnings are our own.
@@ -37,7 +37,7 @@ pub fn build_tree(alloc: Global, map: &FileMap, root: &[u8]) -> Result<Tree, Ref
         modules,
         lines,
     } = read_listing(alloc, map, root)?;
-    let assembled = match assemble(alloc, &names, &lines, count, modules) {
+    let assembled = match build_parts(alloc, &names, &lines, count, modules) {
         Ok(assembled) => assembled,
         Err(_) => return Err(memory(alloc)),
     };

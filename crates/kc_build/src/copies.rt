@@ -12,7 +12,7 @@ pub fn operand_copy(alloc: Global, operand: &Operand) -> Result<Operand, AllocEr
 {
     match operand {
         Operand::Const(bytes) => Ok(Operand::Const(Vec::from_slice(alloc, bytes)?)),
-        Operand::Letter(t) => Ok(Operand::Letter(*t)),
+        Operand::TristateConstant(t) => Ok(Operand::TristateConstant(*t)),
         Operand::Sym(s) => Ok(Operand::Sym(*s)),
     }
 }

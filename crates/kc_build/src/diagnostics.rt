@@ -3,24 +3,25 @@
 ghost use Rattle.std.specs.Prelude.{◌≡◌, ◌++◌, [], None, map, option_map, IfOk, OnOk, MatchResult, Some};
 ghost use Rattle.std.specs.List.{list_any};
 ghost use Rattle.std.specs.Option.{option_or};
-ghost use Rattle.kc_read.specs.Reads.{line_view, statement_view};
-ghost use Rattle.kc_read.specs.Steps.{refusal_view};
-ghost use Rattle.kc_build.specs.Diagnosed.{IsLookedAt, AreLookedAt};
+ghost use Rattle.kc_read.specs.StatementViews.{line_view, statement_view};
+ghost use Rattle.kc_read.specs.RefusalView.{refusal_view};
+ghost use Rattle.kc_build.specs.Diagnosed.{IsLineDiagnosed, AreLinesDiagnosed};
 ghost use Rattle.kc_build.specs.Facts as facts;
 ghost use Rattle.kc_tree.specs.Words.{listed};
-ghost use Rattle.kc_build.specs.Known.{kind_by, choice_by, member_by, default_symbol, said_by_place};
-ghost use Rattle.kc_build.specs.Late as late;
+ghost use Rattle.kc_build.specs.SymbolRows.{kind_by, choice_by, member_by, default_symbol, line_warnings_in};
+ghost use Rattle.kc_build.specs.WholeListRefusals as entry_refusal;
 ghost use Rattle.kc_build.specs.Warnings as spec;
 
-use crate::lines::{asked_of, given_of, is_single, single_symbol, symbol_of, target_of, type_of};
+use crate::lines::{
+    is_single, prompt_of, single_symbol, stated_default, symbol_of, target_of, type_of,
+};
 use crate::symbols::{choice_of, has_text, is_member, kind_of};
 use crate::warning::{Warning, entry_name, line_of};
 use kc_expr::expression::{Kind, SymId};
 use kc_expr::names::Names;
-use kc_read::line::Line;
 use kc_read::refusal::{Code, Refusal};
-use kc_read::statement::Statement;
-use kc_tree::parts::{ChoiceId, Symbol};
+use kc_read::statement::{Line, Statement};
+use kc_tree::rows::{ChoiceId, Symbol};
 use std::alloc::{AllocError, Global};
 
 /// The menu entry that a line belongs to: a symbol's, a choice's, or another.
@@ -31,13 +32,13 @@ pub enum MenuEntry {
     Other,
 }
 
-/// What is known of an entry when its lines are looked at: whose it is, whether it is the first definition of its symbol, and
-/// the choice round it.
+/// What is known of an entry when its lines are diagnosed: whose it is, whether it is the first definition of its symbol, and
+/// the choice that it stands in.
 #[derive(Clone, Copy, Debug)]
-pub struct EntryPlace {
+pub struct EntrySummary {
     pub entry: MenuEntry,
     pub first: bool,
-    pub round: Option<ChoiceId>,
+    pub within_choice: Option<ChoiceId>,
 }
 
 /// What the lines so far have against them: warnings as whole lines, the first definition of a choice's member that is
@@ -70,22 +71,24 @@ fn entry_choice(entry: MenuEntry) -> Option<ChoiceId>
 }
 
 // A type line whose type is not the symbol's.
-fn retyped(statement: &Statement, entry: MenuEntry, symbols: &[Symbol]) -> Option<Warning>
-    ensures { listed result ≡ spec.retyped (kind_by symbols.now) entry (statement_view statement.now) }
+fn type_redefined(statement: &Statement, entry: MenuEntry, symbols: &[Symbol]) -> Option<Warning>
+    ensures { listed result ≡ spec.type_redefined (kind_by symbols.now) entry (statement_view statement.now) }
 {
     match (entry_symbol(entry), type_of(statement)) {
         (Some(symbol), Some(kind)) => {
-            (kind != kind_of(symbols, symbol)).then_some(Warning::Retyped(symbol))
+            (kind != kind_of(symbols, symbol)).then_some(Warning::TypeRedefined(symbol))
         }
         _ => None,
     }
 }
 
 // A second prompt in one entry.
-fn reprompted(statement: &Statement, entry: MenuEntry, prompted: bool) -> Option<Warning>
-    ensures { listed result ≡ spec.prompted entry prompted (statement_view statement.now) }
+fn prompt_redefined(statement: &Statement, entry: MenuEntry, prompted: bool) -> Option<Warning>
+    ensures { listed result ≡ spec.prompt_redefined entry prompted (statement_view statement.now) }
 {
-    (asked_of(statement).is_some() && prompted).then_some(Warning::Reprompted(entry_symbol(entry)))
+    (prompt_of(statement).is_some() && prompted).then_some(Warning::PromptRedefined(entry_symbol(
+        entry,
+    )))
 }
 
 // The symbol has a type, or is a member of a choice.
@@ -96,11 +99,13 @@ fn has_type(symbol: SymId, symbols: &[Symbol]) -> bool
 }
 
 // The first definition of a symbol without a type.
-fn untyped(statement: &Statement, first: bool, symbols: &[Symbol]) -> Option<Warning>
-    ensures { listed result ≡ spec.untyped (kind_by symbols.now) (choice_by symbols.now) first (statement_view statement.now) }
+fn without_type(statement: &Statement, first: bool, symbols: &[Symbol]) -> Option<Warning>
+    ensures { listed result ≡ spec.without_type (kind_by symbols.now) (choice_by symbols.now) first (statement_view statement.now) }
 {
     match symbol_of(statement) {
-        Some(symbol) => (first && !has_type(symbol, symbols)).then_some(Warning::Untyped(symbol)),
+        Some(symbol) => (first && !has_type(symbol, symbols)).then_some(Warning::WithoutType(
+            symbol,
+        )),
         None => None,
     }
 }
@@ -134,19 +139,23 @@ fn member_target(statement: &Statement, symbols: &[Symbol]) -> Option<Warning>
 fn default_symbol(statement: &Statement) -> Option<SymId>
     ensures { result ≡ default_symbol (statement_view statement.now) }
 {
-    match given_of(statement) {
+    match stated_default(statement) {
         Some(given) => single_symbol(given.value),
         None => None,
     }
 }
 
 // A default of a choice that names no member of it.
-fn other_default(statement: &Statement, entry: MenuEntry, symbols: &[Symbol]) -> Option<Warning>
-    ensures { listed result ≡ spec.other_default (member_by symbols.now) entry (statement_view statement.now) }
+fn default_not_member(
+    statement: &Statement,
+    entry: MenuEntry,
+    symbols: &[Symbol],
+) -> Option<Warning>
+    ensures { listed result ≡ spec.default_not_member (member_by symbols.now) entry (statement_view statement.now) }
 {
     match (entry_choice(entry), default_symbol(statement)) {
         (Some(choice), Some(symbol)) => {
-            (!is_member(symbols, choice, symbol)).then_some(Warning::OtherDefault(symbol))
+            (!is_member(symbols, choice, symbol)).then_some(Warning::DefaultNotMember(symbol))
         }
         _ => None,
     }
@@ -155,24 +164,24 @@ fn other_default(statement: &Statement, entry: MenuEntry, symbols: &[Symbol]) ->
 // What there is to warn of in a line: two things at most.
 fn warnings_of(
     statement: &Statement,
-    place: EntryPlace,
+    summary: EntrySummary,
     prompted: bool,
     symbols: &[Symbol],
 ) -> (Option<Warning>, Option<Warning>)
-    ensures { listed result.0 ++ listed result.1 ≡ said_by_place symbols.now place prompted (statement_view statement.now) }
+    ensures { listed result.0 ++ listed result.1 ≡ line_warnings_in symbols.now summary prompted (statement_view statement.now) }
 {
-    let entry = place.entry;
+    let entry = summary.entry;
     match statement {
-        Statement::Config(_) => (untyped(statement, place.first, symbols), None),
+        Statement::Config(_) => (without_type(statement, summary.first, symbols), None),
         Statement::Type(_, _) => (
-            retyped(statement, entry, symbols),
-            reprompted(statement, entry, prompted),
+            type_redefined(statement, entry, symbols),
+            prompt_redefined(statement, entry, prompted),
         ),
-        Statement::Prompt(_) => (reprompted(statement, entry, prompted), None),
-        Statement::Default(_, _) => (other_default(statement, entry, symbols), None),
+        Statement::Prompt(_) => (prompt_redefined(statement, entry, prompted), None),
+        Statement::Default(_, _) => (default_not_member(statement, entry, symbols), None),
         Statement::Def(_, _, _) => (
-            retyped(statement, entry, symbols),
-            other_default(statement, entry, symbols),
+            type_redefined(statement, entry, symbols),
+            default_not_member(statement, entry, symbols),
         ),
         Statement::Select(_, _) | Statement::Imply(_, _) => (
             text_target(statement, symbols),
@@ -183,13 +192,13 @@ fn warnings_of(
 }
 
 // A second definition of a member; a definition in a choice whose type is not bool.
-fn is_bad_member(statement: &Statement, place: EntryPlace, symbols: &[Symbol]) -> bool
-    ensures { result ≡ spec.is_bad_member (kind_by symbols.now) (choice_by symbols.now) place.first (option_map (λ k. k.0) place.round) (statement_view statement.now) }
+fn is_bad_member(statement: &Statement, summary: EntrySummary, symbols: &[Symbol]) -> bool
+    ensures { result ≡ spec.is_bad_member (kind_by symbols.now) (choice_by symbols.now) summary.first (option_map (λ k. k.0) summary.within_choice) (statement_view statement.now) }
 {
     match symbol_of(statement) {
         Some(symbol) => {
-            (choice_of(symbols, symbol).is_some() && !place.first)
-                || (place.round.is_some() && kind_of(symbols, symbol) != Kind::Bool)
+            (choice_of(symbols, symbol).is_some() && !summary.first)
+                || (summary.within_choice.is_some() && kind_of(symbols, symbol) != Kind::Bool)
         }
         None => false,
     }
@@ -209,7 +218,7 @@ fn is_text_entry(entry: MenuEntry, symbols: &[Symbol]) -> bool
 fn is_bad_default(statement: &Statement, entry: MenuEntry, symbols: &[Symbol]) -> bool
     ensures { result ≡ spec.is_bad_default (kind_by symbols.now) entry (statement_view statement.now) }
 {
-    match given_of(statement) {
+    match stated_default(statement) {
         Some(given) => {
             (is_text_entry(entry, symbols) && !is_single(given.value))
                 || (entry_choice(entry).is_some() && single_symbol(given.value).is_none())
@@ -226,13 +235,13 @@ fn refusal(
     entry: MenuEntry,
     code: Code,
 ) -> Result<Refusal, AllocError>
-    ensures { IfOk result (λ r. refusal_view r ≡ late.late names.now code entry (line_view line.now)) }
+    ensures { IfOk result (λ r. refusal_view r ≡ entry_refusal.entry_refusal names.now code entry (line_view line.now)) }
 {
     let file = Vec::from_slice(alloc, &line.file)?;
     let detail = Vec::from_slice(alloc, entry_name(names, entry_symbol(entry)))?;
     Ok(Refusal {
         code,
-        place: Some((file, line.line)),
+        location: Some((file, line.line)),
         detail,
     })
 }
@@ -262,14 +271,14 @@ fn warn_line(
     alloc: Global,
     names: &Names,
     symbols: &[Symbol],
-    place: EntryPlace,
+    summary: EntrySummary,
     prompted: bool,
     line: &Line,
     out: &mut Vec<Vec<u8>>,
 ) -> Result<(), AllocError>
-    ensures { OnOk result (map (λ v. v.items) out.new.items ≡ map (λ v. v.items) out.old.items ++ map (spec.line_of names.now (line_view line.now).file (line_view line.now).line) (said_by_place symbols.now place prompted (line_view line.now).statement)) }
+    ensures { OnOk result (map (λ v. v.items) out.new.items ≡ map (λ v. v.items) out.old.items ++ map (spec.line_of names.now (line_view line.now).file (line_view line.now).line) (line_warnings_in symbols.now summary prompted (line_view line.now).statement)) }
 {
-    match warnings_of(&line.statement, place, prompted, symbols) {
+    match warnings_of(&line.statement, summary, prompted, symbols) {
         (None, None) => Ok(()),
         (first, second) => {
             warn(alloc, names, line, first, out)?;
@@ -298,15 +307,15 @@ impl Diagnostics {
         alloc: Global,
         names: &Names,
         symbols: &[Symbol],
-        place: EntryPlace,
+        summary: EntrySummary,
         line: &Line,
     ) -> Result<(), AllocError>
-        ensures member { OnOk result (option_map refusal_view self.new.bad_member ≡ option_or (option_map refusal_view self.old.bad_member) (late.bad_member_of names.now symbols.now place (line_view line.now))) }
+        ensures member { OnOk result (option_map refusal_view self.new.bad_member ≡ option_or (option_map refusal_view self.old.bad_member) (entry_refusal.bad_member_of names.now symbols.now summary (line_view line.now))) }
         ensures default { OnOk result (self.new.bad_default ≡ self.old.bad_default) }
         ensures warnings { OnOk result (self.new.warnings ≡ self.old.warnings) }
     {
-        if self.bad_member.is_none() && is_bad_member(&line.statement, place, symbols) {
-            let found = refusal(alloc, names, line, place.entry, Code::ChoiceMember)?;
+        if self.bad_member.is_none() && is_bad_member(&line.statement, summary, symbols) {
+            let found = refusal(alloc, names, line, summary.entry, Code::ChoiceMember)?;
             self.bad_member = Some(found);
         }
         Ok(())
@@ -318,32 +327,32 @@ impl Diagnostics {
         alloc: Global,
         names: &Names,
         symbols: &[Symbol],
-        place: EntryPlace,
+        summary: EntrySummary,
         line: &Line,
     ) -> Result<(), AllocError>
-        ensures default { OnOk result (option_map refusal_view self.new.bad_default ≡ option_or (option_map refusal_view self.old.bad_default) (late.bad_default_of names.now symbols.now place (line_view line.now))) }
+        ensures default { OnOk result (option_map refusal_view self.new.bad_default ≡ option_or (option_map refusal_view self.old.bad_default) (entry_refusal.bad_default_of names.now symbols.now summary (line_view line.now))) }
         ensures member { OnOk result (self.new.bad_member ≡ self.old.bad_member) }
         ensures warnings { OnOk result (self.new.warnings ≡ self.old.warnings) }
     {
-        if self.bad_default.is_none() && is_bad_default(&line.statement, place.entry, symbols) {
-            let found = refusal(alloc, names, line, place.entry, Code::BadDefault)?;
+        if self.bad_default.is_none() && is_bad_default(&line.statement, summary.entry, symbols) {
+            let found = refusal(alloc, names, line, summary.entry, Code::BadDefault)?;
             self.bad_default = Some(found);
         }
         Ok(())
     }
 
-    // Looks at a line, where `prompted` says whether a prompt stands before it in its entry. Of most lines there is nothing to
+    // Diagnoses a line, where `prompted` says whether a prompt stands before it in its entry. Of most lines there is nothing to
     // say, whatever the symbols are.
-    fn look_at(
+    fn diagnose_line(
         &mut self,
         alloc: Global,
         names: &Names,
         symbols: &[Symbol],
-        place: EntryPlace,
+        summary: EntrySummary,
         prompted: bool,
         line: &Line,
     ) -> Result<(), AllocError>
-        ensures { OnOk result (IsLookedAt names.now symbols.now place prompted (line_view line.now) self.old self.new) }
+        ensures { OnOk result (IsLineDiagnosed names.now symbols.now summary prompted (line_view line.now) self.old self.new) }
     {
         let warnings = &mut self.warnings;
         match &line.statement {
@@ -351,37 +360,37 @@ impl Diagnostics {
             | Statement::Prompt(_)
             | Statement::Select(_, _)
             | Statement::Imply(_, _) => {
-                warn_line(alloc, names, symbols, place, prompted, line, warnings)
+                warn_line(alloc, names, symbols, summary, prompted, line, warnings)
             }
             Statement::Config(_) => {
-                warn_line(alloc, names, symbols, place, prompted, line, warnings)?;
-                self.look_for_member(alloc, names, symbols, place, line)
+                warn_line(alloc, names, symbols, summary, prompted, line, warnings)?;
+                self.look_for_member(alloc, names, symbols, summary, line)
             }
             Statement::Default(_, _) | Statement::Def(_, _, _) => {
-                warn_line(alloc, names, symbols, place, prompted, line, warnings)?;
-                self.look_for_default(alloc, names, symbols, place, line)
+                warn_line(alloc, names, symbols, summary, prompted, line, warnings)?;
+                self.look_for_default(alloc, names, symbols, summary, line)
             }
             _ => Ok(()),
         }
     }
 
-    /// Looks at an entry: at the line that begins it, and at its attributes.
-    pub fn look_at_entry(
+    /// Diagnoses an entry: the line that begins it, and its attributes.
+    pub fn diagnose_entry(
         &mut self,
         alloc: Global,
         names: &Names,
         symbols: &[Symbol],
-        place: EntryPlace,
+        summary: EntrySummary,
         head: &Line,
         attributes: &[Line],
     ) -> Result<(), AllocError>
-        ensures { OnOk result (AreLookedAt names.now symbols.now place (line_view head.now) (map line_view attributes.now) self.old self.new) }
+        ensures { OnOk result (AreLinesDiagnosed names.now symbols.now summary (line_view head.now) (map line_view attributes.now) self.old self.new) }
     {
-        self.look_at(alloc, names, symbols, place, false, head)?;
-        let mut prompted = asked_of(&head.statement).is_some();
+        self.diagnose_line(alloc, names, symbols, summary, false, head)?;
+        let mut prompted = prompt_of(&head.statement).is_some();
         for line in attributes {
-            self.look_at(alloc, names, symbols, place, prompted, line)?;
-            prompted = prompted || asked_of(&line.statement).is_some();
+            self.diagnose_line(alloc, names, symbols, summary, prompted, line)?;
+            prompted = prompted || prompt_of(&line.statement).is_some();
         }
         Ok(())
     }

@@ -2,12 +2,12 @@
 
 ghost use Rattle.std.specs.Prelude.{◌≡◌, ℕ, List, ◌<◌, ◌+◌, ◌*◌, ◌^◌, length, map, IfOk, OnOk};
 ghost use Rattle.kc_expr.specs.Form.{form_of};
-ghost use Rattle.kc_read.specs.Reads.{line_view, statement_view};
+ghost use Rattle.kc_read.specs.StatementViews.{line_view, statement_view};
 ghost use Rattle.kc_read.specs.Statements.{Numbered, ConfigLine, IfLine, MenuLine, CommentLine, ChoiceLine, EndMenuLine};
-ghost use Rattle.kc_tree.specs.declared.parts.Symbol.{Symbol};
-ghost use Rattle.kc_build.specs.Known.{AreBelow, AreChoicesApart, AreMenusOpened, AreSymbols, IsPlace, IsWhole};
-ghost use Rattle.kc_build.specs.Passes.{said_by};
-ghost use Rattle.kc_build.specs.Said.{AreSaid, HasHeads, HasRoom, IsDiagnosed, IsSmall};
+ghost use Rattle.kc_tree.specs.declared.rows.Symbol.{Symbol};
+ghost use Rattle.kc_build.specs.SymbolRows.{AreBelow, AreChoicesApart, AreMenusOpened, AreSymbols, IsEntrySummary, IsWhole};
+ghost use Rattle.kc_build.specs.Passes.{statements_of};
+ghost use Rattle.kc_build.specs.WalkResult.{IsWalkResult, HasHeads, HasRoom, IsDiagnosed, IsSmall};
 ghost use Rattle.kc_build.specs.Stacks.{AreBlocksPlain, AreBlocksVisible, AreBlocksWithin, AreTitlesWithin, AsksNothing, IsPlainHead};
 ghost use Rattle.kc_tree.specs.Contexts.{IsPlain, condition_in};
 ghost use Rattle.kc_tree.specs.Layouts.{choice_facts as choice_in};
@@ -16,16 +16,15 @@ use crate::attributes::{
     add_defaults, add_ranges, choice_defaults, entry_context, entry_end, prompt, visible_context,
 };
 use crate::blocks::{Block, Blocks, choice_block, if_block};
-use crate::diagnostics::{Diagnostics, EntryPlace, MenuEntry};
+use crate::diagnostics::{Diagnostics, EntrySummary, MenuEntry};
 use crate::reverse_lines::add_reverses;
 use crate::symbols::is_first;
 use kc_expr::expression::{Expr, SymId};
 use kc_expr::names::Names;
-use kc_read::line::Line;
-use kc_read::statement::Statement;
+use kc_read::statement::{Line, Statement};
 use kc_tree::layout::Tables;
-use kc_tree::parts::{
-    Choice, ChoiceId, ContextId, Definition, DefinitionId, Entry, Symbol, Title, TitleId,
+use kc_tree::rows::{
+    Choice, ChoiceId, ContextId, Definition, DefinitionId, ShownEntry, Symbol, Title, TitleId,
 };
 use std::alloc::{AllocError, Global};
 use std::rc::Rc;
@@ -72,11 +71,11 @@ impl Walk {
         own: &[Line],
     ) -> Result<(), AllocError>
         requires { HasRoom (length own.now) self.old.tables }
-        ensures { OnOk result (AddsDefinition symbol (said_by own.now) self.old self.new) }
+        ensures { OnOk result (AddsDefinition symbol (statements_of own.now) self.old self.new) }
     {
-        let round = self.blocks.innermost();
-        let within = entry_context(&mut self.tables.contexts, round.within, own)?;
-        let prompt = prompt(own, round.visible)?;
+        let outer = self.blocks.innermost();
+        let within = entry_context(&mut self.tables.contexts, outer.within, own)?;
+        let prompt = prompt(own, outer.visible)?;
         let defaults = add_defaults(own, &mut self.tables.defaults)?;
         let ranges = add_ranges(alloc, own, &mut self.tables.ranges)?;
         self.tables.definitions.push(Definition {
@@ -99,24 +98,24 @@ impl Walk {
     ) -> Result<(), AllocError>
         requires room { HasRoom (length own.now) self.old.tables }
         requires heads { HasHeads symbols.now self.old.tables }
-        ensures { OnOk result (Enters symbols.now (ConfigLine symbol) (said_by own.now) self.old self.new) }
+        ensures { OnOk result (Enters symbols.now (ConfigLine symbol) (statements_of own.now) self.old self.new) }
     {
         let id = self.next_definition();
         self.add_definition(alloc, symbol, own)?;
         add_reverses(&mut self.tables.reverses, symbols, id, own)?;
         if is_first(symbols, symbol, id) {
-            self.tables.entries.push(Entry::Symbol(symbol))?;
+            self.tables.entries.push(ShownEntry::Symbol(symbol))?;
         }
         self.add_member(symbol)
     }
 
-    // Adds a symbol to the choice round it, where there is one.
+    // Adds a symbol to the choice that encloses it, where there is one.
     fn add_member(&mut self, symbol: SymId) -> Result<(), AllocError>
         ensures choices { OnOk result (map (choice_in self.new.tables) self.new.tables.choices.items ≡ with_member (condition_in self.old.tables.contexts self.old.blocks.innermost.within.0).mode symbol (map (choice_in self.old.tables) self.old.tables.choices.items)) }
         ensures others { OnOk result (KeepsAllButChoices self.old self.new) }
     {
-        let round = self.blocks.innermost();
-        if let Some(choice) = self.tables.contexts.mode(round.within) {
+        let outer = self.blocks.innermost();
+        if let Some(choice) = self.tables.contexts.mode(outer.within) {
             if choice.0 < self.tables.choices.len() {
                 self.tables.choices[choice.0].members.push(symbol)?;
             }
@@ -163,14 +162,14 @@ impl Walk {
     // A menu: what it asks for, all that stands in it asks for, too.
     fn open_menu(&mut self, alloc: Global, text: &[u8], own: &[Line]) -> Result<(), AllocError>
         requires room { HasRoom (length own.now) self.old.tables }
-        ensures { OnOk result ((symbols : List Symbol) → Enters symbols (MenuLine text.now) (said_by own.now) self.old self.new) }
+        ensures { OnOk result ((symbols : List Symbol) → Enters symbols (MenuLine text.now) (statements_of own.now) self.old self.new) }
     {
         let entry = self.next_entry();
         let outer = self.blocks.innermost();
         let within = entry_context(&mut self.tables.contexts, outer.within, own)?;
         let visible = visible_context(&mut self.tables.contexts, outer.visible, own)?;
         let title = self.add_title(alloc, text, within, visible)?;
-        self.tables.entries.push(Entry::Menu(title))?;
+        self.tables.entries.push(ShownEntry::Menu(title))?;
         self.blocks.open(Block {
             within,
             visible,
@@ -181,13 +180,13 @@ impl Walk {
     // A comment.
     fn comment(&mut self, alloc: Global, text: &[u8], own: &[Line]) -> Result<(), AllocError>
         requires room { HasRoom (length own.now) self.old.tables }
-        ensures { OnOk result ((symbols : List Symbol) → Enters symbols (CommentLine text.now) (said_by own.now) self.old self.new) }
+        ensures { OnOk result ((symbols : List Symbol) → Enters symbols (CommentLine text.now) (statements_of own.now) self.old self.new) }
     {
-        let round = self.blocks.innermost();
-        let within = entry_context(&mut self.tables.contexts, round.within, own)?;
+        let outer = self.blocks.innermost();
+        let within = entry_context(&mut self.tables.contexts, outer.within, own)?;
         // What is asked of what is visible is asked of prompts and menus alone.
         let title = self.add_title(alloc, text, within, ContextId(0))?;
-        self.tables.entries.push(Entry::Comment(title))?;
+        self.tables.entries.push(ShownEntry::Comment(title))?;
         Ok(())
     }
 
@@ -200,7 +199,7 @@ impl Walk {
     ) -> Result<(), AllocError>
         requires room { HasRoom (length own.now) self.old.tables }
         requires plain { IsPlain self.old.tables.contexts self.old.blocks.innermost.within.0 }
-        ensures { OnOk result (Enters symbols.now ChoiceLine (said_by own.now) self.old self.new) }
+        ensures { OnOk result (Enters symbols.now ChoiceLine (statements_of own.now) self.old self.new) }
     {
         let entry = self.next_entry();
         let id = ChoiceId(self.tables.choices.len());
@@ -224,7 +223,7 @@ impl Walk {
     {
         match self.blocks.innermost().entry {
             Some(menu) => {
-                self.tables.entries.push(Entry::End(menu))?;
+                self.tables.entries.push(ShownEntry::End(menu))?;
                 Ok(())
             }
             None => Ok(()),
@@ -251,7 +250,7 @@ impl Walk {
         requires room { HasRoom (length own.now) self.old.tables }
         requires heads { HasHeads symbols.now self.old.tables }
         requires plain { IsPlainHead (statement_view head.now) (condition_in self.old.tables.contexts self.old.blocks.innermost.within.0).mode }
-        ensures { OnOk result (Enters symbols.now (statement_view head.now) (said_by own.now) self.old self.new) }
+        ensures { OnOk result (Enters symbols.now (statement_view head.now) (statements_of own.now) self.old self.new) }
     {
         match head {
             Statement::Config(symbol) => self.define(alloc, symbols, *symbol, own),
@@ -272,27 +271,27 @@ impl Walk {
         }
     }
 
-    // What is known of the entry that a statement begins, before the walk goes into it.
-    fn place_of(&self, symbols: &[Symbol], head: &Statement) -> EntryPlace
+    // The summary of the entry that a statement begins, before the walk goes into it.
+    fn summary_of(&self, symbols: &[Symbol], head: &Statement) -> EntrySummary
         requires { length self.now.tables.definitions.items < 2 ^ 32 }
-        ensures { (ss : List Numbered) (i : ℕ) (own : List Numbered) → IsWhole ss symbols.now → IsHead ss i (statement_view head.now) own → IsWalk ss symbols.now i self.now → IsPlace ss i result }
+        ensures { (ss : List Numbered) (i : ℕ) (own : List Numbered) → IsWhole ss symbols.now → IsHead ss i (statement_view head.now) own → IsWalk ss symbols.now i self.now → IsEntrySummary ss i result }
     {
-        let round = self.tables.contexts.mode(self.blocks.innermost().within);
+        let within_choice = self.tables.contexts.mode(self.blocks.innermost().within);
         match head {
-            Statement::Config(symbol) => EntryPlace {
+            Statement::Config(symbol) => EntrySummary {
                 entry: MenuEntry::Symbol(*symbol),
                 first: is_first(symbols, *symbol, self.next_definition()),
-                round,
+                within_choice,
             },
-            Statement::Choice => EntryPlace {
+            Statement::Choice => EntrySummary {
                 entry: MenuEntry::Choice(ChoiceId(self.tables.choices.len())),
                 first: false,
-                round,
+                within_choice,
             },
-            _ => EntryPlace {
+            _ => EntrySummary {
                 entry: MenuEntry::Other,
                 first: false,
-                round,
+                within_choice,
             },
         }
     }
@@ -300,7 +299,7 @@ impl Walk {
 
 /// What lines say but of symbols alone.
 #[derive(Debug, Drop)]
-pub struct Said {
+pub struct WalkResult {
     /// The tables that they fill.
     pub tables: Tables,
     /// The title of the main menu.
@@ -315,13 +314,13 @@ pub fn walk_entries(
     names: &Names,
     lines: &[Line],
     symbols: &[Symbol],
-) -> Result<Said, AllocError>
-    requires symbols { AreSymbols (said_by lines.now) symbols.now }
-    requires below { AreBelow (length symbols.now) (said_by lines.now) }
-    requires apart { AreChoicesApart (said_by lines.now) }
-    requires ends { AreMenusOpened (said_by lines.now) }
+) -> Result<WalkResult, AllocError>
+    requires symbols { AreSymbols (statements_of lines.now) symbols.now }
+    requires below { AreBelow (length symbols.now) (statements_of lines.now) }
+    requires apart { AreChoicesApart (statements_of lines.now) }
+    requires ends { AreMenusOpened (statements_of lines.now) }
     requires few { 4 * length lines.now + 8 < 2 ^ 32 }
-    ensures said { IfOk result (λ s. AreSaid (said_by lines.now) symbols.now s.tables s.main_menu.items) }
+    ensures said { IfOk result (λ s. IsWalkResult (statements_of lines.now) symbols.now s.tables s.main_menu.items) }
     ensures small { IfOk result (λ s. IsSmall (length lines.now) s.tables) }
     ensures diagnosed { IfOk result (λ s. IsDiagnosed names.now (map line_view lines.now) (length lines.now) s.diagnostics) }
 {
@@ -336,8 +335,8 @@ pub fn walk_entries(
         let end = entry_end(lines, place);
         let head = &lines[place];
         let own = &lines[place + 1..end];
-        let known = walk.place_of(symbols, &head.statement);
-        diagnostics.look_at_entry(alloc, names, symbols, known, head, own)?;
+        let known = walk.summary_of(symbols, &head.statement);
+        diagnostics.diagnose_entry(alloc, names, symbols, known, head, own)?;
         walk.enter(alloc, symbols, &head.statement, own)?;
         place = end;
     }
@@ -346,7 +345,7 @@ pub fn walk_entries(
         main_menu,
         ..
     } = walk;
-    Ok(Said {
+    Ok(WalkResult {
         tables,
         main_menu,
         diagnostics,

@@ -1,7 +1,6 @@
 //! From the statements of a Kconfig tree to its symbols, choices, entries and warnings.
 #![tactic(auto)]
 
-mod assembly;
 mod attributes;
 mod blocks;
 mod build;
@@ -14,6 +13,7 @@ mod numbering;
 mod renaming;
 mod reverse_lines;
 mod symbols;
+mod tree_parts;
 mod warning;
 
 pub use build::build_tree;

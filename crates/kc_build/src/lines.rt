@@ -5,9 +5,9 @@ ghost use Rattle.kc_expr.specs.Form.{form_of};
 ghost use Rattle.kc_read.specs.Blocks.{bracket, opened};
 ghost use Rattle.kc_read.specs.Blocks as blocks;
 ghost use Rattle.kc_expr.specs.When.{when_view};
-ghost use Rattle.kc_read.specs.Reads.{statement_view, asked_view};
+ghost use Rattle.kc_read.specs.StatementViews.{statement_view, asked_view};
 ghost use Rattle.kc_build.specs.Facts as facts;
-ghost use Rattle.kc_build.specs.Passes.{given_view, target_view, range_view};
+ghost use Rattle.kc_build.specs.Passes.{stated_default_view, target_view, range_view};
 ghost use Rattle.kc_build.specs.Passes as spec;
 ghost use Rattle.kc_build.specs.Targets as targets;
 
@@ -17,7 +17,7 @@ use std::rc::Rc;
 
 /// A default: its value and its condition.
 #[derive(Clone, Copy)]
-pub struct Given<'a> {
+pub struct StatedDefault<'a> {
     pub value: &'a Rc<Expr>,
     pub when: Option<&'a Rc<Expr>>,
 }
@@ -100,8 +100,8 @@ pub fn type_of(statement: &Statement) -> Option<Kind>
 }
 
 /// The prompt of a line.
-pub fn asked_of(statement: &Statement) -> Option<&Prompt>
-    ensures { option_map (λ p. asked_view p.now) result ≡ facts.asked_of (statement_view statement.now) }
+pub fn prompt_of(statement: &Statement) -> Option<&Prompt>
+    ensures { option_map (λ p. asked_view p.now) result ≡ facts.prompt_of (statement_view statement.now) }
 {
     match statement {
         Statement::Type(_, Some(p)) => Some(p),
@@ -121,15 +121,15 @@ pub fn condition(when: &Option<Rc<Expr>>) -> Option<&Rc<Expr>>
 }
 
 /// The default of a line.
-pub fn given_of(statement: &Statement) -> Option<Given<'_>>
-    ensures { option_map given_view result ≡ facts.given_of (statement_view statement.now) }
+pub fn stated_default(statement: &Statement) -> Option<StatedDefault<'_>>
+    ensures { option_map stated_default_view result ≡ facts.stated_default (statement_view statement.now) }
 {
     match statement {
-        Statement::Default(value, when) => Some(Given {
+        Statement::Default(value, when) => Some(StatedDefault {
             value,
             when: condition(when),
         }),
-        Statement::Def(_, value, when) => Some(Given {
+        Statement::Def(_, value, when) => Some(StatedDefault {
             value,
             when: condition(when),
         }),

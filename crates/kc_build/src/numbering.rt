@@ -6,7 +6,7 @@ ghost use Rattle.kc_read.specs.Expansion.{Log, Expands};
 ghost use Rattle.kc_read.specs.Files.{bytes_in};
 ghost use Rattle.kc_read.specs.Expanded.{AreNumbers, IsExpansion, IsNamed};
 ghost use Rattle.kc_read.specs.Limits.{most_lines};
-ghost use Rattle.kc_read.specs.Steps.{IsMemory, out_of_memory, refusal_view};
+ghost use Rattle.kc_read.specs.RefusalView.{IsMemory, out_of_memory, refusal_view};
 ghost use Rattle.kc_read.specs.declared.refusal.Code.TheVariants.{Memory};
 ghost use Rattle.kc_build.specs.Numberings.{IsListing};
 
@@ -16,8 +16,8 @@ use kc_expr::names::Names;
 use kc_expr::order::SymbolOrder;
 use kc_read::expansion::{Expansion, expand};
 use kc_read::file_map::FileMap;
-use kc_read::line::Line;
 use kc_read::refusal::{Code, Refusal};
+use kc_read::statement::Line;
 use std::alloc::{AllocError, Global};
 
 /// The lines of a root file, with their names numbered: those of the defined symbols, `count` of them, in order of
@@ -37,7 +37,7 @@ pub fn memory(alloc: Global) -> Refusal
 {
     Refusal {
         code: Code::Memory,
-        place: None,
+        location: None,
         detail: Vec::new(alloc),
     }
 }
@@ -53,8 +53,8 @@ fn modules_symbol(names: &mut Names, modules: Option<SymId>) -> Result<SymId, Al
     }
 }
 
-// All names are placed behind the symbols that are placed: the place that each has then.
-fn place_names(alloc: Global, names: &Names, order: SymbolOrder) -> Result<Vec<SymId>, AllocError>
+// All names get ranks, behind the symbols that have one: the rank that each has then, which is its final number.
+fn number_names(alloc: Global, names: &Names, order: SymbolOrder) -> Result<Vec<SymId>, AllocError>
     ensures few { OnOk result (length names.now ≤ usize.MAX) }
     ensures places { IfOk result (λ v. (placed : List (List ℕ)) → AreNumbers names.now order placed → v.items ≡ map (λ n. symbol (number_of (all_mentioned placed names.now) n)) names.now) }
 {
@@ -65,8 +65,8 @@ fn place_names(alloc: Global, names: &Names, order: SymbolOrder) -> Result<Vec<S
         let id = SymId(i);
         // Each name has a number of its own.
         let _name = names.name(id);
-        let place = order.place(id)?;
-        places.push(place)?;
+        let rank = order.rank(id)?;
+        places.push(rank)?;
     }
     Ok(places)
 }
@@ -87,8 +87,8 @@ fn number_lines(
     let mut order = expansion.defined;
     let count = order.count();
     let symbol = modules_symbol(&mut names, expansion.modules)?;
-    let modules = order.place(symbol)?;
-    let numbers = place_names(alloc, &names, order)?;
+    let modules = order.rank(symbol)?;
+    let numbers = number_names(alloc, &names, order)?;
     let mut lines = expansion.lines;
     rename_lines(alloc, &mut lines, &numbers, modules)?;
     names.renumber(numbers);

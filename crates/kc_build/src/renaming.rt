@@ -3,13 +3,12 @@
 ghost use Rattle.std.specs.Prelude.{◌≡◌, map, option_map, OnOk};
 ghost use Rattle.kc_expr.specs.Form.{form_of, leaf_of};
 ghost use Rattle.kc_expr.specs.When.{when_view};
-ghost use Rattle.kc_read.specs.Reads.{line_view, statement_view};
+ghost use Rattle.kc_read.specs.StatementViews.{line_view, statement_view};
 ghost use Rattle.kc_build.specs.Renamings.{final, renamed, leaf_renamed, statement_renamed, line_renamed};
 
 use crate::copies::expression_copy;
 use kc_expr::expression::{Expr, Operand, SymId};
-use kc_read::line::Line;
-use kc_read::statement::{Bounds, Statement};
+use kc_read::statement::{Bounds, Line, Statement};
 use std::alloc::{AllocError, Global};
 use std::rc::Rc;
 
@@ -28,7 +27,7 @@ fn rename_operand(operand: &mut Operand, numbers: &[SymId], modules: SymId)
     ensures { leaf_of operand.new ≡ leaf_renamed (final numbers.now modules) (leaf_of operand.old) }
 {
     match operand {
-        Operand::Const(_) | Operand::Letter(_) => {}
+        Operand::Const(_) | Operand::TristateConstant(_) => {}
         Operand::Sym(symbol) => *symbol = final_number(numbers, modules, *symbol),
     }
 }
@@ -96,7 +95,7 @@ fn rename_condition(
 }
 
 // The symbols of an expression and of its condition get their final numbers.
-fn rename_given(
+fn rename_default(
     alloc: Global,
     value: &mut Rc<Expr>,
     when: &mut Option<Rc<Expr>>,
@@ -163,8 +162,8 @@ fn rename_statement(
             rename_condition(alloc, &mut prompt.when, numbers, modules)
         }
         Statement::Prompt(prompt) => rename_condition(alloc, &mut prompt.when, numbers, modules),
-        Statement::Default(value, when) => rename_given(alloc, value, when, numbers, modules),
-        Statement::Def(_, value, when) => rename_given(alloc, value, when, numbers, modules),
+        Statement::Default(value, when) => rename_default(alloc, value, when, numbers, modules),
+        Statement::Def(_, value, when) => rename_default(alloc, value, when, numbers, modules),
         Statement::Select(symbol, when) => rename_target(alloc, symbol, when, numbers, modules),
         Statement::Imply(symbol, when) => rename_target(alloc, symbol, when, numbers, modules),
         Statement::Range(bounds, when) => rename_range(alloc, bounds, when, numbers, modules),

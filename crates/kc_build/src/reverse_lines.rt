@@ -1,18 +1,18 @@
 //! What the entries of symbols select and imply.
 
 ghost use Rattle.std.specs.Prelude.{◌≡◌, ◌<◌, ◌+◌, ◌^◌, ◌++◌, ◌∷◌, [], None, Some, length, option_map, slice_index_or, slice_set, OnOk, OnErr};
-ghost use Rattle.kc_build.specs.Known.{can_be_target};
-ghost use Rattle.kc_build.specs.Passes.{said_by};
+ghost use Rattle.kc_build.specs.SymbolRows.{can_be_target};
+ghost use Rattle.kc_build.specs.Passes.{statements_of};
 ghost use Rattle.kc_build.specs.ReverseRows.{IsAdded, AreAdded, KeepSources};
 ghost use Rattle.kc_expr.specs.Form.{form_of};
 
-use crate::attributes::share;
+use crate::attributes::shared_condition;
 use crate::lines::{ReverseKind, Target, target_of};
 use crate::symbols::{choice_of, has_text, kind_of};
 use kc_expr::expression::{Expr, SymId};
-use kc_read::line::Line;
-use kc_tree::parts::{DefinitionId, Reverse, ReverseId, Symbol};
+use kc_read::statement::Line;
 use kc_tree::reverses::Reverses;
+use kc_tree::rows::{DefinitionId, Reverse, ReverseId, Symbol};
 use std::alloc::AllocError;
 use std::rc::Rc;
 
@@ -66,7 +66,7 @@ fn add_reverse(
     if !is_target(symbols, target.symbol) {
         return Ok(());
     }
-    let when = share(target.when)?;
+    let when = shared_condition(target.when)?;
     let symbol = target.symbol;
     match target.kind {
         ReverseKind::Select => add_line(
@@ -96,7 +96,7 @@ pub fn add_reverses(
     requires count { length reverses.old.selects.items ≡ length symbols.now }
     requires same { length reverses.old.implies.items ≡ length symbols.now }
     requires few { length reverses.old.lines.items + length attributes.now < 2 ^ 32 }
-    ensures added { OnOk result (AreAdded symbols.now source reverses.old (said_by attributes.now) reverses.new) }
+    ensures added { OnOk result (AreAdded symbols.now source reverses.old (statements_of attributes.now) reverses.new) }
     ensures sources { KeepSources source.0 reverses.old.lines.items reverses.new.lines.items }
 {
     for line in attributes {

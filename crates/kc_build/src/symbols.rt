@@ -3,25 +3,24 @@
 ghost use Rattle.std.specs.Prelude.{◌≡◌, ◌<◌, ◌+◌, ◌^◌, length, map, option_map, IfOk, OnOk};
 ghost use Rattle.std.specs.List.{filter_map};
 ghost use Rattle.kc_read.specs.Blocks.{numbers};
-ghost use Rattle.kc_read.specs.Reads.{statement_view};
+ghost use Rattle.kc_read.specs.StatementViews.{statement_view};
 ghost use Rattle.kc_build.specs.Facts as facts;
 ghost use Rattle.kc_build.specs.Facts.{first_of};
-ghost use Rattle.kc_build.specs.Known as known;
-ghost use Rattle.kc_build.specs.Known.{row_view, AreSymbols, AreTyped};
-ghost use Rattle.kc_build.specs.Passes.{said_by};
-ghost use Rattle.kc_build.specs.SymbolWalk.{unknown, first_kind, with_definition, noted, HasFirst, HaveFirsts, IsPassed, AreSettled};
+ghost use Rattle.kc_build.specs.SymbolRows as symbol_rows;
+ghost use Rattle.kc_build.specs.SymbolRows.{row_view, AreSymbols, AreTyped};
+ghost use Rattle.kc_build.specs.Passes.{statements_of};
+ghost use Rattle.kc_build.specs.SymbolWalk.{unknown, first_kind, with_definition, noted, HasFirstIfMore, HaveFirstIfMore, IsPassed, HaveMemberTypes};
 
 use crate::attributes::{entry_end, first_type};
 use kc_expr::expression::{Kind, SymId};
-use kc_read::line::Line;
-use kc_read::statement::Statement;
-use kc_tree::parts::{ChoiceId, DefinitionId, Symbol};
+use kc_read::statement::{Line, Statement};
+use kc_tree::rows::{ChoiceId, DefinitionId, Symbol};
 use std::alloc::{AllocError, Global};
 
-// What is round a line: the choice, and for each open block the choice round its opener; and how many choices and
-// definitions stand before the line.
+// The scope of a line: the choice that encloses it, and for each open block the choice that encloses its first line; and
+// how many choices and definitions stand before the line.
 #[derive(Drop)]
-struct Surroundings {
+struct ChoiceScope {
     choice: Option<ChoiceId>,
     outside: Vec<Option<ChoiceId>>,
     choices: usize,
@@ -31,7 +30,7 @@ struct Surroundings {
 // Symbols of which nothing is known yet.
 fn unknown_symbols(alloc: Global, count: usize) -> Result<Vec<Symbol>, AllocError>
     ensures rows { IfOk result (λ v. map row_view v.items ≡ map (λ _. unknown) (numbers count)) }
-    ensures firsts { IfOk result (λ v. HaveFirsts v.items) }
+    ensures firsts { IfOk result (λ v. HaveFirstIfMore v.items) }
 {
     let mut symbols = Vec::with_capacity(alloc, count)?;
     for _ in 0..count {
@@ -62,9 +61,9 @@ fn add_definition(
     kind: Option<Kind>,
     choice: Option<ChoiceId>,
 ) -> Result<(), AllocError>
-    requires { HasFirst symbol.old }
+    requires { HasFirstIfMore symbol.old }
     ensures row { OnOk result (row_view symbol.new ≡ with_definition id.0 kind (option_map (λ k. k.0) choice) (row_view symbol.old)) }
-    ensures first { OnOk result (HasFirst symbol.new) }
+    ensures first { OnOk result (HasFirstIfMore symbol.new) }
 {
     symbol.kind = first_kind(symbol.kind, kind);
     symbol.choice = symbol.choice.or(choice);
@@ -78,38 +77,38 @@ fn add_definition(
 // Adds the definition with these attributes to its symbol, where that is one of the list.
 fn note_definition(
     symbols: &mut Vec<Symbol>,
-    round: &Surroundings,
+    scope: &ChoiceScope,
     symbol: SymId,
     own: &[Line],
 ) -> Result<(), AllocError>
-    requires { HaveFirsts symbols.old.items }
-    ensures rows { OnOk result (map row_view symbols.new.items ≡ noted round.now.definitions (first_of (filter_map facts.type_of (said_by own.now))) (option_map (λ k. k.0) round.now.choice) symbol (map row_view symbols.old.items)) }
-    ensures firsts { OnOk result (HaveFirsts symbols.new.items) }
+    requires { HaveFirstIfMore symbols.old.items }
+    ensures rows { OnOk result (map row_view symbols.new.items ≡ noted scope.now.definitions (first_of (filter_map facts.type_of (statements_of own.now))) (option_map (λ k. k.0) scope.now.choice) symbol (map row_view symbols.old.items)) }
+    ensures firsts { OnOk result (HaveFirstIfMore symbols.new.items) }
 {
     if symbol.0 < symbols.len() {
-        let id = DefinitionId(round.definitions);
-        add_definition(&mut symbols[symbol.0], id, first_type(own), round.choice)?;
+        let id = DefinitionId(scope.definitions);
+        add_definition(&mut symbols[symbol.0], id, first_type(own), scope.choice)?;
     }
     Ok(())
 }
 
-// What is round the line after one.
-fn pass(round: &mut Surroundings, statement: &Statement) -> Result<(), AllocError>
-    requires definitions { round.old.definitions + 1 < 2 ^ 32 }
-    requires choices { round.old.choices + 1 < 2 ^ 64 }
-    ensures { OnOk result (IsPassed round.old (statement_view statement.now) round.new) }
+// Makes of the scope of a line that of the line after it.
+fn pass(scope: &mut ChoiceScope, statement: &Statement) -> Result<(), AllocError>
+    requires definitions { scope.old.definitions + 1 < 2 ^ 32 }
+    requires choices { scope.old.choices + 1 < 2 ^ 64 }
+    ensures { OnOk result (IsPassed scope.old (statement_view statement.now) scope.new) }
 {
     match statement {
-        Statement::Config(_) => round.definitions += 1,
-        Statement::If(_) | Statement::Menu(_) => round.outside.push(round.choice)?,
+        Statement::Config(_) => scope.definitions += 1,
+        Statement::If(_) | Statement::Menu(_) => scope.outside.push(scope.choice)?,
         Statement::Choice => {
-            round.outside.push(round.choice)?;
-            round.choice = Some(ChoiceId(round.choices));
-            round.choices += 1;
+            scope.outside.push(scope.choice)?;
+            scope.choice = Some(ChoiceId(scope.choices));
+            scope.choices += 1;
         }
         Statement::EndIf | Statement::EndMenu | Statement::EndChoice => {
-            if let Some(choice) = round.outside.pop() {
-                round.choice = choice;
+            if let Some(choice) = scope.outside.pop() {
+                scope.choice = choice;
             }
         }
         _ => {}
@@ -118,8 +117,8 @@ fn pass(round: &mut Surroundings, statement: &Statement) -> Result<(), AllocErro
 }
 
 // A choice's member without a type is a bool.
-fn settle_kinds(symbols: &mut Vec<Symbol>)
-    ensures { AreSettled (map row_view symbols.old.items) (map row_view symbols.new.items) }
+fn give_member_types(symbols: &mut Vec<Symbol>)
+    ensures { HaveMemberTypes (map row_view symbols.old.items) (map row_view symbols.new.items) }
 {
     for i in 0..symbols.len() {
         if symbols[i].choice.is_some() {
@@ -131,12 +130,12 @@ fn settle_kinds(symbols: &mut Vec<Symbol>)
 /// What the lines say of the first `count` symbols: their types, their choices and their definitions.
 pub fn symbols(alloc: Global, lines: &[Line], count: usize) -> Result<Vec<Symbol>, AllocError>
     requires few { length lines.now < 2 ^ 32 }
-    requires typed { AreTyped (said_by lines.now) }
+    requires typed { AreTyped (statements_of lines.now) }
     ensures count { IfOk result (λ v. length v.items ≡ count) }
-    ensures rows { IfOk result (λ v. AreSymbols (said_by lines.now) v.items) }
+    ensures rows { IfOk result (λ v. AreSymbols (statements_of lines.now) v.items) }
 {
     let mut symbols = unknown_symbols(alloc, count)?;
-    let mut round = Surroundings {
+    let mut scope = ChoiceScope {
         choice: None,
         outside: Vec::new(alloc),
         choices: 0,
@@ -147,18 +146,18 @@ pub fn symbols(alloc: Global, lines: &[Line], count: usize) -> Result<Vec<Symbol
         let end = entry_end(lines, place);
         let statement = &lines[place].statement;
         if let Statement::Config(symbol) = statement {
-            note_definition(&mut symbols, &round, *symbol, &lines[place + 1..end])?;
+            note_definition(&mut symbols, &scope, *symbol, &lines[place + 1..end])?;
         }
-        pass(&mut round, statement)?;
+        pass(&mut scope, statement)?;
         place = end;
     }
-    settle_kinds(&mut symbols);
+    give_member_types(&mut symbols);
     Ok(symbols)
 }
 
 /// The type of a symbol; a name that is not defined has none.
 pub fn kind_of(symbols: &[Symbol], symbol: SymId) -> Kind
-    ensures { result ≡ known.kind_by symbols.now symbol }
+    ensures { result ≡ symbol_rows.kind_by symbols.now symbol }
 {
     match symbols.get(symbol.0) {
         Some(found) => found.kind,
@@ -168,7 +167,7 @@ pub fn kind_of(symbols: &[Symbol], symbol: SymId) -> Kind
 
 /// The choice of which a symbol is a member.
 pub fn choice_of(symbols: &[Symbol], symbol: SymId) -> Option<ChoiceId>
-    ensures { option_map (λ k. k.0) result ≡ known.choice_by symbols.now symbol }
+    ensures { option_map (λ k. k.0) result ≡ symbol_rows.choice_by symbols.now symbol }
 {
     match symbols.get(symbol.0) {
         Some(found) => found.choice,
@@ -178,7 +177,7 @@ pub fn choice_of(symbols: &[Symbol], symbol: SymId) -> Option<ChoiceId>
 
 /// The symbol is a member of the choice.
 pub fn is_member(symbols: &[Symbol], choice: ChoiceId, symbol: SymId) -> bool
-    ensures { result ≡ known.member_by symbols.now choice.0 symbol }
+    ensures { result ≡ symbol_rows.member_by symbols.now choice.0 symbol }
 {
     match choice_of(symbols, symbol) {
         Some(own) => own.0 == choice.0,
@@ -188,7 +187,7 @@ pub fn is_member(symbols: &[Symbol], choice: ChoiceId, symbol: SymId) -> bool
 
 /// The definition is the first of its symbol.
 pub fn is_first(symbols: &[Symbol], symbol: SymId, id: DefinitionId) -> bool
-    ensures { result ≡ known.first_by symbols.now symbol id.0 }
+    ensures { result ≡ symbol_rows.first_by symbols.now symbol id.0 }
 {
     match symbols.get(symbol.0) {
         Some(found) => found.first == Some(id),

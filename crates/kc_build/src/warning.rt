@@ -1,30 +1,30 @@
 //! A warning about a tree, and its text.
 
 ghost use Rattle.std.specs.Prelude.{◌≡◌, ◌++◌, codes, IfOk};
-ghost use Rattle.kc_read.specs.Reads.{line_view};
+ghost use Rattle.kc_read.specs.StatementViews.{line_view};
 ghost use Rattle.kc_build.specs.Warnings as spec;
 
 use crate::lines::ReverseKind;
 use itoa::Buffer;
 use kc_expr::expression::SymId;
 use kc_expr::names::Names;
-use kc_read::line::Line;
+use kc_read::statement::Line;
 use std::alloc::{AllocError, Global};
 
 /// What there is to warn of, about a line:
-/// - `Retyped`: a type line whose type is not the symbol's first type, which is kept;
-/// - `Reprompted`: a second prompt in one entry, of which the last is kept; without a symbol it is a choice's;
-/// - `Untyped`: the first definition of a symbol that has no type and is no member of a choice;
+/// - `TypeRedefined`: a type line whose type is not the symbol's first type, which is kept;
+/// - `PromptRedefined`: a second prompt in one entry, of which the last is kept; without a symbol it is a choice's;
+/// - `WithoutType`: the first definition of a symbol that has no type and is no member of a choice;
 /// - `TextTarget`: a select or imply of a string, int or hex symbol, which has no effect;
-/// - `OtherDefault`: a choice's default that names no member of it;
+/// - `DefaultNotMember`: a choice's default that names no member of it;
 /// - `MemberTarget`: a select or imply of a member of a choice, which has no effect.
 #[derive(Clone, Copy, Debug, PartialEq, Eq)]
 pub enum Warning {
-    Retyped(SymId),
-    Reprompted(Option<SymId>),
-    Untyped(SymId),
+    TypeRedefined(SymId),
+    PromptRedefined(Option<SymId>),
+    WithoutType(SymId),
     TextTarget(SymId, ReverseKind),
-    OtherDefault(SymId),
+    DefaultNotMember(SymId),
     MemberTarget(SymId, ReverseKind),
 }
 
@@ -89,19 +89,19 @@ pub fn text_of(alloc: Global, names: &Names, warning: Warning) -> Result<Vec<u8>
     ensures { IfOk result (λ v. v.items ≡ spec.text_of names.now warning) }
 {
     match warning {
-        Warning::Retyped(s) => joined_text(
+        Warning::TypeRedefined(s) => joined_text(
             alloc,
             b"K1: type of ",
             name_of(names, s),
             b" redefined, the first is kept",
         ),
-        Warning::Reprompted(s) => joined_text(
+        Warning::PromptRedefined(s) => joined_text(
             alloc,
             b"K2: prompt of ",
             entry_name(names, s),
             b" redefined, the last is kept",
         ),
-        Warning::Untyped(s) => joined_text(alloc, b"K3: ", name_of(names, s), b" has no type"),
+        Warning::WithoutType(s) => joined_text(alloc, b"K3: ", name_of(names, s), b" has no type"),
         Warning::TextTarget(s, kind) => target_text(
             alloc,
             b"K4: ",
@@ -109,7 +109,7 @@ pub fn text_of(alloc: Global, names: &Names, warning: Warning) -> Result<Vec<u8>
             b" is not bool or tristate, the ",
             kind,
         ),
-        Warning::OtherDefault(s) => joined_text(
+        Warning::DefaultNotMember(s) => joined_text(
             alloc,
             b"K5: ",
             name_of(names, s),

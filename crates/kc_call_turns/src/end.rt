@@ -4,7 +4,7 @@ use std::alloc::AllocError;
 
 /// How a call ended in which a growth may have been refused.
 #[derive(Clone, Copy)]
-pub(crate) enum End {
+pub(crate) enum CallEnd {
     /// It did its work.
     Done,
     /// It answered being out of memory, and left what its contract says.
@@ -14,21 +14,25 @@ pub(crate) enum End {
 }
 
 /// The end of a call that did its work, where this holds of the work.
-pub(crate) fn done(holds: bool) -> End {
-    if holds { End::Done } else { End::Wrong }
+pub(crate) fn done(holds: bool) -> CallEnd {
+    if holds { CallEnd::Done } else { CallEnd::Wrong }
 }
 
 /// The end of a call that answered being out of memory, where this holds of what it left.
-pub(crate) fn refused(holds: bool) -> End {
-    if holds { End::Refused } else { End::Wrong }
+pub(crate) fn refused(holds: bool) -> CallEnd {
+    if holds {
+        CallEnd::Refused
+    } else {
+        CallEnd::Wrong
+    }
 }
 
 /// How a call ended, in words. The error is out of memory for what the call works on.
-pub(crate) fn said(end: Result<End, AllocError>) -> &'static str {
+pub(crate) fn said(end: Result<CallEnd, AllocError>) -> &'static str {
     match end {
-        Ok(End::Done) => "done",
-        Ok(End::Refused) => "refused",
-        Ok(End::Wrong) => "wrong",
+        Ok(CallEnd::Done) => "done",
+        Ok(CallEnd::Refused) => "refused",
+        Ok(CallEnd::Wrong) => "wrong",
         Err(_) => "no memory before it",
     }
 }

@@ -1,10 +1,10 @@
 //! Names and expressions.
 
-use crate::end::{End, done, refused};
+use crate::end::{CallEnd, done, refused};
 use kc_expr::expression::{Expr, SymId};
 use kc_expr::names::Names;
 use kc_expr::parse::{ExprFault, parse};
-use kc_expr::values::names_into;
+use kc_expr::values::symbols_into;
 use kc_text::{Token, lex};
 use std::alloc::{AllocError, Global};
 
@@ -46,13 +46,13 @@ fn is_unnumbered(names: &mut Names, count: usize, name: &[u8]) -> bool {
 }
 
 /// `id`, of each of `NAMES`.
-pub(crate) fn call_id(alloc: Global) -> Result<End, AllocError> {
+pub(crate) fn call_id(alloc: Global) -> Result<CallEnd, AllocError> {
     let mut names = Names::new(alloc);
     let mut count = 0usize;
     for name in NAMES {
         match names.id(name) {
             Ok(id) if id == SymId(count) => count = count.saturating_add(1),
-            Ok(_) => return Ok(End::Wrong),
+            Ok(_) => return Ok(CallEnd::Wrong),
             Err(_) => return Ok(refused(is_unnumbered(&mut names, count, name))),
         }
     }
@@ -89,7 +89,7 @@ fn part_count(expression: &Expr) -> usize {
 }
 
 /// `parse`, of an expression of six names, two of which are known.
-pub(crate) fn call_parse(alloc: Global) -> Result<End, AllocError> {
+pub(crate) fn call_parse(alloc: Global) -> Result<CallEnd, AllocError> {
     let tokens = tokens_of(alloc, EXPRESSION)?;
     let mut names = two_names(alloc)?;
     match parse(alloc, &tokens, 0, None, &mut names) {
@@ -124,12 +124,12 @@ const LISTED: &[SymId] = &[
     SymId(5),
 ];
 
-/// `names_into`, behind a symbol that stands there.
-pub(crate) fn call_names_into(alloc: Global) -> Result<End, AllocError> {
+/// `symbols_into`, behind a symbol that stands there.
+pub(crate) fn call_symbols_into(alloc: Global) -> Result<CallEnd, AllocError> {
     let mut names = two_names(alloc)?;
     let expression = parsed(alloc, EXPRESSION, &mut names)?;
     let mut listed = vec![in alloc; SymId(9)]?;
-    match names_into(&expression, &mut listed) {
+    match symbols_into(&expression, &mut listed) {
         Ok(()) => Ok(done(listed.as_slice() == LISTED)),
         Err(_) => Ok(refused(!listed.is_empty() && LISTED.starts_with(&listed))),
     }

@@ -1,6 +1,6 @@
 //! The lines of a file and their tokens.
 
-use crate::end::{End, done, refused};
+use crate::end::{CallEnd, done, refused};
 use kc_text::{LogicalLines, Span, TextFault, lex};
 use std::alloc::{AllocError, Global};
 
@@ -14,7 +14,7 @@ fn stays_refused(lines: &mut LogicalLines<'_>, line: &mut Vec<u8>) -> bool {
 }
 
 /// `next_into`, at a line that is joined of two.
-pub(crate) fn call_next_into(alloc: Global) -> Result<End, AllocError> {
+pub(crate) fn call_next_into(alloc: Global) -> Result<CallEnd, AllocError> {
     let mut lines = LogicalLines::new(FILE);
     let mut line = Vec::new(alloc);
     match lines.next_into(&mut line) {
@@ -30,7 +30,7 @@ pub(crate) fn call_next_into(alloc: Global) -> Result<End, AllocError> {
 }
 
 /// `lex`, at a line of eleven tokens and a comment.
-pub(crate) fn call_lex(alloc: Global) -> Result<End, AllocError> {
+pub(crate) fn call_lex(alloc: Global) -> Result<CallEnd, AllocError> {
     let mut tokens = Vec::new(alloc);
     match lex(b"default \"x\" if A && !(B || C) # why", &mut tokens) {
         Ok(()) => {

@@ -3,20 +3,20 @@
 //! and leaves what its contract says: no call may be wrong then.
 #![tactic(auto)]
 
-mod dots;
+mod config_files;
 mod end;
 mod expressions;
 mod lines;
-mod paper;
+mod sink;
 mod trees;
 
-use crate::dots::Output;
-use crate::end::{End, said};
+use crate::config_files::Output;
+use crate::end::{CallEnd, said};
 use std::alloc::AllocError;
 use std::io;
 
 // One line: the call, and how it ended.
-fn tell(rt: &HostRuntime, name: &str, end: Result<End, AllocError>) -> io::Result<()> {
+fn tell(rt: &HostRuntime, name: &str, end: Result<CallEnd, AllocError>) -> io::Result<()> {
     let said = said(end);
     println!(rt; "{name}: {said}")
 }
@@ -26,7 +26,11 @@ fn main(rt: HostRuntime) -> io::Result<()> {
     tell(&rt, "lex", lines::call_lex(rt.alloc()))?;
     tell(&rt, "id", expressions::call_id(rt.alloc()))?;
     tell(&rt, "parse", expressions::call_parse(rt.alloc()))?;
-    tell(&rt, "names_into", expressions::call_names_into(rt.alloc()))?;
+    tell(
+        &rt,
+        "symbols_into",
+        expressions::call_symbols_into(rt.alloc()),
+    )?;
     tell(&rt, "insert", trees::call_insert(rt.alloc()))?;
     tell(&rt, "sources_of", trees::call_sources_of(rt.alloc()))?;
     tell(&rt, "build", trees::call_build(rt.alloc()))?;
@@ -36,21 +40,21 @@ fn main(rt: HostRuntime) -> io::Result<()> {
         "Order::of a loop",
         trees::call_order_of_loop(rt.alloc()),
     )?;
-    tell(&rt, "solve", dots::call_solve(rt.alloc()))?;
-    tell(&rt, "feed", dots::call_feed(rt.alloc()))?;
+    tell(&rt, "solve", config_files::call_solve(rt.alloc()))?;
+    tell(&rt, "feed", config_files::call_feed(rt.alloc()))?;
     tell(
         &rt,
         "write_config",
-        dots::call_write(rt.alloc(), Output::Config),
+        config_files::call_write(rt.alloc(), Output::Config),
     )?;
     tell(
         &rt,
         "write_header",
-        dots::call_write(rt.alloc(), Output::Header),
+        config_files::call_write(rt.alloc(), Output::Header),
     )?;
     tell(
         &rt,
         "write_minimal",
-        dots::call_write(rt.alloc(), Output::Minimal),
+        config_files::call_write(rt.alloc(), Output::Minimal),
     )
 }

@@ -1,6 +1,6 @@
 //! Files, trees and orders.
 
-use crate::end::{End, done, refused};
+use crate::end::{CallEnd, done, refused};
 use kc_build::build_tree;
 use kc_expr::expression::SymId;
 use kc_read::file_map::FileMap;
@@ -33,7 +33,7 @@ fn are_filled(files: &FileMap, count: usize) -> bool {
 }
 
 /// `insert`, of each of `FILES`.
-pub(crate) fn call_insert(alloc: Global) -> Result<End, AllocError> {
+pub(crate) fn call_insert(alloc: Global) -> Result<CallEnd, AllocError> {
     let mut files = FileMap::new(alloc);
     let mut count = 0usize;
     for (name, bytes) in FILES {
@@ -64,10 +64,10 @@ fn are_named(names: &[Vec<u8>], want: &[&[u8]]) -> bool {
 }
 
 /// `sources_of`, of a file with three such lines, one of them joined.
-pub(crate) fn call_sources_of(alloc: Global) -> Result<End, AllocError> {
+pub(crate) fn call_sources_of(alloc: Global) -> Result<CallEnd, AllocError> {
     match sources_of(alloc, SOURCES) {
         Ok(names) => Ok(done(are_named(&names, &[b"a", b"b/c", b"d"]))),
-        Err(_) => Ok(End::Refused),
+        Err(_) => Ok(CallEnd::Refused),
     }
 }
 
@@ -111,13 +111,13 @@ pub(crate) fn tree_of(alloc: Global) -> Result<Tree, AllocError> {
     tree_with(alloc, KCONFIG)
 }
 
-// Being out of memory, with no place and no detail.
+// Being out of memory, with no location and no detail.
 fn is_memory(refusal: &Refusal) -> bool {
-    refusal.code == Code::Memory && refusal.place.is_none() && refusal.detail.is_empty()
+    refusal.code == Code::Memory && refusal.location.is_none() && refusal.detail.is_empty()
 }
 
 /// `build`.
-pub(crate) fn call_build(alloc: Global) -> Result<End, AllocError> {
+pub(crate) fn call_build(alloc: Global) -> Result<CallEnd, AllocError> {
     let files = files_of(alloc, KCONFIG)?;
     match build_tree(alloc, &files, b"Kconfig") {
         Ok(tree) => {
@@ -144,7 +144,7 @@ fn is_order(nodes: &[u32]) -> bool {
 }
 
 /// `Order::of`, of the tree of the calls.
-pub(crate) fn call_order_of(alloc: Global) -> Result<End, AllocError> {
+pub(crate) fn call_order_of(alloc: Global) -> Result<CallEnd, AllocError> {
     let tree = tree_of(alloc)?;
     match Order::of(alloc, &tree, tree.layout()) {
         Ok(order) => Ok(done(is_order(order.nodes()))),
@@ -153,16 +153,16 @@ pub(crate) fn call_order_of(alloc: Global) -> Result<End, AllocError> {
 }
 
 /// `Order::of`, of a tree whose loop is named.
-pub(crate) fn call_order_of_loop(alloc: Global) -> Result<End, AllocError> {
+pub(crate) fn call_order_of_loop(alloc: Global) -> Result<CallEnd, AllocError> {
     let tree = tree_with(alloc, LOOP)?;
     match Order::of(alloc, &tree, tree.layout()) {
-        Ok(_) => Ok(End::Wrong),
+        Ok(_) => Ok(CallEnd::Wrong),
         Err(refusal) => {
             if refusal.code == Code::Memory {
                 return Ok(refused(is_memory(&refusal)));
             }
             let is_named = refusal.detail.as_slice() == b"A -> B -> A".as_slice();
-            Ok(done(refusal.code == Code::Loop && refusal.place.is_none() && is_named))
+            Ok(done(refusal.code == Code::Loop && refusal.location.is_none() && is_named))
         }
     }
 }

@@ -1,42 +1,41 @@
 -- There is an outcome.
-use Rattle.std.proofs.Common.{◌≡◌, ◌⊎◌, ℕ, ◌<◌, ◌+◌, List, [], ◌∷◌, length, map, get_or, Option, Some, None, Result, Ok, Err, refl, ap, sym, ◌∙◌, arith, inl, inr, subst}
-use Rattle.std.specs.List.{Contains, range_with_len}
+use Rattle.std.proofs.Common.{◌≡◌, ◌⊎◌, ℕ, ◌<◌, List, [], length, map, get_or, Option, Some, None, Result, Ok, Err, refl, sym, ◌∙◌, arith, inl, inr}
+use Rattle.std.specs.List.{range_with_len}
 use Rattle.std.proofs.lemmas.List.FromFn.{get_or-map-range_with_len, length-map-range_with_len}
-use Rattle.kc_expr.specs.Value.{Known, Written}
+use Rattle.kc_expr.specs.Value.{SymbolValue, TextValue}
 use Rattle.kc_expr.specs.declared.expression.Kind.TheVariants.{Undefined}
 use Rattle.kc_make.specs.Opened.{OpenedAreThere}
-use Rattle.kc_read.specs.Expansion.{Expands, Log, Refused}
+use Rattle.kc_read.specs.Expansion.{Refused}
 use Rattle.kc_read.specs.Files.{Files}
 use Rattle.kc_tree.specs.TreeFacts.{TreeFacts}
 use Rattle.kc_build.specs.Trees.{IsTreeOf, TreesAreWellFormed, tree_of_log}
-use Rattle.kc_user.specs.Places.{ArePlaces, IsUserOf, Places, no_places, place_at}
+use Rattle.kc_user.specs.Places.{ArePlaces, Places, place_at}
 use Rattle.kc_order.specs.Laws as order
-use Rattle.kc_order.specs.Needs.{needs_in}
 use Rattle.kc_order.specs.Solution.{IsOnlySolution, Solves}
-use Rattle.kc_values.specs.Laws.{AcceptedHaveOneSolution, EquationsReadNeeds, IsAccepted, NeedsAreDefined}
+use Rattle.kc_values.specs.Laws.{AcceptedHaveOneSolution, EquationsReadNeeds, NeedsAreDefined}
 use Rattle.kc_values.specs.Needs.{needs, needs_of}
 use Rattle.kc_values.specs.Solution.{equations, symbol_count}
 use Rattle.kc_solve.specs.LoopText.{loop_text}
 use Rattle.kc_solve.specs.Refused.{loop_refused}
 use Rattle.kc_solve.specs.Solved.{Solution, value_of}
-use Rattle.kc_dot.specs.Reading.{Read, Stop}
+use Rattle.kc_dot.specs.Reading.{StreamLocation}
 use Rattle.kc_dot.specs.Streams.{StreamsLeavePlaces}
 use Rattle.kc_conf.specs.declared.options.Options.{Options}
 use Rattle.kc_conf.specs.ErrorLines.{refusal_line, too_long_line}
 use Rattle.kc_conf.specs.Existence.{AcceptedHaveAnOutcome, AnswerExists, OutcomeExists, SolutionExists}
-use Rattle.kc_conf.specs.Outcome.{IsAcceptedTree, IsLenientOutcome, IsOutcome, IsOutcomeOfReading, IsRefusedTree, IsSolutionFor, Outcome, accepted_tree, lines_text, long_line, looped, names_of, no_tree, noted, outcome_of, read_of, refused, refused_tree, root_of, streams, strictly, whole, with_rule}
+use Rattle.kc_conf.specs.Outcome.{IsAcceptedTree, IsLenientOutcome, IsOutcome, IsOutcomeOfReading, IsRefusedTree, Outcome, accepted_tree, lines_text, long_line, looped, names_of, no_tree, noted, outcome_of, read_of, refused, refused_tree, root_file, streams, strictly, whole, with_rule}
 
 -- ---- a solution
 
-module _ (reads : EquationsReadNeeds) (within : NeedsAreDefined) (tree : TreeFacts) (places : Places) (V : ℕ → Known) where
-  abbrev values : List Known
+module _ (reads : EquationsReadNeeds) (within : NeedsAreDefined) (tree : TreeFacts) (places : Places) (V : ℕ → SymbolValue) where
+  abbrev values : List SymbolValue
   values = map V (range_with_len 0 (symbol_count tree))
 
   abbrev listed : Solution
   listed = record { tree = tree; places = places; values = values }
 
   same_value : (i : ℕ) → i < symbol_count tree → value_of listed i ≡ V i
-  same_value i l = get_or-map-range_with_len V 0 (symbol_count tree) i i (Written Undefined []) l (omega arith)
+  same_value i l = get_or-map-range_with_len V 0 (symbol_count tree) i i (TextValue Undefined []) l (omega arith)
 
   needs_long : length (needs tree) ≡ symbol_count tree
   needs_long = length-map-range_with_len (needs_of tree) 0 (symbol_count tree)
@@ -69,7 +68,7 @@ solution_exists exists reads within tree places accepted there =
 
 -- ---- an answer
 
-module _ (either : order.AcceptedOrStuck) (named : order.StuckHaveALoop) (within : NeedsAreDefined) where
+module _ (either : order.AcceptedOrUnordered) (named : order.UnorderedHaveALoop) (within : NeedsAreDefined) where
   tree_answer : (files : Files) (root : List ℕ) (r : Result TreeFacts Refused) → IsTreeOf files root r →
       ((tree : TreeFacts) × IsAcceptedTree files root tree) ⊎ ((r : Refused) × IsRefusedTree files root r)
   tree_answer files root (Err r) built = inr (r, no_tree built)
@@ -89,15 +88,15 @@ module _ (either : order.AcceptedOrStuck) (named : order.StuckHaveALoop) (within
 ended : OpenedAreThere → (files : Files) (options : Options) (all : List (List ℕ)) (lenient : Outcome) → IsLenientOutcome files options all lenient →
     (outcome : Outcome) × IsOutcome files options all outcome
 ended there files options all lenient is =
-    let (opened, are) = there files (root_of options) in
+    let (opened, are) = there files (root_file options) in
     (with_rule options opened (strictly options.strict lenient), (lenient, opened, is, are, refl))
 
 module _ (opens : OpenedAreThere) (formed : TreesAreWellFormed) (leaves : StreamsLeavePlaces) (solved : SolutionExists) where
-  of_stop : (files : Files) (options : Options) (all : List (List ℕ)) (tree : TreeFacts) → IsAcceptedTree files (root_of options) tree →
-      (stopped : Option Stop) → (read_of options tree all).stopped ≡ stopped → (rest : Outcome) × IsOutcomeOfReading options tree (read_of options tree all) rest
+  of_stop : (files : Files) (options : Options) (all : List (List ℕ)) (tree : TreeFacts) → IsAcceptedTree files (root_file options) tree →
+      (stopped : Option StreamLocation) → (read_of options tree all).stopped ≡ stopped → (rest : Outcome) × IsOutcomeOfReading options tree (read_of options tree all) rest
   of_stop files options all tree accepted (Some stop) is = (noted (read_of options tree all).warned (refused (too_long_line stop)), long_line stop is refl)
   of_stop files options all tree accepted None is =
-      let held : ArePlaces tree (read_of options tree all).places = leaves tree options.prefix (streams (names_of options) all) (formed files (root_of options) tree accepted.built) in
+      let held : ArePlaces tree (read_of options tree all).places = leaves tree options.prefix (streams (names_of options) all) (formed files (root_file options) tree accepted.built) in
       let (solution, for) = solved tree (read_of options tree all).places accepted.accepted held.there in
       (noted (read_of options tree all).warned (outcome_of options tree solution), whole solution is for refl)
 
@@ -107,7 +106,7 @@ module _ (opens : OpenedAreThere) (formed : TreesAreWellFormed) (leaves : Stream
       ended opens files options all (noted (lines_text tree.warnings) rest) (accepted_tree tree accepted (rest, part, refl))
 
   pub outcome_exists : AnswerExists → OutcomeExists
-  outcome_exists answer files options all e expands = elim (answer files (root_of options) e expands) [
+  outcome_exists answer files options all e expands = elim (answer files (root_file options) e expands) [
     | inl a ↦ accepted_outcome files options all a.0 a.1
     | inr b ↦ ended opens files options all (refused (refusal_line b.0)) (refused_tree b.0 b.1 refl)
   ]

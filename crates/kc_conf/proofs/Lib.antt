@@ -1,9 +1,9 @@
 pub mod ExistenceLemmas
-pub mod HeardLemmas
+pub mod AccountedLemmas
 pub mod ListLemmas
 pub mod LostLemmas
 pub mod PromptLemmas
-pub mod PlacesLemmas
+pub mod OutputLemmas
 pub mod OutcomeLemmas
 pub mod Once
 pub mod ReadsLemmas

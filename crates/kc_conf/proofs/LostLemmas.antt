@@ -7,8 +7,8 @@ use Rattle.kc_expr.specs.Names.{symbol}
 use Rattle.kc_tree.specs.Layouts.{IsLayoutOf, facts_of}
 use Rattle.kc_tree.specs.TreeFacts.{TreeFacts}
 use Rattle.kc_tree.specs.declared.layout.Layout.{Layout}
-use Rattle.kc_tree.specs.declared.parts.Symbol.{Symbol}
-use Rattle.kc_user.specs.Given.{At, Given}
+use Rattle.kc_tree.specs.declared.rows.Symbol.{Symbol}
+use Rattle.kc_user.specs.GivenValue.{SymbolPlace, GivenValue}
 use Rattle.kc_user.specs.Places.{Places, place_at}
 use Rattle.kc_values.specs.Differs.{given_of}
 use Rattle.kc_values.specs.Lookups.{facts, name}
@@ -40,30 +40,30 @@ module _ (s : Solution) (tree : TreeFacts) (same : tree ≡ s.tree) (l : Layout)
   found o e = sym (ap (λ (t : TreeFacts). slice_get t.symbols i) same) ∙ sym (symbol_found tree l laid i o e)
 
   line : (o : Option Symbol) → o ≡ slice_get l.symbols.items i →
-      lost_at s i ≡ lost_of (name s.tree (symbol i)) (option_map (facts_of l i) o) (place_at s.places (At i)) (given_of (known s (symbol i)))
-  line o e = ap (λ f. lost_of (name s.tree (symbol i)) f (place_at s.places (At i)) (given_of (known s (symbol i)))) (found o e)
+      lost_at s i ≡ lost_of (name s.tree (symbol i)) (option_map (facts_of l i) o) (place_at s.places (SymbolPlace i)) (given_of (known s (symbol i)))
+  line o e = ap (λ f. lost_of (name s.tree (symbol i)) f (place_at s.places (SymbolPlace i)) (given_of (known s (symbol i)))) (found o e)
 
   -- none without a row
   pub lost-nowhere : None ≡ slice_get l.symbols.items i → lost_at s i ≡ []
   lost-nowhere e = line None e
 
   abbrev its_line : Symbol → List (List ℕ)
-  its_line row = lost_by (name s.tree (symbol i)) row.kind (place_at s.places (At i)) (given_of (known s (symbol i)))
+  its_line row = lost_by (name s.tree (symbol i)) row.kind (place_at s.places (SymbolPlace i)) (given_of (known s (symbol i)))
 
   -- and none without a prompt
   pub lost-unprompted : (row : Symbol) → Some row ≡ slice_get l.symbols.items i → (b : Bool) → b ≡ has_prompt (facts_of l 0 row).prompts → b ≡ false → lost_at s i ≡ []
   lost-unprompted row e b is none = line (Some row) e ∙ ap (λ c. if c then its_line row else []) (sym is ∙ none)
 
   pub lost-prompted : (row : Symbol) → Some row ≡ slice_get l.symbols.items i → (b : Bool) → b ≡ has_prompt (facts_of l 0 row).prompts → b ≡ true →
-      lost_at s i ≡ lost_by (name s.tree (symbol i)) row.kind (place_at s.places (At i)) (given_of (known s (symbol i)))
+      lost_at s i ≡ lost_by (name s.tree (symbol i)) row.kind (place_at s.places (SymbolPlace i)) (given_of (known s (symbol i)))
   lost-prompted row e b is some = line (Some row) e ∙ ap (λ c. if c then its_line row else []) (sym is ∙ some)
 
   -- else the line of what was given and what it is
   pub lost-line : (row : Symbol) → Some row ≡ slice_get l.symbols.items i → (b : Bool) → b ≡ has_prompt (facts_of l 0 row).prompts → b ≡ true →
-      (called : List ℕ) (places : Places) (given : Option Given) (value : Given) → called ≡ name tree (symbol i) → places ≡ s.places → given ≡ place_at places (At i) →
+      (called : List ℕ) (places : Places) (given : Option GivenValue) (value : GivenValue) → called ≡ name tree (symbol i) → places ≡ s.places → given ≡ place_at places (SymbolPlace i) →
       value ≡ given_of (known s (symbol i)) → lost_by called row.kind given value ≡ lost_at s i
   lost-line row e b is some called places given value called_is places_are given_is value_is =
       ap (λ n. lost_by n row.kind given value) (called_is ∙ ap (λ (t : TreeFacts). name t (symbol i)) same)
-      ∙ ap (λ g. lost_by (name s.tree (symbol i)) row.kind g value) (given_is ∙ ap (λ p. place_at p (At i)) places_are)
-      ∙ ap (λ v. lost_by (name s.tree (symbol i)) row.kind (place_at s.places (At i)) v) value_is
+      ∙ ap (λ g. lost_by (name s.tree (symbol i)) row.kind g value) (given_is ∙ ap (λ p. place_at p (SymbolPlace i)) places_are)
+      ∙ ap (λ v. lost_by (name s.tree (symbol i)) row.kind (place_at s.places (SymbolPlace i)) v) value_is
       ∙ sym (lost-prompted row e b is some)

@@ -6,7 +6,7 @@ use Rattle.kc_read.specs.Files.{Files}
 use Rattle.kc_tree.specs.TreeFacts.{TreeFacts}
 use Rattle.kc_build.specs.Trees.{IsTreeOf, OneTree, tree_of_log}
 use Rattle.kc_user.specs.Places.{Places, place_at}
-use Rattle.kc_expr.specs.Value.{Written}
+use Rattle.kc_expr.specs.Value.{TextValue}
 use Rattle.kc_expr.specs.declared.expression.Kind.TheVariants.{Undefined}
 use Rattle.kc_order.specs.Laws.{OneNamedLoop}
 use Rattle.kc_order.specs.Solution.{Solves}
@@ -16,10 +16,10 @@ use Rattle.kc_values.specs.Solution.{equations, symbol_count}
 use Rattle.kc_solve.specs.LoopText.{loop_text}
 use Rattle.kc_solve.specs.Refused.{IsLoopText, loop_refused}
 use Rattle.kc_solve.specs.Solved.{Solution, value_of}
-use Rattle.kc_dot.specs.Reading.{Read}
+use Rattle.kc_dot.specs.Reading.{ReadResult}
 use Rattle.kc_conf.specs.declared.options.Options.{Options}
 use Rattle.kc_conf.specs.ErrorLines.{refusal_line, too_long_line}
-use Rattle.kc_conf.specs.Outcome.{Outcome, IsLenientOutcome, OneAnswer, OneOutcome, strictly, noted, lines_text, refused, outcome_of, read_of, root_of, IsRefusedTree, no_tree, looped, IsAcceptedTree, IsSolutionFor, refused_tree, accepted_tree, IsOutcomeOfReading, IsOutcomeOfTree, long_line, whole, with_rule}
+use Rattle.kc_conf.specs.Outcome.{Outcome, IsLenientOutcome, OneAnswer, OneOutcome, strictly, noted, lines_text, refused, outcome_of, read_of, root_file, IsRefusedTree, no_tree, looped, IsAcceptedTree, IsSolutionFor, refused_tree, accepted_tree, IsOutcomeOfReading, IsOutcomeOfTree, long_line, whole, with_rule}
 use Rattle.std.proofs.lemmas.List.{ext_get_or}
 
 -- ---- trees
@@ -35,12 +35,12 @@ err_or d (Err e) = e
 one_loop_text : OneNamedLoop → (tree : TreeFacts) (a b : List ℕ) → IsLoopText tree a → IsLoopText tree b → a ≡ b
 one_loop_text law tree a b (loop, named, is) (other, named', is') = is ∙ ap (loop_text tree) (law (needs tree) loop other named named') ∙ sym is'
 
--- a loop is named only where some symbol is stuck
+-- a loop is named only where some symbol is unordered
 never_both : (tree : TreeFacts) (text : List ℕ) → IsLoopText tree text → IsAccepted tree → ⊥
 never_both tree text (loop, named, is) accepted =
     let first = named.walk.begins in
     let none = accepted (slice_index (named.lead ++ loop ++ _) 0) first.below in
-    absurd (let e : true ≡ false = sym first.stuck ∙ none in cc)
+    absurd (let e : true ≡ false = sym first.unordered ∙ none in cc)
 
 module _ (law : OneTree) (loops : OneNamedLoop) (files : Files) (root : List ℕ) where
   same_tree : (tree other : TreeFacts) → IsTreeOf files root (Ok tree) → IsTreeOf files root (Ok other) → tree ≡ other
@@ -88,7 +88,7 @@ one_solution tree places s t a b =
     let solves : Solves (symbol_count s.tree) (equations s.tree (place_at s.places)) (value_of t) =
     subst (λ (p : Places). Solves (symbol_count s.tree) (equations s.tree (place_at p)) (value_of t)) user first in
     let agree = a.solves.only (value_of t) solves in
-    same_record s t (sym trees) (sym user) (sym (ext_get_or (Written Undefined []) t.values s.values counts (λ i lt. agree i (subst (λ n. i < n) (b.solves.count ∙ ap symbol_count trees) lt))))
+    same_record s t (sym trees) (sym user) (sym (ext_get_or (TextValue Undefined []) t.values s.values counts (λ i lt. agree i (subst (λ n. i < n) (b.solves.count ∙ ap symbol_count trees) lt))))
 
 -- ---- outcomes
 
@@ -96,7 +96,7 @@ abbrev some_or : {A : Type 0} → A → Option A → A
 some_or d None = d
 some_or d (Some x) = x
 
-one_rest : (options : Options) (tree : TreeFacts) (read : Read) (a b : Outcome) → IsOutcomeOfReading options tree read a → IsOutcomeOfReading options tree read b → a ≡ b
+one_rest : (options : Options) (tree : TreeFacts) (read : ReadResult) (a b : Outcome) → IsOutcomeOfReading options tree read a → IsOutcomeOfReading options tree read b → a ≡ b
 one_rest options tree read a b (long_line stop long is) (long_line other long' is') =
     is ∙ ap (λ s. noted read.warned (refused (too_long_line s))) (ap (some_or stop) (sym long ∙ long')) ∙ sym is'
 one_rest options tree read a b (long_line stop long is) (whole s none solves is') = absurd (let e : Some stop ≡ None = sym long ∙ none in cc)
@@ -106,11 +106,11 @@ one_rest options tree read a b (whole s none solves is) (whole t none' solves' i
 
 one_lenient : OneAnswer → (files : Files) (options : Options) (all : List (List ℕ)) (a b : Outcome) → IsLenientOutcome files options all a → IsLenientOutcome files options all b → a ≡ b
 one_lenient law files options all a b (refused_tree r first is) (refused_tree s second is') =
-    is ∙ ap (λ x. refused (refusal_line x)) (law.one_refusal files (root_of options) r s first second) ∙ sym is'
-one_lenient law files options all a b (refused_tree r first is) (accepted_tree tree second rest) = absurd (law.not_both files (root_of options) r tree first second)
-one_lenient law files options all a b (accepted_tree tree first rest) (refused_tree r second is) = absurd (law.not_both files (root_of options) r tree second first)
+    is ∙ ap (λ x. refused (refusal_line x)) (law.one_refusal files (root_file options) r s first second) ∙ sym is'
+one_lenient law files options all a b (refused_tree r first is) (accepted_tree tree second rest) = absurd (law.not_both files (root_file options) r tree first second)
+one_lenient law files options all a b (accepted_tree tree first rest) (refused_tree r second is) = absurd (law.not_both files (root_file options) r tree second first)
 one_lenient law files options all a b (accepted_tree tree first (rest, part, is)) (accepted_tree other second (more, part', is')) =
-    let same : other ≡ tree = law.one_accepted files (root_of options) other tree second first in
+    let same : other ≡ tree = law.one_accepted files (root_file options) other tree second first in
     let part'' : IsOutcomeOfReading options tree (read_of options tree all) more = subst (λ t. IsOutcomeOfReading options t (read_of options t all) more) same part' in
     is ∙ ap (noted (lines_text tree.warnings)) (one_rest options tree (read_of options tree all) rest more part part'')
     ∙ ap (λ (t : TreeFacts). noted (lines_text t.warnings) more) (sym same) ∙ sym is'
@@ -129,7 +129,8 @@ expansion_of files root tree accepted = by accepted.built.0 accepted.built.1 acc
     by (Err r) expands is = absurd (let clash : Ok tree ≡ Err r = is in cc)
 
 -- so the files that it opens are one list
-pub one_opened : OpenedAreOne → (files : Files) (root : List ℕ) (tree : TreeFacts) (opened others : List (List ℕ)) → IsAcceptedTree files root tree → AreOpened files root opened → AreOpened files root others → opened ≡ others
+pub one_opened : OpenedAreOne → (files : Files) (root : List ℕ) (tree : TreeFacts) (opened others : List (List ℕ)) → IsAcceptedTree files root tree →
+    AreOpened files root opened → AreOpened files root others → opened ≡ others
 one_opened law files root tree opened others accepted are are' =
     let (log, expands) = expansion_of files root tree accepted in law files root log opened others expands are are'
 
@@ -144,5 +145,5 @@ one_outcome_law law one files options all a b (lenient, opened, first, are, is) 
         is ∙ ap (λ o. with_rule options opened (strictly options.strict o)) was
         ∙ ap (λ o. with_rule options others (strictly options.strict o)) (sym was ∙ same) ∙ sym is'
     by (accepted_tree tree accepted part) =
-        is ∙ ap (λ l. with_rule options l (strictly options.strict lenient)) (one_opened one files (root_of options) tree opened others accepted are are')
+        is ∙ ap (λ l. with_rule options l (strictly options.strict lenient)) (one_opened one files (root_file options) tree opened others accepted are are')
         ∙ ap (λ o. with_rule options others (strictly options.strict o)) same ∙ sym is'

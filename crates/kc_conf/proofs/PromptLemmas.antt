@@ -4,11 +4,11 @@ use Rattle.std.specs.Prelude.{slice_get, is_some}
 use Rattle.std.specs.Option.{option_map, option_and_then}
 use Rattle.std.specs.List.{filter_map, cons_option}
 use Rattle.kc_tree.specs.declared.layout.Layout.{Layout}
-use Rattle.kc_tree.specs.declared.parts.Definition.{Definition}
-use Rattle.kc_tree.specs.declared.parts.DefinitionId.{DefinitionId}
-use Rattle.kc_tree.specs.declared.parts.Symbol.{Symbol}
+use Rattle.kc_tree.specs.declared.rows.Definition.{Definition}
+use Rattle.kc_tree.specs.declared.rows.DefinitionId.{DefinitionId}
+use Rattle.kc_tree.specs.declared.rows.Symbol.{Symbol}
 use Rattle.kc_tree.specs.Layouts.{DefinitionFacts, definition_at, definition_facts}
-use Rattle.kc_tree.specs.Parts.{definition_ids}
+use Rattle.kc_tree.specs.Spans.{definition_ids}
 use Rattle.kc_tree.specs.TreeFacts.{Condition}
 use Rattle.kc_values.proofs.DefinitionLemmas.{definitions_from, definitions-some, definitions-none, definitions-end}
 use Rattle.kc_conf.specs.Lost.{has_prompt, is_prompted}

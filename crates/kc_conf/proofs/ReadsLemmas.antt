@@ -2,15 +2,15 @@
 use Rattle.std.proofs.Common.{◌≡◌, ℕ, List, [], ◌∷◌, ◌++◌, map, refl, sym, ap, ◌∙◌, append_assoc, append-nil, Option, Some, None}
 use Rattle.kc_tree.specs.TreeFacts.{TreeFacts}
 use Rattle.kc_user.specs.Places.{Places}
-use Rattle.kc_dot.specs.Feeding.{Spot, first_spot, to_come, Goes, Feeds, Because, Refuses, Finishes, FailsToEnd}
-use Rattle.kc_dot.specs.Reading.{Line, Read, lines_from, lines_of, reading, told}
+use Rattle.kc_dot.specs.Feeding.{StreamPosition, stream_start, to_come, ReadsPiece, Feeds, StopsBecause, Refuses, Finishes, FailsToEnd}
+use Rattle.kc_dot.specs.Reading.{Line, ReadResult, lines_from, lines_of, reading, with_warnings}
 use Rattle.kc_dot.specs.Sink.{BeginsWith, extended}
 use Rattle.kc_dot.specs.declared.fault.DotFault.{DotFault}
 use Rattle.kc_dot.specs.declared.fault.DotFault.TheVariants.{ConfigLineTooLong, Sink, Memory}
 use Rattle.kc_dot.proofs.FeedLemmas.{begins_at_break, begins_at_end}
 use Rattle.kc_dot.proofs.ReadingLemmas.{reading-nothing}
 use Rattle.kc_dot.proofs.SinkLemmas.{extended-extended, extended-nothing}
-use Rattle.kc_conf.specs.Given.{preceded, IsAtEnd, AreToCome, AreAllToCome}
+use Rattle.kc_conf.specs.InputBytes.{preceded, AreToCome, AreAllToCome}
 use Rattle.kc_conf.specs.Outcome.{streams}
 use Rattle.kc_conf.specs.Reads.{ended_with, TakenSoFar, TakesPieces, BreaksPieces, ReadsStream, BreaksStream, ReadSoFar, ReadsStreams, BreaksStreams}
 
@@ -47,26 +47,21 @@ AreToCome-all None rest bytes is = tt
 AreToCome-all (Some all) (Some more) bytes is = cc
 AreToCome-all (Some all) None bytes is = cc
 
-AreToCome-end : (given rest : Option (List ℕ)) (bytes : List ℕ) → given ≡ preceded bytes rest → IsAtEnd rest → AreToCome given bytes
-AreToCome-end None rest bytes is end = tt
-AreToCome-end (Some all) (Some more) bytes is end = let e : all ≡ bytes ++ more = cc in sym (e ∙ rw end (append-nil bytes))
-AreToCome-end (Some all) None bytes is end = cc
-
 -- ---- what was told
 
-told-told : (a b : List ℕ) (read : Read) → told a (told b read) ≡ told (a ++ b) read
-told-told a b read = rw append_assoc refl
+with_warnings-with_warnings : (a b : List ℕ) (read : ReadResult) → with_warnings a (with_warnings b read) ≡ with_warnings (a ++ b) read
+with_warnings-with_warnings a b read = rw append_assoc refl
 
-told-nothing : (read : Read) → told [] read ≡ read
-told-nothing read = refl
+with_warnings-nothing : (read : ReadResult) → with_warnings [] read ≡ read
+with_warnings-nothing read = refl
 
 -- the warnings begin with what was told before, and then as they go on
-BeginsWith-told : (a front : List ℕ) (whole read : Read) → whole ≡ told a read → BeginsWith read.warned front → BeginsWith whole.warned (a ++ front)
-BeginsWith-told a front whole read is (rest, begins) =
-    (rest, ap (λ (r : Read). r.warned) is ∙ ap (λ w. a ++ w) begins ∙ sym (append_assoc a front rest))
+BeginsWith-with_warnings : (a front : List ℕ) (whole read : ReadResult) → whole ≡ with_warnings a read → BeginsWith read.warned front → BeginsWith whole.warned (a ++ front)
+BeginsWith-with_warnings a front whole read is (rest, begins) =
+    (rest, ap (λ (r : ReadResult). r.warned) is ∙ ap (λ w. a ++ w) begins ∙ sym (append_assoc a front rest))
 
-BeginsWith-so_far : (a : List ℕ) (whole read : Read) → whole ≡ told a read → BeginsWith whole.warned a
-BeginsWith-so_far a whole read is = (read.warned, ap (λ (r : Read). r.warned) is)
+BeginsWith-so_far : (a : List ℕ) (whole read : ReadResult) → whole ≡ with_warnings a read → BeginsWith whole.warned a
+BeginsWith-so_far a whole read is = (read.warned, ap (λ (r : ReadResult). r.warned) is)
 
 -- three texts, one after another
 extended-three : (text mid after : Option (List ℕ)) (a b : List ℕ) → mid ≡ extended text a → after ≡ extended mid b → after ≡ extended text (a ++ b)
@@ -76,35 +71,33 @@ module _ (tree : TreeFacts) (prefix : List ℕ) where
   -- ---- pieces
 
   module _ (name : List ℕ) where
-    Goes-append : (a b : List ℕ) (old mid new : Spot) (before middle after : Places) (w v : List ℕ) →
-        Goes tree prefix name a old mid before middle w → Goes tree prefix name b mid new middle after v → Goes tree prefix name (a ++ b) old new before after (w ++ v)
-    Goes-append a b old mid new before middle after w v first second rest more =
-        rw append_assoc (first (b ++ rest) more ∙ ap (told w) (second rest more) ∙ told-told w v (reading tree prefix after (to_come name new rest more)))
+    ReadsPiece-append : (a b : List ℕ) (old mid new : StreamPosition) (before middle after : Places) (w v : List ℕ) →
+        ReadsPiece tree prefix name a old mid before middle w → ReadsPiece tree prefix name b mid new middle after v → ReadsPiece tree prefix name (a ++ b) old new before after (w ++ v)
+    ReadsPiece-append a b old mid new before middle after w v first second rest more =
+        rw append_assoc (first (b ++ rest) more ∙ ap (with_warnings w) (second rest more) ∙ with_warnings-with_warnings w v (reading tree prefix after (to_come name new rest more)))
 
-    pub TakenSoFar-nothing : (given : Option (List ℕ)) (spot : Spot) (places : Places) (text : Option (List ℕ)) → TakenSoFar tree prefix name given given spot spot places places text text
-    TakenSoFar-nothing given spot places text = ([], [], preceded-nothing given, extended-nothing text, λ rest more. refl)
+    pub TakenSoFar-nothing : (given : Option (List ℕ)) (position : StreamPosition) (places : Places) (text : Option (List ℕ)) →
+        TakenSoFar tree prefix name given given position position places places text text
+    TakenSoFar-nothing given position places text = ([], [], preceded-nothing given, extended-nothing text, λ rest more. refl)
 
-    pub TakenSoFar-piece : (given mid rest : Option (List ℕ)) (piece : List ℕ) (old spot new : Spot) (before places after : Places) (text text_mid text_after : Option (List ℕ)) →
-        TakenSoFar tree prefix name given mid old spot before places text text_mid → mid ≡ preceded piece rest → Feeds tree prefix name piece spot new places after text_mid text_after →
+    pub TakenSoFar-piece : (given mid rest : Option (List ℕ)) (piece : List ℕ) (old position new : StreamPosition) (before places after : Places) (text text_mid text_after : Option (List ℕ)) →
+        TakenSoFar tree prefix name given mid old position before places text text_mid → mid ≡ preceded piece rest → Feeds tree prefix name piece position new places after text_mid text_after →
         TakenSoFar tree prefix name given rest old new before after text text_after
-    TakenSoFar-piece given mid rest piece old spot new before places after text text_mid text_after (bytes, warned, first, told_first, goes) second (warned', told_second, goes') = (
+    TakenSoFar-piece given mid rest piece old position new before places after text text_mid text_after (bytes, warned, first, told_first, goes) second (warned', told_second, goes') = (
       bytes ++ piece,
       warned ++ warned',
       two given mid rest bytes piece first second,
       extended-three text text_mid text_after warned warned' told_first told_second,
-      Goes-append bytes piece old spot new before places after warned warned' goes goes',
+      ReadsPiece-append bytes piece old position new before places after warned warned' goes goes',
     )
 
-    pub TakesPieces-end : (given rest : Option (List ℕ)) (old new : Spot) (before after : Places) (text text_after : Option (List ℕ)) →
-        TakenSoFar tree prefix name given rest old new before after text text_after → IsAtEnd rest → TakesPieces tree prefix name None given old new before after text text_after
-    TakesPieces-end given rest old new before after text text_after (bytes, warned, is, grew, goes) end = (bytes, warned, AreToCome-end given rest bytes is end, grew, goes)
-
     -- a line of this piece is too long
-    pub TakesPieces-long : (given mid rest : Option (List ℕ)) (piece : List ℕ) (number : ℕ) (old spot new last : Spot) (before places after : Places) (text text_mid text_after : Option (List ℕ)) →
-        TakenSoFar tree prefix name given mid old spot before places text text_mid → mid ≡ preceded piece rest →
-        Refuses tree prefix name (ConfigLineTooLong number) piece spot new places after text_mid text_after →
+    pub TakesPieces-long : (given mid rest : Option (List ℕ)) (piece : List ℕ) (number : ℕ) (old position new last : StreamPosition)
+        (before places after : Places) (text text_mid text_after : Option (List ℕ)) →
+        TakenSoFar tree prefix name given mid old position before places text text_mid → mid ≡ preceded piece rest →
+        Refuses tree prefix name (ConfigLineTooLong number) piece position new places after text_mid text_after →
         TakesPieces tree prefix name (Some number) given old last before after text text_after
-    TakesPieces-long given mid rest piece number old spot new last before places after text text_mid text_after (bytes, warned, first, grew, goes) second refuses =
+    TakesPieces-long given mid rest piece number old position new last before places after text text_mid text_after (bytes, warned, first, grew, goes) second refuses =
         let (nothing, is_number, full, more_comes, stops) = refuses.because in
         let front : refuses.warned ++ refuses.front ≡ refuses.warned = ap (λ f. refuses.warned ++ f) nothing ∙ append-nil refuses.warned in
         let handed : text_after ≡ extended text_mid refuses.warned = refuses.handed ∙ ap (extended text_mid) front in (
@@ -113,109 +106,110 @@ module _ (tree : TreeFacts) (prefix : List ℕ) where
           AreToCome-all given rest (bytes ++ piece) (two given mid rest bytes piece first second),
           extended-three text text_mid text_after warned refuses.warned grew handed,
           λ more.
-              let inner : reading tree prefix places (to_come name spot (piece ++ left_of rest) more) ≡ ended_with after refuses.warned (Some (record { stream = name; number = number })) =
-              ap (λ p. reading tree prefix places (to_come name spot (p ++ left_of rest) more)) refuses.split
-              ∙ ap (λ p. reading tree prefix places (to_come name spot p more)) (append_assoc refuses.done refuses.left (left_of rest))
+              let inner : reading tree prefix places (to_come name position (piece ++ left_of rest) more) ≡ ended_with after refuses.warned (Some (record { stream = name; number = number })) =
+              ap (λ p. reading tree prefix places (to_come name position (p ++ left_of rest) more)) refuses.split
+              ∙ ap (λ p. reading tree prefix places (to_come name position p more)) (append_assoc refuses.done refuses.left (left_of rest))
               ∙ refuses.goes (refuses.left ++ left_of rest) more
-              ∙ ap (told refuses.warned) (stops (left_of rest) more)
+              ∙ ap (with_warnings refuses.warned) (stops (left_of rest) more)
               ∙ ap (λ w. ended_with after w (Some (record { stream = name; number = new.number }))) (append-nil refuses.warned)
               ∙ ap (λ n. ended_with after refuses.warned (Some (record { stream = name; number = n }))) (sym is_number) in
               ap (λ p. reading tree prefix before (to_come name old p more)) (append_assoc bytes piece (left_of rest))
-              ∙ goes (piece ++ left_of rest) more ∙ ap (told warned) inner,
+              ∙ goes (piece ++ left_of rest) more ∙ ap (with_warnings warned) inner,
         )
 
     -- it broke off in this piece
-    pub BreaksPieces-piece : (fault : DotFault) (given mid rest : Option (List ℕ)) (piece : List ℕ) (old spot new : Spot) (before places after : Places) (text text_mid text_after : Option (List ℕ)) →
-        ((left : List ℕ) (front : List ℕ) → Because tree prefix name fault left new after front → (rest : List ℕ) (more : List Line) → BeginsWith (reading tree prefix after (to_come name new (left ++ rest) more)).warned front) →
-        TakenSoFar tree prefix name given mid old spot before places text text_mid → mid ≡ preceded piece rest →
-        Refuses tree prefix name fault piece spot new places after text_mid text_after →
+    pub BreaksPieces-piece : (fault : DotFault) (given mid rest : Option (List ℕ)) (piece : List ℕ) (old position new : StreamPosition)
+        (before places after : Places) (text text_mid text_after : Option (List ℕ)) →
+        ((left : List ℕ) (front : List ℕ) → StopsBecause tree prefix name fault left new after front → (rest : List ℕ) (more : List Line) →
+        BeginsWith (reading tree prefix after (to_come name new (left ++ rest) more)).warned front) →
+        TakenSoFar tree prefix name given mid old position before places text text_mid → mid ≡ preceded piece rest →
+        Refuses tree prefix name fault piece position new places after text_mid text_after →
         BreaksPieces tree prefix name given old before text text_after
-    BreaksPieces-piece fault given mid rest piece old spot new before places after text text_mid text_after begins (bytes, warned, first, grew, goes) second refuses = (
+    BreaksPieces-piece fault given mid rest piece old position new before places after text text_mid text_after begins (bytes, warned, first, grew, goes) second refuses = (
       (bytes ++ piece) ++ left_of rest,
       warned ++ (refuses.warned ++ refuses.front),
       AreToCome-all given rest (bytes ++ piece) (two given mid rest bytes piece first second),
       extended-three text text_mid text_after warned (refuses.warned ++ refuses.front) grew refuses.handed,
       λ more.
-          let inner : reading tree prefix places (to_come name spot (piece ++ left_of rest) more) ≡ told refuses.warned (reading tree prefix after (to_come name new (refuses.left ++ left_of rest) more)) =
-          ap (λ p. reading tree prefix places (to_come name spot (p ++ left_of rest) more)) refuses.split
-          ∙ ap (λ p. reading tree prefix places (to_come name spot p more)) (append_assoc refuses.done refuses.left (left_of rest))
+          let inner : reading tree prefix places (to_come name position (piece ++ left_of rest) more) ≡ with_warnings refuses.warned
+          (reading tree prefix after (to_come name new (refuses.left ++ left_of rest) more)) =
+          ap (λ p. reading tree prefix places (to_come name position (p ++ left_of rest) more)) refuses.split
+          ∙ ap (λ p. reading tree prefix places (to_come name position p more)) (append_assoc refuses.done refuses.left (left_of rest))
           ∙ refuses.goes (refuses.left ++ left_of rest) more in
-          let outer : reading tree prefix before (to_come name old ((bytes ++ piece) ++ left_of rest) more) ≡ told warned (reading tree prefix places (to_come name spot (piece ++ left_of rest) more)) =
+          let outer : reading tree prefix before (to_come name old ((bytes ++ piece) ++ left_of rest) more) ≡ with_warnings warned
+          (reading tree prefix places (to_come name position (piece ++ left_of rest) more)) =
           ap (λ p. reading tree prefix before (to_come name old p more)) (append_assoc bytes piece (left_of rest)) ∙ goes (piece ++ left_of rest) more in
-          BeginsWith-told warned (refuses.warned ++ refuses.front) _ _ outer
-          (BeginsWith-told refuses.warned refuses.front _ _ inner (begins refuses.left refuses.front refuses.because (left_of rest) more)),
+          BeginsWith-with_warnings warned (refuses.warned ++ refuses.front) _ _ outer
+          (BeginsWith-with_warnings refuses.warned refuses.front _ _ inner (begins refuses.left refuses.front refuses.because (left_of rest) more)),
     )
 
-    pub begins_at_sink : (new : Spot) (after : Places) (left front : List ℕ) → Because tree prefix name Sink left new after front → (rest : List ℕ) (more : List Line) → BeginsWith (reading tree prefix after (to_come name new (left ++ rest) more)).warned front
+    pub begins_at_sink : (new : StreamPosition) (after : Places) (left front : List ℕ) → StopsBecause tree prefix name Sink left new after front →
+        (rest : List ℕ) (more : List Line) → BeginsWith (reading tree prefix after (to_come name new (left ++ rest) more)).warned front
     begins_at_sink new after left front because = begins_at_break tree prefix name left new after front because
 
-    pub begins_at_memory : (new : Spot) (after : Places) (left front : List ℕ) → Because tree prefix name Memory left new after front → (rest : List ℕ) (more : List Line) → BeginsWith (reading tree prefix after (to_come name new (left ++ rest) more)).warned front
+    pub begins_at_memory : (new : StreamPosition) (after : Places) (left front : List ℕ) → StopsBecause tree prefix name Memory left new after front →
+        (rest : List ℕ) (more : List Line) → BeginsWith (reading tree prefix after (to_come name new (left ++ rest) more)).warned front
     begins_at_memory new after left front because rest more = (_, ap (λ f. f ++ (reading tree prefix after (to_come name new (left ++ rest) more)).warned) (sym because))
 
     -- it broke off before the next piece
-    pub BreaksPieces-so_far : (given rest : Option (List ℕ)) (old new : Spot) (before after : Places) (text text_after : Option (List ℕ)) →
+    pub BreaksPieces-so_far : (given rest : Option (List ℕ)) (old new : StreamPosition) (before after : Places) (text text_after : Option (List ℕ)) →
         TakenSoFar tree prefix name given rest old new before after text text_after → BreaksPieces tree prefix name given old before text text_after
     BreaksPieces-so_far given rest old new before after text text_after (bytes, warned, is, grew, goes) =
         (bytes ++ left_of rest, warned, AreToCome-all given rest bytes is, grew, λ more. BeginsWith-so_far warned _ _ (goes (left_of rest) more))
 
     -- ---- a stream
 
-    pub ReadsStream-whole : (given : Option (List ℕ)) (spot : Spot) (before places after : Places) (text text_mid text_after : Option (List ℕ)) →
-        TakesPieces tree prefix name None given first_spot spot before places text text_mid → Finishes tree prefix name spot places after text_mid text_after →
+    pub ReadsStream-whole : (given : Option (List ℕ)) (position : StreamPosition) (before places after : Places) (text text_mid text_after : Option (List ℕ)) →
+        TakesPieces tree prefix name None given stream_start position before places text text_mid → Finishes tree prefix name position places after text_mid text_after →
         ReadsStream tree prefix name None given before after text text_after
-    ReadsStream-whole given spot before places after text text_mid text_after (bytes, warned, are, grew, goes) (warned', grew', ends) = (
+    ReadsStream-whole given position before places after text text_mid text_after (bytes, warned, are, grew, goes) (warned', grew', ends) = (
       bytes,
       warned ++ warned',
       are,
       extended-three text text_mid text_after warned warned' grew grew',
       λ more.
-          let first : reading tree prefix before (lines_from name 1 bytes ++ more) ≡ told warned (reading tree prefix places (lines_from name spot.number spot.pending ++ more)) =
+          let first : reading tree prefix before (lines_from name 1 bytes ++ more) ≡ with_warnings warned (reading tree prefix places (lines_from name position.number position.pending ++ more)) =
           ap (λ b. reading tree prefix before (lines_from name 1 b ++ more)) (sym (append-nil bytes)) ∙ goes [] more
-          ∙ ap (λ b. told warned (reading tree prefix places (lines_from name spot.number b ++ more))) (append-nil spot.pending) in
-          first ∙ ap (told warned) (ends more) ∙ told-told warned warned' (reading tree prefix after more),
+          ∙ ap (λ b. with_warnings warned (reading tree prefix places (lines_from name position.number b ++ more))) (append-nil position.pending) in
+          first ∙ ap (with_warnings warned) (ends more) ∙ with_warnings-with_warnings warned warned' (reading tree prefix after more),
     )
 
-    pub ReadsStream-long : (given : Option (List ℕ)) (number : ℕ) (spot : Spot) (before after : Places) (text text_after : Option (List ℕ)) →
-        TakesPieces tree prefix name (Some number) given first_spot spot before after text text_after → ReadsStream tree prefix name (Some number) given before after text text_after
-    ReadsStream-long given number spot before after text text_after takes = takes
-
     pub BreaksStream-pieces : (given : Option (List ℕ)) (before : Places) (text text_after : Option (List ℕ)) →
-        BreaksPieces tree prefix name given first_spot before text text_after → BreaksStream tree prefix name given before text text_after
+        BreaksPieces tree prefix name given stream_start before text text_after → BreaksStream tree prefix name given before text text_after
     BreaksStream-pieces given before text text_after breaks = breaks
 
     -- the last line broke off
-    pub BreaksStream-end : (given : Option (List ℕ)) (spot : Spot) (before places : Places) (text text_mid text_after : Option (List ℕ)) →
-        TakesPieces tree prefix name None given first_spot spot before places text text_mid →
-        (front : List ℕ) → text_after ≡ extended text_mid front → ((more : List Line) → BeginsWith (reading tree prefix places (lines_from name spot.number spot.pending ++ more)).warned front) →
+    pub BreaksStream-end : (given : Option (List ℕ)) (position : StreamPosition) (before places : Places) (text text_mid text_after : Option (List ℕ)) →
+        TakesPieces tree prefix name None given stream_start position before places text text_mid →
+        (front : List ℕ) → text_after ≡ extended text_mid front →
+        ((more : List Line) → BeginsWith (reading tree prefix places (lines_from name position.number position.pending ++ more)).warned front) →
         BreaksStream tree prefix name given before text text_after
-    BreaksStream-end given spot before places text text_mid text_after (bytes, warned, are, grew, goes) front grew' begins = (
+    BreaksStream-end given position before places text text_mid text_after (bytes, warned, are, grew, goes) front grew' begins = (
       bytes,
       warned ++ front,
       are,
       extended-three text text_mid text_after warned front grew grew',
       λ more.
-          let first : reading tree prefix before (lines_from name 1 bytes ++ more) ≡ told warned (reading tree prefix places (lines_from name spot.number spot.pending ++ more)) =
+          let first : reading tree prefix before (lines_from name 1 bytes ++ more) ≡ with_warnings warned (reading tree prefix places (lines_from name position.number position.pending ++ more)) =
           ap (λ b. reading tree prefix before (lines_from name 1 b ++ more)) (sym (append-nil bytes)) ∙ goes [] more
-          ∙ ap (λ b. told warned (reading tree prefix places (lines_from name spot.number b ++ more))) (append-nil spot.pending) in
-          BeginsWith-told warned front _ _ first (begins more),
+          ∙ ap (λ b. with_warnings warned (reading tree prefix places (lines_from name position.number b ++ more))) (append-nil position.pending) in
+          BeginsWith-with_warnings warned front _ _ first (begins more),
     )
 
-    pub BreaksStream-fails : (fault : DotFault) (given : Option (List ℕ)) (spot : Spot) (before places : Places) (text text_mid text_after : Option (List ℕ)) →
-        TakesPieces tree prefix name None given first_spot spot before places text text_mid → FailsToEnd tree prefix name fault spot places text_mid text_after →
+    pub BreaksStream-fails : (fault : DotFault) (given : Option (List ℕ)) (position : StreamPosition) (before places : Places) (text text_mid text_after : Option (List ℕ)) →
+        TakesPieces tree prefix name None given stream_start position before places text text_mid → FailsToEnd tree prefix name fault position places text_mid text_after →
         BreaksStream tree prefix name given before text text_after
-    BreaksStream-fails (ConfigLineTooLong n) given spot before places text text_mid text_after takes never = absurd never
-    BreaksStream-fails Sink given spot before places text text_mid text_after takes (last, is, within, (front, begun, grew)) =
-        BreaksStream-end given spot before places text text_mid text_after takes front grew (begins_at_end tree prefix name spot places last front is within begun)
-    BreaksStream-fails Memory given spot before places text text_mid text_after takes same =
-        BreaksStream-end given spot before places text text_mid text_after takes [] (same ∙ extended-nothing text_mid) (λ more. (_, refl))
+    BreaksStream-fails (ConfigLineTooLong n) given position before places text text_mid text_after takes never = absurd never
+    BreaksStream-fails Sink given position before places text text_mid text_after takes (last, is, within, (front, begun, grew)) =
+        BreaksStream-end given position before places text text_mid text_after takes front grew (begins_at_end tree prefix name position places last front is within begun)
+    BreaksStream-fails Memory given position before places text text_mid text_after takes same =
+        BreaksStream-end given position before places text text_mid text_after takes [] (same ∙ extended-nothing text_mid) (λ more. (_, refl))
 
   -- ---- several streams
 
-  pub ReadSoFar-nothing : (names : List (List ℕ)) (given : List (Option (List ℕ))) (places : Places) (text : Option (List ℕ)) → ReadSoFar tree prefix names names given given places places text text
-  ReadSoFar-nothing names given places text = ([], extended-nothing text, λ left are. (left, are, refl))
-
   -- one stream more
-  pub ReadSoFar-stream : (names later : List (List ℕ)) (name : List ℕ) (given others : List (Option (List ℕ))) (this : Option (List ℕ)) (before places after : Places) (text text_mid text_after : Option (List ℕ)) →
+  pub ReadSoFar-stream : (names later : List (List ℕ)) (name : List ℕ) (given others : List (Option (List ℕ))) (this : Option (List ℕ))
+      (before places after : Places) (text text_mid text_after : Option (List ℕ)) →
       ReadSoFar tree prefix names (name ∷ later) given (this ∷ others) before places text text_mid → ReadsStream tree prefix name None this places after text_mid text_after →
       ReadSoFar tree prefix names later given others before after text text_after
   ReadSoFar-stream names later name given others this before places after text text_mid text_after (warned, grew, goes) (bytes, warned', are, grew', reads) = (
@@ -223,7 +217,7 @@ module _ (tree : TreeFacts) (prefix : List ℕ) where
     extended-three text text_mid text_after warned warned' grew grew',
     λ left are_left.
         let (all, are_all, is) = goes (bytes ∷ left) (are, are_left) in
-        (all, are_all, is ∙ ap (told warned) (reads (lines_of (streams later left))) ∙ told-told warned warned' (reading tree prefix after (lines_of (streams later left)))),
+        (all, are_all, is ∙ ap (with_warnings warned) (reads (lines_of (streams later left))) ∙ with_warnings-with_warnings warned warned' (reading tree prefix after (lines_of (streams later left)))),
   )
 
   -- all streams were read
@@ -231,22 +225,24 @@ module _ (tree : TreeFacts) (prefix : List ℕ) where
       ReadSoFar tree prefix names [] given [] before after text text_after → ReadsStreams tree prefix names None given before after text text_after
   ReadsStreams-end names given before after text text_after (warned, grew, goes) =
       let (all, are, is) = goes [] tt in
-      (all, warned, are, grew, is ∙ ap (told warned) (reading-nothing tree prefix after) ∙ ap (λ w. ended_with after w None) (append-nil warned))
+      (all, warned, are, grew, is ∙ ap (with_warnings warned) (reading-nothing tree prefix after) ∙ ap (λ w. ended_with after w None) (append-nil warned))
 
   -- a line of this stream is too long
-  pub ReadsStreams-long : (names later : List (List ℕ)) (name : List ℕ) (number : ℕ) (given others : List (Option (List ℕ))) (this : Option (List ℕ)) (before places after : Places) (text text_mid text_after : Option (List ℕ)) →
+  pub ReadsStreams-long : (names later : List (List ℕ)) (name : List ℕ) (number : ℕ) (given others : List (Option (List ℕ))) (this : Option (List ℕ))
+      (before places after : Places) (text text_mid text_after : Option (List ℕ)) →
       ReadSoFar tree prefix names (name ∷ later) given (this ∷ others) before places text text_mid → ReadsStream tree prefix name (Some number) this places after text_mid text_after →
       ReadsStreams tree prefix names (Some (record { stream = name; number = number })) given before after text text_after
   ReadsStreams-long names later name number given others this before places after text text_mid text_after (warned, grew, goes) (bytes, warned', are, grew', stops) =
       let left = map left_of others in
       let (all, are_all, is) = goes (bytes ∷ left) (are, AreAllToCome-self others) in
-      (all, warned ++ warned', are_all, extended-three text text_mid text_after warned warned' grew grew', is ∙ ap (told warned) (stops (lines_of (streams later left))))
+      (all, warned ++ warned', are_all, extended-three text text_mid text_after warned warned' grew grew', is ∙ ap (with_warnings warned) (stops (lines_of (streams later left))))
 
   -- this stream broke off
-  pub BreaksStreams-stream : (names later : List (List ℕ)) (name : List ℕ) (given others : List (Option (List ℕ))) (this : Option (List ℕ)) (before places : Places) (text text_mid text_after : Option (List ℕ)) →
+  pub BreaksStreams-stream : (names later : List (List ℕ)) (name : List ℕ) (given others : List (Option (List ℕ))) (this : Option (List ℕ))
+      (before places : Places) (text text_mid text_after : Option (List ℕ)) →
       ReadSoFar tree prefix names (name ∷ later) given (this ∷ others) before places text text_mid → BreaksStream tree prefix name this places text_mid text_after →
       BreaksStreams tree prefix names given before text text_after
   BreaksStreams-stream names later name given others this before places text text_mid text_after (warned, grew, goes) (bytes, front, are, grew', begins) =
       let left = map left_of others in
       let (all, are_all, is) = goes (bytes ∷ left) (are, AreAllToCome-self others) in
-      (all, warned ++ front, are_all, extended-three text text_mid text_after warned front grew grew', BeginsWith-told warned front _ _ is (begins (lines_of (streams later left))))
+      (all, warned ++ front, are_all, extended-three text text_mid text_after warned front grew grew', BeginsWith-with_warnings warned front _ _ is (begins (lines_of (streams later left))))

@@ -1,46 +1,47 @@
 -- What a run's texts give when they are read again.
 use Rattle.std.proofs.Common.{◌≡◌, ℕ, ◌<◌, Bool, true, false, List, [], ◌∷◌, ◌++◌, length, Option, Some, None, refl, ap, sym, ◌∙◌, subst, slice_get, map}
 use Rattle.std.specs.Prelude.{string_bytes, slice_index_or}
-use Rattle.kc_expr.specs.Value.{Known, Written}
+use Rattle.kc_expr.specs.Value.{SymbolValue, TextValue}
 use Rattle.kc_expr.specs.declared.expression.Kind.TheVariants.{Undefined}
 use Rattle.std.proofs.lemmas.List.{ext_get_or}
 use Rattle.kc_read.specs.Files.{Files}
 use Rattle.kc_tree.specs.TreeFacts.{Shown, SymbolShown, MenuShown, EndShown, CommentShown, TreeFacts}
 use Rattle.kc_build.specs.Trees.{TreesAreWellFormed}
-use Rattle.kc_user.specs.Given.{Given, Slot}
+use Rattle.kc_user.specs.GivenValue.{GivenValue, UserPlace}
 use Rattle.kc_user.specs.Places.{ArePlaces, Places, no_places, place_at}
 use Rattle.kc_order.specs.Solution.{Solves}
 use Rattle.kc_values.specs.Solution.{equations, symbol_count}
 use Rattle.kc_solve.specs.Solved.{Solution, value_of}
-use Rattle.kc_dot.specs.Laws.{ConfigSettles, HasShortLines, IsSolutionOf, MinimalHasNothingToSpare, MinimalRestores, WrittenTextsAreShort}
-use Rattle.kc_dot.specs.Reading.{Read, Stream, reading_of}
-use Rattle.kc_dot.specs.Reread.{IsOneSolution, read_alone, told_by}
-use Rattle.kc_dot.specs.SolutionTold.{told_of}
+use Rattle.kc_dot.specs.Laws.{ConfigIsIdempotent, HasShortLines, IsSolutionOf, MinimalHasNothingToSpare, MinimalRestores, WrittenTextsAreShort}
+use Rattle.kc_dot.specs.Reading.{ReadResult, reading_of}
+use Rattle.kc_dot.specs.Reread.{IsOneSolution, read_alone, valuation_view}
+use Rattle.kc_dot.specs.SolvedView.{solution_view}
 use Rattle.kc_dot.specs.Streams.{StreamsLeavePlaces}
 use Rattle.kc_dot.specs.Texts.{config_heading, config_text, entries_text, entry_text, ends_after, minimal_text, shown_title}
 use Rattle.kc_dot.specs.Prefixes.{is_prefix}
 use Rattle.kc_dot.proofs.SolutionLemmas.{solution_of}
 use Rattle.kc_conf.specs.declared.options.Options.{Options}
-use Rattle.kc_conf.specs.Outcome.{IsAcceptedTree, IsLenientOutcome, IsOutcome, IsOutcomeOfReading, IsRefusedTree, IsSolutionFor, OneAnswer, Outcome, accepted_tree, lines_text, long_line, names_of, noted, outcome_of, read_of, refused, refused_tree, root_of, streams, strictly, text_if, whole, with_rule}
+use Rattle.kc_conf.specs.Outcome.{IsAcceptedTree, IsLenientOutcome, IsOutcomeOfReading, IsRefusedTree, IsSolutionFor, OneAnswer, Outcome, accepted_tree, lines_text, long_line, names_of, noted, outcome_of, read_of, refused_tree, root_file, streams, strictly, text_if, whole, with_rule}
 use Rattle.kc_conf.proofs.OutcomeLemmas.{strictly-config, strictly-minimal, strictly-off}
 use Rattle.kc_conf.proofs.RuleLemmas.{rule-config, rule-minimal}
-use Rattle.kc_conf.specs.Reruns.{AreAlone, ConfigIsReadAgain, IsWhole, MinimalIsReadAgain, MinimalIsRunAgain, TextsHaveShortLines, WrittenAreWhole}
+use Rattle.kc_conf.specs.Reruns.{AreAlone, ConfigIsReadAgain, RefusesNothing, MinimalIsReadAgain, MinimalIsRunAgain, TextsHaveShortLines, WrittenAreWhole}
 
 -- ---- what is written is of a whole run
 
 abbrev Values : Files → Options → List (List ℕ) → Outcome → Type 0
 Values files options all outcome =
-    (tree : TreeFacts) × (solution : Solution) × IsWhole files options all tree solution
+    (tree : TreeFacts) × (solution : Solution) × RefusesNothing files options all tree solution
     × (outcome ≡ noted (lines_text tree.warnings) (noted (read_of options tree all).warned (outcome_of options tree solution)))
 
-rest_whole : (files : Files) (options : Options) (all : List (List ℕ)) (tree : TreeFacts) (rest outcome : Outcome) (text : List ℕ) → IsAcceptedTree files (root_of options) tree →
+rest_whole : (files : Files) (options : Options) (all : List (List ℕ)) (tree : TreeFacts) (rest outcome : Outcome) (text : List ℕ) → IsAcceptedTree files (root_file options) tree →
     IsOutcomeOfReading options tree (read_of options tree all) rest → outcome ≡ noted (lines_text tree.warnings) rest → outcome.config ≡ Some text → Values files options all outcome
 rest_whole files options all tree rest outcome text accepted (long_line stop stopped is) from there =
     absurd (let e : None ≡ Some text = sym (ap (λ (o : Outcome). o.config) (from ∙ ap (noted (lines_text tree.warnings)) is)) ∙ there in cc)
 rest_whole files options all tree rest outcome text accepted (whole solution none solves is) from there =
     (tree, solution, record { accepted = accepted; read_whole = none; solution_is = solves }, from ∙ ap (noted (lines_text tree.warnings)) is)
 
-lenient_whole : (files : Files) (options : Options) (all : List (List ℕ)) (outcome : Outcome) (text : List ℕ) → IsLenientOutcome files options all outcome → outcome.config ≡ Some text → Values files options all outcome
+lenient_whole : (files : Files) (options : Options) (all : List (List ℕ)) (outcome : Outcome) (text : List ℕ) → IsLenientOutcome files options all outcome →
+    outcome.config ≡ Some text → Values files options all outcome
 lenient_whole files options all outcome text (refused_tree r why is) there =
     absurd (let e : None ≡ Some text = sym (ap (λ (o : Outcome). o.config) is) ∙ there in cc)
 lenient_whole files options all outcome text (accepted_tree tree accepted (rest, part, is)) there =
@@ -56,13 +57,14 @@ written_whole files options all outcome text (lenient, opened, is_lenient, are, 
 
 -- ---- the texts read again
 
-module _ (formed : TreesAreWellFormed) (leaves : StreamsLeavePlaces) (files : Files) (options : Options) (all : List (List ℕ)) (tree : TreeFacts) (solution : Solution) (is : IsWhole files options all tree solution) where
+module _ (formed : TreesAreWellFormed) (leaves : StreamsLeavePlaces) (files : Files) (options : Options) (all : List (List ℕ)) (tree : TreeFacts)
+    (solution : Solution) (is : RefusesNothing files options all tree solution) where
   abbrev read_places : Places
   read_places = (read_of options tree all).places
 
   pub whole_solution : IsSolutionOf tree solution.places (value_of solution)
   whole_solution =
-      let well = formed files (root_of options) tree is.accepted.built in
+      let well = formed files (root_file options) tree is.accepted.built in
       let held : ArePlaces tree read_places = leaves tree options.prefix (streams (names_of options) all) well in
       solution_of solution tree is.solution_is.tree_is well (rw is.solution_is.tree_is is.accepted.accepted) is.solution_is.solves
       (subst (ArePlaces tree) (sym is.solution_is.places_are) held)
@@ -72,58 +74,67 @@ minimal_read_again formed leaves restores spare files options all tree solution 
     let of_tree = whole_solution formed leaves files options all tree solution is in
     (restores tree options.prefix solution.places (value_of solution) is_pre of_tree, spare tree options.prefix solution.places (value_of solution) is_pre of_tree)
 
-pub config_read_again : TreesAreWellFormed → StreamsLeavePlaces → ConfigSettles → ConfigIsReadAgain
+pub config_read_again : TreesAreWellFormed → StreamsLeavePlaces → ConfigIsIdempotent → ConfigIsReadAgain
 config_read_again formed leaves settles files options all tree solution is_pre is =
     settles tree options.prefix solution.places (value_of solution) is_pre (whole_solution formed leaves files options all tree solution is)
 
 pub texts_short : TreesAreWellFormed → StreamsLeavePlaces → WrittenTextsAreShort → TextsHaveShortLines
 texts_short formed leaves short files options all tree solution is_pre is =
-    subst (λ (f : TreeFacts). let t = told_by f (place_at solution.places) (value_of solution) in HasShortLines (config_text tree options.prefix t) × HasShortLines (minimal_text tree options.prefix t))
+    subst (λ (f : TreeFacts). let t = valuation_view f (place_at solution.places) (value_of solution) in HasShortLines (config_text tree options.prefix t)
+    × HasShortLines (minimal_text tree options.prefix t))
     (sym is.solution_is.tree_is) (short tree options.prefix solution.places (value_of solution) is_pre (whole_solution formed leaves files options all tree solution is))
 
 -- ---- a run on the minimal file alone
 
 -- the .config asks nothing of the places
-entries_same : (tree : TreeFacts) (prefix : List ℕ) (user other : Slot → Option Given) (V : ℕ → Known) (after_end : Bool) (entries : List Shown) →
-    entries_text tree prefix (told_by tree user V) after_end entries ≡ entries_text tree prefix (told_by tree other V) after_end entries
+entries_same : (tree : TreeFacts) (prefix : List ℕ) (user other : UserPlace → Option GivenValue) (V : ℕ → SymbolValue) (after_end : Bool) (entries : List Shown) →
+    entries_text tree prefix (valuation_view tree user V) after_end entries ≡ entries_text tree prefix (valuation_view tree other V) after_end entries
 entries_same tree prefix user other V after_end [] = refl
 entries_same tree prefix user other V after_end (SymbolShown s ∷ entries) =
-    ap (λ t. entry_text tree prefix (told_by tree other V) after_end (SymbolShown s) ++ t) (entries_same tree prefix user other V (ends_after tree (told_by tree other V) after_end (SymbolShown s)) entries)
+    ap (λ t. entry_text tree prefix (valuation_view tree other V) after_end (SymbolShown s) ++ t)
+    (entries_same tree prefix user other V (ends_after tree (valuation_view tree other V) after_end (SymbolShown s)) entries)
 entries_same tree prefix user other V after_end (MenuShown text when ∷ entries) =
-    ap (λ t. entry_text tree prefix (told_by tree other V) after_end (MenuShown text when) ++ t) (entries_same tree prefix user other V (ends_after tree (told_by tree other V) after_end (MenuShown text when)) entries)
+    ap (λ t. entry_text tree prefix (valuation_view tree other V) after_end (MenuShown text when) ++ t)
+    (entries_same tree prefix user other V (ends_after tree (valuation_view tree other V) after_end (MenuShown text when)) entries)
 entries_same tree prefix user other V after_end (EndShown menu ∷ entries) =
-    let title : shown_title (told_by tree user V) (slice_get tree.entries menu) ≡ shown_title (told_by tree other V) (slice_get tree.entries menu) = title_same (slice_get tree.entries menu) in
-    rw title (ap (λ t. entry_text tree prefix (told_by tree other V) after_end (EndShown menu) ++ t) (entries_same tree prefix user other V (ends_after tree (told_by tree other V) after_end (EndShown menu)) entries))
+    let title : shown_title (valuation_view tree user V) (slice_get tree.entries menu) ≡ shown_title (valuation_view tree other V) (slice_get tree.entries menu)
+    = title_same (slice_get tree.entries menu) in
+    rw title (ap (λ t. entry_text tree prefix (valuation_view tree other V) after_end (EndShown menu) ++ t)
+    (entries_same tree prefix user other V (ends_after tree (valuation_view tree other V) after_end (EndShown menu)) entries))
   where
-    title_same : (e : Option Shown) → shown_title (told_by tree user V) e ≡ shown_title (told_by tree other V) e
+    title_same : (e : Option Shown) → shown_title (valuation_view tree user V) e ≡ shown_title (valuation_view tree other V) e
     title_same None = refl
     title_same (Some (SymbolShown s)) = refl
     title_same (Some (MenuShown text when)) = refl
     title_same (Some (EndShown m)) = refl
     title_same (Some (CommentShown text when)) = refl
 entries_same tree prefix user other V after_end (CommentShown text when ∷ entries) =
-    ap (λ t. entry_text tree prefix (told_by tree other V) after_end (CommentShown text when) ++ t) (entries_same tree prefix user other V (ends_after tree (told_by tree other V) after_end (CommentShown text when)) entries)
+    ap (λ t. entry_text tree prefix (valuation_view tree other V) after_end (CommentShown text when) ++ t)
+    (entries_same tree prefix user other V (ends_after tree (valuation_view tree other V) after_end (CommentShown text when)) entries)
 
-text_same : (tree : TreeFacts) (prefix : List ℕ) (user other : Slot → Option Given) (V : ℕ → Known) → config_text tree prefix (told_by tree user V) ≡ config_text tree prefix (told_by tree other V)
+text_same : (tree : TreeFacts) (prefix : List ℕ) (user other : UserPlace → Option GivenValue) (V : ℕ → SymbolValue) →
+    config_text tree prefix (valuation_view tree user V) ≡ config_text tree prefix (valuation_view tree other V)
 unfolding config_text
 text_same tree prefix user other V = ap (λ t. config_heading tree.main_menu ++ t) (entries_same tree prefix user other V false tree.entries)
 
-abbrev valued : List Known → ℕ → Known
-valued values i = slice_index_or values i (Written Undefined [])
+abbrev valued : List SymbolValue → ℕ → SymbolValue
+valued values i = slice_index_or values i (TextValue Undefined [])
 
 -- solutions with the same values have the same .config
-config_same : (tree : TreeFacts) (prefix : List ℕ) (s t : Solution) → s.tree ≡ tree → t.tree ≡ tree → s.values ≡ t.values → config_text tree prefix (told_of s) ≡ config_text tree prefix (told_of t)
+config_same : (tree : TreeFacts) (prefix : List ℕ) (s t : Solution) → s.tree ≡ tree → t.tree ≡ tree → s.values ≡ t.values →
+    config_text tree prefix (solution_view s) ≡ config_text tree prefix (solution_view t)
 config_same tree prefix s t a b values =
-    ap (λ (f : TreeFacts). config_text tree prefix (told_by f (place_at s.places) (value_of s))) a
+    ap (λ (f : TreeFacts). config_text tree prefix (valuation_view f (place_at s.places) (value_of s))) a
     ∙ text_same tree prefix (place_at s.places) (place_at t.places) (value_of s)
-    ∙ ap (λ vs. config_text tree prefix (told_by tree (place_at t.places) (valued vs))) values
-    ∙ ap (λ (f : TreeFacts). config_text tree prefix (told_by f (place_at t.places) (value_of t))) (sym b)
+    ∙ ap (λ vs. config_text tree prefix (valuation_view tree (place_at t.places) (valued vs))) values
+    ∙ ap (λ (f : TreeFacts). config_text tree prefix (valuation_view f (place_at t.places) (value_of t))) (sym b)
 
 text_if_is : {T : Type 0} → (o : Option T) (text found : List ℕ) → text_if o text ≡ Some found → text ≡ found
 text_if_is None text found e = cc
 text_if_is (Some x) text found e = cc
 
-minimal_whole : (files : Files) (options : Options) (all : List (List ℕ)) (outcome : Outcome) (text : List ℕ) → IsLenientOutcome files options all outcome → outcome.minimal ≡ Some text → Values files options all outcome
+minimal_whole : (files : Files) (options : Options) (all : List (List ℕ)) (outcome : Outcome) (text : List ℕ) → IsLenientOutcome files options all outcome →
+    outcome.minimal ≡ Some text → Values files options all outcome
 minimal_whole files options all outcome text (refused_tree r why is) there =
     absurd (let e : None ≡ Some text = sym (ap (λ (o : Outcome). o.minimal) is) ∙ there in cc)
 minimal_whole files options all outcome text (accepted_tree tree accepted (rest, part, from)) there = by part
@@ -139,50 +150,53 @@ no_more_streams [] e = refl
 no_more_streams (n ∷ names) e = refl
 
 -- two solutions under the same places, one of them the only one, have the same values
-values_same : (tree : TreeFacts) (places : Places) (s t : Solution) → s.tree ≡ tree → length s.values ≡ symbol_count s.tree → IsOneSolution tree places (value_of s) → IsSolutionFor tree places t → t.values ≡ s.values
+values_same : (tree : TreeFacts) (places : Places) (s t : Solution) → s.tree ≡ tree → length s.values ≡ symbol_count s.tree →
+    IsOneSolution tree places (value_of s) → IsSolutionFor tree places t → t.values ≡ s.values
 values_same tree places s t same count one is =
     let counts : length t.values ≡ length s.values = is.solves.count ∙ ap symbol_count (is.tree_is ∙ sym same) ∙ sym count in
     let first : Solves (symbol_count tree) (equations tree (place_at t.places)) (value_of t) =
     subst (λ (f : TreeFacts). Solves (symbol_count f) (equations f (place_at t.places)) (value_of t)) is.tree_is is.solves.solves in
     let solves : Solves (symbol_count tree) (equations tree (place_at places)) (value_of t) =
     subst (λ (p : Places). Solves (symbol_count tree) (equations tree (place_at p)) (value_of t)) is.places_are first in
-    ext_get_or (Written Undefined []) t.values s.values counts (λ i lt. one.only (value_of t) solves i (subst (λ n. i < n) (is.solves.count ∙ ap symbol_count is.tree_is) lt))
+    ext_get_or (TextValue Undefined []) t.values s.values counts (λ i lt. one.only (value_of t) solves i (subst (λ n. i < n) (is.solves.count ∙ ap symbol_count is.tree_is) lt))
 
-module _ (answer : OneAnswer) (again : MinimalIsReadAgain) (files : Files) (options alone : Options) (all : List (List ℕ)) (text : List ℕ) (is_pre : is_prefix options.prefix ≡ true) (same : AreAlone options alone) where
-  module _ (tree : TreeFacts) (solution : Solution) (is : IsWhole files options all tree solution) (text_is : minimal_text tree options.prefix (told_of solution) ≡ text) where
+module _ (answer : OneAnswer) (again : MinimalIsReadAgain) (files : Files) (options alone : Options) (all : List (List ℕ)) (text : List ℕ)
+    (is_pre : is_prefix options.prefix ≡ true) (same : AreAlone options alone) where
+  module _ (tree : TreeFacts) (solution : Solution) (is : RefusesNothing files options all tree solution) (text_is : minimal_text tree options.prefix (solution_view solution) ≡ text) where
     abbrev name : List ℕ
     name = string_bytes alone.config
 
-    abbrev read : Read
+    abbrev read : ReadResult
     read = read_alone tree options.prefix name text
 
     restored : (read.stopped ≡ None) × IsOneSolution tree read.places (value_of solution)
     restored =
         let gives = (again files options all tree solution is_pre is).0 name in
-        let told : minimal_text tree options.prefix (told_by tree (place_at solution.places) (value_of solution)) ≡ text =
-        ap (λ (f : TreeFacts). minimal_text tree options.prefix (told_by f (place_at solution.places) (value_of solution))) (sym is.solution_is.tree_is) ∙ text_is in
+        let told : minimal_text tree options.prefix (valuation_view tree (place_at solution.places) (value_of solution)) ≡ text =
+        ap (λ (f : TreeFacts). minimal_text tree options.prefix (valuation_view f (place_at solution.places) (value_of solution))) (sym is.solution_is.tree_is) ∙ text_is in
         subst (λ t. let r = read_alone tree options.prefix name t in (r.stopped ≡ None) × IsOneSolution tree r.places (value_of solution)) told gives
 
     reads_text : read_of alone tree (text ∷ []) ≡ read_alone tree options.prefix (string_bytes alone.config) text
     reads_text =
         ap (λ p. reading_of tree p (no_places tree) (streams (names_of alone) (text ∷ []))) same.prefix
-        ∙ ap (λ ss. reading_of tree options.prefix (no_places tree) (record { name = string_bytes alone.config; bytes = text } ∷ ss)) (no_more_streams (map string_bytes alone.fragments.items) (ap (map string_bytes) same.no_fragments))
+        ∙ ap (λ ss. reading_of tree options.prefix (no_places tree) (record { name = string_bytes alone.config; bytes = text } ∷ ss))
+        (no_more_streams (map string_bytes alone.fragments.items) (ap (map string_bytes) same.no_fragments))
 
-    of_reading : (rest : Outcome) → IsOutcomeOfReading alone tree (read_of alone tree (text ∷ [])) rest → rest.config ≡ Some (config_text tree options.prefix (told_of solution))
+    of_reading : (rest : Outcome) → IsOutcomeOfReading alone tree (read_of alone tree (text ∷ [])) rest → rest.config ≡ Some (config_text tree options.prefix (solution_view solution))
     of_reading rest (long_line stop stopped was) =
-        absurd (let e : Some stop ≡ None = sym stopped ∙ ap (λ (r : Read). r.stopped) reads_text ∙ restored.0 in cc)
+        absurd (let e : Some stop ≡ None = sym stopped ∙ ap (λ (r : ReadResult). r.stopped) reads_text ∙ restored.0 in cc)
     of_reading rest (whole other none solves was) =
-        let for : IsSolutionFor tree read.places other = subst (λ (r : Read). IsSolutionFor tree r.places other) reads_text solves in
+        let for : IsSolutionFor tree read.places other = subst (λ (r : ReadResult). IsSolutionFor tree r.places other) reads_text solves in
         let values = values_same tree read.places solution other is.solution_is.tree_is is.solution_is.solves.count restored.1 for in
         ap (λ (o : Outcome). o.config) was
-        ∙ ap (λ p. Some (config_text tree p (told_of other))) same.prefix
+        ∙ ap (λ p. Some (config_text tree p (solution_view other))) same.prefix
         ∙ ap Some (config_same tree options.prefix other solution for.tree_is is.solution_is.tree_is values)
 
-    of_outcome : (later : Outcome) → IsLenientOutcome files alone (text ∷ []) later → later.config ≡ Some (config_text tree options.prefix (told_of solution))
+    of_outcome : (later : Outcome) → IsLenientOutcome files alone (text ∷ []) later → later.config ≡ Some (config_text tree options.prefix (solution_view solution))
     of_outcome later (refused_tree r why was) =
-        absurd (answer.not_both files (root_of options) r tree (subst (λ root. IsRefusedTree files root r) same.root why) is.accepted)
+        absurd (answer.not_both files (root_file options) r tree (subst (λ root. IsRefusedTree files root r) same.root why) is.accepted)
     of_outcome later (accepted_tree other accepted (rest, part, was)) =
-        let trees : other ≡ tree = answer.one_accepted files (root_of options) other tree (subst (λ root. IsAcceptedTree files root other) same.root accepted) is.accepted in
+        let trees : other ≡ tree = answer.one_accepted files (root_file options) other tree (subst (λ root. IsAcceptedTree files root other) same.root accepted) is.accepted in
         let part' : IsOutcomeOfReading alone tree (read_of alone tree (text ∷ [])) rest = subst (λ t. IsOutcomeOfReading alone t (read_of alone t (text ∷ [])) rest) trees part in
         ap (λ (o : Outcome). o.config) was ∙ of_reading rest part'
 
@@ -193,7 +207,7 @@ minimal_run_again answer again files options alone all outcome later text is_pre
     let unchanged : part ≡ lenient = strictly-minimal options.strict lenient part text refl has in
     let has_too : lenient.minimal ≡ Some text = sym (ap (λ (o : Outcome). o.minimal) unchanged) ∙ has in
     let (tree, solution, is, from) = minimal_whole files options all lenient text is_lenient has_too in
-    let text_is : minimal_text tree options.prefix (told_of solution) ≡ text = text_if_is options.minimal _ text (sym (ap (λ (o : Outcome). o.minimal) from) ∙ has_too) in
+    let text_is : minimal_text tree options.prefix (solution_view solution) ≡ text = text_if_is options.minimal _ text (sym (ap (λ (o : Outcome). o.minimal) from) ∙ has_too) in
     ap (λ (o : Outcome). o.config) was ∙ rule-config alone others (strictly alone.strict later_lenient) ∙ ap (λ (o : Outcome). o.config) (strictly-off alone.strict later_lenient lets_pass)
     ∙ of_outcome answer again files options alone all text is_pre same tree solution is text_is later_lenient second
     ∙ sym (ap (λ (o : Outcome). o.config) is_outcome ∙ rule-config options opened part ∙ ap (λ (o : Outcome). o.config) (unchanged ∙ from))

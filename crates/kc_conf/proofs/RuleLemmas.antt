@@ -4,15 +4,15 @@ use Rattle.std.specs.Prelude.{◌&&◌, if◌then◌else◌}
 use Rattle.kc_tree.specs.TreeFacts.{TreeFacts}
 use Rattle.kc_conf.specs.declared.options.Options.{Options}
 use Rattle.kc_conf.specs.ErrorLines.{strict_line}
-use Rattle.kc_conf.specs.Faults.{Broken, BreaksFile, Finishes, finished, in_file, in_notes, not_begun, up_to}
-use Rattle.kc_conf.specs.Outcome.{IsOutcomeOfReading, IsOutcomeOfTree, Outcome, depfile_text, is_done, is_told, lines_text, long_line, noted, read_of, refused, strictly, text_if, whole, with_rule}
-use Rattle.kc_conf.specs.Places.{Places, made_if, written}
+use Rattle.kc_conf.specs.Faults.{BreaksRun, BreaksFile, Finishes, finished, in_file, in_notes, not_begun, up_to}
+use Rattle.kc_conf.specs.Outcome.{IsOutcomeOfReading, IsOutcomeOfTree, Outcome, depfile_text, is_done, has_text, long_line, read_of, refused, strictly, text_if, whole, with_rule}
+use Rattle.kc_conf.specs.OutputStates.{OutputStates, made_if, with_text}
 use Rattle.kc_conf.specs.Rules.{BreaksInRule, EndsWithRule}
-use Rattle.kc_conf.specs.declared.cause.Cause.{Cause}
+use Rattle.kc_conf.specs.declared.run_fault.RunFault.{RunFault}
 use Rattle.kc_conf.specs.declared.options.Status.{Status}
 use Rattle.kc_conf.specs.declared.options.Status.TheVariants.{Done, Refused as IsRefused, Usage, Faulted}
-use Rattle.kc_conf.specs.declared.outputs.Which.TheVariants.{Config, Header, Minimal, Depfile, Notes}
-use Rattle.kc_conf.proofs.OutcomeLemmas.{Broken-files}
+use Rattle.kc_conf.specs.declared.outputs.Output.TheVariants.{Config, Header, Minimal, Depfile, Notes}
+use Rattle.kc_conf.proofs.OutcomeLemmas.{BreaksRun-files}
 
 pub not_done : (status : Status) → status ≢ Done → is_done status ≡ false
 not_done Done is_not = absurd (is_not refl)
@@ -21,7 +21,7 @@ not_done Usage is_not = refl
 not_done Faulted is_not = refl
 
 -- a run that is not done ends without it
-pub EndsWithRule-not_done : (options : Options) (opened : List (List ℕ)) (status : Status) (old : Places) → status ≢ Done → EndsWithRule options opened status status old old
+pub EndsWithRule-not_done : (options : Options) (opened : List (List ℕ)) (status : Status) (old : OutputStates) → status ≢ Done → EndsWithRule options opened status status old old
 EndsWithRule-not_done options opened status old is_not =
     (refl, ap (λ b. if b then made_if Depfile (text_if options.depfile (depfile_text options opened)) old else old) (sym (not_done status is_not)))
 
@@ -53,7 +53,7 @@ module _ (options : Options) (opened : List (List ℕ)) where
 
   -- ---- a run that breaks off before it
 
-  broken_before : (o : Outcome) (cause : Cause) (old new : Places) → o.depfile ≡ None → Broken o cause old new → Broken (ruled o) cause old new
+  broken_before : (o : Outcome) (cause : RunFault) (old new : OutputStates) → o.depfile ≡ None → BreaksRun o cause old new → BreaksRun (ruled o) cause old new
   broken_before o cause old new none (in_notes front strikes begins is) = in_notes front strikes begins is
   broken_before o cause old new none (not_begun Config text_is strikes there is) = not_begun Config text_is strikes there is
   broken_before o cause old new none (not_begun Header text_is strikes there is) = not_begun Header text_is strikes there is
@@ -66,20 +66,21 @@ module _ (options : Options) (opened : List (List ℕ)) where
   broken_before o cause old new none (in_file Notes text_is front strikes there begins is) = in_file Notes text_is front strikes there begins is
   broken_before o cause old new none (in_file Depfile text_is front strikes there begins is) = absurd (let e : None ≡ Some text_is = sym none ∙ there in cc)
 
-  broken_if : (b : Bool) (o : Outcome) (cause : Cause) (old new : Places) → o.depfile ≡ None → Broken o cause old new → Broken (ruled_if b o) cause old new
+  broken_if : (b : Bool) (o : Outcome) (cause : RunFault) (old new : OutputStates) → o.depfile ≡ None → BreaksRun o cause old new → BreaksRun (ruled_if b o) cause old new
   broken_if true o cause old new none broken = broken_before o cause old new none broken
   broken_if false o cause old new none broken = broken
 
-  pub Broken-before_rule : (o : Outcome) (cause : Cause) (old new : Places) → o.depfile ≡ None → Broken o cause old new → Broken (with_rule options opened o) cause old new
-  Broken-before_rule o cause old new none broken = broken_if (is_done o.status) o cause old new none broken
+  pub BreaksRun-before_rule : (o : Outcome) (cause : RunFault) (old new : OutputStates) → o.depfile ≡ None → BreaksRun o cause old new → BreaksRun (with_rule options opened o) cause old new
+  BreaksRun-before_rule o cause old new none broken = broken_if (is_done o.status) o cause old new none broken
 
   -- ---- a run that ends, and then the rule
 
   -- where a run without a rule ended is where the rule's turn comes
-  turn_of_rule : (o : Outcome) (mid old : Places) → o.depfile ≡ None → mid ≡ finished o old → mid ≡ up_to Depfile o old
+  turn_of_rule : (o : Outcome) (mid old : OutputStates) → o.depfile ≡ None → mid ≡ finished o old → mid ≡ up_to Depfile o old
   turn_of_rule o mid old none was = was ∙ ap (λ t. made_if Depfile t (up_to Depfile o old)) none
 
-  pub Finishes-rule : (o : Outcome) (status ended : Status) (old mid new : Places) → o.depfile ≡ None → Finishes o status old mid → EndsWithRule options opened status ended mid new → Finishes (with_rule options opened o) ended old new
+  pub Finishes-rule : (o : Outcome) (status ended : Status) (old mid new : OutputStates) → o.depfile ≡ None → Finishes o status old mid →
+      EndsWithRule options opened status ended mid new → Finishes (with_rule options opened o) ended old new
   Finishes-rule o status ended old mid new none (is, was) (same, left) =
       by (is_done o.status) (left ∙ ap (λ s. if is_done s then made_if Depfile text mid else mid) is)
     where
@@ -87,12 +88,13 @@ module _ (options : Options) (opened : List (List ℕ)) where
       by true e = (same ∙ is, e ∙ ap (made_if Depfile text) (turn_of_rule o mid old none was))
       by false e = (same ∙ is, e ∙ was)
 
-  pub Broken-in_rule : (o : Outcome) (status : Status) (cause : Cause) (old mid new : Places) → o.depfile ≡ None → Finishes o status old mid → BreaksInRule options opened status cause mid new → Broken (with_rule options opened o) cause old new
-  Broken-in_rule o status cause old mid new none (is, was) (done, breaks) =
+  pub BreaksRun-in_rule : (o : Outcome) (status : Status) (cause : RunFault) (old mid new : OutputStates) → o.depfile ≡ None → Finishes o status old mid →
+      BreaksInRule options opened status cause mid new → BreaksRun (with_rule options opened o) cause old new
+  BreaksRun-in_rule o status cause old mid new none (is, was) (done, breaks) =
       let wrote : is_done o.status ≡ true = ap is_done (sym is ∙ done) in
       let turn : mid ≡ up_to Depfile o old = turn_of_rule o mid old none was in
-      subst (λ b. Broken (ruled_if b o) cause old new) (sym wrote)
-      (Broken-files (ruled o) cause old (written Notes o.notes old) new refl (Depfile, subst (λ (p : Places). BreaksFile Depfile text cause p new) turn breaks))
+      subst (λ b. BreaksRun (ruled_if b o) cause old new) (sym wrote)
+      (BreaksRun-files (ruled o) cause old (with_text Notes o.notes old) new refl (Depfile, subst (λ (p : OutputStates). BreaksFile Depfile text cause p new) turn breaks))
 
 -- ---- no outcome has a rule before it is written
 
@@ -106,4 +108,4 @@ no_rule_if part false none = none
 
 pub no_rule : (options : Options) (tree : TreeFacts) (all : List (List ℕ)) (part : Outcome) → IsOutcomeOfTree options tree all part → (strictly options.strict part).depfile ≡ None
 no_rule options tree all part (rest, is_rest, is) =
-    no_rule_if part (is_done part.status && (options.strict && is_told part.notes)) (ap (λ (o : Outcome). o.depfile) is ∙ no_rule_in_rest options tree all rest is_rest)
+    no_rule_if part (is_done part.status && (options.strict && has_text part.notes)) (ap (λ (o : Outcome). o.depfile) is ∙ no_rule_in_rest options tree all rest is_rest)

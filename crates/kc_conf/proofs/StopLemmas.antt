@@ -4,7 +4,7 @@ use Rattle.std.specs.Prelude.{IfOk}
 use Rattle.kc_make.specs.Opened.{OpenedAreThere}
 use Rattle.kc_order.specs.Graph.{Nodes}
 use Rattle.kc_read.specs.Files.{Files}
-use Rattle.kc_read.specs.Steps.{refusal_view}
+use Rattle.kc_read.specs.RefusalView.{refusal_view}
 use Rattle.kc_read.specs.declared.refusal.Code.TheVariants.{Memory as NoMemory}
 use Rattle.kc_read.specs.declared.refusal.Refusal.{Refusal}
 use Rattle.kc_tree.specs.Layouts.{IsLayoutOf}
@@ -15,20 +15,20 @@ use Rattle.kc_values.specs.Laws.{IsAccepted}
 use Rattle.kc_solve.specs.Graphs.{IsGraphOf}
 use Rattle.kc_solve.specs.Refused.{NamesLoop}
 use Rattle.kc_conf.specs.ErrorLines.{refusal_line}
-use Rattle.kc_conf.specs.Faults.{Broken, Finishes}
-use Rattle.kc_conf.specs.Given.{AreAllToCome}
-use Rattle.kc_conf.specs.Kept.{Holds}
-use Rattle.kc_conf.specs.Outcome.{IsAcceptedTree, IsOutcome, IsRefusedTree, looped, no_tree, OneAnswer, Outcome, refused, refused_tree, root_of}
-use Rattle.kc_conf.specs.Places.{Places}
+use Rattle.kc_conf.specs.Faults.{BreaksRun, Finishes}
+use Rattle.kc_conf.specs.InputBytes.{AreAllToCome}
+use Rattle.kc_conf.specs.AcceptedTree.{HoldsTree}
+use Rattle.kc_conf.specs.Outcome.{IsAcceptedTree, IsOutcome, IsRefusedTree, looped, no_tree, OneAnswer, Outcome, refused, refused_tree, root_file}
+use Rattle.kc_conf.specs.OutputStates.{OutputStates}
 use Rattle.kc_conf.specs.Stops.{IsOutOfMemory}
-use Rattle.kc_conf.specs.declared.cause.Cause.{Cause}
-use Rattle.kc_conf.specs.declared.cause.Cause.TheVariants.{Memory}
+use Rattle.kc_conf.specs.declared.run_fault.RunFault.{RunFault}
+use Rattle.kc_conf.specs.declared.run_fault.RunFault.TheVariants.{Memory}
 use Rattle.kc_conf.specs.declared.options.Options.{Options}
 use Rattle.kc_conf.specs.declared.options.Status.{Status}
-use Rattle.kc_conf.specs.declared.runs.Kept.{Kept}
-use Rattle.kc_conf.proofs.OutcomeLemmas.{Broken-nothing}
+use Rattle.kc_conf.specs.declared.runs.AcceptedTree.{AcceptedTree}
+use Rattle.kc_conf.proofs.OutcomeLemmas.{BreaksRun-nothing}
 use Rattle.kc_conf.proofs.ReadsLemmas.{left_of, AreAllToCome-self}
-use Rattle.kc_conf.proofs.RunLemmas.{Broken-refused_tree}
+use Rattle.kc_conf.proofs.RunLemmas.{BreaksRun-refused_tree}
 
 -- ---- the tree of a root file whose name is known
 
@@ -47,40 +47,40 @@ module _ (files : Files) (name root : List ℕ) (same : name ≡ root) where
 
 -- ---- refused
 
-module _ (law : OneAnswer) (there : OpenedAreThere) (files : Files) (options : Options) (r : Refusal) (why : r.code ≢ NoMemory → IsRefusedTree files (root_of options) (refusal_view r)) where
+module _ (law : OneAnswer) (there : OpenedAreThere) (files : Files) (options : Options) (r : Refusal) (why : r.code ≢ NoMemory → IsRefusedTree files (root_file options) (refusal_view r)) where
   abbrev its_line : List ℕ
   its_line = refusal_line (refusal_view r)
 
   -- the run ends with the line of the refusal
-  pub Finishes-refusal : (given : List (Option (List ℕ))) (status : Status) (old new : Places) → (r.code ≢ NoMemory) × Finishes (refused its_line) status old new →
+  pub Finishes-refusal : (given : List (Option (List ℕ))) (status : Status) (old new : OutputStates) → (r.code ≢ NoMemory) × Finishes (refused its_line) status old new →
       (all : List (List ℕ)) × AreAllToCome given all × ((outcome : Outcome) × IsOutcome files options all outcome × Finishes outcome status old new)
   Finishes-refusal given status old new (known, finishes) =
-      let (opened, are) = there files (root_of options) in (
+      let (opened, are) = there files (root_file options) in (
         map left_of given,
         AreAllToCome-self given,
         (refused its_line, (refused its_line, opened, refused_tree (refusal_view r) (why known) refl, are, refl), finishes),
       )
 
   -- or it breaks off in that line, or for want of memory
-  pub Broken-refusal : (given : List (Option (List ℕ))) (cause : Cause) (old new : Places) →
-      IsOutOfMemory r cause old new ⊎ ((r.code ≢ NoMemory) × Broken (refused its_line) cause old new) →
-      (all : List (List ℕ)) × AreAllToCome given all × ((outcome : Outcome) → IsOutcome files options all outcome → Broken outcome cause old new)
-  Broken-refusal given cause old new (inl out) = (
+  pub BreaksRun-refusal : (given : List (Option (List ℕ))) (cause : RunFault) (old new : OutputStates) →
+      IsOutOfMemory r cause old new ⊎ ((r.code ≢ NoMemory) × BreaksRun (refused its_line) cause old new) →
+      (all : List (List ℕ)) × AreAllToCome given all × ((outcome : Outcome) → IsOutcome files options all outcome → BreaksRun outcome cause old new)
+  BreaksRun-refusal given cause old new (inl out) = (
     map left_of given,
     AreAllToCome-self given,
     λ outcome is.
-        subst (λ c. Broken outcome c old new) (sym out.cause_is) (subst (λ (p : Places). Broken outcome Memory old p) (sym out.nothing) (Broken-nothing outcome old)),
+        subst (λ c. BreaksRun outcome c old new) (sym out.cause_is) (subst (λ (p : OutputStates). BreaksRun outcome Memory old p) (sym out.nothing) (BreaksRun-nothing outcome old)),
   )
-  Broken-refusal given cause old new (inr (known, broken)) = (
+  BreaksRun-refusal given cause old new (inr (known, broken)) = (
     map left_of given,
     AreAllToCome-self given,
-    Broken-refused_tree law files options (refusal_view r) (map left_of given) cause old new (why known) broken,
+    BreaksRun-refused_tree law files options (refusal_view r) (map left_of given) cause old new (why known) broken,
   )
 
   -- where it ends, no tree is accepted
-  pub nothing_accepted : (kept : Option Kept) (Ends : Status → Type 0) (result : Result Status Cause) → IfOk result (λ status. (r.code ≢ NoMemory) × Ends status) →
-      OnOk result ((tree : TreeFacts) → IsAcceptedTree files (root_of options) tree → Holds tree kept)
-  nothing_accepted kept Ends (Ok status) (known, ends) = λ tree accepted. absurd (law.not_both files (root_of options) (refusal_view r) tree (why known) accepted)
+  pub nothing_accepted : (kept : Option AcceptedTree) (Ends : Status → Type 0) (result : Result Status RunFault) → IfOk result (λ status. (r.code ≢ NoMemory) × Ends status) →
+      OnOk result ((tree : TreeFacts) → IsAcceptedTree files (root_file options) tree → HoldsTree tree kept)
+  nothing_accepted kept Ends (Ok status) (known, ends) = λ tree accepted. absurd (law.not_both files (root_file options) (refusal_view r) tree (why known) accepted)
   nothing_accepted kept Ends (Err cause) ends = tt
 
 -- ---- kept
@@ -88,10 +88,10 @@ module _ (law : OneAnswer) (there : OpenedAreThere) (files : Files) (options : O
 module _ (law : OneAnswer) (files : Files) (root : List ℕ) (tree : TreeFacts) (accepted : IsAcceptedTree files root tree)
     (layout : Layout) (order : Nodes) (laid : IsLayoutOf tree layout) (graph : IsGraphOf tree layout order) where
   -- the accepted tree, whatever is known of it
-  pub Holds-accepted : (other : TreeFacts) → IsAcceptedTree files root other → Holds other (Some record { tree = tree; order = order })
-  Holds-accepted other is =
-      subst (λ (t : TreeFacts). Holds t (Some record { tree = tree; order = order })) (law.one_accepted files root tree other accepted is) (refl, (layout, laid, graph))
+  pub HoldsTree-accepted : (other : TreeFacts) → IsAcceptedTree files root other → HoldsTree other (Some record { tree = tree; order = order })
+  HoldsTree-accepted other is =
+      subst (λ (t : TreeFacts). HoldsTree t (Some record { tree = tree; order = order })) (law.one_accepted files root tree other accepted is) (refl, (layout, laid, graph))
 
-  pub Holds-ended : (result : Result Status Cause) → OnOk result ((other : TreeFacts) → IsAcceptedTree files root other → Holds other (Some record { tree = tree; order = order }))
-  Holds-ended (Ok status) = Holds-accepted
-  Holds-ended (Err cause) = tt
+  pub HoldsTree-ended : (result : Result Status RunFault) → OnOk result ((other : TreeFacts) → IsAcceptedTree files root other → HoldsTree other (Some record { tree = tree; order = order }))
+  HoldsTree-ended (Ok status) = HoldsTree-accepted
+  HoldsTree-ended (Err cause) = tt

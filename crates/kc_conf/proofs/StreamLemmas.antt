@@ -6,15 +6,17 @@ use Rattle.kc_tree.specs.TreeFacts.{TreeFacts}
 use Rattle.kc_user.specs.Places.{Places}
 use Rattle.kc_dot.specs.Sink.{next_failure}
 use Rattle.kc_conf.specs.declared.options.Options.{Options}
-use Rattle.kc_conf.specs.Faults.{CountsInputs, StrikesNotes}
+use Rattle.kc_conf.specs.Faults.{CountsInputs}
 use Rattle.kc_conf.specs.Outcome.{names_of}
-use Rattle.kc_conf.specs.Reads.{counted_input, IsOfStream, ReadSoFar, ReadsStream, BreaksStream, ReadsStreams, BreaksStreams}
-use Rattle.kc_conf.specs.declared.cause.Cause.{Cause}
-use Rattle.kc_conf.specs.declared.cause.Cause.TheVariants.{Read, Write, Memory}
+use Rattle.kc_conf.specs.Reads.{input_failures_after, IsStreamFault, ReadSoFar, ReadsStream, BreaksStream, ReadsStreams, BreaksStreams}
+use Rattle.kc_conf.specs.declared.run_fault.RunFault.{RunFault}
+use Rattle.kc_conf.specs.declared.run_fault.RunFault.TheVariants.{Read, Write, Memory}
 use Rattle.kc_conf.proofs.ListLemmas.{map-changed, map-unchanged}
 use Rattle.kc_conf.proofs.ReadsLemmas.{ReadSoFar-stream, ReadsStreams-end, ReadsStreams-long, BreaksStreams-stream}
 
-module _ {X : Type 0} (remaining : X → Option (List ℕ)) (tree : TreeFacts) (prefix : List ℕ) (names : List (List ℕ)) (given : List (Option (List ℕ))) (before places : Places) (text text_mid : Option (List ℕ)) (inputs : List X) (at : ℕ) (d : X) (name : List ℕ) (named : at < length names) (there : at < length inputs) (name_is : name ≡ get_or names at []) where
+module _ {X : Type 0} (remaining : X → Option (List ℕ)) (tree : TreeFacts) (prefix : List ℕ) (names : List (List ℕ)) (given : List (Option (List ℕ)))
+    (before places : Places) (text text_mid : Option (List ℕ)) (inputs : List X) (at : ℕ) (d : X) (name : List ℕ) (named : at < length names)
+    (there : at < length inputs) (name_is : name ≡ get_or names at []) where
   next : ReadSoFar tree prefix names (drop at names) given (map remaining (drop at inputs)) before places text text_mid →
       ReadSoFar tree prefix names (name ∷ drop (at + 1) names) given (remaining (get_or inputs at d) ∷ map remaining (drop (at + 1) inputs)) before places text text_mid
   next read =
@@ -26,32 +28,39 @@ module _ {X : Type 0} (remaining : X → Option (List ℕ)) (tree : TreeFacts) (
 
   -- the stream was read to its end, and the inputs behind it are as they were
   pub ReadSoFar-next : (later : List X) (after : Places) (text_after : Option (List ℕ)) → drop (at + 1) later ≡ drop (at + 1) inputs →
-      ReadSoFar tree prefix names (drop at names) given (map remaining (drop at inputs)) before places text text_mid → ReadsStream tree prefix name None (remaining (get_or inputs at d)) places after text_mid text_after →
+      ReadSoFar tree prefix names (drop at names) given (map remaining (drop at inputs)) before places text text_mid →
+      ReadsStream tree prefix name None (remaining (get_or inputs at d)) places after text_mid text_after →
       ReadSoFar tree prefix names (drop (at + 1) names) given (map remaining (drop (at + 1) later)) before after text text_after
   ReadSoFar-next later after text_after same read stream =
       subst (λ xs. ReadSoFar tree prefix names (drop (at + 1) names) given (map remaining xs) before after text text_after) (sym same)
-      (ReadSoFar-stream tree prefix names (drop (at + 1) names) name given (map remaining (drop (at + 1) inputs)) (remaining (get_or inputs at d)) before places after text text_mid text_after (next read) stream)
+      (ReadSoFar-stream tree prefix names (drop (at + 1) names) name given (map remaining (drop (at + 1) inputs)) (remaining (get_or inputs at d))
+      before places after text text_mid text_after (next read) stream)
 
   -- a line of the stream is too long
   pub ReadsStreams-stop : (number : ℕ) (after : Places) (text_after : Option (List ℕ)) →
-      ReadSoFar tree prefix names (drop at names) given (map remaining (drop at inputs)) before places text text_mid → ReadsStream tree prefix name (Some number) (remaining (get_or inputs at d)) places after text_mid text_after →
+      ReadSoFar tree prefix names (drop at names) given (map remaining (drop at inputs)) before places text text_mid →
+      ReadsStream tree prefix name (Some number) (remaining (get_or inputs at d)) places after text_mid text_after →
       ReadsStreams tree prefix names (Some (record { stream = name; number = number })) given before after text text_after
   ReadsStreams-stop number after text_after read stream =
-      ReadsStreams-long tree prefix names (drop (at + 1) names) name number given (map remaining (drop (at + 1) inputs)) (remaining (get_or inputs at d)) before places after text text_mid text_after (next read) stream
+      ReadsStreams-long tree prefix names (drop (at + 1) names) name number given (map remaining (drop (at + 1) inputs)) (remaining (get_or inputs at d))
+      before places after text text_mid text_after (next read) stream
 
   -- the stream broke off
   pub BreaksStreams-stop : (text_after : Option (List ℕ)) →
-      ReadSoFar tree prefix names (drop at names) given (map remaining (drop at inputs)) before places text text_mid → BreaksStream tree prefix name (remaining (get_or inputs at d)) places text_mid text_after →
+      ReadSoFar tree prefix names (drop at names) given (map remaining (drop at inputs)) before places text text_mid →
+      BreaksStream tree prefix name (remaining (get_or inputs at d)) places text_mid text_after →
       BreaksStreams tree prefix names given before text text_after
   BreaksStreams-stop text_after read stream =
-      BreaksStreams-stream tree prefix names (drop (at + 1) names) name given (map remaining (drop (at + 1) inputs)) (remaining (get_or inputs at d)) before places text text_mid text_after (next read) stream
+      BreaksStreams-stream tree prefix names (drop (at + 1) names) name given (map remaining (drop (at + 1) inputs)) (remaining (get_or inputs at d))
+      before places text text_mid text_after (next read) stream
 
 -- one name for each input
 pub names_count : (options : Options) → length (names_of options) ≡ length options.fragments.items + 1
 names_count options = let e = length-map options.fragments.items string_bytes in omega (arith, e)
 
 -- all streams were read
-pub ReadsStreams-all : {X : Type 0} (remaining : X → Option (List ℕ)) (tree : TreeFacts) (prefix : List ℕ) (names : List (List ℕ)) (given : List (Option (List ℕ))) (before after : Places) (text text_after : Option (List ℕ)) (inputs : List X) (at : ℕ) →
+pub ReadsStreams-all : {X : Type 0} (remaining : X → Option (List ℕ)) (tree : TreeFacts) (prefix : List ℕ) (names : List (List ℕ))
+    (given : List (Option (List ℕ))) (before after : Places) (text text_after : Option (List ℕ)) (inputs : List X) (at : ℕ) →
     length names ≤ at → length inputs ≤ at → ReadSoFar tree prefix names (drop at names) given (map remaining (drop at inputs)) before after text text_after →
     ReadsStreams tree prefix names None given before after text text_after
 ReadsStreams-all {X} remaining tree prefix names given before after text text_after inputs at named there read =
@@ -62,17 +71,13 @@ ReadsStreams-all {X} remaining tree prefix names given before after text text_af
     ReadsStreams-end tree prefix names given before after text text_after second
 
 -- the count of the input that failed rose, and no other
-pub CountsInputs-stream : {X : Type 0} (failures : X → ℕ) (cause : Cause) (old : List ℕ) (inputs : List X) (at : ℕ) (new d : X) → at < length inputs → map failures inputs ≡ old → IsOfStream at cause →
-    failures new ≡ counted_input cause (failures (get_or inputs at d)) → CountsInputs cause old (map failures (slice_set inputs at new))
+pub CountsInputs-stream : {X : Type 0} (failures : X → ℕ) (cause : RunFault) (old : List ℕ) (inputs : List X) (at : ℕ) (new d : X) → at < length inputs →
+    map failures inputs ≡ old → IsStreamFault at cause →
+    failures new ≡ input_failures_after cause (failures (get_or inputs at d)) → CountsInputs cause old (map failures (slice_set inputs at new))
 CountsInputs-stream failures (Read input) old inputs at new d within same is counts =
     let within' : at < length old = omega (arith, within, ap length same, length-map inputs failures) in
     let changed : map failures (slice_set inputs at new) ≡ slice_set old at (next_failure (slice_index old at)) =
     map-changed failures next_failure inputs at new d within counts ∙ ap (λ (l : List ℕ). slice_set l at (next_failure (slice_index l at))) same in
     subst (λ i. (i < length old) × (map failures (slice_set inputs at new) ≡ slice_set old i (next_failure (slice_index old i)))) (sym is) (within', changed)
 CountsInputs-stream failures Memory old inputs at new d within same is counts = map-unchanged failures inputs at new d within counts ∙ same
-CountsInputs-stream failures (Write which) old inputs at new d within same is counts = map-unchanged failures inputs at new d within counts ∙ same
-
-pub IsOfStream-notes : (at : ℕ) (cause : Cause) → IsOfStream at cause → StrikesNotes cause
-IsOfStream-notes at (Read input) is = tt
-IsOfStream-notes at Memory is = tt
-IsOfStream-notes at (Write which) is = is
+CountsInputs-stream failures (Write output) old inputs at new d within same is counts = map-unchanged failures inputs at new d within counts ∙ same

@@ -7,49 +7,49 @@ use Rattle.kc_text.specs.Limits.{longest_line}
 use Rattle.kc_expr.specs.Limits.{most_symbols}
 use Rattle.kc_read.specs.Limits.{most_lines}
 use Rattle.kc_dot.specs.Limits.{longest_config_line}
-use Rattle.kc_dot.specs.Reading.{Stop}
+use Rattle.kc_dot.specs.Reading.{StreamLocation}
 
 -- what an error line says of a refusal, before the word, the name or the loop that it is about
-abbrev pub words_before : Code → List ℕ
-words_before code.NoFile = codes "E1: no file "
-words_before code.InclusionLoop = codes "E2: file "
-words_before code.TooManyLines = codes "E3: more than " ++ decimal most_lines ++ codes " lines"
-words_before code.LineTooLong = codes "E4: line longer than " ++ decimal longest_line ++ codes " bytes"
-words_before code.BadToken = codes "E5: bad token"
-words_before code.Macro = codes "E6: macro"
-words_before code.LeftOut = codes "E7: "
-words_before code.Syntax = codes "E8: syntax"
-words_before code.Block = codes "E9: unbalanced block"
-words_before code.Misplaced = codes "E10: misplaced"
-words_before code.BadName = codes "E11: bad name "
-words_before code.TooDeep = codes "E12: too deep"
-words_before code.ChoiceMember = codes "E13: choice member "
-words_before code.BadDefault = codes "E14: bad default of "
-words_before code.Loop = codes "E15: dependency loop: "
-words_before code.TooManySymbols = codes "E16: more than " ++ decimal most_symbols ++ codes " symbols"
-words_before code.Memory = codes "E20: out of memory"
+abbrev pub message_before : Code → List ℕ
+message_before code.NoFile = codes "E1: no file "
+message_before code.InclusionLoop = codes "E2: file "
+message_before code.TooManyLines = codes "E3: more than " ++ decimal most_lines ++ codes " lines"
+message_before code.LineTooLong = codes "E4: line longer than " ++ decimal longest_line ++ codes " bytes"
+message_before code.BadToken = codes "E5: bad token"
+message_before code.Macro = codes "E6: macro"
+message_before code.LeftOut = codes "E7: "
+message_before code.Syntax = codes "E8: syntax"
+message_before code.Block = codes "E9: unbalanced block"
+message_before code.Misplaced = codes "E10: misplaced"
+message_before code.BadName = codes "E11: bad name "
+message_before code.TooDeep = codes "E12: too deep"
+message_before code.ChoiceMember = codes "E13: choice member "
+message_before code.BadDefault = codes "E14: bad default of "
+message_before code.Loop = codes "E15: dependency loop: "
+message_before code.TooManySymbols = codes "E16: more than " ++ decimal most_symbols ++ codes " symbols"
+message_before code.Memory = codes "E20: out of memory"
 
 -- and behind it
-abbrev pub words_behind : Code → List ℕ
-words_behind code.NoFile = codes "\n"
-words_behind code.InclusionLoop = codes " includes itself\n"
-words_behind code.TooManyLines = codes "\n"
-words_behind code.LineTooLong = codes "\n"
-words_behind code.BadToken = codes "\n"
-words_behind code.Macro = codes "\n"
-words_behind code.LeftOut = codes " is left out\n"
-words_behind code.Syntax = codes "\n"
-words_behind code.Block = codes "\n"
-words_behind code.Misplaced = codes "\n"
-words_behind code.BadName = codes "\n"
-words_behind code.TooDeep = codes "\n"
-words_behind code.ChoiceMember = codes "\n"
-words_behind code.BadDefault = codes "\n"
-words_behind code.Loop = codes "\n"
-words_behind code.TooManySymbols = codes "\n"
-words_behind code.Memory = codes "\n"
+abbrev pub message_behind : Code → List ℕ
+message_behind code.NoFile = codes "\n"
+message_behind code.InclusionLoop = codes " includes itself\n"
+message_behind code.TooManyLines = codes "\n"
+message_behind code.LineTooLong = codes "\n"
+message_behind code.BadToken = codes "\n"
+message_behind code.Macro = codes "\n"
+message_behind code.LeftOut = codes " is left out\n"
+message_behind code.Syntax = codes "\n"
+message_behind code.Block = codes "\n"
+message_behind code.Misplaced = codes "\n"
+message_behind code.BadName = codes "\n"
+message_behind code.TooDeep = codes "\n"
+message_behind code.ChoiceMember = codes "\n"
+message_behind code.BadDefault = codes "\n"
+message_behind code.Loop = codes "\n"
+message_behind code.TooManySymbols = codes "\n"
+message_behind code.Memory = codes "\n"
 
--- an error line at a place
+-- an error line at a location
 abbrev pub error_at : List ℕ → ℕ → List ℕ → List ℕ
 error_at file line text = file ++ codes ":" ++ decimal line ++ codes ": error " ++ text
 
@@ -59,12 +59,12 @@ error_if_at (Some place) text = error_at place.0 place.1 text
 
 -- the one error line of a refused tree
 abbrev pub refusal_line : Refused → List ℕ
-refusal_line r = error_if_at r.place (words_before r.code ++ r.detail ++ words_behind r.code)
+refusal_line r = error_if_at r.location (message_before r.code ++ r.detail ++ message_behind r.code)
 
 -- the error line behind the warnings that are refused
 abbrev pub strict_line : List ℕ
 strict_line = codes "error E21: warnings are refused\n"
 
 -- the error line of a line of a stream that is too long
-abbrev pub too_long_line : Stop → List ℕ
+abbrev pub too_long_line : StreamLocation → List ℕ
 too_long_line stop = error_at stop.stream stop.number (codes "E17: line longer than " ++ decimal longest_config_line ++ codes " bytes\n")

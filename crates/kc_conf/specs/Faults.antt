@@ -6,89 +6,89 @@ use Rattle.kc_dot.specs.declared.fault.WriteFault.{WriteFault}
 use Rattle.kc_dot.specs.declared.fault.WriteFault.TheVariants as write
 use Rattle.kc_conf.specs.declared.options.Options.{Options}
 use Rattle.kc_conf.specs.Outcome.{Outcome, names_of}
-use Rattle.kc_conf.specs.Places.{Places, at, with_place, failed, written, begun_with, made_if, Broke}
-use Rattle.kc_conf.specs.declared.outputs.Which.{Which}
-use Rattle.kc_conf.specs.declared.outputs.Which.TheVariants.{Config, Header, Minimal, Depfile, Notes}
+use Rattle.kc_conf.specs.OutputStates.{OutputStates, at, with_state, failed, with_text, begun_with, made_if, BreaksOutput}
+use Rattle.kc_conf.specs.declared.outputs.Output.{Output}
+use Rattle.kc_conf.specs.declared.outputs.Output.TheVariants.{Config, Header, Minimal, Depfile, Notes}
 use Rattle.kc_conf.specs.declared.options.Status.{Status}
-use Rattle.kc_conf.specs.declared.cause.Cause.{Cause}
-use Rattle.kc_conf.specs.declared.cause.Cause.TheVariants.{Read, Write, Memory}
+use Rattle.kc_conf.specs.declared.run_fault.RunFault.{RunFault}
+use Rattle.kc_conf.specs.declared.run_fault.RunFault.TheVariants.{Read, Write, Memory}
 
 -- ---- a run without a fault
 
 -- the files before this one, whole where they are wanted
-abbrev pub files_before : Which → Outcome → Places → Places
-files_before Notes outcome places = places
-files_before Config outcome places = places
-files_before Header outcome places = made_if Config outcome.config places
-files_before Minimal outcome places = made_if Header outcome.header (made_if Config outcome.config places)
-files_before Depfile outcome places = made_if Minimal outcome.minimal (made_if Header outcome.header (made_if Config outcome.config places))
+abbrev pub files_before : Output → Outcome → OutputStates → OutputStates
+files_before Notes outcome states = states
+files_before Config outcome states = states
+files_before Header outcome states = made_if Config outcome.config states
+files_before Minimal outcome states = made_if Header outcome.header (made_if Config outcome.config states)
+files_before Depfile outcome states = made_if Minimal outcome.minimal (made_if Header outcome.header (made_if Config outcome.config states))
 
 -- the four files, whole where they are wanted
-abbrev pub files_made : Outcome → Places → Places
-files_made outcome places = made_if Depfile outcome.depfile (files_before Depfile outcome places)
+abbrev pub files_made : Outcome → OutputStates → OutputStates
+files_made outcome states = made_if Depfile outcome.depfile (files_before Depfile outcome states)
 
 -- the outputs when a file's turn has come: the notes and the files before it are whole
-abbrev pub up_to : Which → Outcome → Places → Places
-up_to file outcome places = files_before file outcome (written Notes outcome.notes places)
+abbrev pub up_to : Output → Outcome → OutputStates → OutputStates
+up_to file outcome states = files_before file outcome (with_text Notes outcome.notes states)
 
 -- the outputs at the end
-abbrev pub finished : Outcome → Places → Places
-finished outcome places = files_made outcome (written Notes outcome.notes places)
+abbrev pub finished : Outcome → OutputStates → OutputStates
+finished outcome states = files_made outcome (with_text Notes outcome.notes states)
 
 -- the run left this outcome, and answered its status
-abbrev pub Finishes : Outcome → Status → Places → Places → Type 0
+abbrev pub Finishes : Outcome → Status → OutputStates → OutputStates → Type 0
 Finishes outcome status old new = (status ≡ outcome.status) × (new ≡ finished outcome old)
 
 -- ---- a run with a fault
 
 -- the text of a file, where it is wanted
-abbrev pub file_text : Outcome → Which → Option (List ℕ)
+abbrev pub file_text : Outcome → Output → Option (List ℕ)
 file_text outcome Notes = None
 file_text outcome Config = outcome.config
 file_text outcome Header = outcome.header
 file_text outcome Minimal = outcome.minimal
 file_text outcome Depfile = outcome.depfile
 
--- one failure more, at the output that failed
-abbrev pub marked : Cause → Places → Places
-marked (Read input) places = places
-marked Memory places = places
-marked (Write which) places = with_place places which (failed (at places which))
+-- the states after this fault: one failure more at the output that failed
+abbrev pub after_fault : RunFault → OutputStates → OutputStates
+after_fault (Read input) states = states
+after_fault Memory states = states
+after_fault (Write output) states = with_state states output (failed (at states output))
 
 -- this cause can strike while the notes are written
-abbrev pub StrikesNotes : Cause → Type 0
+abbrev pub StrikesNotes : RunFault → Type 0
 StrikesNotes (Read input) = ⊤
 StrikesNotes Memory = ⊤
-StrikesNotes (Write which) = which ≡ Notes
+StrikesNotes (Write output) = output ≡ Notes
 
 -- this cause can strike while that file is begun and written
-abbrev pub StrikesFile : Which → Cause → Type 0
+abbrev pub StrikesFile : Output → RunFault → Type 0
 StrikesFile file (Read input) = ⊥
 StrikesFile file Memory = ⊤
-StrikesFile file (Write which) = which ≡ file
+StrikesFile file (Write output) = output ≡ file
 
--- A run that was to leave this outcome broke off, for this cause. All before the place where it broke off is whole. A file
+-- A run that was to leave this outcome broke off, for this cause. All before the point where it broke off is whole. A file
 -- that broke off was not ended: it holds a beginning of its text, or all of it where its end failed.
-pub data Broken (outcome : Outcome) (cause : Cause) (old new : Places) : Type 0 where
-  in_notes : (front : List ℕ) → StrikesNotes cause → BeginsWith outcome.notes front → new ≡ marked cause (written Notes front old) → Broken outcome cause old new
-  not_begun : (file : Which) (text : List ℕ) → StrikesFile file cause → file_text outcome file ≡ Some text → new ≡ marked cause (up_to file outcome old) → Broken outcome cause old new
-  in_file : (file : Which) (text front : List ℕ) → StrikesFile file cause → file_text outcome file ≡ Some text → BeginsWith text front →
-      new ≡ marked cause (begun_with file front (up_to file outcome old)) → Broken outcome cause old new
+pub data BreaksRun (outcome : Outcome) (cause : RunFault) (old new : OutputStates) : Type 0 where
+  in_notes : (front : List ℕ) → StrikesNotes cause → BeginsWith outcome.notes front → new ≡ after_fault cause (with_text Notes front old) → BreaksRun outcome cause old new
+  not_begun : (file : Output) (text : List ℕ) → StrikesFile file cause → file_text outcome file ≡ Some text → new ≡ after_fault cause (up_to file outcome old) → BreaksRun outcome cause old new
+  in_file : (file : Output) (text front : List ℕ) → StrikesFile file cause → file_text outcome file ≡ Some text → BeginsWith text front →
+      new ≡ after_fault cause (begun_with file front (up_to file outcome old)) → BreaksRun outcome cause old new
 
 -- the cause is no failure of an input
-abbrev pub IsOfOutputs : Cause → Type 0
-IsOfOutputs (Read input) = ⊥
-IsOfOutputs Memory = ⊤
-IsOfOutputs (Write which) = ⊤
+abbrev pub IsNoInputFault : RunFault → Type 0
+IsNoInputFault (Read input) = ⊥
+IsNoInputFault Memory = ⊤
+IsNoInputFault (Write output) = ⊤
 
 -- the counts of the inputs after this cause: one failure more of the one that failed, and no other
-abbrev pub CountsInputs : Cause → List ℕ → List ℕ → Type 0
+abbrev pub CountsInputs : RunFault → List ℕ → List ℕ → Type 0
 CountsInputs (Read input) old new = (input < length old) × (new ≡ slice_set old input (next_failure (slice_index old input)))
 CountsInputs Memory old new = new ≡ old
-CountsInputs (Write which) old new = new ≡ old
+CountsInputs (Write output) old new = new ≡ old
 
 -- the name of an output in an error line
-abbrev pub name_of : Options → Which → List ℕ
+abbrev pub name_of : Options → Output → List ℕ
 name_of options Config = string_bytes options.out
 name_of options Header = option_map_or string_bytes options.header []
 name_of options Minimal = option_map_or string_bytes options.minimal []
@@ -100,17 +100,17 @@ abbrev pub stream_name : Options → ℕ → List ℕ
 stream_name options input = slice_index_or (names_of options) input []
 
 -- the one error line of a fault
-abbrev pub error_line : Options → Cause → List ℕ
+abbrev pub error_line : Options → RunFault → List ℕ
 error_line options (Read input) = codes "error E18: cannot read " ++ stream_name options input ++ codes "\n"
-error_line options (Write which) = codes "error E19: cannot write " ++ name_of options which ++ codes "\n"
+error_line options (Write output) = codes "error E19: cannot write " ++ name_of options output ++ codes "\n"
 error_line options Memory = codes "error E20: out of memory\n"
 
 -- the line was written to the notes, or a beginning of it and they failed
-abbrev pub NotesLine : List ℕ → Places → Places → Type 0
-NotesLine line old new = (new ≡ written Notes line old) ⊎ Broke Notes line old new
+abbrev pub NotesLine : List ℕ → OutputStates → OutputStates → Type 0
+NotesLine line old new = (new ≡ with_text Notes line old) ⊎ BreaksOutput Notes line old new
 
 -- the error line is written, unless the notes are what failed
-abbrev pub Reports : Options → Cause → Places → Places → Type 0
+abbrev pub Reports : Options → RunFault → OutputStates → OutputStates → Type 0
 Reports options (Read input) old new = NotesLine (error_line options (Read input)) old new
 Reports options Memory old new = NotesLine (error_line options Memory) old new
 Reports options (Write Config) old new = NotesLine (error_line options (Write Config)) old new
@@ -120,25 +120,25 @@ Reports options (Write Depfile) old new = NotesLine (error_line options (Write D
 Reports options (Write Notes) old new = new ≡ old
 
 -- broke off, and then reported
-abbrev pub Faults : Options → Outcome → Cause → Places → Places → Type 0
-Faults options outcome cause old new = (mid : Places) × Broken outcome cause old mid × Reports options cause mid new
+abbrev pub Faults : Options → Outcome → RunFault → OutputStates → OutputStates → Type 0
+Faults options outcome cause old new = (mid : OutputStates) × BreaksRun outcome cause old mid × Reports options cause mid new
 
 -- ---- parts of a run
 
 -- the notes broke off
-abbrev pub BreaksNotes : List ℕ → Cause → Places → Places → Type 0
-BreaksNotes text cause old new = (front : List ℕ) × StrikesNotes cause × BeginsWith text front × (new ≡ marked cause (written Notes front old))
+abbrev pub BreaksNotes : List ℕ → RunFault → OutputStates → OutputStates → Type 0
+BreaksNotes text cause old new = (front : List ℕ) × StrikesNotes cause × BeginsWith text front × (new ≡ after_fault cause (with_text Notes front old))
 
 -- one file broke off: before it was begun, or with a beginning of its text
-abbrev pub BreaksFile : Which → Option (List ℕ) → Cause → Places → Places → Type 0
+abbrev pub BreaksFile : Output → Option (List ℕ) → RunFault → OutputStates → OutputStates → Type 0
 BreaksFile file None cause old new = ⊥
 BreaksFile file (Some text) cause old new =
-    StrikesFile file cause × ((new ≡ marked cause old) ⊎ ((front : List ℕ) × BeginsWith text front × (new ≡ marked cause (begun_with file front old))))
+    StrikesFile file cause × ((new ≡ after_fault cause old) ⊎ ((front : List ℕ) × BeginsWith text front × (new ≡ after_fault cause (begun_with file front old))))
 
 -- one of the files broke off, behind those before it
-abbrev pub BreaksFiles : Outcome → Cause → Places → Places → Type 0
-BreaksFiles outcome cause old new = (file : Which) × BreaksFile file (file_text outcome file) cause (files_before file outcome old) new
+abbrev pub BreaksFiles : Outcome → RunFault → OutputStates → OutputStates → Type 0
+BreaksFiles outcome cause old new = (file : Output) × BreaksFile file (file_text outcome file) cause (files_before file outcome old) new
 
-abbrev pub write_cause : Which → WriteFault → Cause
-write_cause which write.Sink = Write which
-write_cause which write.Memory = Memory
+abbrev pub write_fault : Output → WriteFault → RunFault
+write_fault output write.Sink = Write output
+write_fault output write.Memory = Memory

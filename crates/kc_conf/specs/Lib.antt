@@ -1,13 +1,13 @@
 pub mod ErrorLines
 pub mod Existence
 pub mod Faults
-pub mod Given
-pub mod Heard
-pub mod Kept
+pub mod InputBytes
+pub mod Accounted
+pub mod AcceptedTree
 pub mod Lost
 pub mod LostView
 pub mod Outcome
-pub mod Places
+pub mod OutputStates
 pub mod Reads
 pub mod Reruns
 pub mod Rules

@@ -8,7 +8,7 @@ use Rattle.kc_expr.specs.declared.expression.Kind.{Kind}
 use Rattle.kc_expr.specs.declared.expression.Kind.TheVariants.{Undefined, Bool as IsBool, Tristate, Str, Int, Hex}
 use Rattle.kc_tree.specs.Layouts.{DefinitionFacts}
 use Rattle.kc_tree.specs.TreeFacts.{Condition, SymbolFacts}
-use Rattle.kc_user.specs.Given.{Given, Chosen, Typed, Member, At}
+use Rattle.kc_user.specs.GivenValue.{GivenValue, GivenTruth, GivenText, Member, SymbolPlace}
 use Rattle.kc_user.specs.Places.{place_at}
 use Rattle.kc_values.specs.Differs.{given_of, same_tri}
 use Rattle.kc_values.specs.Lookups.{facts, name}
@@ -25,27 +25,27 @@ written_text Int text = text
 written_text Hex text = text
 
 -- a value as a .config writes it
-abbrev pub value_text : Kind → Given → List ℕ
-value_text kind (Chosen t) = tri_text t
-value_text kind (Typed text) = written_text kind text
+abbrev pub value_text : Kind → GivenValue → List ℕ
+value_text kind (GivenTruth t) = tri_text t
+value_text kind (GivenText text) = written_text kind text
 value_text kind (Member m) = []
 
 -- `NAME was given VALUE and is VALUE`
-abbrev pub lost_line : List ℕ → Kind → Given → Given → List ℕ
+abbrev pub lost_line : List ℕ → Kind → GivenValue → GivenValue → List ℕ
 lost_line name kind given value =
     codes "warning K14: " ++ name ++ codes " was given " ++ value_text kind given ++ codes " and is " ++ value_text kind value
 
-abbrev pub same_given : Given → Given → Bool
-same_given (Chosen t) (Chosen u) = same_tri t u
-same_given (Chosen t) (Typed b) = false
-same_given (Chosen t) (Member m) = false
-same_given (Typed a) (Chosen u) = false
-same_given (Typed a) (Typed b) = bytes_eq a b
-same_given (Typed a) (Member m) = false
+abbrev pub same_given : GivenValue → GivenValue → Bool
+same_given (GivenTruth t) (GivenTruth u) = same_tri t u
+same_given (GivenTruth t) (GivenText b) = false
+same_given (GivenTruth t) (Member m) = false
+same_given (GivenText a) (GivenTruth u) = false
+same_given (GivenText a) (GivenText b) = bytes_eq a b
+same_given (GivenText a) (Member m) = false
 same_given (Member m) given = false
 
 -- what stands in a symbol's place is not its value
-abbrev pub lost_by : List ℕ → Kind → Option Given → Given → List (List ℕ)
+abbrev pub lost_by : List ℕ → Kind → Option GivenValue → GivenValue → List (List ℕ)
 lost_by name kind None value = []
 lost_by name kind (Some given) value = if same_given given value then [] else lost_line name kind given value ∷ []
 
@@ -59,14 +59,14 @@ has_prompt [] = false
 has_prompt (when ∷ others) = true
 
 -- a symbol without a prompt has no value of the user's
-abbrev pub lost_of : List ℕ → Option SymbolFacts → Option Given → Given → List (List ℕ)
+abbrev pub lost_of : List ℕ → Option SymbolFacts → Option GivenValue → GivenValue → List (List ℕ)
 lost_of name None given value = []
 lost_of name (Some f) given value = if has_prompt f.prompts then lost_by name f.kind given value else []
 
 module _ (s : Solution) where
   -- A member of a choice is told of as any other symbol, by its own place.
   abbrev pub lost_at : ℕ → List (List ℕ)
-  lost_at i = lost_of (name s.tree (symbol i)) (facts s.tree (symbol i)) (place_at s.places (At i)) (given_of (known s (symbol i)))
+  lost_at i = lost_of (name s.tree (symbol i)) (facts s.tree (symbol i)) (place_at s.places (SymbolPlace i)) (given_of (known s (symbol i)))
 
   -- In order of first definition.
   abbrev pub lost_lines : List (List ℕ)

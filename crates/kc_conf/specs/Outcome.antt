@@ -8,11 +8,11 @@ use Rattle.kc_user.specs.Places.{Places, no_places}
 use Rattle.kc_values.specs.Laws.{IsAccepted}
 use Rattle.kc_solve.specs.Refused.{IsLoopText, loop_refused}
 use Rattle.kc_solve.specs.Solved.{Solution, IsSolution, warnings}
-use Rattle.kc_dot.specs.Reading.{Read, Stop, Stream, reading_of}
-use Rattle.kc_dot.specs.SolutionTold.{told_of}
+use Rattle.kc_dot.specs.Reading.{ReadResult, StreamLocation, Stream, reading_of}
+use Rattle.kc_dot.specs.SolvedView.{solution_view}
 use Rattle.kc_dot.specs.Texts.{config_text, header_text, minimal_text}
 use Rattle.kc_conf.specs.declared.options.Options.{Options}
-use Rattle.kc_make.specs.Opened.{AreOpened, made_of}
+use Rattle.kc_make.specs.Opened.{AreOpened, prerequisites_of}
 use Rattle.kc_make.specs.Rules.{rule_text}
 use Rattle.kc_conf.specs.ErrorLines.{refusal_line, strict_line, too_long_line}
 use Rattle.kc_conf.specs.Lost.{lost_lines}
@@ -43,15 +43,15 @@ refused line = record { config = None; header = None; minimal = None; depfile = 
 -- ---- the tree
 
 -- the root file's name in the map
-abbrev pub root_of : Options → List ℕ
-root_of options = string_bytes options.kconfig
+abbrev pub root_file : Options → List ℕ
+root_file options = string_bytes options.kconfig
 
 -- Why no tree is accepted: it is refused, or its symbols need one another in a loop.
 pub data IsRefusedTree (files : Files) (root : List ℕ) (r : Refused) : Type 0 where
   no_tree : IsTreeOf files root (Err r) → IsRefusedTree files root r
   looped : (tree : TreeFacts) (text : List ℕ) → IsTreeOf files root (Ok tree) → IsLoopText tree text → r ≡ loop_refused text → IsRefusedTree files root r
 
--- the tree is accepted: no symbol of it is stuck on its own needs
+-- the tree is accepted: no symbol of it is unordered
 pub record IsAcceptedTree (files : Files) (root : List ℕ) (tree : TreeFacts) : Type 0 where
   pub built : IsTreeOf files root (Ok tree)
   pub accepted : IsAccepted tree
@@ -69,7 +69,7 @@ streams (name ∷ names) [] = []
 streams (name ∷ names) (bytes ∷ all) = record { name = name; bytes = bytes } ∷ streams names all
 
 -- what reading the streams gives, one after another, from empty places
-abbrev pub read_of : Options → TreeFacts → List (List ℕ) → Read
+abbrev pub read_of : Options → TreeFacts → List (List ℕ) → ReadResult
 read_of options tree all = reading_of tree options.prefix (no_places tree) (streams (names_of options) all)
 
 -- ---- the files
@@ -86,17 +86,17 @@ text_if None text = None
 text_if (Some name) text = Some text
 
 -- the lines of the values that were given and are not the symbols', where they are asked for
-abbrev pub lost_told : Options → Solution → List (List ℕ)
-lost_told options solution = if options.warn_lost then lost_lines solution else []
+abbrev pub lost_warnings : Options → Solution → List (List ℕ)
+lost_warnings options solution = if options.warn_lost then lost_lines solution else []
 
 -- The files of a solution: the values' warnings are noted before, and then the values that are lost.
 abbrev pub outcome_of : Options → TreeFacts → Solution → Outcome
 outcome_of options tree solution = record {
-  config = Some (config_text tree options.prefix (told_of solution));
-  header = text_if options.header (header_text tree options.prefix (told_of solution));
-  minimal = text_if options.minimal (minimal_text tree options.prefix (told_of solution));
+  config = Some (config_text tree options.prefix (solution_view solution));
+  header = text_if options.header (header_text tree options.prefix (solution_view solution));
+  minimal = text_if options.minimal (minimal_text tree options.prefix (solution_view solution));
   depfile = None;
-  notes = lines_text (warnings solution) ++ lines_text (lost_told options solution);
+  notes = lines_text (warnings solution) ++ lines_text (lost_warnings options solution);
   status = Done;
 }
 
@@ -104,8 +104,8 @@ outcome_of options tree solution = record {
 
 -- What a run is to leave behind the tree's warnings, where reading the streams gave this: a line that is too long is
 -- refused; else it is the files of the one solution for the user's places.
-pub data IsOutcomeOfReading (options : Options) (tree : TreeFacts) (read : Read) (outcome : Outcome) : Type 0 where
-  long_line : (stop : Stop) → read.stopped ≡ Some stop → outcome ≡ noted read.warned (refused (too_long_line stop)) → IsOutcomeOfReading options tree read outcome
+pub data IsOutcomeOfReading (options : Options) (tree : TreeFacts) (read : ReadResult) (outcome : Outcome) : Type 0 where
+  long_line : (stop : StreamLocation) → read.stopped ≡ Some stop → outcome ≡ noted read.warned (refused (too_long_line stop)) → IsOutcomeOfReading options tree read outcome
   whole : (solution : Solution) → read.stopped ≡ None → IsSolutionFor tree read.places solution →
       outcome ≡ noted read.warned (outcome_of options tree solution) → IsOutcomeOfReading options tree read outcome
 
@@ -116,8 +116,8 @@ IsOutcomeOfTree options tree all outcome =
 
 -- What a run is to leave that lets warnings pass and writes no rule for make, for files, options and the bytes of the streams.
 pub data IsLenientOutcome (files : Files) (options : Options) (all : List (List ℕ)) (outcome : Outcome) : Type 0 where
-  refused_tree : (r : Refused) → IsRefusedTree files (root_of options) r → outcome ≡ refused (refusal_line r) → IsLenientOutcome files options all outcome
-  accepted_tree : (tree : TreeFacts) → IsAcceptedTree files (root_of options) tree → IsOutcomeOfTree options tree all outcome → IsLenientOutcome files options all outcome
+  refused_tree : (r : Refused) → IsRefusedTree files (root_file options) r → outcome ≡ refused (refusal_line r) → IsLenientOutcome files options all outcome
+  accepted_tree : (tree : TreeFacts) → IsAcceptedTree files (root_file options) tree → IsOutcomeOfTree options tree all outcome → IsLenientOutcome files options all outcome
 
 abbrev pub is_done : Status → Bool
 is_done Done = true
@@ -125,20 +125,20 @@ is_done IsRefused = false
 is_done Usage = false
 is_done Faulted = false
 
--- something is told
-abbrev pub is_told : List ℕ → Bool
-is_told [] = false
-is_told (b ∷ text) = true
+-- the text is not empty
+abbrev pub has_text : List ℕ → Bool
+has_text [] = false
+has_text (b ∷ text) = true
 
 -- Under --strict, what would write files and has notes begins nothing: these are warnings, and one line refuses them.
 abbrev pub strictly : Bool → Outcome → Outcome
 strictly strict outcome =
-    if is_done outcome.status && (strict && is_told outcome.notes) then refused (outcome.notes ++ strict_line) else outcome
+    if is_done outcome.status && (strict && has_text outcome.notes) then refused (outcome.notes ++ strict_line) else outcome
 
 -- the rule for make: what the file of --out is made of, where the tree opens these files
 abbrev pub depfile_text : Options → List (List ℕ) → List ℕ
 depfile_text options opened =
-    rule_text (string_bytes options.out) (made_of (string_bytes options.root) opened (map string_bytes options.fragments.items))
+    rule_text (string_bytes options.out) (prerequisites_of (string_bytes options.root) opened (map string_bytes options.fragments.items))
 
 -- what writes files writes that rule too, where it is wanted
 abbrev pub with_rule : Options → List (List ℕ) → Outcome → Outcome
@@ -148,7 +148,7 @@ with_rule options opened outcome =
 -- What a run is to leave, for files, options and the bytes of the streams.
 abbrev pub IsOutcome : Files → Options → List (List ℕ) → Outcome → Type 0
 IsOutcome files options all outcome =
-    (lenient : Outcome) × (opened : List (List ℕ)) × IsLenientOutcome files options all lenient × AreOpened files (root_of options) opened
+    (lenient : Outcome) × (opened : List (List ℕ)) × IsLenientOutcome files options all lenient × AreOpened files (root_file options) opened
     × (outcome ≡ with_rule options opened (strictly options.strict lenient))
 
 -- there is at most one

@@ -1,142 +1,143 @@
 -- For proofs: What reading the streams does.
 use Rattle.std.specs.Prelude.{◌≡◌, ℕ, Bool, true, ◌&&◌, ◌||◌, if◌then◌else◌, List, [], ◌++◌, Option, Some, None}
 use Rattle.kc_tree.specs.TreeFacts.{TreeFacts}
-use Rattle.kc_user.specs.Places.{Places as UserPlaces}
+use Rattle.kc_user.specs.Places.{Places}
 use Rattle.kc_solve.specs.Solved.{Solution}
-use Rattle.kc_dot.specs.Feeding.{Spot, Goes, to_come}
-use Rattle.kc_dot.specs.Reading.{Line, Read, Stop, lines_from, lines_of, reading, told}
+use Rattle.kc_dot.specs.Feeding.{StreamPosition, ReadsPiece, to_come}
+use Rattle.kc_dot.specs.Reading.{Line, ReadResult, StreamLocation, lines_from, lines_of, reading, with_warnings}
 use Rattle.kc_dot.specs.Sink.{BeginsWith, extended, next_failure}
-use Rattle.kc_conf.specs.Given.{preceded, AreToCome, AreAllToCome}
+use Rattle.kc_conf.specs.InputBytes.{preceded, AreToCome, AreAllToCome}
 use Rattle.kc_conf.specs.ErrorLines.{strict_line}
-use Rattle.kc_conf.specs.Faults.{marked}
-use Rattle.kc_conf.specs.Outcome.{Outcome, is_done, is_told, lines_text, lost_told, outcome_of, refused, streams}
-use Rattle.kc_conf.specs.Places.{Places, written}
+use Rattle.kc_conf.specs.Faults.{after_fault}
+use Rattle.kc_conf.specs.Outcome.{Outcome, is_done, has_text, lines_text, lost_warnings, outcome_of, refused, streams}
+use Rattle.kc_conf.specs.OutputStates.{OutputStates, with_text}
 use Rattle.kc_conf.specs.declared.options.Options.{Options}
-use Rattle.kc_conf.specs.declared.cause.Cause.{Cause}
-use Rattle.kc_conf.specs.declared.cause.Cause.TheVariants as cause
-use Rattle.kc_conf.specs.declared.outputs.Which.TheVariants.{Notes}
+use Rattle.kc_conf.specs.declared.run_fault.RunFault.{RunFault}
+use Rattle.kc_conf.specs.declared.run_fault.RunFault.TheVariants as cause
+use Rattle.kc_conf.specs.declared.outputs.Output.TheVariants.{Notes}
 use Rattle.kc_conf.specs.declared.reading.LongLine.{LongLine}
 
 -- `strictly`, where a part of the run is left to come, and whether anything was told before it
 abbrev pub strictly_after : Bool → Bool → Outcome → Outcome
 strictly_after strict before part =
-    if is_done part.status && (strict && (before || is_told part.notes)) then refused (part.notes ++ strict_line) else part
+    if is_done part.status && (strict && (before || has_text part.notes)) then refused (part.notes ++ strict_line) else part
 
 -- without its notes
-abbrev pub silent : Outcome → Outcome
-silent outcome = record outcome { notes = [] }
+abbrev pub without_notes : Outcome → Outcome
+without_notes outcome = record outcome { notes = [] }
 
 -- the files of a solution behind its warnings: the values that are lost are noted before
 abbrev pub behind_warnings : Options → TreeFacts → Solution → Outcome
-behind_warnings options tree solution = record (outcome_of options tree solution) { notes = lines_text (lost_told options solution) }
+behind_warnings options tree solution = record (outcome_of options tree solution) { notes = lines_text (lost_warnings options solution) }
 
 -- the stream and the number of a line that is too long
-abbrev pub stop_of : LongLine → Stop
+abbrev pub stop_of : LongLine → StreamLocation
 stop_of l = record { stream = l.stream.now; number = l.number }
 
 -- what a reading is that ended with these places after these warnings
-abbrev pub ended_with : UserPlaces → List ℕ → Option Stop → Read
+abbrev pub ended_with : Places → List ℕ → Option StreamLocation → ReadResult
 ended_with places warned stopped = record { places = places; warned = warned; stopped = stopped }
 
--- the counts after a cause that strikes while streams are read: the input's own rises, or that of the notes
-abbrev pub counted_input : Cause → ℕ → ℕ
-counted_input (cause.Read input) count = next_failure count
-counted_input cause.Memory count = count
-counted_input (cause.Write which) count = count
+-- the counts of failures, of an input and of the notes, after a fault that strikes while streams are read: the one that
+-- failed rises
+abbrev pub input_failures_after : RunFault → ℕ → ℕ
+input_failures_after (cause.Read input) count = next_failure count
+input_failures_after cause.Memory count = count
+input_failures_after (cause.Write output) count = count
 
-abbrev pub counted_notes : Cause → ℕ → ℕ
-counted_notes (cause.Read input) count = count
-counted_notes cause.Memory count = count
-counted_notes (cause.Write which) count = next_failure count
+abbrev pub notes_failures_after : RunFault → ℕ → ℕ
+notes_failures_after (cause.Read input) count = count
+notes_failures_after cause.Memory count = count
+notes_failures_after (cause.Write output) count = next_failure count
 
 -- the cause is a read of that input, a failure of the notes, or memory
-abbrev pub IsOfStream : ℕ → Cause → Type 0
-IsOfStream input (cause.Read other) = other ≡ input
-IsOfStream input cause.Memory = Unit {0}
-IsOfStream input (cause.Write which) = which ≡ Notes
+abbrev pub IsStreamFault : ℕ → RunFault → Type 0
+IsStreamFault input (cause.Read other) = other ≡ input
+IsStreamFault input cause.Memory = Unit {0}
+IsStreamFault input (cause.Write output) = output ≡ Notes
 
 module _ (tree : TreeFacts) (prefix : List ℕ) where
   -- Whatever lines follow: reading these lines and them is these warnings, and then reading them from the new places.
-  abbrev pub Reads : List Line → UserPlaces → UserPlaces → List ℕ → Type 0
+  abbrev pub Reads : List Line → Places → Places → List ℕ → Type 0
   Reads lines before after warned =
-      (more : List Line) → reading tree prefix before (lines ++ more) ≡ told warned (reading tree prefix after more)
+      (more : List Line) → reading tree prefix before (lines ++ more) ≡ with_warnings warned (reading tree prefix after more)
 
   -- Whatever lines follow: one of these lines is too long, after these warnings.
-  abbrev pub Stops : List Line → UserPlaces → UserPlaces → List ℕ → Stop → Type 0
+  abbrev pub Stops : List Line → Places → Places → List ℕ → StreamLocation → Type 0
   Stops lines before after warned stop =
       (more : List Line) → reading tree prefix before (lines ++ more) ≡ ended_with after warned (Some stop)
 
   -- Whatever lines follow: their warnings begin so.
-  abbrev pub Warns : List Line → UserPlaces → List ℕ → Type 0
+  abbrev pub Warns : List Line → Places → List ℕ → Type 0
   Warns lines before front = (more : List Line) → BeginsWith (reading tree prefix before (lines ++ more)).warned front
 
   module _ (name : List ℕ) where
     -- the input gave these bytes so far, and the reader took them
-    abbrev pub TakenSoFar : Option (List ℕ) → Option (List ℕ) → Spot → Spot → UserPlaces → UserPlaces → Option (List ℕ) → Option (List ℕ) → Type 0
+    abbrev pub TakenSoFar : Option (List ℕ) → Option (List ℕ) → StreamPosition → StreamPosition → Places → Places → Option (List ℕ) → Option (List ℕ) → Type 0
     TakenSoFar given rest old new before after text text_after =
-        (bytes warned : List ℕ) × (given ≡ preceded bytes rest) × (text_after ≡ extended text warned) × Goes tree prefix name bytes old new before after warned
+        (bytes warned : List ℕ) × (given ≡ preceded bytes rest) × (text_after ≡ extended text warned) × ReadsPiece tree prefix name bytes old new before after warned
 
-    -- these bytes were taken from a spot on, to their end or to a line that is too long
-    abbrev pub Takes : Option ℕ → List ℕ → Spot → Spot → UserPlaces → UserPlaces → List ℕ → Type 0
-    Takes None bytes old new before after warned = Goes tree prefix name bytes old new before after warned
+    -- these bytes were taken from a position on, to their end or to a line that is too long
+    abbrev pub Takes : Option ℕ → List ℕ → StreamPosition → StreamPosition → Places → Places → List ℕ → Type 0
+    Takes None bytes old new before after warned = ReadsPiece tree prefix name bytes old new before after warned
     Takes (Some number) bytes old new before after warned =
         (more : List Line) → reading tree prefix before (to_come name old bytes more)
         ≡ ended_with after warned (Some (record { stream = name; number = number }))
 
     -- the input gave these bytes, and the reader took them
-    abbrev pub TakesPieces : Option ℕ → Option (List ℕ) → Spot → Spot → UserPlaces → UserPlaces → Option (List ℕ) → Option (List ℕ) → Type 0
+    abbrev pub TakesPieces : Option ℕ → Option (List ℕ) → StreamPosition → StreamPosition → Places → Places → Option (List ℕ) → Option (List ℕ) → Type 0
     TakesPieces long given old new before after text text_after =
         (bytes warned : List ℕ) × AreToCome given bytes × (text_after ≡ extended text warned) × Takes long bytes old new before after warned
 
     -- it broke off, with a beginning of the warnings told
-    abbrev pub BreaksPieces : Option (List ℕ) → Spot → UserPlaces → Option (List ℕ) → Option (List ℕ) → Type 0
+    abbrev pub BreaksPieces : Option (List ℕ) → StreamPosition → Places → Option (List ℕ) → Option (List ℕ) → Type 0
     BreaksPieces given old before text text_after =
         (bytes front : List ℕ) × AreToCome given bytes × (text_after ≡ extended text front)
         × ((more : List Line) → BeginsWith (reading tree prefix before (to_come name old bytes more)).warned front)
 
     -- the lines of the stream were read, to their end or to one that is too long
-    abbrev pub ReadsTo : Option ℕ → List Line → UserPlaces → UserPlaces → List ℕ → Type 0
+    abbrev pub ReadsTo : Option ℕ → List Line → Places → Places → List ℕ → Type 0
     ReadsTo None lines before after warned = Reads lines before after warned
     ReadsTo (Some number) lines before after warned = Stops lines before after warned (record { stream = name; number = number })
 
     -- the stream was read, to its end or to a line that is too long
-    abbrev pub ReadsStream : Option ℕ → Option (List ℕ) → UserPlaces → UserPlaces → Option (List ℕ) → Option (List ℕ) → Type 0
+    abbrev pub ReadsStream : Option ℕ → Option (List ℕ) → Places → Places → Option (List ℕ) → Option (List ℕ) → Type 0
     ReadsStream long given before after text text_after =
         (bytes warned : List ℕ) × AreToCome given bytes × (text_after ≡ extended text warned) × ReadsTo long (lines_from name 1 bytes) before after warned
 
     -- the stream broke off, with a beginning of its warnings told
-    abbrev pub BreaksStream : Option (List ℕ) → UserPlaces → Option (List ℕ) → Option (List ℕ) → Type 0
+    abbrev pub BreaksStream : Option (List ℕ) → Places → Option (List ℕ) → Option (List ℕ) → Type 0
     BreaksStream given before text text_after =
         (bytes front : List ℕ) × AreToCome given bytes × (text_after ≡ extended text front) × Warns (lines_from name 1 bytes) before front
 
   -- the streams were read to their end, or to a line that is too long
-  abbrev pub ReadsStreams : List (List ℕ) → Option Stop → List (Option (List ℕ)) → UserPlaces → UserPlaces → Option (List ℕ) → Option (List ℕ) → Type 0
+  abbrev pub ReadsStreams : List (List ℕ) → Option StreamLocation → List (Option (List ℕ)) → Places → Places → Option (List ℕ) → Option (List ℕ) → Type 0
   ReadsStreams names stopped given before after text text_after =
       (all : List (List ℕ)) × (warned : List ℕ) × AreAllToCome given all × (text_after ≡ extended text warned)
       × (reading tree prefix before (lines_of (streams names all)) ≡ ended_with after warned stopped)
 
   -- the same, with the warnings in the notes; under --strict it is known whether there is any
-  abbrev pub TellsStreams : Bool → List (List ℕ) → Option Stop → Bool → List (Option (List ℕ)) → UserPlaces → UserPlaces → Places → Places → Type 0
+  abbrev pub TellsStreams : Bool → List (List ℕ) → Option StreamLocation → Bool → List (Option (List ℕ)) → Places → Places → OutputStates → OutputStates → Type 0
   TellsStreams strict names stopped is_warned given before after old new =
-      (all : List (List ℕ)) × (warned : List ℕ) × AreAllToCome given all × (new ≡ written Notes warned old)
+      (all : List (List ℕ)) × (warned : List ℕ) × AreAllToCome given all × (new ≡ with_text Notes warned old)
       × (reading tree prefix before (lines_of (streams names all)) ≡ ended_with after warned stopped)
-      × (strict ≡ true → is_warned ≡ is_told warned)
+      × (strict ≡ true → is_warned ≡ has_text warned)
 
   -- and broke off for this cause
-  abbrev pub BreaksTelling : List (List ℕ) → Cause → List (Option (List ℕ)) → UserPlaces → Places → Places → Type 0
+  abbrev pub BreaksTelling : List (List ℕ) → RunFault → List (Option (List ℕ)) → Places → OutputStates → OutputStates → Type 0
   BreaksTelling names cause given before old new =
-      (all : List (List ℕ)) × (front : List ℕ) × AreAllToCome given all × (new ≡ marked cause (written Notes front old))
+      (all : List (List ℕ)) × (front : List ℕ) × AreAllToCome given all × (new ≡ after_fault cause (with_text Notes front old))
       × BeginsWith (reading tree prefix before (lines_of (streams names all))).warned front
 
   -- the streams broke off, with a beginning of their warnings told
-  abbrev pub BreaksStreams : List (List ℕ) → List (Option (List ℕ)) → UserPlaces → Option (List ℕ) → Option (List ℕ) → Type 0
+  abbrev pub BreaksStreams : List (List ℕ) → List (Option (List ℕ)) → Places → Option (List ℕ) → Option (List ℕ) → Type 0
   BreaksStreams names given before text text_after =
       (all : List (List ℕ)) × (front : List ℕ) × AreAllToCome given all × (text_after ≡ extended text front)
       × BeginsWith (reading tree prefix before (lines_of (streams names all))).warned front
 
   -- Whatever bytes the other inputs give: the streams so far were read, and reading those goes on from these places.
-  abbrev pub ReadSoFar : List (List ℕ) → List (List ℕ) → List (Option (List ℕ)) → List (Option (List ℕ)) → UserPlaces → UserPlaces → Option (List ℕ) → Option (List ℕ) → Type 0
+  abbrev pub ReadSoFar : List (List ℕ) → List (List ℕ) → List (Option (List ℕ)) → List (Option (List ℕ)) → Places → Places → Option (List ℕ) → Option (List ℕ) → Type 0
   ReadSoFar names names_left given given_left before after text text_after =
       (warned : List ℕ) × (text_after ≡ extended text warned)
       × ((left : List (List ℕ)) → AreAllToCome given_left left → (all : List (List ℕ)) × AreAllToCome given all
-      × (reading tree prefix before (lines_of (streams names all)) ≡ told warned (reading tree prefix after (lines_of (streams names_left left)))))
+      × (reading tree prefix before (lines_of (streams names all)) ≡ with_warnings warned (reading tree prefix after (lines_of (streams names_left left)))))

@@ -1,19 +1,19 @@
 -- Trusted: What the texts that a run writes give when they are read again.
-use Rattle.std.specs.Prelude.{◌≡◌, ℕ, List, [], ◌∷◌, Option, Some, None, true, false}
+use Rattle.std.specs.Prelude.{◌≡◌, ℕ, List, [], ◌∷◌, Some, None, true, false}
 use Rattle.kc_make.specs.Opened.{AreOpened}
 use Rattle.kc_read.specs.Files.{Files}
 use Rattle.kc_tree.specs.TreeFacts.{TreeFacts}
 use Rattle.kc_solve.specs.Solved.{Solution, value_of}
 use Rattle.kc_dot.specs.Laws.{ConfigGivesBack, HasShortLines, MinimalGivesBack, MinimalNeedsEach}
 use Rattle.kc_dot.specs.Prefixes.{is_prefix}
-use Rattle.kc_dot.specs.SolutionTold.{told_of}
+use Rattle.kc_dot.specs.SolvedView.{solution_view}
 use Rattle.kc_dot.specs.Texts.{config_text, minimal_text}
 use Rattle.kc_conf.specs.declared.options.Options.{Options}
-use Rattle.kc_conf.specs.Outcome.{IsAcceptedTree, IsOutcome, IsSolutionFor, Outcome, lines_text, noted, outcome_of, read_of, root_of, with_rule}
+use Rattle.kc_conf.specs.Outcome.{IsAcceptedTree, IsOutcome, IsSolutionFor, Outcome, lines_text, noted, outcome_of, read_of, root_file, with_rule}
 
 -- A run that refuses nothing: its tree is accepted, no line of its streams is too long, and these are the values.
-pub record IsWhole (files : Files) (options : Options) (all : List (List ℕ)) (tree : TreeFacts) (solution : Solution) : Type 0 where
-  pub accepted : IsAcceptedTree files (root_of options) tree
+pub record RefusesNothing (files : Files) (options : Options) (all : List (List ℕ)) (tree : TreeFacts) (solution : Solution) : Type 0 where
+  pub accepted : IsAcceptedTree files (root_file options) tree
   pub read_whole : (read_of options tree all).stopped ≡ None
   pub solution_is : IsSolutionFor tree (read_of options tree all).places solution
 
@@ -21,8 +21,8 @@ pub record IsWhole (files : Files) (options : Options) (all : List (List ℕ)) (
 abbrev pub WrittenAreWhole : Type 0
 WrittenAreWhole =
     (files : Files) (options : Options) (all : List (List ℕ)) (outcome : Outcome) (text : List ℕ) → IsOutcome files options all outcome → outcome.config ≡ Some text →
-    (tree : TreeFacts) × (solution : Solution) × IsWhole files options all tree solution
-    × ((opened : List (List ℕ)) × AreOpened files (root_of options) opened
+    (tree : TreeFacts) × (solution : Solution) × RefusesNothing files options all tree solution
+    × ((opened : List (List ℕ)) × AreOpened files (root_file options) opened
     × (outcome ≡ with_rule options opened (noted (lines_text tree.warnings) (noted (read_of options tree all).warned (outcome_of options tree solution)))))
 
 -- The minimal file, read alone and from empty places, gives the values back; with any nonempty set of its lines left out
@@ -30,24 +30,25 @@ WrittenAreWhole =
 abbrev pub MinimalIsReadAgain : Type 0
 MinimalIsReadAgain =
     (files : Files) (options : Options) (all : List (List ℕ)) (tree : TreeFacts) (solution : Solution) → is_prefix options.prefix ≡ true →
-    IsWhole files options all tree solution →
+    RefusesNothing files options all tree solution →
     MinimalGivesBack tree options.prefix solution.places (value_of solution) × MinimalNeedsEach tree options.prefix solution.places (value_of solution)
 
 -- The .config, read alone and from empty places, gives the values back exactly where the rule says.
 abbrev pub ConfigIsReadAgain : Type 0
 ConfigIsReadAgain =
     (files : Files) (options : Options) (all : List (List ℕ)) (tree : TreeFacts) (solution : Solution) → is_prefix options.prefix ≡ true →
-    IsWhole files options all tree solution → ConfigGivesBack tree options.prefix solution.places (value_of solution)
+    RefusesNothing files options all tree solution → ConfigGivesBack tree options.prefix solution.places (value_of solution)
 
 -- No line of the .config or of the minimal file is too long to be read again.
 abbrev pub TextsHaveShortLines : Type 0
 TextsHaveShortLines =
     (files : Files) (options : Options) (all : List (List ℕ)) (tree : TreeFacts) (solution : Solution) → is_prefix options.prefix ≡ true →
-    IsWhole files options all tree solution → HasShortLines (config_text tree options.prefix (told_of solution)) × HasShortLines (minimal_text tree options.prefix (told_of solution))
+    RefusesNothing files options all tree solution → HasShortLines (config_text tree options.prefix (solution_view solution))
+    × HasShortLines (minimal_text tree options.prefix (solution_view solution))
 
 -- options with the same root file and prefix, and without fragments
 pub record AreAlone (options alone : Options) : Type 0 where
-  pub root : root_of alone ≡ root_of options
+  pub root : root_file alone ≡ root_file options
   pub prefix : alone.prefix ≡ options.prefix
   pub no_fragments : alone.fragments.items ≡ []
 

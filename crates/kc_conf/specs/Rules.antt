@@ -3,17 +3,17 @@ use Rattle.std.specs.Prelude.{◌≡◌, ℕ, List, if◌then◌else◌}
 use Rattle.kc_conf.specs.declared.options.Options.{Options}
 use Rattle.kc_conf.specs.Faults.{BreaksFile}
 use Rattle.kc_conf.specs.Outcome.{depfile_text, is_done, text_if}
-use Rattle.kc_conf.specs.Places.{Places, made_if}
-use Rattle.kc_conf.specs.declared.cause.Cause.{Cause}
+use Rattle.kc_conf.specs.OutputStates.{OutputStates, made_if}
+use Rattle.kc_conf.specs.declared.run_fault.RunFault.{RunFault}
 use Rattle.kc_conf.specs.declared.options.Status.{Status}
 use Rattle.kc_conf.specs.declared.options.Status.TheVariants.{Done}
-use Rattle.kc_conf.specs.declared.outputs.Which.TheVariants.{Depfile}
+use Rattle.kc_conf.specs.declared.outputs.Output.TheVariants.{Depfile}
 
 -- a run that ended so, and wrote the rule where it was done
-abbrev pub EndsWithRule : Options → List (List ℕ) → Status → Status → Places → Places → Type 0
+abbrev pub EndsWithRule : Options → List (List ℕ) → Status → Status → OutputStates → OutputStates → Type 0
 EndsWithRule options opened status ended old new =
     (ended ≡ status) × (new ≡ (if is_done status then made_if Depfile (text_if options.depfile (depfile_text options opened)) old else old))
 
 -- it was done, and the rule broke off
-abbrev pub BreaksInRule : Options → List (List ℕ) → Status → Cause → Places → Places → Type 0
+abbrev pub BreaksInRule : Options → List (List ℕ) → Status → RunFault → OutputStates → OutputStates → Type 0
 BreaksInRule options opened status cause old new = (status ≡ Done) × BreaksFile Depfile (text_if options.depfile (depfile_text options opened)) cause old new

@@ -2,11 +2,11 @@
 use Rattle.std.specs.Prelude.{◌≡◌}
 use Rattle.kc_read.specs.declared.refusal.Code.TheVariants as code
 use Rattle.kc_read.specs.declared.refusal.Refusal.{Refusal}
-use Rattle.kc_conf.specs.Places.{Places}
-use Rattle.kc_conf.specs.declared.cause.Cause.{Cause}
-use Rattle.kc_conf.specs.declared.cause.Cause.TheVariants as cause
+use Rattle.kc_conf.specs.OutputStates.{OutputStates}
+use Rattle.kc_conf.specs.declared.run_fault.RunFault.{RunFault}
+use Rattle.kc_conf.specs.declared.run_fault.RunFault.TheVariants as cause
 
-pub record IsOutOfMemory (r : Refusal) (c : Cause) (old new : Places) : Type 0 where
+pub record IsOutOfMemory (r : Refusal) (c : RunFault) (old new : OutputStates) : Type 0 where
   pub code_is : r.code ≡ code.Memory
   pub cause_is : c ≡ cause.Memory
   pub nothing : new ≡ old

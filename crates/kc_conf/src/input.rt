@@ -1,11 +1,11 @@
 //! Where the `.config` comes from.
 ghost use Rattle.std.specs.Prelude.{◌≡◌, ◌<◌, ◌≤◌, List, ℕ, Option, length, take, IfOk, OnOk, OnErr};
 ghost use Rattle.kc_dot.specs.Sink.{next_failure};
-ghost use Rattle.kc_conf.specs.Given.{preceded, IsAtEnd};
+ghost use Rattle.kc_conf.specs.InputBytes.{preceded, IsAtEnd};
 
 use kc_dot::Fault;
 
-/// A place that gives bytes, a piece at a time (our own).
+/// A device that gives bytes, a piece at a time (our own).
 ///
 /// An input over memory tells the bytes still to come; one over a file tells nothing. Its failures are counted in a
 /// `u64` that stays at its greatest value.

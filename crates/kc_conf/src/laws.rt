@@ -1,14 +1,14 @@
 //! What holds of the outcomes of runs, stated as the contracts of functions that do nothing.
 ghost use Rattle.kc_conf.specs.Existence.{AcceptedHaveAnOutcome, AnswerExists, ExactlyOneOutcome, OutcomeExists, SolutionExists};
-ghost use Rattle.kc_conf.specs.Heard.{NothingIsLost};
+ghost use Rattle.kc_conf.specs.Accounted.{NothingIsLost};
 ghost use Rattle.kc_conf.specs.Reruns.{ConfigIsReadAgain, MinimalIsReadAgain, MinimalIsRunAgain, TextsHaveShortLines, WrittenAreWhole};
 
 use crate::runs::{one_answer, one_outcome};
 use kc_build::laws::trees_are_well_formed;
-use kc_dot::laws::{config_settles, minimal_gives_back, written_texts_are_short};
+use kc_dot::laws::{config_is_idempotent, minimal_gives_back, written_texts_are_short};
 use kc_dot::place_laws::reading_leaves_allowed_places;
 use kc_make::laws::opened_are_one_list;
-use kc_order::stuck_have_a_loop;
+use kc_order::unordered_have_a_loop;
 use kc_read::laws::has_one_expansion;
 use kc_values::laws::{accepted_have_one_solution, equations_read_needs, needs_are_defined};
 
@@ -31,8 +31,8 @@ pub fn nothing_is_lost()
 /// For every file map, options and streams whose run refuses nothing, the minimal file and the `.config` read again, each
 /// alone and from empty places: the minimal file gives the values back, and with any nonempty set of its lines left out it
 /// does not; the `.config` does exactly where no visible tristate symbol outside a choice stands above both its visibility
-/// and its reverse dependency, under the premises of `config_settles` of kc_dot. No line of the two is too long to be read again, under
-/// no premise. (Our own.)
+/// and its reverse dependency, under the premises of `config_is_idempotent` of kc_dot. No line of the two is too long to be
+/// read again, under no premise. (Our own.)
 pub fn texts_are_read_again()
     ensures minimal { MinimalIsReadAgain }
     ensures config { ConfigIsReadAgain }
@@ -41,7 +41,7 @@ pub fn texts_are_read_again()
     trees_are_well_formed();
     reading_leaves_allowed_places();
     minimal_gives_back();
-    config_settles();
+    config_is_idempotent();
     written_texts_are_short();
 }
 
@@ -55,7 +55,7 @@ pub fn minimal_is_run_again()
 }
 
 /// Where a root file has an expansion there is an outcome, whatever the options and the streams: an accepted tree has a
-/// solution, and a tree of which some symbol is stuck has a loop that is named. (Our own.)
+/// solution, and a tree of which some symbol is unordered has a loop that is named. (Our own.)
 pub fn outcome_exists()
     ensures solution { SolutionExists }
     ensures answer { AnswerExists }
@@ -66,7 +66,7 @@ pub fn outcome_exists()
     accepted_have_one_solution();
     equations_read_needs();
     needs_are_defined();
-    stuck_have_a_loop();
+    unordered_have_a_loop();
     trees_are_well_formed();
     reading_leaves_allowed_places();
 }

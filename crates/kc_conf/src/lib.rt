@@ -1,7 +1,6 @@
 //! The run: from a map of files and streams of `.config` text to the files written.
 #![tactic(auto)]
 
-mod cause;
 mod input;
 pub mod laws;
 mod lost;
@@ -9,13 +8,14 @@ mod notes;
 mod options;
 mod outputs;
 mod reading;
+mod run_fault;
 mod runs;
-mod telling;
+mod stream_warnings;
 mod writing;
 
-pub use cause::Cause;
 pub use input::Input;
 pub use kc_read::{Code, FileMap, Refusal};
 pub use options::{Options, Status};
-pub use outputs::{Outputs, Which};
-pub use runs::{Kept, one_outcome, run, run_keeping};
+pub use outputs::{Output, Outputs};
+pub use run_fault::RunFault;
+pub use runs::{AcceptedTree, one_outcome, run, run_keeping};

@@ -1,18 +1,18 @@
 //! The values that were given and are not the symbols'.
 ghost use Rattle.std.specs.Prelude.{◌≡◌, ◌++◌, ◌<◌, length, map, IfOk, OnOk};
-ghost use Rattle.kc_expr.specs.Value.{known_of};
+ghost use Rattle.kc_expr.specs.Value.{value_by_kind};
 ghost use Rattle.kc_solve.specs.Solved.{known};
 ghost use Rattle.std.specs.Option.{option_and_then};
 ghost use Rattle.kc_tree.specs.Layouts.{definition_at, facts_of};
-ghost use Rattle.kc_user.specs.Given.{At};
+ghost use Rattle.kc_user.specs.GivenValue.{SymbolPlace};
 ghost use Rattle.kc_user.specs.Places.{place_at};
 ghost use Rattle.kc_user.specs.ValueView.{given_of_value};
 ghost use Rattle.kc_values.specs.Differs.{given_of};
 ghost use Rattle.kc_values.specs.Solution.{symbol_count};
-ghost use Rattle.kc_values.specs.User.{place};
+ghost use Rattle.kc_values.specs.User.{given_in};
 ghost use Rattle.kc_conf.specs.Lost as spec;
 ghost use Rattle.kc_conf.specs.LostView.{given_by};
-ghost use Rattle.kc_conf.specs.Outcome.{lost_told};
+ghost use Rattle.kc_conf.specs.Outcome.{lost_warnings};
 
 use crate::options::Options;
 use kc_expr::expression::{Kind, SymId, Tri};
@@ -20,7 +20,7 @@ use kc_expr::values::{Values, tri_text};
 use kc_solve::solved::Solved;
 use kc_text::escape_into;
 use kc_tree::layout::Layout;
-use kc_tree::parts::{DefinitionId, Symbol};
+use kc_tree::rows::{DefinitionId, Symbol};
 use kc_user::user::User;
 use kc_user::value::UserValue;
 use kc_values::lookups::name;
@@ -44,33 +44,33 @@ fn add_text(kind: Kind, text: &[u8], line: &mut Vec<u8>) -> Result<(), AllocErro
 
 // A value: of a bool or tristate, or a text.
 #[derive(Clone, Copy)]
-enum Shown<'a> {
+enum ShownValue<'a> {
     Truth(Tri),
     Text(&'a [u8]),
 }
 
 // What was given.
-fn shown_given<'a>(given: &'a UserValue) -> Shown<'a>
+fn shown_given<'a>(given: &'a UserValue) -> ShownValue<'a>
     ensures { given_by result ≡ given_of_value given.now }
 {
     match given {
-        UserValue::Tri(tri) => Shown::Truth(*tri),
-        UserValue::Text(text) => Shown::Text(text),
+        UserValue::Tri(tri) => ShownValue::Truth(*tri),
+        UserValue::Text(text) => ShownValue::Text(text),
     }
 }
 
 // The value of a symbol of this type.
-fn shown_by<'a>(kind: Kind, tri: Tri, text: &'a [u8]) -> Shown<'a>
-    ensures { given_by result ≡ given_of (known_of kind tri text.now) }
+fn shown_by<'a>(kind: Kind, tri: Tri, text: &'a [u8]) -> ShownValue<'a>
+    ensures { given_by result ≡ given_of (value_by_kind kind tri text.now) }
 {
     match kind {
-        Kind::Bool | Kind::Tristate => Shown::Truth(tri),
-        Kind::Undefined | Kind::Str | Kind::Int | Kind::Hex => Shown::Text(text),
+        Kind::Bool | Kind::Tristate => ShownValue::Truth(tri),
+        Kind::Undefined | Kind::Str | Kind::Int | Kind::Hex => ShownValue::Text(text),
     }
 }
 
 // A symbol's value.
-fn shown_value<'a>(solved: &'a Solved<'_>, id: SymId) -> Shown<'a>
+fn shown_value<'a>(solved: &'a Solved<'_>, id: SymId) -> ShownValue<'a>
     ensures { given_by result ≡ given_of (known solved.now id) }
 {
     solved.tells_known();
@@ -78,24 +78,24 @@ fn shown_value<'a>(solved: &'a Solved<'_>, id: SymId) -> Shown<'a>
 }
 
 // Adds a value.
-fn add_shown(kind: Kind, shown: Shown<'_>, line: &mut Vec<u8>) -> Result<(), AllocError>
+fn add_shown(kind: Kind, shown: ShownValue<'_>, line: &mut Vec<u8>) -> Result<(), AllocError>
     ensures { OnOk result (line.new.items ≡ line.old.items ++ spec.value_text kind (given_by shown.entry)) }
 {
     match shown {
-        Shown::Truth(tri) => line.extend_from_slice(tri_text(tri)),
-        Shown::Text(text) => add_text(kind, text, line),
+        ShownValue::Truth(tri) => line.extend_from_slice(tri_text(tri)),
+        ShownValue::Text(text) => add_text(kind, text, line),
     }
 }
 
 // Whether the two are one value.
-fn is_same(given: Shown<'_>, value: Shown<'_>) -> bool
+fn is_same(given: ShownValue<'_>, value: ShownValue<'_>) -> bool
     ensures { result ≡ spec.same_given (given_by given.entry) (given_by value.entry) }
 {
     match (given, value) {
-        (Shown::Truth(given), Shown::Truth(tri)) => given == tri,
-        (Shown::Text(given), Shown::Text(text)) => given == text,
-        (Shown::Truth(_), Shown::Text(_)) => false,
-        (Shown::Text(_), Shown::Truth(_)) => false,
+        (ShownValue::Truth(given), ShownValue::Truth(tri)) => given == tri,
+        (ShownValue::Text(given), ShownValue::Text(text)) => given == text,
+        (ShownValue::Truth(_), ShownValue::Text(_)) => false,
+        (ShownValue::Text(_), ShownValue::Truth(_)) => false,
     }
 }
 
@@ -104,8 +104,8 @@ fn lost_line(
     alloc: Global,
     name: &[u8],
     kind: Kind,
-    given: Shown<'_>,
-    value: Shown<'_>,
+    given: ShownValue<'_>,
+    value: ShownValue<'_>,
 ) -> Result<Vec<u8>, AllocError>
     ensures { IfOk result (λ line. line.items ≡ spec.lost_line name.now kind (given_by given.entry) (given_by value.entry)) }
 {
@@ -124,10 +124,10 @@ fn lost_by(
     name: &[u8],
     kind: Kind,
     given: Option<&UserValue>,
-    value: Shown<'_>,
+    value: ShownValue<'_>,
     lines: &mut Vec<Vec<u8>>,
 ) -> Result<(), AllocError>
-    ensures { OnOk result (map (λ l. l.items) lines.new.items ≡ map (λ l. l.items) lines.old.items ++ spec.lost_by name.now kind (place given.entry) (given_by value.entry)) }
+    ensures { OnOk result (map (λ l. l.items) lines.new.items ≡ map (λ l. l.items) lines.old.items ++ spec.lost_by name.now kind (given_in given.entry) (given_by value.entry)) }
 {
     let Some(given) = given else {
         return Ok(());
@@ -169,7 +169,7 @@ fn has_prompt(layout: &Layout, symbol: &Symbol) -> bool
 // What stands in the symbol's place.
 fn given_at<'a>(user: &'a User, id: SymId) -> Option<&'a UserValue>
     requires { id.0 < length user.now.symbols }
-    ensures { place result ≡ place_at user.now (At id.0) }
+    ensures { given_in result ≡ place_at user.now (SymbolPlace id.0) }
 {
     user.get(id)
 }
@@ -212,12 +212,12 @@ fn lost_lines(alloc: Global, solved: &Solved<'_>) -> Result<Vec<Vec<u8>>, AllocE
 
 /// The lines of the values that were given and are not the symbols', where they are asked for: whole lines without their
 /// end, in the order of the symbols' first definitions. Fails only where it is out of memory.
-pub fn lost_told(
+pub fn lost_warnings(
     alloc: Global,
     options: &Options,
     solved: &Solved<'_>,
 ) -> Result<Vec<Vec<u8>>, AllocError>
-    ensures { IfOk result (λ lines. map (λ l. l.items) lines.items ≡ lost_told options.now solved.now) }
+    ensures { IfOk result (λ lines. map (λ l. l.items) lines.items ≡ lost_warnings options.now solved.now) }
 {
     if options.warn_lost {
         lost_lines(alloc, solved)

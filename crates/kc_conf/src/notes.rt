@@ -1,32 +1,32 @@
 //! What a run writes to the notes.
 ghost use Rattle.std.specs.Prelude.{◌≡◌, ◌++◌, codes, OnOk, OnErr, flat_map, map as map_list};
-ghost use Rattle.kc_read.specs.Steps.{refusal_view};
-ghost use Rattle.kc_conf.specs.ErrorLines.{error_at, refusal_line, strict_line, too_long_line, words_before, words_behind};
+ghost use Rattle.kc_read.specs.RefusalView.{refusal_view};
+ghost use Rattle.kc_conf.specs.ErrorLines.{error_at, refusal_line, strict_line, too_long_line, message_before, message_behind};
 ghost use Rattle.kc_conf.specs.Faults.{NotesLine, Reports};
 ghost use Rattle.kc_conf.specs.Outcome.{lines_text};
-ghost use Rattle.kc_conf.specs.Places.{written, Broke};
+ghost use Rattle.kc_conf.specs.OutputStates.{with_text, BreaksOutput};
 ghost use Rattle.kc_conf.specs.Reads.{stop_of};
 
-use crate::cause::Cause;
 use crate::options::{Options, name_of, stream_name};
-use crate::outputs::{Outputs, Which, put_to};
+use crate::outputs::{Output, Outputs, put_to};
 use crate::reading::LongLine;
+use crate::run_fault::RunFault;
 use itoa::Buffer;
 use kc_dot::Fault;
 use kc_read::refusal::{Code, Refusal};
 
 // Writes the parts to the notes, one after another.
 fn note_parts<O: Outputs>(outputs: &mut O, parts: &[&[u8]]) -> Result<(), Fault>
-    ensures ok { OnOk result (O.seen outputs.new ≡ written Which.Notes (flat_map (λ part. part.now) parts.now) (O.seen outputs.old)) }
-    ensures err { OnErr result (Broke Which.Notes (flat_map (λ part. part.now) parts.now) (O.seen outputs.old) (O.seen outputs.new)) }
+    ensures ok { OnOk result (O.states outputs.new ≡ with_text Output.Notes (flat_map (λ part. part.now) parts.now) (O.states outputs.old)) }
+    ensures err { OnErr result (BreaksOutput Output.Notes (flat_map (λ part. part.now) parts.now) (O.states outputs.old) (O.states outputs.new)) }
 {
-    put_to(outputs, Which::Notes, parts)
+    put_to(outputs, Output::Notes, parts)
 }
 
 // Writes each line, with its LF, to the notes.
 pub fn note_lines<O: Outputs>(outputs: &mut O, lines: &[Vec<u8>]) -> Result<(), Fault>
-    ensures ok { OnOk result (O.seen outputs.new ≡ written Which.Notes (lines_text (map_list (λ line. line.items) lines.now)) (O.seen outputs.old)) }
-    ensures err { OnErr result (Broke Which.Notes (lines_text (map_list (λ line. line.items) lines.now)) (O.seen outputs.old) (O.seen outputs.new)) }
+    ensures ok { OnOk result (O.states outputs.new ≡ with_text Output.Notes (lines_text (map_list (λ line. line.items) lines.now)) (O.states outputs.old)) }
+    ensures err { OnErr result (BreaksOutput Output.Notes (lines_text (map_list (λ line. line.items) lines.now)) (O.states outputs.old) (O.states outputs.new)) }
 {
     for line in lines {
         note_parts(outputs, &[line, b"\n"])?;
@@ -35,8 +35,8 @@ pub fn note_lines<O: Outputs>(outputs: &mut O, lines: &[Vec<u8>]) -> Result<(), 
 }
 
 // What an error line says of a refusal, before the word or the name that it is about.
-fn words_before(code: Code) -> &'static [u8]
-    ensures { result.now ≡ words_before code }
+fn message_before(code: Code) -> &'static [u8]
+    ensures { result.now ≡ message_before code }
 {
     match code {
         Code::NoFile => b"E1: no file ",
@@ -60,8 +60,8 @@ fn words_before(code: Code) -> &'static [u8]
 }
 
 // What an error line says behind the name, word or loop that it is about.
-fn words_behind(code: Code) -> &'static [u8]
-    ensures { result.now ≡ words_behind code }
+fn message_behind(code: Code) -> &'static [u8]
+    ensures { result.now ≡ message_behind code }
 {
     match code {
         Code::InclusionLoop => b" includes itself\n",
@@ -84,7 +84,7 @@ fn words_behind(code: Code) -> &'static [u8]
     }
 }
 
-// Writes an error line at a place.
+// Writes an error line at a location.
 fn note_at<'a, O: Outputs>(
     outputs: &mut O,
     file: &'a [u8],
@@ -93,8 +93,8 @@ fn note_at<'a, O: Outputs>(
     detail: &'a [u8],
     behind: &'a [u8],
 ) -> Result<(), Fault>
-    ensures ok { OnOk result (O.seen outputs.new ≡ written Which.Notes (error_at file.now line (before.now ++ detail.now ++ behind.now)) (O.seen outputs.old)) }
-    ensures err { OnErr result (Broke Which.Notes (error_at file.now line (before.now ++ detail.now ++ behind.now)) (O.seen outputs.old) (O.seen outputs.new)) }
+    ensures ok { OnOk result (O.states outputs.new ≡ with_text Output.Notes (error_at file.now line (before.now ++ detail.now ++ behind.now)) (O.states outputs.old)) }
+    ensures err { OnErr result (BreaksOutput Output.Notes (error_at file.now line (before.now ++ detail.now ++ behind.now)) (O.states outputs.old) (O.states outputs.new)) }
 {
     let mut buffer = Buffer::new();
     let number = buffer.format(line).as_bytes();
@@ -104,27 +104,27 @@ fn note_at<'a, O: Outputs>(
     )
 }
 
-// Writes an error line without a place.
+// Writes an error line without a location.
 fn note_unplaced<'a, O: Outputs>(
     outputs: &mut O,
     before: &'a [u8],
     detail: &'a [u8],
     behind: &'a [u8],
 ) -> Result<(), Fault>
-    ensures ok { OnOk result (O.seen outputs.new ≡ written Which.Notes (codes "error " ++ before.now ++ detail.now ++ behind.now) (O.seen outputs.old)) }
-    ensures err { OnErr result (Broke Which.Notes (codes "error " ++ before.now ++ detail.now ++ behind.now) (O.seen outputs.old) (O.seen outputs.new)) }
+    ensures ok { OnOk result (O.states outputs.new ≡ with_text Output.Notes (codes "error " ++ before.now ++ detail.now ++ behind.now) (O.states outputs.old)) }
+    ensures err { OnErr result (BreaksOutput Output.Notes (codes "error " ++ before.now ++ detail.now ++ behind.now) (O.states outputs.old) (O.states outputs.new)) }
 {
     note_parts(outputs, &[b"error ", before, detail, behind])
 }
 
 // Writes the error line of a refused tree.
 pub fn note_refusal<O: Outputs>(outputs: &mut O, refusal: &Refusal) -> Result<(), Fault>
-    ensures ok { OnOk result (O.seen outputs.new ≡ written Which.Notes (refusal_line (refusal_view refusal.now)) (O.seen outputs.old)) }
-    ensures err { OnErr result (Broke Which.Notes (refusal_line (refusal_view refusal.now)) (O.seen outputs.old) (O.seen outputs.new)) }
+    ensures ok { OnOk result (O.states outputs.new ≡ with_text Output.Notes (refusal_line (refusal_view refusal.now)) (O.states outputs.old)) }
+    ensures err { OnErr result (BreaksOutput Output.Notes (refusal_line (refusal_view refusal.now)) (O.states outputs.old) (O.states outputs.new)) }
 {
-    let before = words_before(refusal.code);
-    let behind = words_behind(refusal.code);
-    match &refusal.place {
+    let before = message_before(refusal.code);
+    let behind = message_behind(refusal.code);
+    match &refusal.location {
         Some((file, line)) => note_at(
             outputs,
             file,
@@ -139,8 +139,8 @@ pub fn note_refusal<O: Outputs>(outputs: &mut O, refusal: &Refusal) -> Result<()
 
 // Writes the error line of a line of a stream that is too long.
 pub fn note_too_long<O: Outputs>(outputs: &mut O, long: &LongLine<'_>) -> Result<(), Fault>
-    ensures ok { OnOk result (O.seen outputs.new ≡ written Which.Notes (too_long_line (stop_of long.now)) (O.seen outputs.old)) }
-    ensures err { OnErr result (Broke Which.Notes (too_long_line (stop_of long.now)) (O.seen outputs.old) (O.seen outputs.new)) }
+    ensures ok { OnOk result (O.states outputs.new ≡ with_text Output.Notes (too_long_line (stop_of long.now)) (O.states outputs.old)) }
+    ensures err { OnErr result (BreaksOutput Output.Notes (too_long_line (stop_of long.now)) (O.states outputs.old) (O.states outputs.new)) }
 {
     note_at(
         outputs,
@@ -154,23 +154,23 @@ pub fn note_too_long<O: Outputs>(outputs: &mut O, long: &LongLine<'_>) -> Result
 
 // Writes the text to the notes.
 pub fn note_text<O: Outputs>(outputs: &mut O, text: &[u8]) -> Result<(), Fault>
-    ensures ok { OnOk result (O.seen outputs.new ≡ written Which.Notes text.now (O.seen outputs.old)) }
-    ensures err { OnErr result (Broke Which.Notes text.now (O.seen outputs.old) (O.seen outputs.new)) }
+    ensures ok { OnOk result (O.states outputs.new ≡ with_text Output.Notes text.now (O.states outputs.old)) }
+    ensures err { OnErr result (BreaksOutput Output.Notes text.now (O.states outputs.old) (O.states outputs.new)) }
 {
     note_parts(outputs, &[text])
 }
 
 // Writes the error line behind the warnings that are refused.
 pub fn note_strict<O: Outputs>(outputs: &mut O) -> Result<(), Fault>
-    ensures ok { OnOk result (O.seen outputs.new ≡ written Which.Notes strict_line (O.seen outputs.old)) }
-    ensures err { OnErr result (Broke Which.Notes strict_line (O.seen outputs.old) (O.seen outputs.new)) }
+    ensures ok { OnOk result (O.states outputs.new ≡ with_text Output.Notes strict_line (O.states outputs.old)) }
+    ensures err { OnErr result (BreaksOutput Output.Notes strict_line (O.states outputs.old) (O.states outputs.new)) }
 {
     note_text(outputs, b"error E21: warnings are refused\n")
 }
 
 // Writes an error line, or as much of it as the notes take.
 fn note_line<O: Outputs>(outputs: &mut O, parts: &[&[u8]])
-    ensures { NotesLine (flat_map (λ part. part.now) parts.now) (O.seen outputs.old) (O.seen outputs.new) }
+    ensures { NotesLine (flat_map (λ part. part.now) parts.now) (O.states outputs.old) (O.states outputs.new) }
 {
     match note_parts(outputs, parts) {
         Ok(()) => {}
@@ -179,11 +179,11 @@ fn note_line<O: Outputs>(outputs: &mut O, parts: &[&[u8]])
 }
 
 // Writes the one error line of a fault, unless the notes are what failed.
-pub fn report<O: Outputs>(options: &Options, cause: Cause, outputs: &mut O)
-    ensures { Reports options.now cause (O.seen outputs.old) (O.seen outputs.new) }
+pub fn report<O: Outputs>(options: &Options, cause: RunFault, outputs: &mut O)
+    ensures { Reports options.now cause (O.states outputs.old) (O.states outputs.new) }
 {
     match cause {
-        Cause::Read(input) => note_line(
+        RunFault::Read(input) => note_line(
             outputs,
             &[
                 b"error E18: cannot read ",
@@ -191,11 +191,11 @@ pub fn report<O: Outputs>(options: &Options, cause: Cause, outputs: &mut O)
                 b"\n",
             ],
         ),
-        Cause::Write(Which::Notes) => {}
-        Cause::Write(which) => note_line(
+        RunFault::Write(Output::Notes) => {}
+        RunFault::Write(output) => note_line(
             outputs,
-            &[b"error E19: cannot write ", name_of(options, which), b"\n"],
+            &[b"error E19: cannot write ", name_of(options, output), b"\n"],
         ),
-        Cause::Memory => note_line(outputs, &[b"error E20: out of memory\n"]),
+        RunFault::Memory => note_line(outputs, &[b"error E20: out of memory\n"]),
     }
 }

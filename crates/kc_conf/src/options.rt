@@ -4,7 +4,7 @@ ghost use Rattle.std.specs.Prelude.{◌≡◌, ◌<◌, ◌+◌, length, slice_g
 ghost use Rattle.kc_conf.specs.Faults.{name_of, stream_name};
 ghost use Rattle.kc_conf.specs.Outcome.{names_of};
 
-use crate::outputs::Which;
+use crate::outputs::Output;
 use kc_dot::prefix::Prefix;
 
 /// What is asked of a run. The names of files are as they were given.
@@ -52,24 +52,24 @@ pub enum Status {
 }
 
 // The name of an output, in an error line.
-pub fn name_of(options: &Options, which: Which) -> &[u8]
-    ensures { result.now ≡ name_of options.now which }
+pub fn name_of(options: &Options, output: Output) -> &[u8]
+    ensures { result.now ≡ name_of options.now output }
 {
-    match which {
-        Which::Config => options.out.as_bytes(),
-        Which::Header => match &options.header {
+    match output {
+        Output::Config => options.out.as_bytes(),
+        Output::Header => match &options.header {
             Some(name) => name.as_bytes(),
             None => b"",
         },
-        Which::Minimal => match &options.minimal {
+        Output::Minimal => match &options.minimal {
             Some(name) => name.as_bytes(),
             None => b"",
         },
-        Which::Depfile => match &options.depfile {
+        Output::Depfile => match &options.depfile {
             Some(name) => name.as_bytes(),
             None => b"",
         },
-        Which::Notes => b"",
+        Output::Notes => b"",
     }
 }
 

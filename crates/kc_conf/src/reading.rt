@@ -1,16 +1,16 @@
 //! Reads the streams, in whatever pieces they come.
 ghost use Rattle.std.specs.Prelude.{◌≡◌, ◌<◌, ◌+◌, ◌∷◌, [], length, map, None, IfOk, OnOk, IfErr, OnErr};
 ghost use Rattle.std.specs.Option.{option_map};
-ghost use Rattle.kc_user.specs.Places.{IsUserOf};
-ghost use Rattle.kc_dot.specs.Feeding.{Feeds, Refuses, Finishes, FailsToEnd, fed, first_spot, counted_fault};
+ghost use Rattle.kc_user.specs.Places.{ArePlacesOf};
+ghost use Rattle.kc_dot.specs.Feeding.{Feeds, Refuses, Finishes, FailsToEnd, fed, stream_start, failures_after};
 ghost use Rattle.kc_conf.specs.Faults.{CountsInputs, StrikesNotes};
 ghost use Rattle.kc_conf.specs.Outcome.{names_of};
-ghost use Rattle.kc_conf.specs.Reads.{stop_of, counted_input, counted_notes, IsOfStream, TakesPieces, BreaksPieces, ReadsStream, BreaksStream, ReadsStreams, BreaksStreams};
+ghost use Rattle.kc_conf.specs.Reads.{stop_of, input_failures_after, notes_failures_after, IsStreamFault, TakesPieces, BreaksPieces, ReadsStream, BreaksStream, ReadsStreams, BreaksStreams};
 
-use crate::cause::Cause;
 use crate::input::Input;
 use crate::options::{Options, stream_name};
-use crate::outputs::Which;
+use crate::outputs::Output;
+use crate::run_fault::RunFault;
 use kc_dot::fault::DotFault;
 use kc_dot::reader::DotReader;
 use kc_dot::{Fault, Sink};
@@ -34,15 +34,15 @@ fn feed_piece<S: Sink>(
     user: &mut User,
     sink: &mut S,
 ) -> Result<(), DotFault>
-    requires user { IsUserOf reader.old.tree user.old }
+    requires user { ArePlacesOf reader.old.tree user.old }
     requires fresh { reader.old.refusal ≡ None }
-    ensures ok { OnOk result (Feeds reader.old.tree reader.old.prefix reader.old.name piece.now reader.old.spot reader.new.spot user.old user.new (S.taken sink.old) (S.taken sink.new)) }
-    ensures stands { OnOk result (reader.new ≡ record reader.old { spot = reader.new.spot }) }
-    ensures refused { IfErr result (λ fault. Refuses reader.old.tree reader.old.prefix reader.old.name fault piece.now reader.old.spot reader.new.spot user.old user.new (S.taken sink.old) (S.taken sink.new)) }
+    ensures ok { OnOk result (Feeds reader.old.tree reader.old.prefix reader.old.name piece.now reader.old.position reader.new.position user.old user.new (S.taken sink.old) (S.taken sink.new)) }
+    ensures stands { OnOk result (reader.new ≡ record reader.old { position = reader.new.position }) }
+    ensures refused { IfErr result (λ fault. Refuses reader.old.tree reader.old.prefix reader.old.name fault piece.now reader.old.position reader.new.position user.old user.new (S.taken sink.old) (S.taken sink.new)) }
     ensures quiet { OnOk result (S.failures sink.new ≡ S.failures sink.old) }
-    ensures counted { IfErr result (λ fault. S.failures sink.new ≡ counted_fault fault (S.failures sink.old)) }
+    ensures counted { IfErr result (λ fault. S.failures sink.new ≡ failures_after fault (S.failures sink.old)) }
     ensures keeps { S.goes_to sink.old sink.new }
-    ensures user { IsUserOf reader.old.tree user.new }
+    ensures user { ArePlacesOf reader.old.tree user.new }
 {
     reader.feed(piece, user, sink)
 }
@@ -53,14 +53,14 @@ fn finish_stream<S: Sink>(
     user: &mut User,
     sink: &mut S,
 ) -> Result<(), DotFault>
-    requires user { IsUserOf reader.old.tree user.old }
+    requires user { ArePlacesOf reader.old.tree user.old }
     requires fresh { reader.old.refusal ≡ None }
-    ensures ok { OnOk result (Finishes reader.old.tree reader.old.prefix reader.old.name reader.old.spot user.old user.new (S.taken sink.old) (S.taken sink.new)) }
-    ensures failed { IfErr result (λ fault. FailsToEnd reader.old.tree reader.old.prefix reader.old.name fault reader.old.spot user.old (S.taken sink.old) (S.taken sink.new)) }
+    ensures ok { OnOk result (Finishes reader.old.tree reader.old.prefix reader.old.name reader.old.position user.old user.new (S.taken sink.old) (S.taken sink.new)) }
+    ensures failed { IfErr result (λ fault. FailsToEnd reader.old.tree reader.old.prefix reader.old.name fault reader.old.position user.old (S.taken sink.old) (S.taken sink.new)) }
     ensures quiet { OnOk result (S.failures sink.new ≡ S.failures sink.old) }
-    ensures counted { IfErr result (λ fault. S.failures sink.new ≡ counted_fault fault (S.failures sink.old)) }
+    ensures counted { IfErr result (λ fault. S.failures sink.new ≡ failures_after fault (S.failures sink.old)) }
     ensures keeps { S.goes_to sink.old sink.new }
-    ensures user { IsUserOf reader.old.tree user.new }
+    ensures user { ArePlacesOf reader.old.tree user.new }
 {
     reader.finish(user, sink)
 }
@@ -72,25 +72,25 @@ fn read_pieces<I: Input, S: Sink>(
     input: &mut I,
     user: &mut User,
     sink: &mut S,
-) -> Result<Option<u64>, Cause>
-    requires user { IsUserOf reader.old.tree user.old }
+) -> Result<Option<u64>, RunFault>
+    requires user { ArePlacesOf reader.old.tree user.old }
     requires fresh { reader.old.refusal ≡ None }
-    ensures ok { IfOk result (λ long. TakesPieces reader.old.tree reader.old.prefix reader.old.name long (I.remaining input.old) reader.old.spot reader.new.spot user.old user.new (S.taken sink.old) (S.taken sink.new)) }
-    ensures stands { IfOk result (λ long. long ≡ None → reader.new ≡ record reader.old { spot = reader.new.spot }) }
-    ensures err { OnErr result (BreaksPieces reader.old.tree reader.old.prefix reader.old.name (I.remaining input.old) reader.old.spot user.old (S.taken sink.old) (S.taken sink.new)) }
-    ensures cause { IfErr result (IsOfStream at) }
+    ensures ok { IfOk result (λ long. TakesPieces reader.old.tree reader.old.prefix reader.old.name long (I.remaining input.old) reader.old.position reader.new.position user.old user.new (S.taken sink.old) (S.taken sink.new)) }
+    ensures stands { IfOk result (λ long. long ≡ None → reader.new ≡ record reader.old { position = reader.new.position }) }
+    ensures err { OnErr result (BreaksPieces reader.old.tree reader.old.prefix reader.old.name (I.remaining input.old) reader.old.position user.old (S.taken sink.old) (S.taken sink.new)) }
+    ensures cause { IfErr result (IsStreamFault at) }
     ensures quiet { OnOk result (S.failures sink.new ≡ S.failures sink.old) }
-    ensures counted { IfErr result (λ cause. S.failures sink.new ≡ counted_notes cause (S.failures sink.old)) }
+    ensures counted { IfErr result (λ cause. S.failures sink.new ≡ notes_failures_after cause (S.failures sink.old)) }
     ensures quiet_input { OnOk result (I.failures input.new ≡ I.failures input.old) }
-    ensures counted_input { IfErr result (λ cause. I.failures input.new ≡ counted_input cause (I.failures input.old)) }
+    ensures input_failures_after { IfErr result (λ cause. I.failures input.new ≡ input_failures_after cause (I.failures input.old)) }
     ensures keeps { S.goes_to sink.old sink.new }
-    ensures user { IsUserOf reader.old.tree user.new }
+    ensures user { ArePlacesOf reader.old.tree user.new }
 {
     let mut buffer = [0u8; PIECE];
     'pieces: loop {
         let count = match input.read(&mut buffer) {
             Ok(count) => count,
-            Err(Fault) => return Err(Cause::Read(at)),
+            Err(Fault) => return Err(RunFault::Read(at)),
         };
         if count == 0 {
             return Ok(None);
@@ -98,8 +98,8 @@ fn read_pieces<I: Input, S: Sink>(
         match feed_piece(reader, &buffer[..count], user, sink) {
             Ok(()) => {}
             Err(DotFault::ConfigLineTooLong(number)) => return Ok(Some(number)),
-            Err(DotFault::Sink) => return Err(Cause::Write(Which::Notes)),
-            Err(DotFault::Memory) => return Err(Cause::Memory),
+            Err(DotFault::Sink) => return Err(RunFault::Write(Output::Notes)),
+            Err(DotFault::Memory) => return Err(RunFault::Memory),
         }
     }
 }
@@ -111,19 +111,19 @@ fn read_stream<I: Input, S: Sink>(
     input: &mut I,
     user: &mut User,
     sink: &mut S,
-) -> Result<Option<u64>, Cause>
-    requires user { IsUserOf reader.old.tree user.old }
+) -> Result<Option<u64>, RunFault>
+    requires user { ArePlacesOf reader.old.tree user.old }
     requires fresh { reader.old.refusal ≡ None }
-    requires begins { reader.old.spot ≡ first_spot }
+    requires begins { reader.old.position ≡ stream_start }
     ensures ok { IfOk result (λ long. ReadsStream reader.old.tree reader.old.prefix reader.old.name long (I.remaining input.old) user.old user.new (S.taken sink.old) (S.taken sink.new)) }
     ensures err { OnErr result (BreaksStream reader.old.tree reader.old.prefix reader.old.name (I.remaining input.old) user.old (S.taken sink.old) (S.taken sink.new)) }
-    ensures cause { IfErr result (IsOfStream at) }
+    ensures cause { IfErr result (IsStreamFault at) }
     ensures quiet { OnOk result (S.failures sink.new ≡ S.failures sink.old) }
-    ensures counted { IfErr result (λ cause. S.failures sink.new ≡ counted_notes cause (S.failures sink.old)) }
+    ensures counted { IfErr result (λ cause. S.failures sink.new ≡ notes_failures_after cause (S.failures sink.old)) }
     ensures quiet_input { OnOk result (I.failures input.new ≡ I.failures input.old) }
-    ensures counted_input { IfErr result (λ cause. I.failures input.new ≡ counted_input cause (I.failures input.old)) }
+    ensures input_failures_after { IfErr result (λ cause. I.failures input.new ≡ input_failures_after cause (I.failures input.old)) }
     ensures keeps { S.goes_to sink.old sink.new }
-    ensures user { IsUserOf reader.old.tree user.new }
+    ensures user { ArePlacesOf reader.old.tree user.new }
 {
     match read_pieces(reader, at, input, user, sink) {
         Ok(Some(number)) => return Ok(Some(number)),
@@ -133,8 +133,8 @@ fn read_stream<I: Input, S: Sink>(
     match finish_stream(reader, user, sink) {
         Ok(()) => Ok(None),
         Err(DotFault::ConfigLineTooLong(number)) => Ok(Some(number)),
-        Err(DotFault::Sink) => Err(Cause::Write(Which::Notes)),
-        Err(DotFault::Memory) => Err(Cause::Memory),
+        Err(DotFault::Sink) => Err(RunFault::Write(Output::Notes)),
+        Err(DotFault::Memory) => Err(RunFault::Memory),
     }
 }
 
@@ -147,18 +147,18 @@ pub fn read_streams<'a, I: Input, S: Sink>(
     inputs: &mut [I],
     user: &mut User,
     sink: &mut S,
-) -> Result<Option<LongLine<'a>>, Cause>
+) -> Result<Option<LongLine<'a>>, RunFault>
     requires inputs { length inputs.old ≡ length options.now.fragments.items + 1 }
-    requires user { IsUserOf tree.now user.old }
+    requires user { ArePlacesOf tree.now user.old }
     ensures ok { IfOk result (λ long. ReadsStreams tree.now options.now.prefix (names_of options.now) (option_map stop_of long) (map I.remaining inputs.old) user.old user.new (S.taken sink.old) (S.taken sink.new)) }
     ensures err { OnErr result (BreaksStreams tree.now options.now.prefix (names_of options.now) (map I.remaining inputs.old) user.old (S.taken sink.old) (S.taken sink.new)) }
     ensures quiet { OnOk result (S.failures sink.new ≡ S.failures sink.old) }
     ensures cause { IfErr result StrikesNotes }
-    ensures counted { IfErr result (λ cause. S.failures sink.new ≡ counted_notes cause (S.failures sink.old)) }
+    ensures counted { IfErr result (λ cause. S.failures sink.new ≡ notes_failures_after cause (S.failures sink.old)) }
     ensures quiet_inputs { OnOk result (map I.failures inputs.new ≡ map I.failures inputs.old) }
     ensures counted_inputs { IfErr result (λ cause. CountsInputs cause (map I.failures inputs.old) (map I.failures inputs.new)) }
     ensures keeps { S.goes_to sink.old sink.new }
-    ensures user { IsUserOf tree.now user.new }
+    ensures user { ArePlacesOf tree.now user.new }
 {
     for at in 0..inputs.len() {
         let name = stream_name(options, at);

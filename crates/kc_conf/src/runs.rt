@@ -2,34 +2,34 @@
 ghost use Rattle.std.specs.Prelude.{◌≡◌, ◌≢◌, ◌+◌, ◌||◌, ◌⊎◌, List, ℕ, length, map, OnOk, IfErr, IfOk};
 ghost use Rattle.kc_read.specs.Expansion.{Refused};
 ghost use Rattle.kc_read.specs.Files.{bytes_in};
-ghost use Rattle.kc_read.specs.Steps.{refusal_view};
+ghost use Rattle.kc_read.specs.RefusalView.{refusal_view};
 ghost use Rattle.kc_read.specs.declared.refusal.Code.TheVariants.{Memory};
 ghost use Rattle.kc_make.specs.Opened.{AreOpened};
-ghost use Rattle.kc_user.specs.Places.{IsUserOf};
+ghost use Rattle.kc_user.specs.Places.{ArePlacesOf};
 ghost use Rattle.kc_tree.specs.TreeFacts.{TreeFacts};
 ghost use Rattle.kc_solve.specs.Graphs.{IsGraphOf};
 ghost use Rattle.kc_solve.specs.Solved.{Solution};
 ghost use Rattle.kc_tree.specs.Layouts.{IsLayoutOf};
 ghost use Rattle.kc_conf.specs.ErrorLines.{refusal_line, strict_line, too_long_line};
-ghost use Rattle.kc_conf.specs.Faults.{Finishes, Broken, IsOfOutputs, CountsInputs, Faults};
-ghost use Rattle.kc_conf.specs.Given.{AreAllToCome};
-ghost use Rattle.kc_conf.specs.Kept.{Holds};
-ghost use Rattle.kc_conf.specs.Outcome.{Outcome, is_told, lines_text, outcome_of, refused, strictly, with_rule, root_of, read_of, IsAcceptedTree, IsRefusedTree, IsSolutionFor, IsOutcome, IsOutcomeOfReading, IsOutcomeOfTree, OneAnswer, OneOutcome};
-ghost use Rattle.kc_conf.specs.Places.{Only};
+ghost use Rattle.kc_conf.specs.Faults.{Finishes, BreaksRun, IsNoInputFault, CountsInputs, Faults};
+ghost use Rattle.kc_conf.specs.InputBytes.{AreAllToCome};
+ghost use Rattle.kc_conf.specs.AcceptedTree.{HoldsTree};
+ghost use Rattle.kc_conf.specs.Outcome.{Outcome, has_text, lines_text, outcome_of, refused, strictly, with_rule, root_file, read_of, IsAcceptedTree, IsRefusedTree, IsSolutionFor, IsOutcome, IsOutcomeOfReading, IsOutcomeOfTree, OneAnswer, OneOutcome};
+ghost use Rattle.kc_conf.specs.OutputStates.{ChangesOnly};
 ghost use Rattle.kc_conf.specs.Rules.{BreaksInRule, EndsWithRule};
 ghost use Rattle.kc_conf.specs.Stops.{IsOutOfMemory};
-ghost use Rattle.kc_conf.specs.Reads.{behind_warnings, silent, stop_of, strictly_after};
-ghost use Rattle.kc_conf.specs.declared.cause.Cause.{Cause};
+ghost use Rattle.kc_conf.specs.Reads.{behind_warnings, without_notes, stop_of, strictly_after};
+ghost use Rattle.kc_conf.specs.declared.run_fault.RunFault.{RunFault};
 
-use crate::cause::Cause;
 use crate::input::Input;
 use crate::laws::exactly_one_outcome;
-use crate::lost::lost_told;
+use crate::lost::lost_warnings;
 use crate::notes::{note_lines, note_refusal, note_strict, note_too_long, report};
 use crate::options::{Options, Status};
-use crate::outputs::{Outputs, Which};
+use crate::outputs::{Output, Outputs};
 use crate::reading::LongLine;
-use crate::telling::tell_streams;
+use crate::run_fault::RunFault;
+use crate::stream_warnings::tell_streams;
 use crate::writing::{make_depfile, make_files};
 use kc_build::build_tree;
 use kc_build::laws::one_tree;
@@ -46,9 +46,9 @@ use kc_tree::tree::Tree;
 use kc_user::user::User;
 use std::alloc::Global;
 
-/// What a run made of a tree that it accepted.
+/// The tree that a run accepted, and an order of it.
 #[derive(Drop)]
-pub struct Kept {
+pub struct AcceptedTree {
     /// The tree.
     pub tree: Tree,
     /// An order of its symbols, in which each comes after those that it needs.
@@ -56,39 +56,39 @@ pub struct Kept {
 }
 
 // Writes the refusal of a tree.
-fn refuse_tree<O: Outputs>(outputs: &mut O, refusal: &Refusal) -> Result<Status, Cause>
-    ensures ok { IfOk result (λ status. Finishes (refused (refusal_line (refusal_view refusal.now))) status (O.seen outputs.old) (O.seen outputs.new)) }
-    ensures err { IfErr result (λ cause. Broken (refused (refusal_line (refusal_view refusal.now))) cause (O.seen outputs.old) (O.seen outputs.new)) }
-    ensures cause { IfErr result IsOfOutputs }
-    ensures only { Only Which.Notes (O.seen outputs.old) (O.seen outputs.new) }
+fn refuse_tree<O: Outputs>(outputs: &mut O, refusal: &Refusal) -> Result<Status, RunFault>
+    ensures ok { IfOk result (λ status. Finishes (refused (refusal_line (refusal_view refusal.now))) status (O.states outputs.old) (O.states outputs.new)) }
+    ensures err { IfErr result (λ cause. BreaksRun (refused (refusal_line (refusal_view refusal.now))) cause (O.states outputs.old) (O.states outputs.new)) }
+    ensures cause { IfErr result IsNoInputFault }
+    ensures only { ChangesOnly Output.Notes (O.states outputs.old) (O.states outputs.new) }
 {
     match note_refusal(outputs, refusal) {
         Ok(()) => Ok(Status::Refused),
-        Err(Fault) => Err(Cause::Write(Which::Notes)),
+        Err(Fault) => Err(RunFault::Write(Output::Notes)),
     }
 }
 
 // Writes the refusal of a line that is too long.
-fn refuse_line<O: Outputs>(outputs: &mut O, long: &LongLine<'_>) -> Result<Status, Cause>
-    ensures ok { IfOk result (λ status. Finishes (refused (too_long_line (stop_of long.now))) status (O.seen outputs.old) (O.seen outputs.new)) }
-    ensures err { IfErr result (λ cause. Broken (refused (too_long_line (stop_of long.now))) cause (O.seen outputs.old) (O.seen outputs.new)) }
-    ensures cause { IfErr result IsOfOutputs }
+fn refuse_line<O: Outputs>(outputs: &mut O, long: &LongLine<'_>) -> Result<Status, RunFault>
+    ensures ok { IfOk result (λ status. Finishes (refused (too_long_line (stop_of long.now))) status (O.states outputs.old) (O.states outputs.new)) }
+    ensures err { IfErr result (λ cause. BreaksRun (refused (too_long_line (stop_of long.now))) cause (O.states outputs.old) (O.states outputs.new)) }
+    ensures cause { IfErr result IsNoInputFault }
 {
     match note_too_long(outputs, long) {
         Ok(()) => Ok(Status::Refused),
-        Err(Fault) => Err(Cause::Write(Which::Notes)),
+        Err(Fault) => Err(RunFault::Write(Output::Notes)),
     }
 }
 
 // Refuses the warnings.
-fn refuse_warnings<O: Outputs>(outputs: &mut O) -> Result<Status, Cause>
-    ensures ok { IfOk result (λ status. Finishes (refused strict_line) status (O.seen outputs.old) (O.seen outputs.new)) }
-    ensures err { IfErr result (λ cause. Broken (refused strict_line) cause (O.seen outputs.old) (O.seen outputs.new)) }
-    ensures cause { IfErr result IsOfOutputs }
+fn refuse_warnings<O: Outputs>(outputs: &mut O) -> Result<Status, RunFault>
+    ensures ok { IfOk result (λ status. Finishes (refused strict_line) status (O.states outputs.old) (O.states outputs.new)) }
+    ensures err { IfErr result (λ cause. BreaksRun (refused strict_line) cause (O.states outputs.old) (O.states outputs.new)) }
+    ensures cause { IfErr result IsNoInputFault }
 {
     match note_strict(outputs) {
         Ok(()) => Ok(Status::Refused),
-        Err(Fault) => Err(Cause::Write(Which::Notes)),
+        Err(Fault) => Err(RunFault::Write(Output::Notes)),
     }
 }
 
@@ -100,11 +100,11 @@ fn make_or_refuse<O: Outputs>(
     solved: &Solved<'_>,
     is_warned: bool,
     outputs: &mut O,
-) -> Result<Status, Cause>
+) -> Result<Status, RunFault>
     requires { solved.now.tree ≡ tree.now }
-    ensures ok { IfOk result (λ status. Finishes (strictly_after options.now.strict is_warned (silent (outcome_of options.now tree.now solved.now))) status (O.seen outputs.old) (O.seen outputs.new)) }
-    ensures err { IfErr result (λ cause. Broken (strictly_after options.now.strict is_warned (silent (outcome_of options.now tree.now solved.now))) cause (O.seen outputs.old) (O.seen outputs.new)) }
-    ensures cause { IfErr result IsOfOutputs }
+    ensures ok { IfOk result (λ status. Finishes (strictly_after options.now.strict is_warned (without_notes (outcome_of options.now tree.now solved.now))) status (O.states outputs.old) (O.states outputs.new)) }
+    ensures err { IfErr result (λ cause. BreaksRun (strictly_after options.now.strict is_warned (without_notes (outcome_of options.now tree.now solved.now))) cause (O.states outputs.old) (O.states outputs.new)) }
+    ensures cause { IfErr result IsNoInputFault }
 {
     if options.strict && is_warned {
         return refuse_warnings(outputs);
@@ -113,15 +113,15 @@ fn make_or_refuse<O: Outputs>(
     Ok(Status::Done)
 }
 
-// Whether anything was told before, or is told by these lines.
+// Whether anything was warned of before, or is by these lines.
 #[tactic(auto, using(crate::proofs::TellingLemmas::told_by_lines))]
-fn is_told_by(before: bool, lines: &[Vec<u8>]) -> bool
-    ensures { result ≡ (before || is_told (lines_text (map (λ line. line.items) lines.now))) }
+fn is_warned_by(before: bool, lines: &[Vec<u8>]) -> bool
+    ensures { result ≡ (before || has_text (lines_text (map (λ line. line.items) lines.now))) }
 {
     before || !lines.is_empty()
 }
 
-// Whether anything was told before, or later.
+// Whether anything was warned of before, or later.
 fn is_either(before: bool, later: bool) -> bool
     ensures { result ≡ (before || later) }
 {
@@ -136,18 +136,18 @@ fn run_lost<O: Outputs>(
     solved: &Solved<'_>,
     is_warned: bool,
     outputs: &mut O,
-) -> Result<Status, Cause>
+) -> Result<Status, RunFault>
     requires { solved.now.tree ≡ tree.now }
-    ensures ok { IfOk result (λ status. Finishes (strictly_after options.now.strict is_warned (behind_warnings options.now tree.now solved.now)) status (O.seen outputs.old) (O.seen outputs.new)) }
-    ensures err { IfErr result (λ cause. Broken (strictly_after options.now.strict is_warned (behind_warnings options.now tree.now solved.now)) cause (O.seen outputs.old) (O.seen outputs.new)) }
-    ensures cause { IfErr result IsOfOutputs }
+    ensures ok { IfOk result (λ status. Finishes (strictly_after options.now.strict is_warned (behind_warnings options.now tree.now solved.now)) status (O.states outputs.old) (O.states outputs.new)) }
+    ensures err { IfErr result (λ cause. BreaksRun (strictly_after options.now.strict is_warned (behind_warnings options.now tree.now solved.now)) cause (O.states outputs.old) (O.states outputs.new)) }
+    ensures cause { IfErr result IsNoInputFault }
 {
-    let lost = lost_told(alloc, options, solved)?;
+    let lost = lost_warnings(alloc, options, solved)?;
     let lines = lost.as_slice();
     if let Err(Fault) = note_lines(outputs, lines) {
-        return Err(Cause::Write(Which::Notes));
+        return Err(RunFault::Write(Output::Notes));
     }
-    let is_warned = is_told_by(is_warned, lines);
+    let is_warned = is_warned_by(is_warned, lines);
     make_or_refuse(alloc, options, tree, solved, is_warned, outputs)
 }
 
@@ -161,22 +161,22 @@ fn run_solved<O: Outputs>(
     user: &User,
     is_warned: bool,
     outputs: &mut O,
-) -> Result<Status, Cause>
+) -> Result<Status, RunFault>
     requires laid { IsLayoutOf tree.now layout.now }
     requires order { IsGraphOf tree.now layout.now order.now }
-    requires user { IsUserOf tree.now user.now }
+    requires user { ArePlacesOf tree.now user.now }
     ensures ok { IfOk result (λ status. (solution : Solution) × IsSolutionFor tree.now user.now solution
-        × Finishes (strictly_after options.now.strict is_warned (outcome_of options.now tree.now solution)) status (O.seen outputs.old) (O.seen outputs.new)) }
+        × Finishes (strictly_after options.now.strict is_warned (outcome_of options.now tree.now solution)) status (O.states outputs.old) (O.states outputs.new)) }
     ensures err { IfErr result (λ cause. (solution : Solution) → IsSolutionFor tree.now user.now solution
-        → Broken (strictly_after options.now.strict is_warned (outcome_of options.now tree.now solution)) cause (O.seen outputs.old) (O.seen outputs.new)) }
-    ensures cause { IfErr result IsOfOutputs }
+        → BreaksRun (strictly_after options.now.strict is_warned (outcome_of options.now tree.now solution)) cause (O.states outputs.old) (O.states outputs.new)) }
+    ensures cause { IfErr result IsNoInputFault }
 {
     let solved = solve(alloc, tree, layout, order, user)?;
     solved.is_solution();
     if let Err(Fault) = note_lines(outputs, solved.value_warnings()) {
-        return Err(Cause::Write(Which::Notes));
+        return Err(RunFault::Write(Output::Notes));
     }
-    let is_warned = is_told_by(is_warned, solved.value_warnings());
+    let is_warned = is_warned_by(is_warned, solved.value_warnings());
     run_lost(alloc, options, tree, &solved, is_warned, outputs)
 }
 
@@ -190,16 +190,16 @@ fn run_read<I: Input, O: Outputs>(
     is_warned: bool,
     inputs: &mut [I],
     outputs: &mut O,
-) -> Result<Status, Cause>
+) -> Result<Status, RunFault>
     requires laid { IsLayoutOf tree.now layout.now }
     requires order { IsGraphOf tree.now layout.now order.now }
     requires inputs { length inputs.old ≡ length options.now.fragments.items + 1 }
     ensures ok { IfOk result (λ status. (all : List (List ℕ)) × AreAllToCome (map I.remaining inputs.old) all
         × ((part : Outcome) × IsOutcomeOfReading options.now tree.now (read_of options.now tree.now all) part
-        × Finishes (strictly_after options.now.strict is_warned part) status (O.seen outputs.old) (O.seen outputs.new))) }
+        × Finishes (strictly_after options.now.strict is_warned part) status (O.states outputs.old) (O.states outputs.new))) }
     ensures err { IfErr result (λ cause. (all : List (List ℕ)) × AreAllToCome (map I.remaining inputs.old) all
         × ((part : Outcome) → IsOutcomeOfReading options.now tree.now (read_of options.now tree.now all) part
-        → Broken (strictly_after options.now.strict is_warned part) cause (O.seen outputs.old) (O.seen outputs.new))) }
+        → BreaksRun (strictly_after options.now.strict is_warned part) cause (O.states outputs.old) (O.states outputs.new))) }
     ensures quiet_inputs { OnOk result (map I.failures inputs.new ≡ map I.failures inputs.old) }
     ensures counted_inputs { IfErr result (λ cause. CountsInputs cause (map I.failures inputs.old) (map I.failures inputs.new)) }
 {
@@ -228,23 +228,23 @@ fn run_tree<I: Input, O: Outputs>(
     order: &Order,
     inputs: &mut [I],
     outputs: &mut O,
-) -> Result<Status, Cause>
+) -> Result<Status, RunFault>
     requires laid { IsLayoutOf tree.now layout.now }
     requires order { IsGraphOf tree.now layout.now order.now }
     requires inputs { length inputs.old ≡ length options.now.fragments.items + 1 }
     ensures ok { IfOk result (λ status. (all : List (List ℕ)) × AreAllToCome (map I.remaining inputs.old) all
         × ((part : Outcome) × IsOutcomeOfTree options.now tree.now all part
-        × Finishes (strictly options.now.strict part) status (O.seen outputs.old) (O.seen outputs.new))) }
+        × Finishes (strictly options.now.strict part) status (O.states outputs.old) (O.states outputs.new))) }
     ensures err { IfErr result (λ cause. (all : List (List ℕ)) × AreAllToCome (map I.remaining inputs.old) all
         × ((part : Outcome) → IsOutcomeOfTree options.now tree.now all part
-        → Broken (strictly options.now.strict part) cause (O.seen outputs.old) (O.seen outputs.new))) }
+        → BreaksRun (strictly options.now.strict part) cause (O.states outputs.old) (O.states outputs.new))) }
     ensures quiet_inputs { OnOk result (map I.failures inputs.new ≡ map I.failures inputs.old) }
     ensures counted_inputs { IfErr result (λ cause. CountsInputs cause (map I.failures inputs.old) (map I.failures inputs.new)) }
 {
     if let Err(Fault) = note_lines(outputs, tree.parse_warnings()) {
-        return Err(Cause::Write(Which::Notes));
+        return Err(RunFault::Write(Output::Notes));
     }
-    let is_warned = is_told_by(false, tree.parse_warnings());
+    let is_warned = is_warned_by(false, tree.parse_warnings());
     run_read(
         alloc, options, tree, layout, order, is_warned, inputs, outputs,
     )
@@ -257,10 +257,10 @@ fn end_run<O: Outputs>(
     options: &Options,
     status: Status,
     outputs: &mut O,
-) -> Result<Status, Cause>
-    ensures ok { IfOk result (λ ended. (opened : List (List ℕ)) × AreOpened (bytes_in files.now) (root_of options.now) opened × EndsWithRule options.now opened status ended (O.seen outputs.old) (O.seen outputs.new)) }
-    ensures err { IfErr result (λ cause. (opened : List (List ℕ)) × AreOpened (bytes_in files.now) (root_of options.now) opened × BreaksInRule options.now opened status cause (O.seen outputs.old) (O.seen outputs.new)) }
-    ensures cause { IfErr result IsOfOutputs }
+) -> Result<Status, RunFault>
+    ensures ok { IfOk result (λ ended. (opened : List (List ℕ)) × AreOpened (bytes_in files.now) (root_file options.now) opened × EndsWithRule options.now opened status ended (O.states outputs.old) (O.states outputs.new)) }
+    ensures err { IfErr result (λ cause. (opened : List (List ℕ)) × AreOpened (bytes_in files.now) (root_file options.now) opened × BreaksInRule options.now opened status cause (O.states outputs.old) (O.states outputs.new)) }
+    ensures cause { IfErr result IsNoInputFault }
 {
     opened_are_one_list();
     if status != Status::Done {
@@ -280,17 +280,17 @@ fn run_accepted<I: Input, O: Outputs>(
     order: &Order,
     inputs: &mut [I],
     outputs: &mut O,
-) -> Result<Status, Cause>
+) -> Result<Status, RunFault>
     requires laid { IsLayoutOf tree.now layout.now }
     requires order { IsGraphOf tree.now layout.now order.now }
     requires inputs { length inputs.old ≡ length options.now.fragments.items + 1 }
-    requires accepted { IsAcceptedTree (bytes_in files.now) (root_of options.now) tree.now }
+    requires accepted { IsAcceptedTree (bytes_in files.now) (root_file options.now) tree.now }
     ensures ok { IfOk result (λ status. (all : List (List ℕ)) × AreAllToCome (map I.remaining inputs.old) all
         × ((outcome : Outcome) × IsOutcome (bytes_in files.now) options.now all outcome
-        × Finishes outcome status (O.seen outputs.old) (O.seen outputs.new))) }
+        × Finishes outcome status (O.states outputs.old) (O.states outputs.new))) }
     ensures err { IfErr result (λ cause. (all : List (List ℕ)) × AreAllToCome (map I.remaining inputs.old) all
         × ((outcome : Outcome) → IsOutcome (bytes_in files.now) options.now all outcome
-        → Broken outcome cause (O.seen outputs.old) (O.seen outputs.new))) }
+        → BreaksRun outcome cause (O.states outputs.old) (O.states outputs.new))) }
     ensures quiet_inputs { OnOk result (map I.failures inputs.new ≡ map I.failures inputs.old) }
     ensures counted_inputs { IfErr result (λ cause. CountsInputs cause (map I.failures inputs.old) (map I.failures inputs.new)) }
 {
@@ -303,15 +303,15 @@ fn run_accepted<I: Input, O: Outputs>(
 }
 
 // Writes why no tree is accepted, unless that is a want of memory.
-fn refuse<O: Outputs>(outputs: &mut O, refusal: &Refusal) -> Result<Status, Cause>
-    ensures ok { IfOk result (λ status. (refusal.now.code ≢ Memory) × Finishes (refused (refusal_line (refusal_view refusal.now))) status (O.seen outputs.old) (O.seen outputs.new)) }
-    ensures err { IfErr result (λ cause. IsOutOfMemory refusal.now cause (O.seen outputs.old) (O.seen outputs.new)
-        ⊎ ((refusal.now.code ≢ Memory) × Broken (refused (refusal_line (refusal_view refusal.now))) cause (O.seen outputs.old) (O.seen outputs.new))) }
-    ensures cause { IfErr result IsOfOutputs }
-    ensures only { Only Which.Notes (O.seen outputs.old) (O.seen outputs.new) }
+fn refuse<O: Outputs>(outputs: &mut O, refusal: &Refusal) -> Result<Status, RunFault>
+    ensures ok { IfOk result (λ status. (refusal.now.code ≢ Memory) × Finishes (refused (refusal_line (refusal_view refusal.now))) status (O.states outputs.old) (O.states outputs.new)) }
+    ensures err { IfErr result (λ cause. IsOutOfMemory refusal.now cause (O.states outputs.old) (O.states outputs.new)
+        ⊎ ((refusal.now.code ≢ Memory) × BreaksRun (refused (refusal_line (refusal_view refusal.now))) cause (O.states outputs.old) (O.states outputs.new))) }
+    ensures cause { IfErr result IsNoInputFault }
+    ensures only { ChangesOnly Output.Notes (O.states outputs.old) (O.states outputs.new) }
 {
     match refusal.code {
-        Code::Memory => Err(Cause::Memory),
+        Code::Memory => Err(RunFault::Memory),
         _ => refuse_tree(outputs, refusal),
     }
 }
@@ -323,22 +323,22 @@ fn run_through<I: Input, O: Outputs>(
     options: &Options,
     inputs: &mut [I],
     outputs: &mut O,
-    kept: &mut Option<Kept>,
-) -> Result<Status, Cause>
+    kept: &mut Option<AcceptedTree>,
+) -> Result<Status, RunFault>
     requires { length inputs.old ≡ length options.now.fragments.items + 1 }
     ensures ok { IfOk result (λ status. (all : List (List ℕ)) × AreAllToCome (map I.remaining inputs.old) all
         × ((outcome : Outcome) × IsOutcome (bytes_in files.now) options.now all outcome
-        × Finishes outcome status (O.seen outputs.old) (O.seen outputs.new))) }
+        × Finishes outcome status (O.states outputs.old) (O.states outputs.new))) }
     ensures err { IfErr result (λ cause. (all : List (List ℕ)) × AreAllToCome (map I.remaining inputs.old) all
         × ((outcome : Outcome) → IsOutcome (bytes_in files.now) options.now all outcome
-        → Broken outcome cause (O.seen outputs.old) (O.seen outputs.new))) }
+        → BreaksRun outcome cause (O.states outputs.old) (O.states outputs.new))) }
     ensures quiet_inputs { OnOk result (map I.failures inputs.new ≡ map I.failures inputs.old) }
     ensures counted_inputs { IfErr result (λ cause. CountsInputs cause (map I.failures inputs.old) (map I.failures inputs.new)) }
-    ensures refused_inputs { (r : Refused) → IsRefusedTree (bytes_in files.now) (root_of options.now) r → inputs.new ≡ inputs.old }
-    ensures refused_outputs { (r : Refused) → IsRefusedTree (bytes_in files.now) (root_of options.now) r → Only Which.Notes (O.seen outputs.old) (O.seen outputs.new) }
-    ensures kept { OnOk result ((tree : TreeFacts) → IsAcceptedTree (bytes_in files.now) (root_of options.now) tree → Holds tree kept.new) }
-    ensures refused_kept { (r : Refused) → IsRefusedTree (bytes_in files.now) (root_of options.now) r → kept.new ≡ kept.old }
-    ensures either_kept { (tree : TreeFacts) → IsAcceptedTree (bytes_in files.now) (root_of options.now) tree → (kept.new ≡ kept.old) ⊎ Holds tree kept.new }
+    ensures refused_inputs { (r : Refused) → IsRefusedTree (bytes_in files.now) (root_file options.now) r → inputs.new ≡ inputs.old }
+    ensures refused_outputs { (r : Refused) → IsRefusedTree (bytes_in files.now) (root_file options.now) r → ChangesOnly Output.Notes (O.states outputs.old) (O.states outputs.new) }
+    ensures kept { OnOk result ((tree : TreeFacts) → IsAcceptedTree (bytes_in files.now) (root_file options.now) tree → HoldsTree tree kept.new) }
+    ensures refused_kept { (r : Refused) → IsRefusedTree (bytes_in files.now) (root_file options.now) r → kept.new ≡ kept.old }
+    ensures either_kept { (tree : TreeFacts) → IsAcceptedTree (bytes_in files.now) (root_file options.now) tree → (kept.new ≡ kept.old) ⊎ HoldsTree tree kept.new }
 {
     one_answer();
     opened_are_one_list();
@@ -352,7 +352,7 @@ fn run_through<I: Input, O: Outputs>(
             let ended = run_accepted(
                 alloc, files, options, &tree, layout, &order, inputs, outputs,
             );
-            *kept = Some(Kept { tree, order });
+            *kept = Some(AcceptedTree { tree, order });
             ended
         }
         Err(refusal) => refuse(outputs, &refusal),
@@ -381,17 +381,17 @@ pub fn run<I: Input, O: Outputs>(
     // Without a fault the outputs and the status are the outcome's, and no count rose.
     ensures exactly { result ≢ Status.Faulted → (all : List (List ℕ)) × AreAllToCome (map I.remaining inputs.old) all
         × ((outcome : Outcome) × IsOutcome (bytes_in files.now) options.now all outcome
-        × Finishes outcome result (O.seen outputs.old) (O.seen outputs.new)) }
+        × Finishes outcome result (O.states outputs.old) (O.states outputs.new)) }
     ensures quiet_inputs { result ≢ Status.Faulted → map I.failures inputs.new ≡ map I.failures inputs.old }
     // After a fault there is its cause, whose count rose by one, and of the outcome all before it is whole. No other count
     // rose but the notes', where they fail while the error line is written.
-    ensures fault { result ≡ Status.Faulted → (cause : Cause) × (all : List (List ℕ)) × AreAllToCome (map I.remaining inputs.old) all
+    ensures fault { result ≡ Status.Faulted → (cause : RunFault) × (all : List (List ℕ)) × AreAllToCome (map I.remaining inputs.old) all
         × CountsInputs cause (map I.failures inputs.old) (map I.failures inputs.new)
         × ((outcome : Outcome) × IsOutcome (bytes_in files.now) options.now all outcome
-        × Faults options.now outcome cause (O.seen outputs.old) (O.seen outputs.new)) }
+        × Faults options.now outcome cause (O.states outputs.old) (O.states outputs.new)) }
     // A refused tree leaves the inputs untouched, and begins nothing.
-    ensures refused_inputs { (r : Refused) → IsRefusedTree (bytes_in files.now) (root_of options.now) r → inputs.new ≡ inputs.old }
-    ensures refused_outputs { (r : Refused) → IsRefusedTree (bytes_in files.now) (root_of options.now) r → Only Which.Notes (O.seen outputs.old) (O.seen outputs.new) }
+    ensures refused_inputs { (r : Refused) → IsRefusedTree (bytes_in files.now) (root_file options.now) r → inputs.new ≡ inputs.old }
+    ensures refused_outputs { (r : Refused) → IsRefusedTree (bytes_in files.now) (root_file options.now) r → ChangesOnly Output.Notes (O.states outputs.old) (O.states outputs.new) }
 {
     let mut kept = None;
     run_keeping(alloc, files, options, inputs, outputs, &mut kept)
@@ -406,28 +406,28 @@ pub fn run_keeping<I: Input, O: Outputs>(
     options: &Options,
     inputs: &mut [I],
     outputs: &mut O,
-    kept: &mut Option<Kept>,
+    kept: &mut Option<AcceptedTree>,
 ) -> Status
     requires { length inputs.old ≡ length options.now.fragments.items + 1 }
     // Without a fault the outputs and the status are the outcome's, and no count rose.
     ensures exactly { result ≢ Status.Faulted → (all : List (List ℕ)) × AreAllToCome (map I.remaining inputs.old) all
         × ((outcome : Outcome) × IsOutcome (bytes_in files.now) options.now all outcome
-        × Finishes outcome result (O.seen outputs.old) (O.seen outputs.new)) }
+        × Finishes outcome result (O.states outputs.old) (O.states outputs.new)) }
     ensures quiet_inputs { result ≢ Status.Faulted → map I.failures inputs.new ≡ map I.failures inputs.old }
     // After a fault there is its cause, whose count rose by one, and of the outcome all before it is whole. No other count
     // rose but the notes', where they fail while the error line is written.
-    ensures fault { result ≡ Status.Faulted → (cause : Cause) × (all : List (List ℕ)) × AreAllToCome (map I.remaining inputs.old) all
+    ensures fault { result ≡ Status.Faulted → (cause : RunFault) × (all : List (List ℕ)) × AreAllToCome (map I.remaining inputs.old) all
         × CountsInputs cause (map I.failures inputs.old) (map I.failures inputs.new)
         × ((outcome : Outcome) × IsOutcome (bytes_in files.now) options.now all outcome
-        × Faults options.now outcome cause (O.seen outputs.old) (O.seen outputs.new)) }
+        × Faults options.now outcome cause (O.states outputs.old) (O.states outputs.new)) }
     // A refused tree leaves the inputs untouched, and begins nothing.
-    ensures refused_inputs { (r : Refused) → IsRefusedTree (bytes_in files.now) (root_of options.now) r → inputs.new ≡ inputs.old }
-    ensures refused_outputs { (r : Refused) → IsRefusedTree (bytes_in files.now) (root_of options.now) r → Only Which.Notes (O.seen outputs.old) (O.seen outputs.new) }
+    ensures refused_inputs { (r : Refused) → IsRefusedTree (bytes_in files.now) (root_file options.now) r → inputs.new ≡ inputs.old }
+    ensures refused_outputs { (r : Refused) → IsRefusedTree (bytes_in files.now) (root_file options.now) r → ChangesOnly Output.Notes (O.states outputs.old) (O.states outputs.new) }
     // Without a fault an accepted tree is kept; a refused one leaves what was there.
-    ensures kept { result ≢ Status.Faulted → (tree : TreeFacts) → IsAcceptedTree (bytes_in files.now) (root_of options.now) tree → Holds tree kept.new }
-    ensures refused_kept { (r : Refused) → IsRefusedTree (bytes_in files.now) (root_of options.now) r → kept.new ≡ kept.old }
+    ensures kept { result ≢ Status.Faulted → (tree : TreeFacts) → IsAcceptedTree (bytes_in files.now) (root_file options.now) tree → HoldsTree tree kept.new }
+    ensures refused_kept { (r : Refused) → IsRefusedTree (bytes_in files.now) (root_file options.now) r → kept.new ≡ kept.old }
     // Whatever comes, it is what was there or the accepted tree.
-    ensures either_kept { (tree : TreeFacts) → IsAcceptedTree (bytes_in files.now) (root_of options.now) tree → (kept.new ≡ kept.old) ⊎ Holds tree kept.new }
+    ensures either_kept { (tree : TreeFacts) → IsAcceptedTree (bytes_in files.now) (root_file options.now) tree → (kept.new ≡ kept.old) ⊎ HoldsTree tree kept.new }
 {
     exactly_one_outcome();
     match run_through(alloc, files, options, inputs, outputs, kept) {

@@ -9,13 +9,13 @@ use Rattle.kc_make.specs.Opened.{AreOpened}
 use Rattle.kc_expr.specs.Names.{all_mentioned}
 use Rattle.kc_conf.specs.declared.options.Options.{Options}
 use Rattle.kc_conf.specs.Faults.{CountsInputs, Faults, Finishes}
-use Rattle.kc_conf.specs.Given.{AreAllToCome}
-use Rattle.kc_conf.specs.Outcome.{IsAcceptedTree, IsLenientOutcome, IsOutcome, IsRefusedTree, Outcome, accepted_tree, looped, no_tree, refused_tree, root_of}
-use Rattle.kc_conf.specs.Places.{Only, Places}
-use Rattle.kc_conf.specs.declared.cause.Cause.{Cause}
+use Rattle.kc_conf.specs.InputBytes.{AreAllToCome}
+use Rattle.kc_conf.specs.Outcome.{IsAcceptedTree, IsLenientOutcome, IsOutcome, IsRefusedTree, Outcome, accepted_tree, looped, no_tree, refused_tree, root_file}
+use Rattle.kc_conf.specs.OutputStates.{ChangesOnly, OutputStates}
+use Rattle.kc_conf.specs.declared.run_fault.RunFault.{RunFault}
 use Rattle.kc_conf.specs.declared.options.Status.{Status}
 use Rattle.kc_conf.specs.declared.options.Status.TheVariants.{Done, Refused as IsRefused, Usage, Faulted}
-use Rattle.kc_conf.specs.declared.outputs.Which.TheVariants.{Notes}
+use Rattle.kc_conf.specs.declared.outputs.Output.TheVariants.{Notes}
 use Rattle.kc_configure.specs.Configured.{Leaves}
 
 pub flipped : (root : List ℕ) (files others : Files) → ExpandsAlike root files others → ExpandsAlike root others files
@@ -32,9 +32,10 @@ module _ (root : List ℕ) (files others : Files) (alike : ExpandsAlike root fil
   pub accepted_over : (tree : TreeFacts) → IsAcceptedTree files root tree → IsAcceptedTree others root tree
   accepted_over tree x = record { built = tree_over _ x.built; accepted = x.accepted }
 
-lenient_over : (files others : Files) (options : Options) → ExpandsAlike (root_of options) files others → (all : List (List ℕ)) (outcome : Outcome) → IsLenientOutcome files options all outcome → IsLenientOutcome others options all outcome
-lenient_over files others options alike all outcome (refused_tree r x e) = refused_tree r (refused_over (root_of options) files others alike r x) e
-lenient_over files others options alike all outcome (accepted_tree tree x y) = accepted_tree tree (accepted_over (root_of options) files others alike tree x) y
+lenient_over : (files others : Files) (options : Options) → ExpandsAlike (root_file options) files others → (all : List (List ℕ)) (outcome : Outcome) →
+    IsLenientOutcome files options all outcome → IsLenientOutcome others options all outcome
+lenient_over files others options alike all outcome (refused_tree r x e) = refused_tree r (refused_over (root_file options) files others alike r x) e
+lenient_over files others options alike all outcome (accepted_tree tree x y) = accepted_tree tree (accepted_over (root_file options) files others alike tree x) y
 
 -- the files that are opened over the others are opened over these
 opened_over : (root : List ℕ) (files others : Files) → OpensAlike root files others → (opened : List (List ℕ)) → AreOpened others root opened → AreOpened files root opened
@@ -42,17 +43,19 @@ opened_over root files others alike opened are bytes log there few d =
     let (there_too, (e, same)) = alike bytes log there few d in
     are bytes log there_too few e ∙ ap (λ l. all_mentioned [] (root ∷ l)) same
 
-pub outcome_over : (files others : Files) (options : Options) → ExpandsAlike (root_of options) files others → OpensAlike (root_of options) files others →
+pub outcome_over : (files others : Files) (options : Options) → ExpandsAlike (root_file options) files others → OpensAlike (root_file options) files others →
     (all : List (List ℕ)) (outcome : Outcome) → IsOutcome others options all outcome → IsOutcome files options all outcome
 outcome_over files others options alike opens all outcome (lenient, opened, is, are, same) =
-    (lenient, opened, lenient_over others files options (flipped (root_of options) files others alike) all lenient is, opened_over (root_of options) files others opens opened are, same)
+    (lenient, opened, lenient_over others files options (flipped (root_file options) files others alike) all lenient is, opened_over (root_file options) files others opens opened are, same)
 
 -- what a run over the loaded files says, said of the folder's
-pub leaves_over : (files loaded : Files) (options : Options) (given : List (Option (List ℕ))) (counts counts_after : List ℕ) (status : Status) (old new : Places) → ExpandsAlike (root_of options) files loaded → OpensAlike (root_of options) files loaded →
+pub leaves_over : (files loaded : Files) (options : Options) (given : List (Option (List ℕ))) (counts counts_after : List ℕ) (status : Status)
+    (old new : OutputStates) → ExpandsAlike (root_file options) files loaded → OpensAlike (root_file options) files loaded →
     (status ≢ Faulted → (all : List (List ℕ)) × AreAllToCome given all × ((outcome : Outcome) × IsOutcome loaded options all outcome × Finishes outcome status old new)) →
     (status ≢ Faulted → counts_after ≡ counts) →
-    (status ≡ Faulted → (cause : Cause) × (all : List (List ℕ)) × AreAllToCome given all × CountsInputs cause counts counts_after × ((outcome : Outcome) × IsOutcome loaded options all outcome × Faults options outcome cause old new)) →
-    ((r : Refused) → IsRefusedTree loaded (root_of options) r → Only Notes old new) →
+    (status ≡ Faulted → (cause : RunFault) × (all : List (List ℕ)) × AreAllToCome given all × CountsInputs cause counts counts_after
+    × ((outcome : Outcome) × IsOutcome loaded options all outcome × Faults options outcome cause old new)) →
+    ((r : Refused) → IsRefusedTree loaded (root_file options) r → ChangesOnly Notes old new) →
     Leaves files options given counts counts_after status old new
 leaves_over files loaded options given counts counts_after status old new alike opens exactly quiet fault refused = by status refl
   where
@@ -66,7 +69,7 @@ leaves_over files loaded options given counts counts_after status old new alike 
           is_outcome = outcome_over files loaded options alike opens x.0 x.2.0 x.2.1;
           finished = λ _. (x.2.2, quiet un);
           broken = λ e. absurd (un e);
-          refused = λ r h. refused r (refused_over (root_of options) files loaded alike r h);
+          refused = λ r h. refused r (refused_over (root_file options) files loaded alike r h);
         }
 
     struck : status ≡ Faulted → Leaves files options given counts counts_after status old new
@@ -79,7 +82,7 @@ leaves_over files loaded options given counts counts_after status old new alike 
           is_outcome = outcome_over files loaded options alike opens x.1 x.4.0 x.4.1;
           finished = λ un. absurd (un is);
           broken = λ _. (x.0, x.3, x.4.2);
-          refused = λ r h. refused r (refused_over (root_of options) files loaded alike r h);
+          refused = λ r h. refused r (refused_over (root_file options) files loaded alike r h);
         }
 
     by : (s : Status) → status ≡ s → Leaves files options given counts counts_after status old new

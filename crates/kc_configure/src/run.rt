@@ -3,29 +3,30 @@ ghost use Rattle.std.specs.Prelude.{◌≡◌, ◌+◌, length, map, string_byte
 ghost use Rattle.kc_read.specs.Expansion.{Refused};
 ghost use Rattle.kc_read.specs.Files.{Files, bytes_in};
 ghost use Rattle.kc_load.specs.Expanding.{AreFilesOf};
-ghost use Rattle.kc_load.specs.Faults.{IsLoadFault, counted_load};
+ghost use Rattle.kc_load.specs.Faults.{IsLoadFault, load_failures_after};
 ghost use Rattle.kc_load.specs.Loaded.{Loads};
-ghost use Rattle.kc_conf.specs.Outcome.{IsRefusedTree, root_of};
+ghost use Rattle.kc_conf.specs.Outcome.{IsRefusedTree, root_file};
 ghost use Rattle.kc_configure.specs.Configured.{Keeps, Leaves};
 
-use kc_conf::{FileMap, Input, Kept, Options, Outputs, Status, run_keeping};
+use kc_conf::{AcceptedTree, FileMap, Input, Options, Outputs, Status, run_keeping};
 use kc_load::{Folder, LoadFault, load};
 use std::alloc::Global;
 
 /// Loads the tree from the folder, reads the streams, and writes the files and the notes (our own; the values are those of
 /// the kernel's kconfig-language document and of kconfiglib's documentation).
 ///
-/// A file of the tree is the folder's file at the path `root/NAME`, or at the name itself where it begins with `/`; a name
-/// that is no UTF-8 has none. The caller owes one input for the `.config` and one for each fragment, in order.
+/// A file of the tree is the folder's file at the path `DIR/NAME`, with `options.root` as DIR, or at the name itself where it
+/// begins with `/`; a name that is no UTF-8 has none. The caller owes one input for the `.config` and one for each fragment,
+/// in order.
 ///
 /// For these files, the options and the bytes of the streams there is exactly one outcome: the tree's refusal (E1 to E16), a
-/// line's (E17), that of warnings (E21), or the files and notes of the tree's one solution. `Done` and `Refused` are answered only where the outputs
-/// are the outcome's; `Faulted` as `run_keeping` of kc_conf answers it.
+/// line's (E17), that of warnings (E21), or the files and notes of the tree's one solution. `Done` and `Refused` are answered
+/// only where the outputs are the outcome's; `Faulted` as `run_keeping` of kc_conf answers it.
 ///
 /// An error is a fault of loading: E18 where the folder's device failed at a file whose turn it was and at whose path it may
-/// fail, E20 where memory was refused. Nothing was read from an input then, no output was begun or written, and `files` and `kept` are as they were.
-/// Else `files` is what was read of the folder, and `kept` what `run_keeping` keeps. A program that ends anyway may forget
-/// both.
+/// fail, E20 where memory was refused. Nothing was read from an input then, no output was begun or written, and `files` and
+/// `kept` are as they were. Else `files` is what was read of the folder, and `kept` what `run_keeping` keeps. A program that
+/// ends anyway may forget both.
 pub fn configure<F: Folder, I: Input, O: Outputs>(
     alloc: Global,
     folder: &mut F,
@@ -33,19 +34,19 @@ pub fn configure<F: Folder, I: Input, O: Outputs>(
     inputs: &mut [I],
     outputs: &mut O,
     files: &mut FileMap,
-    kept: &mut Option<Kept>,
+    kept: &mut Option<AcceptedTree>,
 ) -> Result<Status, LoadFault>
     requires { length inputs.old ≡ length options.now.fragments.items + 1 }
     // The run leaves the outcome of the folder's files, or a part of it and a cause. A refused tree leaves the inputs
     // untouched.
     ensures ran { IfOk result (λ status. (tree_files : Files) × AreFilesOf (F.files folder.old) (string_bytes options.now.root) tree_files
-        × Leaves tree_files options.now (map I.remaining inputs.old) (map I.failures inputs.old) (map I.failures inputs.new) status (O.seen outputs.old) (O.seen outputs.new)
-        × ((r : Refused) → IsRefusedTree tree_files (root_of options.now) r → inputs.new ≡ inputs.old)
+        × Leaves tree_files options.now (map I.remaining inputs.old) (map I.failures inputs.old) (map I.failures inputs.new) status (O.states outputs.old) (O.states outputs.new)
+        × ((r : Refused) → IsRefusedTree tree_files (root_file options.now) r → inputs.new ≡ inputs.old)
         × Keeps tree_files options.now status kept.old kept.new) }
     // What was read of the folder is handed out.
-    ensures loaded { OnOk result (Loads (F.files folder.old) (string_bytes options.now.root) (root_of options.now) (bytes_in files.new)) }
+    ensures loaded { OnOk result (Loads (F.files folder.old) (string_bytes options.now.root) (root_file options.now) (bytes_in files.new)) }
     // A file that could not be read is one whose turn it was, and at whose path the folder may fail.
-    ensures fault { IfErr result (IsLoadFault (F.files folder.old) (F.failing folder.old) (string_bytes options.now.root) (root_of options.now)) }
+    ensures fault { IfErr result (IsLoadFault (F.files folder.old) (F.failing folder.old) (string_bytes options.now.root) (root_file options.now)) }
     // After a fault of loading all is as it was.
     ensures untouched_inputs { OnErr result (inputs.new ≡ inputs.old) }
     ensures untouched_outputs { OnErr result (outputs.new ≡ outputs.old) }
@@ -55,7 +56,7 @@ pub fn configure<F: Folder, I: Input, O: Outputs>(
     ensures stays { F.files folder.new ≡ F.files folder.old }
     ensures failing_stays { F.failing folder.new ≡ F.failing folder.old }
     ensures quiet { OnOk result (F.failures folder.new ≡ F.failures folder.old) }
-    ensures counted { IfErr result (λ fault. F.failures folder.new ≡ counted_load fault (F.failures folder.old)) }
+    ensures counted { IfErr result (λ fault. F.failures folder.new ≡ load_failures_after fault (F.failures folder.old)) }
 {
     *files = load(
         alloc,

@@ -1,9 +1,9 @@
 pub mod DraftLemmas
 pub mod LineLemmas
-pub mod PlacesLemmas
+pub mod OutputLemmas
 pub mod RanLemmas
 pub mod ReachedLemmas
-pub mod SaysLemmas
-pub mod ShelfLemmas
+pub mod ReportLemmas
+pub mod MoverLemmas
 pub mod StreamLemmas
-pub mod ToldLemmas
+pub mod StateLemmas

@@ -1,18 +1,18 @@
 -- A line of the notes on its way.
-use Rattle.std.proofs.Common.{◌≡◌, ◌≢◌, refl, ℕ, ◌+◌, ◌-◌, ◌<◌, ◌≤◌, Bool, true, false, List, [], ◌∷◌, ◌++◌, length, take, drop, sym, ap, ◌∙◌, subst, Option, append-nil, append_assoc, option_map, arith, length-append, suc, add-one}
-use Rattle.std.proofs.Math.Seq.{drop-append-add, take-append_seam, take-length}
+use Rattle.std.proofs.Common.{◌≡◌, refl, ℕ, ◌+◌, ◌-◌, ◌<◌, ◌≤◌, false, List, [], ◌∷◌, ◌++◌, length, take, drop, sym, ap, ◌∙◌, Option, append-nil, append_assoc, arith, length-append}
+use Rattle.std.proofs.Math.Seq.{drop-append-add, take-append_seam}
 use Rattle.std.proofs.lemmas.List.{length-take-le}
 use Rattle.std.proofs.lemmas.Grind.{common_steps}
 use Rattle.kc_conf.specs.declared.options.Options.{Options}
-use Rattle.kc_conf.specs.Places.{Place, Places, at, failed, grown, with_place}
-use Rattle.kc_conf.specs.declared.outputs.Which.{Which}
-use Rattle.kc_conf.specs.declared.outputs.Which.TheVariants.{Notes}
-use Rattle.kc_disk.specs.Standing.{places_of, record_at, record_failed, with_record}
+use Rattle.kc_conf.specs.OutputStates.{OutputStates, at, failed, grown, with_state}
+use Rattle.kc_conf.specs.declared.outputs.Output.{Output}
+use Rattle.kc_conf.specs.declared.outputs.Output.TheVariants.{Notes}
+use Rattle.kc_disk.specs.MakerOutputs.{states_of, record_at, record_failed, with_record}
 use Rattle.kc_disk.specs.Lines.{ends_line}
-use Rattle.kc_disk.specs.Makers.{Told, appended}
-use Rattle.kc_disk.specs.Moved.{Moves}
-use Rattle.kc_disk.specs.declared.records.Records.{Records}
-use Rattle.kc_disk.proofs.PlacesLemmas.{failed-places, grown-notes, moved-notes}
+use Rattle.kc_disk.specs.Makers.{MakerState}
+use Rattle.kc_disk.specs.Flushed.{Flushes}
+use Rattle.kc_disk.specs.declared.records.OutputRecords.{OutputRecords}
+use Rattle.kc_disk.proofs.OutputLemmas.{failed-states, grown-notes, moved-notes}
 
 -- a line ends as its last part does
 pub ends-chunk : (rest chunk : List ℕ) → 0 < length chunk → ends_line chunk ≡ false → ends_line (rest ++ chunk) ≡ false
@@ -43,10 +43,11 @@ take-take : {X : Type 0} (m n : ℕ) (l : List X) → m ≤ n → take m (take n
 take-take m n l h = grind (arith, common_steps)
 
 -- after a write that was cut short the line that waits is what was taken and did not reach the notes
-pub noted-places : (options : Options) (told mid after : Option Told) (o : Option Which) (bytes : List ℕ) (r : Records) (old line text rest new : List ℕ) (count gone : ℕ) → count ≤ length text →
-    ((x : List ℕ) × Moves Notes old x told mid × (line ≡ x ++ take count text)) → Moves Notes line rest mid after →
-    new ≡ take (length rest - count) rest → gone ≡ count - length rest → places_of options after o bytes new r ≡ places_of options told o bytes (old ++ take gone text) r
-noted-places options told mid after o bytes r old line text rest new count gone fits (x, (front, is, moved), line_is) (next, next_is, next_moved) new_is gone_is =
+pub noted-states : (options : Options) (state mid after : Option MakerState) (o : Option Output) (bytes : List ℕ) (r : OutputRecords)
+    (old line text rest new : List ℕ) (count gone : ℕ) → count ≤ length text →
+    ((x : List ℕ) × Flushes Notes old x state mid × (line ≡ x ++ take count text)) → Flushes Notes line rest mid after →
+    new ≡ take (length rest - count) rest → gone ≡ count - length rest → states_of options after o bytes new r ≡ states_of options state o bytes (old ++ take gone text) r
+noted-states options state mid after o bytes r old line text rest new count gone fits (x, (front, is, moved), line_is) (next, next_is, next_moved) new_is gone_is =
     let chunk = take count text in
     let counted : length chunk ≡ count = length-take-le count text fits in
     let e : x ++ chunk ≡ next ++ rest = sym line_is ∙ next_is in
@@ -55,16 +56,20 @@ noted-places options told mid after o bytes r old line text rest new count gone 
     ap (λ l. next ++ l) (new_is ∙ ap (λ n. take (length rest - n) rest) (sym counted)) ∙ given-back x chunk next rest e
     ∙ ap (λ n. x ++ take (n - length rest) chunk) counted ∙ ap (λ n. x ++ take n chunk) (sym gone_is) ∙ ap (λ l. x ++ l) short
     in
-    let P : Option Told → List ℕ → Places = λ t l. places_of options t o bytes l r in
+    let P : Option MakerState → List ℕ → OutputStates = λ t l. states_of options t o bytes l r in
     ap (λ t. P t new) next_moved ∙ moved-notes options mid o bytes next new r ∙ ap (P mid) given ∙ ap (λ t. P t (x ++ take gone text)) moved
-    ∙ moved-notes options told o bytes front (x ++ take gone text) r ∙ ap (P told) (sym (append_assoc front x (take gone text)) ∙ ap (λ l. l ++ take gone text) (sym is))
+    ∙ moved-notes options state o bytes front (x ++ take gone text) r ∙ ap (P state) (sym (append_assoc front x (take gone text)) ∙ ap (λ l. l ++ take gone text) (sym is))
 
-pub noted-none : (options : Options) (told after : Option Told) (o : Option Which) (bytes : List ℕ) (r q : Records) (old new text : List ℕ) (gone : ℕ) → ((s : Records) → places_of options after o bytes new s ≡ places_of options told o bytes (old ++ take gone text) s) →
-    gone ≡ 0 → q ≡ with_record r Notes (record_failed (record_at r Notes)) → places_of options after o bytes new q ≡ with_place (places_of options told o bytes old r) Notes (failed (at (places_of options told o bytes old r) Notes))
-noted-none options told after o bytes r q old new text gone is none q_is =
-    let P : List ℕ → Places = λ l. places_of options told o bytes l q in
-    is q ∙ ap (λ n. P (old ++ take n text)) none ∙ ap P (append-nil old) ∙ ap (λ s. places_of options told o bytes old s) q_is ∙ failed-places options Notes told o bytes old r
+pub noted-none : (options : Options) (state after : Option MakerState) (o : Option Output) (bytes : List ℕ) (r q : OutputRecords) (old new text : List ℕ)
+    (gone : ℕ) → ((s : OutputRecords) → states_of options after o bytes new s ≡ states_of options state o bytes (old ++ take gone text) s) →
+    gone ≡ 0 → q ≡ with_record r Notes (record_failed (record_at r Notes)) →
+    states_of options after o bytes new q ≡ with_state (states_of options state o bytes old r) Notes
+    (failed (at (states_of options state o bytes old r) Notes))
+noted-none options state after o bytes r q old new text gone is none q_is =
+    let P : List ℕ → OutputStates = λ l. states_of options state o bytes l q in
+    is q ∙ ap (λ n. P (old ++ take n text)) none ∙ ap P (append-nil old) ∙ ap (λ s. states_of options state o bytes old s) q_is ∙ failed-states options Notes state o bytes old r
 
-pub noted-some : (options : Options) (told after : Option Told) (o : Option Which) (bytes : List ℕ) (r : Records) (old new text : List ℕ) (gone : ℕ) → places_of options after o bytes new r ≡ places_of options told o bytes (old ++ take gone text) r →
-    places_of options after o bytes new r ≡ with_place (places_of options told o bytes old r) Notes (grown (at (places_of options told o bytes old r) Notes) (take gone text))
-noted-some options told after o bytes r old new text gone is = is ∙ grown-notes options told o bytes old (take gone text) r
+pub noted-some : (options : Options) (state after : Option MakerState) (o : Option Output) (bytes : List ℕ) (r : OutputRecords) (old new text : List ℕ)
+    (gone : ℕ) → states_of options after o bytes new r ≡ states_of options state o bytes (old ++ take gone text) r →
+    states_of options after o bytes new r ≡ with_state (states_of options state o bytes old r) Notes (grown (at (states_of options state o bytes old r) Notes) (take gone text))
+noted-some options state after o bytes r old new text gone is = is ∙ grown-notes options state o bytes old (take gone text) r

@@ -1,21 +1,19 @@
--- What reached the files, where the outputs stand so.
-use Rattle.std.proofs.Common.{◌≡◌, refl, ℕ, ◌<◌, Bool, true, false, List, [], ◌∷◌, ◌++◌, length, sym, ap, ◌∙◌, subst, Option, None, Some, append-nil, arith}
-use Rattle.kc_conf.specs.Places.{Place, Places}
-use Rattle.kc_conf.specs.declared.outputs.Which.{Which}
-use Rattle.kc_conf.specs.declared.outputs.Which.TheVariants.{Config, Header, Minimal, Depfile, Notes}
+-- What reached the files, where records and files agree.
+use Rattle.std.proofs.Common.{◌≡◌, refl, ℕ, ◌<◌, true, false, List, [], ◌∷◌, ◌++◌, length, sym, ap, ◌∙◌, Option, Some, append-nil, arith}
+use Rattle.kc_conf.specs.declared.outputs.Output.{Output}
+use Rattle.kc_conf.specs.declared.outputs.Output.TheVariants.{Config, Header, Minimal, Depfile}
 use Rattle.kc_conf.specs.declared.options.Options.{Options}
-use Rattle.kc_disk.specs.Standing.{Stand, Stands, is_current, place_of, places_of, waiting}
+use Rattle.kc_disk.specs.MakerOutputs.{AreConsistent, IsConsistent, is_current, state_of, states_of, waiting}
 use Rattle.kc_disk.specs.Lines.{ends_line}
-use Rattle.kc_disk.specs.Makers.{Made, Tells, Told}
-use Rattle.kc_disk.specs.Reached.{FileReached, NotesReached, Reached}
-use Rattle.kc_disk.specs.declared.records.Record.{Record}
-use Rattle.kc_disk.specs.declared.records.Records.{Records}
+use Rattle.kc_disk.specs.Makers.{MadeFile, Tells, MakerState}
+use Rattle.kc_disk.specs.Reached.{FileReached, Reached}
+use Rattle.kc_disk.specs.declared.records.OutputRecord.{OutputRecord}
+use Rattle.kc_disk.specs.declared.records.OutputRecords.{OutputRecords}
 use Rattle.kc_disk.proofs.LineLemmas.{ends-chunk}
-use Rattle.kc_disk.proofs.PlacesLemmas.{unwaiting}
-use Rattle.kc_disk.proofs.ToldLemmas.{tells-mapped}
+use Rattle.kc_disk.proofs.OutputLemmas.{unwaiting}
 
-file-reached : (name : List ℕ) (r : Record) (made : Made) (o : Option Which) (w : Which) (bytes : List ℕ) → made.is_open ≡ is_current o w → Stands name r made →
-    FileReached name (place_of r (Some (made.bytes ++ waiting o w bytes))) made
+file-reached : (name : List ℕ) (r : OutputRecord) (made : MadeFile) (o : Option Output) (w : Output) (bytes : List ℕ) → made.is_open ≡ is_current o w → IsConsistent name r made →
+    FileReached name (state_of r (Some (made.bytes ++ waiting o w bytes))) made
 file-reached name r made o w bytes is h = record {
   named = h.0;
   front = (waiting o w bytes, refl);
@@ -32,7 +30,8 @@ notes-whole out (b ∷ line) not ends =
     let clash : true ≡ false = sym ends ∙ ends-chunk out (b ∷ line) some not in
     absurd (cc)
 
-reached-some : (options : Options) (o : Option Which) (bytes line : List ℕ) (r : Records) (t : Told) → (r.notes.failures ≡ 0 → ends_line line ≡ false) → Stand options o r t → Reached (places_of options (Some t) o bytes line r) t
+reached-some : (options : Options) (o : Option Output) (bytes line : List ℕ) (r : OutputRecords) (t : MakerState) →
+    (r.notes.failures ≡ 0 → ends_line line ≡ false) → AreConsistent options o r t → Reached (states_of options (Some t) o bytes line r) t
 reached-some options o bytes line r t waits h = record {
   config = file-reached _ r.config t.config o Config bytes h.0 h.5;
   header = file-reached _ r.header t.header o Header bytes h.1 h.6;
@@ -45,6 +44,7 @@ reached-some options o bytes line r t waits h = record {
   };
 }
 
-pub reached : (options : Options) (o : Option Which) (bytes line : List ℕ) (r : Records) (told : Option Told) → (r.notes.failures ≡ 0 → ends_line line ≡ false) → Tells told (Stand options o r) →
-    Tells told (Reached (places_of options told o bytes line r))
-reached options o bytes line r told waits stand = λ t is. rw is (reached-some options o bytes line r t waits (stand t is))
+pub reached : (options : Options) (o : Option Output) (bytes line : List ℕ) (r : OutputRecords) (state : Option MakerState) →
+    (r.notes.failures ≡ 0 → ends_line line ≡ false) → Tells state (AreConsistent options o r) →
+    Tells state (Reached (states_of options state o bytes line r))
+reached options o bytes line r state waits consistent = λ t is. rw is (reached-some options o bytes line r t waits (consistent t is))

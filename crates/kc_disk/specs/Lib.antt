@@ -3,13 +3,13 @@ pub mod Devices
 pub mod Drafted
 pub mod Lines
 pub mod Makers
-pub mod Moved
+pub mod Flushed
 pub mod Openers
-pub mod Placing
+pub mod Movers
 pub mod Program
 pub mod Reached
 pub mod Replacing
 pub mod Stages
-pub mod Standing
-pub mod Stopping
+pub mod MakerOutputs
+pub mod ReplaceFaults
 pub mod Texts

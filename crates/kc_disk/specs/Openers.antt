@@ -1,30 +1,30 @@
 -- Trusted: What files give that are opened by name.
 use Rattle.std.specs.Prelude.{◌≡◌, ◌≢◌, ℕ, Bool, true, false, not, ◌&&◌, ◌||◌, List, [], ◌∷◌, length, nat_le, Option, None, Some, is_none, option_map, unwrap_or}
-use Rattle.kc_load.specs.Folders.{Told}
+use Rattle.kc_load.specs.Folders.{FolderFiles}
 use Rattle.kc_disk.specs.Devices.{most_reads}
 
--- the files of a folder by their paths, or nothing told, and at which of these it may fail
-pub record Source : Type 0 where
-  pub files : Told
+-- a device that is read: the files of a folder by their paths, or nothing told, and at which of these it may fail
+pub record ReadDevice : Type 0 where
+  pub files : FolderFiles
   pub failing : List ℕ → Bool
 
-abbrev pub source : Told → (List ℕ → Bool) → Source
-source files failing = record { files = files; failing = failing }
+abbrev pub read_device : FolderFiles → (List ℕ → Bool) → ReadDevice
+read_device files failing = record { files = files; failing = failing }
 
--- a folder that tells nothing, and may fail at any path
-abbrev pub untold : Source
-untold = record { files = None; failing = λ _. true }
+-- a device of which nothing is known: it tells nothing, and may fail at any path
+abbrev pub unknown_device : ReadDevice
+unknown_device = record { files = None; failing = λ _. true }
 
 -- what a file has still to give, where the files are told
-abbrev pub to_come : Told → List ℕ → Option (List ℕ)
+abbrev pub to_come : FolderFiles → List ℕ → Option (List ℕ)
 to_come told rest = option_map (λ _. rest) told
 
 -- what the file of this name holds, where the files are told; one that is not there holds nothing
-abbrev pub held : Told → List ℕ → Option (List ℕ)
-held told name = option_map (λ files. unwrap_or (files name) []) told
+abbrev pub contents : FolderFiles → List ℕ → Option (List ℕ)
+contents told name = option_map (λ files. unwrap_or (files name) []) told
 
 -- There is a file of this name, or there need not be one.
-abbrev pub IsThere : Told → List ℕ → Bool → Type 0
+abbrev pub IsThere : FolderFiles → List ℕ → Bool → Type 0
 IsThere told name may_be_missing = (files : List ℕ → Option (List ℕ)) → told ≡ Some files → may_be_missing ≡ false → files name ≢ None
 
 -- a file that a run reads by name, and whether it may be missing
@@ -36,7 +36,7 @@ abbrev pub stream : List ℕ → Bool → Stream
 stream name may_be_missing = record { name = name; may_be_missing = may_be_missing }
 
 -- whether there is no file of this name, where that is told
-abbrev pub may_miss : Told → List ℕ → Bool
+abbrev pub may_miss : FolderFiles → List ℕ → Bool
 may_miss None name = true
 may_miss (Some files) name = is_none (files name)
 
@@ -46,10 +46,10 @@ may_be_endless None = true
 may_be_endless (Some bytes) = nat_le most_reads (length bytes)
 
 -- whether a stream may fail: the opener may at its name, or there is no file and there has to be one, or it may have no end
-abbrev pub may_fail : Source → Stream → Bool
-may_fail opened s = opened.failing s.name || (not s.may_be_missing && may_miss opened.files s.name) || may_be_endless (held opened.files s.name)
+abbrev pub may_fail : ReadDevice → Stream → Bool
+may_fail opened s = opened.failing s.name || (not s.may_be_missing && may_miss opened.files s.name) || may_be_endless (contents opened.files s.name)
 
 -- whether one of the streams may fail
-abbrev pub one_may_fail : Source → List Stream → Bool
+abbrev pub one_may_fail : ReadDevice → List Stream → Bool
 one_may_fail opened [] = false
 one_may_fail opened (s ∷ streams) = may_fail opened s || one_may_fail opened streams

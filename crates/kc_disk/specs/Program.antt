@@ -4,20 +4,20 @@ use Rattle.kc_read.specs.Files.{Files}
 use Rattle.kc_dot.specs.Sink.{BeginsWith}
 use Rattle.kc_words.specs.Refusals.{text_of}
 use Rattle.kc_conf.specs.declared.options.Options.{Options}
-use Rattle.kc_words.specs.declared.usage.Usage.{Usage as NoOptions}
-use Rattle.kc_words.specs.declared.usage.Usage.TheVariants.{Help, Version, Bad, Memory as NoMemory}
+use Rattle.kc_words.specs.declared.usage.UsageError.{UsageError as NoOptions}
+use Rattle.kc_words.specs.declared.usage.UsageError.TheVariants.{Help, Version, Bad, Memory as NoMemory}
 use Rattle.kc_load.specs.Expanding.{AreFilesOf}
 use Rattle.kc_load.specs.Faults.{IsLoadFault}
 use Rattle.kc_load.specs.declared.fault.LoadFault.{LoadFault}
 use Rattle.kc_load.specs.declared.fault.LoadFault.TheVariants.{CannotRead, Memory}
-use Rattle.kc_conf.specs.Outcome.{names_of, root_of}
-use Rattle.kc_conf.specs.Places.{Places}
+use Rattle.kc_conf.specs.Outcome.{names_of, root_file}
+use Rattle.kc_conf.specs.OutputStates.{OutputStates}
 use Rattle.kc_conf.specs.declared.options.Status.{Status}
 use Rattle.kc_conf.specs.declared.options.Status.TheVariants as ended
-use Rattle.kc_conf.specs.declared.outputs.Which.TheVariants.{Notes}
+use Rattle.kc_conf.specs.declared.outputs.Output.TheVariants.{Notes}
 use Rattle.kc_configure.specs.Configured.{Leaves}
-use Rattle.kc_disk.specs.Makers.{Making, Tells, appended}
-use Rattle.kc_disk.specs.Openers.{Source, Stream, held, one_may_fail, stream}
+use Rattle.kc_disk.specs.Makers.{MakerCall, Tells, appended}
+use Rattle.kc_disk.specs.Openers.{ReadDevice, Stream, contents, one_may_fail, stream}
 use Rattle.kc_disk.specs.Reached.{Reached, unused}
 
 -- the streams of a run: the `.config`, and then the fragments, each of which has to be there
@@ -26,32 +26,32 @@ streams_of options = stream (string_bytes options.config) (not options.must_exis
 
 -- A failure is counted only where there may be one: of an input where one of the streams may fail, and of the notes where the
 -- maker may fail at them.
-pub record Fails (streams_fail notes_fail : Bool) (counts : List ℕ) (places : Places) : Type 0 where
+pub record Fails (streams_fail notes_fail : Bool) (counts : List ℕ) (states : OutputStates) : Type 0 where
   pub streams : (input : ℕ) → slice_index counts input ≢ 0 → streams_fail ≡ true
-  pub notes : places.notes.failures ≢ 0 → notes_fail ≡ true
+  pub notes : states.notes.failures ≢ 0 → notes_fail ≡ true
 
 -- A run over the folder's files and over what the opener holds under the names of the streams: it leaves their outcome, or a
 -- part of it and a cause, and what it handed out reached the files.
-pub record Ran (folder opened : Source) (options : Options) (status : Status) (maker : Making) : Type 0 where
+pub record Ran (folder opened : ReadDevice) (options : Options) (status : Status) (maker : MakerCall) : Type 0 where
   pub files : Files
   pub are_files : AreFilesOf folder.files (string_bytes options.root) files
   pub counts : List ℕ
-  pub places : Places
-  pub leaves : Leaves files options (map (held opened.files) (names_of options)) (map (λ _. 0) (names_of options)) counts status (unused options maker.told) places
-  pub fails : Fails (one_may_fail opened (streams_of options)) maker.may_fail counts places
-  pub reached : Tells maker.told_after (Reached places)
+  pub states : OutputStates
+  pub leaves : Leaves files options (map (contents opened.files) (names_of options)) (map (λ _. 0) (names_of options)) counts status (unused options maker.state) states
+  pub fails : Fails (one_may_fail opened (streams_of options)) maker.may_fail counts states
+  pub reached : Tells maker.state_after (Reached states)
 
 -- the text was written to standard error, and nothing else was written or made
-abbrev pub Wrote : List ℕ → Making → Type 0
-Wrote text maker = maker.told_after ≡ option_map (appended Notes text) maker.told
+abbrev pub Wrote : List ℕ → MakerCall → Type 0
+Wrote text maker = maker.state_after ≡ option_map (appended Notes text) maker.state
 
 -- so was a beginning of it, where the maker may fail there
-abbrev pub WroteFront : List ℕ → Making → Type 0
+abbrev pub WroteFront : List ℕ → MakerCall → Type 0
 WroteFront text maker = (front : List ℕ) × BeginsWith text front × Wrote front maker × (maker.may_fail ≡ true)
 
 -- the one or the other
-abbrev pub Says : List ℕ → Making → Type 0
-Says text maker = Wrote text maker ⊎ WroteFront text maker
+abbrev pub Reports : List ℕ → MakerCall → Type 0
+Reports text maker = Wrote text maker ⊎ WroteFront text maker
 
 -- the line of a fault of loading
 abbrev pub load_line : LoadFault → List ℕ
@@ -59,12 +59,12 @@ load_line (CannotRead name) = codes "error E18: cannot read " ++ name.items ++ c
 load_line Memory = codes "error E20: out of memory\n"
 
 -- a run: as above, or the tree could not be loaded, which its one line tells
-pub data Ends (folder opened : Source) (options : Options) (status : Status) (maker : Making) : Type 0 where
+pub data Ends (folder opened : ReadDevice) (options : Options) (status : Status) (maker : MakerCall) : Type 0 where
   ran : Ran folder opened options status maker → Ends folder opened options status maker
-  unloaded : (fault : LoadFault) → IsLoadFault folder.files folder.failing (string_bytes options.root) (root_of options) fault → status ≡ ended.Faulted →
-      Says (load_line fault) maker → Ends folder opened options status maker
+  unloaded : (fault : LoadFault) → IsLoadFault folder.files folder.failing (string_bytes options.root) (root_file options) fault → status ≡ ended.Faulted →
+      Reports (load_line fault) maker → Ends folder opened options status maker
 
--- the status where the words give no options
+-- the status where the arguments give no options
 abbrev pub usage_status : NoOptions → Status
 usage_status (Help text) = ended.Done
 usage_status (Version text) = ended.Done
@@ -72,8 +72,8 @@ usage_status (Bad text) = ended.Usage
 usage_status NoMemory = ended.Faulted
 
 -- what is wrong is told on standard error; help and the version are not
-abbrev pub Complains : NoOptions → Making → Type 0
-Complains (Help text) maker = maker.told_after ≡ maker.told
-Complains (Version text) maker = maker.told_after ≡ maker.told
-Complains (Bad text) maker = Says (string_bytes text) maker
-Complains NoMemory maker = Says (text_of NoMemory) maker
+abbrev pub ReportsUsage : NoOptions → MakerCall → Type 0
+ReportsUsage (Help text) maker = maker.state_after ≡ maker.state
+ReportsUsage (Version text) maker = maker.state_after ≡ maker.state
+ReportsUsage (Bad text) maker = Reports (string_bytes text) maker
+ReportsUsage NoMemory maker = Reports (text_of NoMemory) maker

@@ -7,77 +7,78 @@ use Rattle.kc_conf.specs.declared.options.Options.{Options}
 use Rattle.kc_load.specs.Expanding.{AreFilesOf}
 use Rattle.kc_load.specs.Faults.{IsLoadFault}
 use Rattle.kc_load.specs.declared.fault.LoadFault.{LoadFault}
-use Rattle.kc_conf.specs.Outcome.{names_of, root_of}
-use Rattle.kc_conf.specs.Places.{Places}
+use Rattle.kc_conf.specs.Outcome.{names_of, root_file}
+use Rattle.kc_conf.specs.OutputStates.{OutputStates}
 use Rattle.kc_conf.specs.declared.options.Status.{Status}
 use Rattle.kc_conf.specs.declared.options.Status.TheVariants as ended
 use Rattle.kc_configure.specs.Configured.{Leaves}
-use Rattle.kc_disk.specs.Makers.{Making, Tells, Told, since, until}
-use Rattle.kc_disk.specs.Openers.{Source, held, one_may_fail}
-use Rattle.kc_disk.specs.Placing.{IsStill, Moving, Text, settled}
-use Rattle.kc_disk.specs.Program.{Ends, Fails, Says, load_line, streams_of}
+use Rattle.kc_disk.specs.Makers.{MakerCall, Tells, MakerState, since, until}
+use Rattle.kc_disk.specs.Openers.{ReadDevice, contents, one_may_fail}
+use Rattle.kc_disk.specs.Movers.{IsStill, MoverCall, NamedText, replaced}
+use Rattle.kc_disk.specs.Program.{Ends, Fails, Reports, load_line, streams_of}
 use Rattle.kc_disk.specs.Reached.{Reached, unused}
-use Rattle.kc_disk.specs.Stopping.{Stopped}
-use Rattle.kc_disk.specs.declared.settle.Stop.{Stop}
-use Rattle.kc_disk.specs.declared.settle.Stop.TheVariants.{Memory, Write}
+use Rattle.kc_disk.specs.ReplaceFaults.{IsReplaceFault}
+use Rattle.kc_disk.specs.declared.replace_files.ReplaceFault.{ReplaceFault}
+use Rattle.kc_disk.specs.declared.replace_files.ReplaceFault.TheVariants.{Memory, Write}
 
 -- the text of a file that is wanted, for the place of its name
-abbrev pub text_at : Option (String Global) → List ℕ → List Text
+abbrev pub text_at : Option (String Global) → List ℕ → List NamedText
 text_at None bytes = []
 text_at (Some name) bytes = record { name = string_bytes name; bytes = bytes } ∷ []
 
 -- the texts of the files that are wanted, in the order of the outputs
-abbrev pub wanted_texts : Options → List ℕ → List ℕ → List ℕ → List ℕ → List Text
-wanted_texts options config header minimal depfile = (record { name = string_bytes options.out; bytes = config } ∷ []) ++ text_at options.header header ++ text_at options.minimal minimal ++ text_at options.depfile depfile
+abbrev pub wanted_texts : Options → List ℕ → List ℕ → List ℕ → List ℕ → List NamedText
+wanted_texts options config header minimal depfile = (record { name = string_bytes options.out; bytes = config } ∷ [])
+    ++ text_at options.header header ++ text_at options.minimal minimal ++ text_at options.depfile depfile
 
 -- the same, of what was made
-abbrev pub texts_made : Options → Told → List Text
+abbrev pub texts_made : Options → MakerState → List NamedText
 texts_made options t = wanted_texts options t.config.bytes t.header.bytes t.minimal.bytes t.depfile.bytes
 
 -- After a run that is done each text is in its place; after another every place is as it was.
-abbrev pub Placed : Status → List Text → Moving → Type 0
-Placed ended.Done texts mover = mover.shelf_after ≡ option_map (settled texts) mover.shelf
+abbrev pub Placed : Status → List NamedText → MoverCall → Type 0
+Placed ended.Done texts mover = mover.state_after ≡ option_map (replaced texts) mover.state
 Placed ended.Refused texts mover = IsStill mover
 Placed ended.Usage texts mover = IsStill mover
 Placed ended.Faulted texts mover = IsStill mover
 
 -- The run's status is answered where all that it asks for was done. Else the run was done, and a text could not take its
 -- place.
-abbrev pub Replaces : List Text → Status → Result Status Stop → Moving → Type 0
+abbrev pub Replaces : List NamedText → Status → Result Status ReplaceFault → MoverCall → Type 0
 Replaces texts ran (Ok s) mover = (s ≡ ran) × Placed ran texts mover
-Replaces texts ran (Err stop) mover = (ran ≡ ended.Done) × Stopped stop texts mover
+Replaces texts ran (Err stop) mover = (ran ≡ ended.Done) × IsReplaceFault stop texts mover
 
 -- A run over the folder's files and over what the opener holds under the names of the streams: it leaves their outcome, or a
 -- part of it and a cause; what it handed out was made, and took its places where the run is done.
-pub record RanReplacing (folder opened : Source) (options : Options) (result : Result Status Stop) (maker : Making) (mover : Moving) : Type 0 where
+pub record RanReplacing (folder opened : ReadDevice) (options : Options) (result : Result Status ReplaceFault) (maker : MakerCall) (mover : MoverCall) : Type 0 where
   pub files : Files
   pub are_files : AreFilesOf folder.files (string_bytes options.root) files
   pub counts : List ℕ
   pub ran : Status
-  pub places : Places
-  pub leaves : Leaves files options (map (held opened.files) (names_of options)) (map (λ _. 0) (names_of options)) counts ran (unused options maker.told) places
-  pub fails : Fails (one_may_fail opened (streams_of options)) maker.may_fail counts places
-  pub reached : Tells maker.told_after (λ n. (t : Told) × (t.notes ≡ n.notes) × Reached places t × Replaces (texts_made options t) ran result mover)
+  pub states : OutputStates
+  pub leaves : Leaves files options (map (contents opened.files) (names_of options)) (map (λ _. 0) (names_of options)) counts ran (unused options maker.state) states
+  pub fails : Fails (one_may_fail opened (streams_of options)) maker.may_fail counts states
+  pub reached : Tells maker.state_after (λ n. (t : MakerState) × (t.notes ≡ n.notes) × Reached states t × Replaces (texts_made options t) ran result mover)
 
 -- the line of a text that could not take its place
-abbrev pub stop_line : Stop → List ℕ
-stop_line Memory = codes "error E20: out of memory\n"
-stop_line (Write name moved) = codes "error E19: cannot write " ++ name.now ++ codes "\n"
+abbrev pub replace_fault_line : ReplaceFault → List ℕ
+replace_fault_line Memory = codes "error E20: out of memory\n"
+replace_fault_line (Write name moved) = codes "error E19: cannot write " ++ name.now ++ codes "\n"
 
 -- standard error is as it was
-abbrev pub SameNotes : Making → Type 0
-SameNotes maker = option_map (λ t. t.notes) maker.told_after ≡ option_map (λ t. t.notes) maker.told
+abbrev pub SameNotes : MakerCall → Type 0
+SameNotes maker = option_map (λ t. t.notes) maker.state_after ≡ option_map (λ t. t.notes) maker.state
 
 -- A run: as above, or some text could not take its place, which its one line tells; or the tree could not be loaded, and no
 -- place was touched.
-pub data EndsReplacing (folder opened : Source) (options : Options) (status : Status) (maker : Making) (mover : Moving) : Type 0 where
+pub data EndsReplacing (folder opened : ReadDevice) (options : Options) (status : Status) (maker : MakerCall) (mover : MoverCall) : Type 0 where
   ran : RanReplacing folder opened options (Ok status) maker mover → EndsReplacing folder opened options status maker mover
-  stopped : (stop : Stop) (told : Option Told) → RanReplacing folder opened options (Err stop) (until told maker) mover → status ≡ ended.Faulted →
-      Says (stop_line stop) (since told maker) → EndsReplacing folder opened options status maker mover
-  unloaded : (fault : LoadFault) (told : Option Told) → IsLoadFault folder.files folder.failing (string_bytes options.root) (root_of options) fault → status ≡ ended.Faulted →
-      SameNotes (until told maker) → Says (load_line fault) (since told maker) → IsStill mover → EndsReplacing folder opened options status maker mover
+  stopped : (stop : ReplaceFault) (state : Option MakerState) → RanReplacing folder opened options (Err stop) (until state maker) mover → status ≡ ended.Faulted →
+      Reports (replace_fault_line stop) (since state maker) → EndsReplacing folder opened options status maker mover
+  unloaded : (fault : LoadFault) (state : Option MakerState) → IsLoadFault folder.files folder.failing (string_bytes options.root) (root_file options) fault → status ≡ ended.Faulted →
+      SameNotes (until state maker) → Reports (load_line fault) (since state maker) → IsStill mover → EndsReplacing folder opened options status maker mover
 
 -- A run with --replace ends so; one without touches no place beside its own.
-abbrev pub EndsBy : Bool → Source → Source → Options → Status → Making → Moving → Type 0
+abbrev pub EndsBy : Bool → ReadDevice → ReadDevice → Options → Status → MakerCall → MoverCall → Type 0
 EndsBy true folder opened options status maker mover = EndsReplacing folder opened options status maker mover
 EndsBy false folder opened options status maker mover = Ends folder opened options status maker × IsStill mover

@@ -1,22 +1,22 @@
 -- For proofs: The texts that a run hands to a mover.
 use Rattle.std.specs.Prelude.{ℕ, List, [], ◌∷◌, ◌++◌, map, take, drop, None}
-use Rattle.kc_disk.specs.Placing.{Shelf, Text, put_all}
-use Rattle.kc_disk.specs.declared.settle.Text.{Text as Given}
+use Rattle.kc_disk.specs.Movers.{MoverState, NamedText, put_all}
+use Rattle.kc_disk.specs.declared.replace_files.NamedText.{NamedText as CodeText}
 
-abbrev pub text_of : Given → Text
+abbrev pub text_of : CodeText → NamedText
 text_of t = record { name = t.name.now; bytes = t.bytes.now }
 
-abbrev pub texts_of : List Given → List Text
+abbrev pub texts_of : List CodeText → List NamedText
 texts_of = map text_of
 
 -- one more that is whole
-abbrev pub added : Text → Shelf → Shelf
+abbrev pub added : NamedText → MoverState → MoverState
 added t s = record { held = s.held; begun = None; whole = s.whole ++ (t ∷ []) }
 
 -- these more that are whole
-abbrev pub stacked : List Text → Shelf → Shelf
-stacked texts s = record { held = s.held; begun = None; whole = s.whole ++ texts }
+abbrev pub staged : List NamedText → MoverState → MoverState
+staged texts s = record { held = s.held; begun = None; whole = s.whole ++ texts }
 
 -- so many of the whole ones took their places
-abbrev pub moved_times : ℕ → Shelf → Shelf
+abbrev pub moved_times : ℕ → MoverState → MoverState
 moved_times count s = record { held = put_all (take count s.whole) s.held; begun = s.begun; whole = drop count s.whole }

@@ -1,10 +1,10 @@
 //! Bytes on their way to a file.
 ghost use Rattle.std.specs.Prelude.{◌≡◌, ◌<◌, ◌≤◌, ◌-◌, ◌⊎◌, ◌++◌, List, ℕ, [], true, length, take, drop, option_map, vec_capacity, IfOk, OnOk, OnErr};
-ghost use Rattle.kc_disk.specs.Makers.{IsOpen, Tells, Told, appended};
-ghost use Rattle.kc_disk.specs.Moved.{Moves};
+ghost use Rattle.kc_disk.specs.Makers.{IsOpen, Tells, MakerState, appended};
+ghost use Rattle.kc_disk.specs.Flushed.{Flushes};
 
 use crate::maker::Maker;
-use kc_conf::Which;
+use kc_conf::Output;
 use kc_dot::Fault;
 use std::alloc::{AllocError, Global};
 
@@ -23,17 +23,17 @@ pub(crate) struct Buffer {
 }
 
 /// Writes the bytes until all are written or a write fails, and answers how many were written.
-pub(crate) fn write_front<M: Maker>(bytes: &[u8], which: Which, maker: &mut M) -> usize
-    requires { Tells (M.told maker.old) (IsOpen which) }
+pub(crate) fn write_front<M: Maker>(bytes: &[u8], output: Output, maker: &mut M) -> usize
+    requires { Tells (M.state maker.old) (IsOpen output) }
     ensures within { result ≤ length bytes.now }
-    ensures told { M.told maker.new ≡ option_map (appended which (take result bytes.now)) (M.told maker.old) }
+    ensures state { M.state maker.new ≡ option_map (appended output (take result bytes.now)) (M.state maker.old) }
     // All of them are written, or the maker may fail there.
-    ensures whole { (result ≡ length bytes.now) ⊎ (M.failing maker.old which ≡ true) }
+    ensures whole { (result ≡ length bytes.now) ⊎ (M.failing maker.old output ≡ true) }
     ensures failing_stays { M.failing maker.new ≡ M.failing maker.old }
 {
     let mut at = 0;
     while at < bytes.len() {
-        match maker.write(which, &bytes[at..]) {
+        match maker.write(output, &bytes[at..]) {
             Ok(count) => at += count,
             Err(Fault) => return at,
         }
@@ -58,14 +58,14 @@ impl Buffer {
     }
 
     /// Writes what waits. On `Fault` a beginning of it is written, and the rest waits on.
-    pub(crate) fn flush<M: Maker>(&mut self, which: Which, maker: &mut M) -> Result<(), Fault>
-        requires { Tells (M.told maker.old) (IsOpen which) }
-        ensures moves { Moves which self.old.bytes.items self.new.bytes.items (M.told maker.old) (M.told maker.new) }
+    pub(crate) fn flush<M: Maker>(&mut self, output: Output, maker: &mut M) -> Result<(), Fault>
+        requires { Tells (M.state maker.old) (IsOpen output) }
+        ensures flushes { Flushes output self.old.bytes.items self.new.bytes.items (M.state maker.old) (M.state maker.new) }
         ensures whole { OnOk result (self.new.bytes.items ≡ []) }
-        ensures fault { OnErr result (M.failing maker.old which ≡ true) }
+        ensures fault { OnErr result (M.failing maker.old output ≡ true) }
         ensures failing_stays { M.failing maker.new ≡ M.failing maker.old }
     {
-        let count = write_front(&self.bytes, which, maker);
+        let count = write_front(&self.bytes, output, maker);
         if count == self.bytes.len() {
             self.bytes.clear();
             return Ok(());
@@ -81,20 +81,20 @@ impl Buffer {
     pub(crate) fn take<M: Maker>(
         &mut self,
         bytes: &[u8],
-        which: Which,
+        output: Output,
         maker: &mut M,
     ) -> Result<usize, Fault>
-        requires is_open { Tells (M.told maker.old) (IsOpen which) }
+        requires is_open { Tells (M.state maker.old) (IsOpen output) }
         requires some { 0 < length bytes.now }
         ensures some { IfOk result (λ count. 0 < count) }
         ensures within { IfOk result (λ count. count ≤ length bytes.now) }
-        ensures ok { IfOk result (λ count. (rest : List ℕ) × Moves which self.old.bytes.items rest (M.told maker.old) (M.told maker.new) × (self.new.bytes.items ≡ rest ++ take count bytes.now)) }
-        ensures err { OnErr result (Moves which self.old.bytes.items self.new.bytes.items (M.told maker.old) (M.told maker.new)) }
-        ensures fault { OnErr result (M.failing maker.old which ≡ true) }
+        ensures ok { IfOk result (λ count. (rest : List ℕ) × Flushes output self.old.bytes.items rest (M.state maker.old) (M.state maker.new) × (self.new.bytes.items ≡ rest ++ take count bytes.now)) }
+        ensures err { OnErr result (Flushes output self.old.bytes.items self.new.bytes.items (M.state maker.old) (M.state maker.new)) }
+        ensures fault { OnErr result (M.failing maker.old output ≡ true) }
         ensures failing_stays { M.failing maker.new ≡ M.failing maker.old }
     {
         if self.bytes.len() >= CAPACITY {
-            self.flush(which, maker)?;
+            self.flush(output, maker)?;
         }
         let count = bytes.len().min(CAPACITY - self.bytes.len());
         match self.bytes.extend_from_slice(&bytes[..count]) {

@@ -2,7 +2,7 @@
 ghost use Rattle.std.specs.Prelude.{◌≡◌, ◌<◌, ◌≤◌, length, take, IfOk, OnOk, OnErr};
 
 use crate::maker::Maker;
-use kc_conf::Which;
+use kc_conf::Output;
 use kc_dot::Fault;
 use std::alloc::Global;
 
@@ -107,37 +107,37 @@ impl<M: Maker + Drop> Drafts<M> {
 impl<M: Maker + Drop> Maker for Drafts<M> {
     ghost use Rattle.kc_disk.specs.Drafted.{drafted, drafts_failing};
 
-    ghost told = { λ s. drafted s.config s.header s.minimal s.depfile (M.told s.notes) };
+    ghost state = { λ s. drafted s.config s.header s.minimal s.depfile (M.state s.notes) };
 
     ghost failing = { λ s. drafts_failing (M.failing s.notes) };
 
-    fn create(&mut self, which: Which, name: &str) -> Result<(), Fault> {
-        match which {
-            Which::Config => self.config.begin(self.alloc, name),
-            Which::Header => self.header.begin(self.alloc, name),
-            Which::Minimal => self.minimal.begin(self.alloc, name),
-            Which::Depfile => self.depfile.begin(self.alloc, name),
-            Which::Notes => self.notes.create(Which::Notes, name),
+    fn create(&mut self, output: Output, name: &str) -> Result<(), Fault> {
+        match output {
+            Output::Config => self.config.begin(self.alloc, name),
+            Output::Header => self.header.begin(self.alloc, name),
+            Output::Minimal => self.minimal.begin(self.alloc, name),
+            Output::Depfile => self.depfile.begin(self.alloc, name),
+            Output::Notes => self.notes.create(Output::Notes, name),
         }
     }
 
-    fn write(&mut self, which: Which, bytes: &[u8]) -> Result<usize, Fault> {
-        match which {
-            Which::Config => self.config.take(bytes),
-            Which::Header => self.header.take(bytes),
-            Which::Minimal => self.minimal.take(bytes),
-            Which::Depfile => self.depfile.take(bytes),
-            Which::Notes => self.notes.write(Which::Notes, bytes),
+    fn write(&mut self, output: Output, bytes: &[u8]) -> Result<usize, Fault> {
+        match output {
+            Output::Config => self.config.take(bytes),
+            Output::Header => self.header.take(bytes),
+            Output::Minimal => self.minimal.take(bytes),
+            Output::Depfile => self.depfile.take(bytes),
+            Output::Notes => self.notes.write(Output::Notes, bytes),
         }
     }
 
-    fn close(&mut self, which: Which) -> Result<(), Fault> {
-        match which {
-            Which::Config => self.config.end(),
-            Which::Header => self.header.end(),
-            Which::Minimal => self.minimal.end(),
-            Which::Depfile => self.depfile.end(),
-            Which::Notes => return self.notes.close(Which::Notes),
+    fn close(&mut self, output: Output) -> Result<(), Fault> {
+        match output {
+            Output::Config => self.config.end(),
+            Output::Header => self.header.end(),
+            Output::Minimal => self.minimal.end(),
+            Output::Depfile => self.depfile.end(),
+            Output::Notes => return self.notes.close(Output::Notes),
         }
         Ok(())
     }

@@ -11,20 +11,20 @@ use std::io::{self, ErrorKind, Read};
 /// A path where nothing is has no file. A folder, a path that runs through a file and a file that may not be read are
 /// failures of the device.
 #[derive(Drop)]
-pub(crate) struct Disk<'a> {
+pub(crate) struct SystemFolder<'a> {
     rt: &'a HostRuntime,
     // What is read of a file goes through it. It is made once, so that no room is made zero for each file.
     buffer: Vec<u8>,
     failures: u64,
 }
 
-impl<'a> Disk<'a> {
-    pub(crate) fn new(rt: &'a HostRuntime) -> Result<Disk<'a>, AllocError>
+impl<'a> SystemFolder<'a> {
+    pub(crate) fn new(rt: &'a HostRuntime) -> Result<SystemFolder<'a>, AllocError>
         ensures { IfOk result (λ disk. disk.failures ≡ 0) }
     {
         let alloc = rt.alloc();
-        let buffer = vec![in alloc; 0; ROOM]?;
-        Ok(Disk {
+        let buffer = vec![in alloc; 0; BUFFER_SIZE]?;
+        Ok(SystemFolder {
             rt,
             buffer,
             failures: 0,
@@ -33,7 +33,7 @@ impl<'a> Disk<'a> {
 }
 
 // How many bytes are read at once.
-const ROOM: usize = 65_536;
+const BUFFER_SIZE: usize = 65_536;
 
 // The bytes of a file, read through the buffer. A read that was interrupted is tried again.
 fn read_whole(rt: &HostRuntime, path: &str, buffer: &mut [u8]) -> io::Result<Vec<u8>> {
@@ -53,7 +53,7 @@ fn read_whole(rt: &HostRuntime, path: &str, buffer: &mut [u8]) -> io::Result<Vec
     Ok(bytes)
 }
 
-impl<'a> Folder for Disk<'a> {
+impl<'a> Folder for SystemFolder<'a> {
     ghost files = { λ _. None };
 
     ghost failing = { λ _ _. true };

@@ -1,10 +1,10 @@
 //! Files that are read a piece at a time.
 ghost use Rattle.std.specs.Prelude.{◌≡◌, ◌≢◌, ◌<◌, ◌-◌, ◌≤◌, length, take, true, IfOk, OnOk, OnErr};
 ghost use Rattle.kc_dot.specs.Sink.{next_failure};
-ghost use Rattle.kc_conf.specs.Given.{preceded, IsAtEnd};
+ghost use Rattle.kc_conf.specs.InputBytes.{preceded, IsAtEnd};
 ghost use Rattle.kc_disk.specs.Devices.{most_reads};
-ghost use Rattle.kc_disk.specs.Openers.{IsThere, held, may_fail, source, stream};
-ghost use Rattle.kc_disk.specs.Stages.{Counted, breaks_in, Settled, left};
+ghost use Rattle.kc_disk.specs.Openers.{IsThere, contents, may_fail, read_device, stream};
+ghost use Rattle.kc_disk.specs.Stages.{ReadsWithin, breaks_in, IsThereOnceOpened, left};
 
 use crate::devices::Devices;
 use crate::opener::{OpenFault, Opener};
@@ -35,11 +35,11 @@ pub(crate) struct FileInput<'a, P: Opener, K: Devices> {
     stage: Stage<P::File>,
     reads: u64,
     failures: u64,
-    of: PhantomData<K>,
-    ghost asked: { may_fail (source (P.files opener.now) (P.failing opener.now)) (stream name.now may_be_missing) ≡ true → K.streams_fail ≡ true },
-    ghost settled: { Settled (P.files opener.now) name.now may_be_missing stage },
+    devices: PhantomData<K>,
+    ghost may_fail_known: { may_fail (read_device (P.files opener.now) (P.failing opener.now)) (stream name.now may_be_missing) ≡ true → K.streams_fail ≡ true },
+    ghost there_once_opened: { IsThereOnceOpened (P.files opener.now) name.now may_be_missing stage },
     ghost breaks: { breaks_in P.breaks stage ≡ true → P.failing opener.now name.now ≡ true },
-    ghost counted: { Counted (held (P.files opener.now) name.now) (left P.rest (P.files opener.now) name.now stage) reads },
+    ghost reads_within: { ReadsWithin (contents (P.files opener.now) name.now) (left P.rest (P.files opener.now) name.now stage) reads },
     ghost fails: { failures ≢ 0 → K.streams_fail ≡ true },
 }
 
@@ -50,14 +50,14 @@ fn open<P: Opener>(
     may_be_missing: bool,
     stage: &mut Stage<P::File>,
 ) -> Result<(), Fault>
-    requires settled { Settled (P.files opener.now) name.now may_be_missing stage.old }
+    requires there_once_opened { IsThereOnceOpened (P.files opener.now) name.now may_be_missing stage.old }
     requires breaks { breaks_in P.breaks stage.old ≡ true → P.failing opener.now name.now ≡ true }
     ensures left { left P.rest (P.files opener.now) name.now stage.new ≡ left P.rest (P.files opener.now) name.now stage.old }
     ensures there { OnOk result (IsThere (P.files opener.now) name.now may_be_missing) }
     ensures breaks { breaks_in P.breaks stage.new ≡ true → P.failing opener.now name.now ≡ true }
     ensures opened { OnOk result (stage.new ≢ Stage.Unopened) }
     ensures err { OnErr result (stage.new ≡ stage.old) }
-    ensures fault { OnErr result (may_fail (source (P.files opener.now) (P.failing opener.now)) (stream name.now may_be_missing) ≡ true) }
+    ensures fault { OnErr result (may_fail (read_device (P.files opener.now) (P.failing opener.now)) (stream name.now may_be_missing) ≡ true) }
 {
     if let Stage::Unopened = stage {
         *stage = match opener.open(name) {
@@ -82,16 +82,16 @@ fn next<P: Opener>(
     stage: &mut Stage<P::File>,
     buffer: &mut [u8],
 ) -> Result<usize, Fault>
-    requires settled { Settled (P.files opener.now) name.now may_be_missing stage.old }
+    requires there_once_opened { IsThereOnceOpened (P.files opener.now) name.now may_be_missing stage.old }
     requires breaks { breaks_in P.breaks stage.old ≡ true → P.failing opener.now name.now ≡ true }
-    ensures settled { Settled (P.files opener.now) name.now may_be_missing stage.new }
+    ensures there_once_opened { IsThereOnceOpened (P.files opener.now) name.now may_be_missing stage.new }
     ensures there { OnOk result (IsThere (P.files opener.now) name.now may_be_missing) }
     ensures breaks { breaks_in P.breaks stage.new ≡ true → P.failing opener.now name.now ≡ true }
     ensures within { IfOk result (λ count. count ≤ length buffer.old) }
     ensures given { IfOk result (λ count. left P.rest (P.files opener.now) name.now stage.old ≡ preceded (take count buffer.new) (left P.rest (P.files opener.now) name.now stage.new)) }
     ensures end { IfOk result (λ count. count ≡ 0 → 0 < length buffer.old → IsAtEnd (left P.rest (P.files opener.now) name.now stage.new)) }
     ensures err { OnErr result (left P.rest (P.files opener.now) name.now stage.new ≡ left P.rest (P.files opener.now) name.now stage.old) }
-    ensures fault { OnErr result (may_fail (source (P.files opener.now) (P.failing opener.now)) (stream name.now may_be_missing) ≡ true) }
+    ensures fault { OnErr result (may_fail (read_device (P.files opener.now) (P.failing opener.now)) (stream name.now may_be_missing) ≡ true) }
 {
     open(opener, name, may_be_missing, stage)?;
     let Stage::Open(file) = stage else {
@@ -115,7 +115,7 @@ fn fail(failures: &mut u64) -> Fault
 impl<'a, P: Opener, K: Devices> FileInput<'a, P, K> {
     /// The file of this name, which nothing was read from. One that may be missing is empty where there is none.
     pub(crate) fn new(opener: &'a P, name: &'a str, may_be_missing: bool) -> FileInput<'a, P, K>
-        requires { may_fail (source (P.files opener.now) (P.failing opener.now)) (stream name.now may_be_missing) ≡ true → K.streams_fail ≡ true }
+        requires { may_fail (read_device (P.files opener.now) (P.failing opener.now)) (stream name.now may_be_missing) ≡ true → K.streams_fail ≡ true }
         ensures opener { result.opener.now ≡ opener.now }
         ensures name { result.name.now ≡ name.now }
         ensures missing { result.may_be_missing ≡ may_be_missing }
@@ -129,7 +129,7 @@ impl<'a, P: Opener, K: Devices> FileInput<'a, P, K> {
             stage: Stage::Unopened,
             reads: 0,
             failures: 0,
-            of: PhantomData,
+            devices: PhantomData,
         }
     }
 }

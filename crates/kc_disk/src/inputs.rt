@@ -1,7 +1,7 @@
 //! The inputs of a run.
 ghost use Rattle.std.specs.Prelude.{◌≡◌, ◌∷◌, false, not, map, IfOk};
 ghost use Rattle.kc_conf.specs.Outcome.{names_of};
-ghost use Rattle.kc_disk.specs.Openers.{held, one_may_fail, source};
+ghost use Rattle.kc_disk.specs.Openers.{contents, one_may_fail, read_device};
 ghost use Rattle.kc_disk.specs.Program.{streams_of};
 ghost use Rattle.kc_disk.specs.Stages.{left};
 
@@ -18,11 +18,11 @@ pub(crate) fn inputs_of<'a, P: Opener, K: Devices>(
     opener: &'a P,
     options: &'a Options,
 ) -> Result<Vec<FileInput<'a, P, K>>, AllocError>
-    requires { K.streams_fail ≡ one_may_fail (source (P.files opener.now) (P.failing opener.now)) (streams_of options.now) }
+    requires { K.streams_fail ≡ one_may_fail (read_device (P.files opener.now) (P.failing opener.now)) (streams_of options.now) }
     ensures names { IfOk result (λ inputs. map (λ i. i.name.now) inputs.items ≡ names_of options.now) }
     ensures missing { IfOk result (λ inputs. map (λ i. i.may_be_missing) inputs.items ≡ not options.now.must_exist ∷ map (λ _. false) options.now.fragments.items) }
     // Each gives what the file of its name holds, from its beginning on.
-    ensures unread { IfOk result (λ inputs. map (λ i. left P.rest (P.files i.opener.now) i.name.now i.stage) inputs.items ≡ map (held (P.files opener.now)) (names_of options.now)) }
+    ensures unread { IfOk result (λ inputs. map (λ i. left P.rest (P.files i.opener.now) i.name.now i.stage) inputs.items ≡ map (contents (P.files opener.now)) (names_of options.now)) }
     ensures quiet { IfOk result (λ inputs. map (λ i. i.failures) inputs.items ≡ map (λ _. 0) (names_of options.now)) }
 {
     let mut inputs = Vec::new(alloc);

@@ -1,6 +1,7 @@
 //! `kconf` over the files of a disk: the devices, and the work of the program.
 #![tactic(auto)]
 
+mod arguments;
 mod buffer;
 mod devices;
 mod drafts;
@@ -11,20 +12,19 @@ mod maker;
 mod mover;
 mod opener;
 mod outputs;
-mod over;
 mod program;
 mod records;
 mod replace;
-mod settle;
-mod shelf;
+mod replace_files;
+mod report;
+mod run;
 mod system;
-mod tell;
-mod words;
+mod system_mover;
 
 pub use maker::Maker;
 pub use mover::Mover;
 pub use opener::{OpenFault, Opener};
-pub use over::{configure_over, run_over};
 pub use program::{exit_status, kconf, kconf_of, kconf_over};
 pub use replace::{replace_over, run_replacing};
-pub use settle::Stop;
+pub use replace_files::ReplaceFault;
+pub use run::{configure_over, run_over};

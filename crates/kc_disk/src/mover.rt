@@ -1,6 +1,6 @@
 //! What makes files beside their places and moves them there.
 ghost use Rattle.std.specs.Prelude.{◌≡◌, ◌<◌, ◌≤◌, Bool, true, Option, length, take, option_map, IfOk, OnOk, OnErr};
-ghost use Rattle.kc_disk.specs.Placing.{Shelf, Shows, cleared, finished, grown_by, is_held, moved, started};
+ghost use Rattle.kc_disk.specs.Movers.{MoverState, Shows, cleared, finished, grown_by, is_held, moved, started};
 
 use kc_dot::Fault;
 
@@ -9,19 +9,19 @@ use kc_dot::Fault;
 /// One over memory tells what its places hold; the system tells nothing. Only `move_first` changes what a place holds.
 pub trait Mover {
     /// What the places hold and what stands beside them, or nothing told.
-    ghost told: { Self → Option Shelf };
+    ghost state: { Self → Option MoverState };
 
     /// Whether a call may fail. No call changes it.
     ghost failing: { Self → Bool };
 
     /// Whether the file of this name holds these bytes and no others.
     fn holds(&self, name: &str, bytes: &[u8]) -> bool
-        ensures { Shows (told self.now) (λ s. result ≡ is_held s.held name.now bytes.now) };
+        ensures { Shows (state self.now) (λ s. result ≡ is_held s.held name.now bytes.now) };
 
     /// Makes an empty file beside the place of this name. On `Fault` none was made.
     fn start(&mut self, name: &str) -> Result<(), Fault>
-        ensures ok { OnOk result (told self.new ≡ option_map (started name.now) (told self.old)) }
-        ensures err { OnErr result (told self.new ≡ told self.old) }
+        ensures ok { OnOk result (state self.new ≡ option_map (started name.now) (state self.old)) }
+        ensures err { OnErr result (state self.new ≡ state self.old) }
         ensures fault { OnErr result (failing self.old ≡ true) }
         ensures failing_stays { failing self.new ≡ failing self.old };
 
@@ -32,27 +32,27 @@ pub trait Mover {
         requires { 0 < length bytes.now }
         ensures some { IfOk result (λ count. 0 < count) }
         ensures within { IfOk result (λ count. count ≤ length bytes.now) }
-        ensures ok { IfOk result (λ count. told self.new ≡ option_map (grown_by (take count bytes.now)) (told self.old)) }
-        ensures err { OnErr result (told self.new ≡ told self.old) }
+        ensures ok { IfOk result (λ count. state self.new ≡ option_map (grown_by (take count bytes.now)) (state self.old)) }
+        ensures err { OnErr result (state self.new ≡ state self.old) }
         ensures fault { OnErr result (failing self.old ≡ true) }
         ensures failing_stays { failing self.new ≡ failing self.old };
 
     /// Waits until the disk has the file that was started, which is whole from then on. On `Fault` nothing is changed.
     fn finish(&mut self) -> Result<(), Fault>
-        ensures ok { OnOk result (told self.new ≡ option_map finished (told self.old)) }
-        ensures err { OnErr result (told self.new ≡ told self.old) }
+        ensures ok { OnOk result (state self.new ≡ option_map finished (state self.old)) }
+        ensures err { OnErr result (state self.new ≡ state self.old) }
         ensures fault { OnErr result (failing self.old ≡ true) }
         ensures failing_stays { failing self.new ≡ failing self.old };
 
     /// Moves the first of the whole files to its place. On `Fault` nothing is changed.
     fn move_first(&mut self) -> Result<(), Fault>
-        ensures ok { OnOk result (told self.new ≡ option_map moved (told self.old)) }
-        ensures err { OnErr result (told self.new ≡ told self.old) }
+        ensures ok { OnOk result (state self.new ≡ option_map moved (state self.old)) }
+        ensures err { OnErr result (state self.new ≡ state self.old) }
         ensures fault { OnErr result (failing self.old ≡ true) }
         ensures failing_stays { failing self.new ≡ failing self.old };
 
     /// Removes each file that stands beside a place.
     fn clear(&mut self)
-        ensures told { told self.new ≡ option_map cleared (told self.old) }
+        ensures state { state self.new ≡ option_map cleared (state self.old) }
         ensures failing_stays { failing self.new ≡ failing self.old };
 }

@@ -1,7 +1,7 @@
 //! What opens files by name and reads them.
 ghost use Rattle.std.specs.Prelude.{◌≡◌, ◌≢◌, ◌<◌, ◌≤◌, List, ℕ, Bool, true, Some, None, length, take, IfOk, IfErr, OnErr};
-ghost use Rattle.kc_load.specs.Folders.{AnswersAs, Told};
-ghost use Rattle.kc_conf.specs.Given.{preceded, IsAtEnd};
+ghost use Rattle.kc_load.specs.Folders.{AnswersAs, FolderFiles};
+ghost use Rattle.kc_conf.specs.InputBytes.{preceded, IsAtEnd};
 ghost use Rattle.kc_disk.specs.Openers.{to_come};
 
 use kc_dot::Fault;
@@ -23,7 +23,7 @@ pub trait Opener {
     type File: Drop;
 
     /// The files by their names, or nothing told.
-    ghost files: { Self → Told };
+    ghost files: { Self → FolderFiles };
 
     /// What an open file has still to give, where the files are told.
     ghost rest: { Self.File → List ℕ };

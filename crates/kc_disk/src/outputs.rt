@@ -1,22 +1,23 @@
 //! The files of a run, and standard error for its notes.
 ghost use Rattle.std.specs.Prelude.{◌≡◌, [], ◌≢◌, ◌<◌, ◌≤◌, ◌++◌, length, take, IfOk, OnOk, OnErr, List, ℕ, Some, None, true, false};
 ghost use Rattle.kc_conf.specs.Faults.{name_of};
-ghost use Rattle.kc_conf.specs.Places.{at, begun, ended, failed, grown, with_place};
+ghost use Rattle.kc_conf.specs.OutputStates.{at, begun, ended, failed, grown, with_state};
 ghost use Rattle.kc_disk.specs.Lines.{ends_line};
 ghost use Rattle.kc_disk.specs.Makers.{Tells, none_made};
 ghost use Rattle.kc_disk.specs.Reached.{Reached, unused};
-ghost use Rattle.kc_conf.specs.declared.outputs.Which.TheVariants.{Notes};
-ghost use Rattle.kc_disk.specs.Standing.{Stand, places_of, record_at, record_ended, with_record};
+ghost use Rattle.kc_conf.specs.declared.outputs.Output.TheVariants.{Notes};
+ghost use Rattle.kc_disk.specs.MakerOutputs.{AreConsistent, states_of, record_at, record_ended, with_record};
 
 use crate::buffer::Buffer;
 use crate::devices::Devices;
 use crate::maker::Maker;
-use crate::records::Records;
-use kc_conf::{Options, Outputs, Which};
+use crate::records::OutputRecords;
+use kc_conf::{Options, Output, Outputs};
 use kc_dot::Fault;
 use std::marker::PhantomData;
 
-/// Config, Header, Minimal and Depfile are files that are made at their begin and closed at their end; the notes are standard error.
+/// Config, Header, Minimal and Depfile are files that are made at their begin and closed at their end; the notes are standard
+/// error.
 ///
 /// The bytes of a file wait in one buffer until then, so a file's fault is seen at its end at the latest. A file is begun
 /// only where the one before was ended; after a fault it takes no more, and no other is begun.
@@ -28,36 +29,36 @@ pub(crate) struct FileOutputs<'a, M: Maker + Drop, K: Devices> {
     maker: M,
     options: &'a Options,
     buffer: Buffer,
-    current: Option<Which>,
+    current: Option<Output>,
     is_broken: bool,
     line: Buffer,
-    records: Records,
-    of: PhantomData<K>,
+    records: OutputRecords,
+    devices: PhantomData<K>,
     ghost line_waits: { records.notes.failures ≡ 0 → ends_line line.bytes.items ≡ false },
-    ghost stand: { Tells (M.told maker) (Stand options.now current records) },
+    ghost consistent: { Tells (M.state maker) (AreConsistent options.now current records) },
     ghost failing: { M.failing maker Notes ≡ K.notes_fail },
     ghost notes_fail: { records.notes.failures ≢ 0 → K.notes_fail ≡ true },
 }
 
 // The name of an output, as the options have it.
-fn name_of(options: &Options, which: Which) -> &str
-    ensures { result.now ≡ name_of options.now which }
+fn name_of(options: &Options, output: Output) -> &str
+    ensures { result.now ≡ name_of options.now output }
 {
-    match which {
-        Which::Config => options.out.as_str(),
-        Which::Header => match &options.header {
+    match output {
+        Output::Config => options.out.as_str(),
+        Output::Header => match &options.header {
             Some(name) => name.as_str(),
             None => "",
         },
-        Which::Minimal => match &options.minimal {
+        Output::Minimal => match &options.minimal {
             Some(name) => name.as_str(),
             None => "",
         },
-        Which::Depfile => match &options.depfile {
+        Output::Depfile => match &options.depfile {
             Some(name) => name.as_str(),
             None => "",
         },
-        Which::Notes => "",
+        Output::Notes => "",
     }
 }
 
@@ -69,13 +70,13 @@ impl<'a, M: Maker + Drop, K: Devices> FileOutputs<'a, M, K> {
         buffer: Buffer,
         line: Buffer,
     ) -> FileOutputs<'a, M, K>
-        requires maker { Tells (M.told maker) (λ t. t ≡ none_made) }
+        requires maker { Tells (M.state maker) (λ t. t ≡ none_made) }
         requires failing { M.failing maker Notes ≡ K.notes_fail }
         requires buffer { buffer.bytes.items ≡ [] }
         requires line { line.bytes.items ≡ [] }
         ensures options { result.options.now ≡ options.now }
-        ensures maker { M.told result.maker ≡ M.told maker }
-        ensures unused { places_of result.options.now (M.told result.maker) result.current result.buffer.bytes.items result.line.bytes.items result.records ≡ unused options.now (M.told maker) }
+        ensures maker { M.state result.maker ≡ M.state maker }
+        ensures unused { states_of result.options.now (M.state result.maker) result.current result.buffer.bytes.items result.line.bytes.items result.records ≡ unused options.now (M.state maker) }
     {
         FileOutputs {
             maker,
@@ -84,26 +85,26 @@ impl<'a, M: Maker + Drop, K: Devices> FileOutputs<'a, M, K> {
             current: None,
             is_broken: false,
             line,
-            records: Records::new(),
-            of: PhantomData,
+            records: OutputRecords::new(),
+            devices: PhantomData,
         }
     }
 
     // Takes a beginning of the bytes for the file that is open. After a fault it takes no more.
-    fn write_file(&mut self, which: Which, bytes: &[u8]) -> Result<usize, Fault>
-        requires file { which ≢ Which.Notes }
+    fn write_file(&mut self, output: Output, bytes: &[u8]) -> Result<usize, Fault>
+        requires file { output ≢ Output.Notes }
         requires some { 0 < length bytes.now }
         ensures some { IfOk result (λ count. 0 < count) }
         ensures within { IfOk result (λ count. count ≤ length bytes.now) }
-        ensures ok { IfOk result (λ count. places_of self.new.options.now (M.told self.new.maker) self.new.current self.new.buffer.bytes.items self.new.line.bytes.items self.new.records ≡ with_place (places_of self.old.options.now (M.told self.old.maker) self.old.current self.old.buffer.bytes.items self.old.line.bytes.items self.old.records) which (grown (at (places_of self.old.options.now (M.told self.old.maker) self.old.current self.old.buffer.bytes.items self.old.line.bytes.items self.old.records) which) (take count bytes.now))) }
-        ensures err { OnErr result (places_of self.new.options.now (M.told self.new.maker) self.new.current self.new.buffer.bytes.items self.new.line.bytes.items self.new.records ≡ places_of self.old.options.now (M.told self.old.maker) self.old.current self.old.buffer.bytes.items self.old.line.bytes.items self.old.records) }
+        ensures ok { IfOk result (λ count. states_of self.new.options.now (M.state self.new.maker) self.new.current self.new.buffer.bytes.items self.new.line.bytes.items self.new.records ≡ with_state (states_of self.old.options.now (M.state self.old.maker) self.old.current self.old.buffer.bytes.items self.old.line.bytes.items self.old.records) output (grown (at (states_of self.old.options.now (M.state self.old.maker) self.old.current self.old.buffer.bytes.items self.old.line.bytes.items self.old.records) output) (take count bytes.now))) }
+        ensures err { OnErr result (states_of self.new.options.now (M.state self.new.maker) self.new.current self.new.buffer.bytes.items self.new.line.bytes.items self.new.records ≡ states_of self.old.options.now (M.state self.old.maker) self.old.current self.old.buffer.bytes.items self.old.line.bytes.items self.old.records) }
     {
         let current = self.current;
         match current {
-            Some(current) if current == which && !self.is_broken => {}
+            Some(current) if current == output && !self.is_broken => {}
             _ => return Err(Fault),
         }
-        match self.buffer.take(bytes, which, &mut self.maker) {
+        match self.buffer.take(bytes, output, &mut self.maker) {
             Ok(count) => Ok(count),
             Err(Fault) => {
                 self.is_broken = true;
@@ -113,23 +114,23 @@ impl<'a, M: Maker + Drop, K: Devices> FileOutputs<'a, M, K> {
     }
 
     // Writes what waits for the file that is open, and closes it. After a fault it takes no more.
-    fn close(&mut self, which: Which) -> Result<(), Fault>
-        requires { which ≢ Which.Notes }
-        ensures ok { OnOk result (places_of self.new.options.now (M.told self.new.maker) self.new.current self.new.buffer.bytes.items self.new.line.bytes.items (with_record self.new.records which (record_ended (record_at self.new.records which))) ≡ with_place (places_of self.old.options.now (M.told self.old.maker) self.old.current self.old.buffer.bytes.items self.old.line.bytes.items self.old.records) which (ended (at (places_of self.old.options.now (M.told self.old.maker) self.old.current self.old.buffer.bytes.items self.old.line.bytes.items self.old.records) which))) }
+    fn close(&mut self, output: Output) -> Result<(), Fault>
+        requires { output ≢ Output.Notes }
+        ensures ok { OnOk result (states_of self.new.options.now (M.state self.new.maker) self.new.current self.new.buffer.bytes.items self.new.line.bytes.items (with_record self.new.records output (record_ended (record_at self.new.records output))) ≡ with_state (states_of self.old.options.now (M.state self.old.maker) self.old.current self.old.buffer.bytes.items self.old.line.bytes.items self.old.records) output (ended (at (states_of self.old.options.now (M.state self.old.maker) self.old.current self.old.buffer.bytes.items self.old.line.bytes.items self.old.records) output))) }
         ensures none { OnOk result (self.new.current ≡ None) }
         ensures records { self.new.records ≡ self.old.records }
-        ensures err { OnErr result (places_of self.new.options.now (M.told self.new.maker) self.new.current self.new.buffer.bytes.items self.new.line.bytes.items self.new.records ≡ places_of self.old.options.now (M.told self.old.maker) self.old.current self.old.buffer.bytes.items self.old.line.bytes.items self.old.records) }
+        ensures err { OnErr result (states_of self.new.options.now (M.state self.new.maker) self.new.current self.new.buffer.bytes.items self.new.line.bytes.items self.new.records ≡ states_of self.old.options.now (M.state self.old.maker) self.old.current self.old.buffer.bytes.items self.old.line.bytes.items self.old.records) }
     {
         let current = self.current;
         match current {
-            Some(current) if current == which && !self.is_broken => {}
+            Some(current) if current == output && !self.is_broken => {}
             _ => return Err(Fault),
         }
-        if self.buffer.flush(which, &mut self.maker).is_err() {
+        if self.buffer.flush(output, &mut self.maker).is_err() {
             self.is_broken = true;
             return Err(Fault);
         }
-        if self.maker.close(which).is_err() {
+        if self.maker.close(output).is_err() {
             self.is_broken = true;
             return Err(Fault);
         }
@@ -143,106 +144,106 @@ impl<'a, M: Maker + Drop, K: Devices> FileOutputs<'a, M, K> {
         requires { 0 < length bytes.now }
         ensures some { IfOk result (λ count. 0 < count) }
         ensures within { IfOk result (λ count. count ≤ length bytes.now) }
-        ensures ok { IfOk result (λ count. places_of self.new.options.now (M.told self.new.maker) self.new.current self.new.buffer.bytes.items self.new.line.bytes.items self.new.records ≡ with_place (places_of self.old.options.now (M.told self.old.maker) self.old.current self.old.buffer.bytes.items self.old.line.bytes.items self.old.records) Which.Notes (grown (at (places_of self.old.options.now (M.told self.old.maker) self.old.current self.old.buffer.bytes.items self.old.line.bytes.items self.old.records) Which.Notes) (take count bytes.now))) }
-        ensures err { OnErr result (places_of self.new.options.now (M.told self.new.maker) self.new.current self.new.buffer.bytes.items self.new.line.bytes.items self.new.records ≡ with_place (places_of self.old.options.now (M.told self.old.maker) self.old.current self.old.buffer.bytes.items self.old.line.bytes.items self.old.records) Which.Notes (failed (at (places_of self.old.options.now (M.told self.old.maker) self.old.current self.old.buffer.bytes.items self.old.line.bytes.items self.old.records) Which.Notes))) }
+        ensures ok { IfOk result (λ count. states_of self.new.options.now (M.state self.new.maker) self.new.current self.new.buffer.bytes.items self.new.line.bytes.items self.new.records ≡ with_state (states_of self.old.options.now (M.state self.old.maker) self.old.current self.old.buffer.bytes.items self.old.line.bytes.items self.old.records) Output.Notes (grown (at (states_of self.old.options.now (M.state self.old.maker) self.old.current self.old.buffer.bytes.items self.old.line.bytes.items self.old.records) Output.Notes) (take count bytes.now))) }
+        ensures err { OnErr result (states_of self.new.options.now (M.state self.new.maker) self.new.current self.new.buffer.bytes.items self.new.line.bytes.items self.new.records ≡ with_state (states_of self.old.options.now (M.state self.old.maker) self.old.current self.old.buffer.bytes.items self.old.line.bytes.items self.old.records) Output.Notes (failed (at (states_of self.old.options.now (M.state self.old.maker) self.old.current self.old.buffer.bytes.items self.old.line.bytes.items self.old.records) Output.Notes))) }
     {
-        let Ok(count) = self.line.take(bytes, Which::Notes, &mut self.maker) else {
-            return Err(self.records.fail(Which::Notes));
+        let Ok(count) = self.line.take(bytes, Output::Notes, &mut self.maker) else {
+            return Err(self.records.fail(Output::Notes));
         };
         if !bytes[..count].ends_with(b"\n") {
             return Ok(count);
         }
-        if self.line.flush(Which::Notes, &mut self.maker).is_ok() {
+        if self.line.flush(Output::Notes, &mut self.maker).is_ok() {
             return Ok(count);
         }
         match self.line.give_back(count) {
-            0 => Err(self.records.fail(Which::Notes)),
+            0 => Err(self.records.fail(Output::Notes)),
             taken => Ok(taken),
         }
     }
 
     // Makes standard error empty, where the maker can.
     fn begin_notes(&mut self) -> Result<(), Fault>
-        ensures ok { OnOk result (places_of self.new.options.now (M.told self.new.maker) self.new.current self.new.buffer.bytes.items self.new.line.bytes.items self.new.records ≡ with_place (places_of self.old.options.now (M.told self.old.maker) self.old.current self.old.buffer.bytes.items self.old.line.bytes.items self.old.records) Which.Notes (begun (at (places_of self.old.options.now (M.told self.old.maker) self.old.current self.old.buffer.bytes.items self.old.line.bytes.items self.old.records) Which.Notes))) }
-        ensures err { OnErr result (places_of self.new.options.now (M.told self.new.maker) self.new.current self.new.buffer.bytes.items self.new.line.bytes.items self.new.records ≡ with_place (places_of self.old.options.now (M.told self.old.maker) self.old.current self.old.buffer.bytes.items self.old.line.bytes.items self.old.records) Which.Notes (failed (at (places_of self.old.options.now (M.told self.old.maker) self.old.current self.old.buffer.bytes.items self.old.line.bytes.items self.old.records) Which.Notes))) }
+        ensures ok { OnOk result (states_of self.new.options.now (M.state self.new.maker) self.new.current self.new.buffer.bytes.items self.new.line.bytes.items self.new.records ≡ with_state (states_of self.old.options.now (M.state self.old.maker) self.old.current self.old.buffer.bytes.items self.old.line.bytes.items self.old.records) Output.Notes (begun (at (states_of self.old.options.now (M.state self.old.maker) self.old.current self.old.buffer.bytes.items self.old.line.bytes.items self.old.records) Output.Notes))) }
+        ensures err { OnErr result (states_of self.new.options.now (M.state self.new.maker) self.new.current self.new.buffer.bytes.items self.new.line.bytes.items self.new.records ≡ with_state (states_of self.old.options.now (M.state self.old.maker) self.old.current self.old.buffer.bytes.items self.old.line.bytes.items self.old.records) Output.Notes (failed (at (states_of self.old.options.now (M.state self.old.maker) self.old.current self.old.buffer.bytes.items self.old.line.bytes.items self.old.records) Output.Notes))) }
     {
         match self
             .maker
-            .create(Which::Notes, name_of(self.options, Which::Notes))
+            .create(Output::Notes, name_of(self.options, Output::Notes))
         {
             Ok(()) => {
                 self.line.clear();
-                self.records.begin(Which::Notes);
+                self.records.begin(Output::Notes);
                 Ok(())
             }
-            Err(Fault) => Err(self.records.fail(Which::Notes)),
+            Err(Fault) => Err(self.records.fail(Output::Notes)),
         }
     }
 
     // Writes what waits of the notes.
     fn end_notes(&mut self) -> Result<(), Fault>
-        ensures ok { OnOk result (places_of self.new.options.now (M.told self.new.maker) self.new.current self.new.buffer.bytes.items self.new.line.bytes.items self.new.records ≡ with_place (places_of self.old.options.now (M.told self.old.maker) self.old.current self.old.buffer.bytes.items self.old.line.bytes.items self.old.records) Which.Notes (ended (at (places_of self.old.options.now (M.told self.old.maker) self.old.current self.old.buffer.bytes.items self.old.line.bytes.items self.old.records) Which.Notes))) }
-        ensures err { OnErr result (places_of self.new.options.now (M.told self.new.maker) self.new.current self.new.buffer.bytes.items self.new.line.bytes.items self.new.records ≡ with_place (places_of self.old.options.now (M.told self.old.maker) self.old.current self.old.buffer.bytes.items self.old.line.bytes.items self.old.records) Which.Notes (failed (at (places_of self.old.options.now (M.told self.old.maker) self.old.current self.old.buffer.bytes.items self.old.line.bytes.items self.old.records) Which.Notes))) }
+        ensures ok { OnOk result (states_of self.new.options.now (M.state self.new.maker) self.new.current self.new.buffer.bytes.items self.new.line.bytes.items self.new.records ≡ with_state (states_of self.old.options.now (M.state self.old.maker) self.old.current self.old.buffer.bytes.items self.old.line.bytes.items self.old.records) Output.Notes (ended (at (states_of self.old.options.now (M.state self.old.maker) self.old.current self.old.buffer.bytes.items self.old.line.bytes.items self.old.records) Output.Notes))) }
+        ensures err { OnErr result (states_of self.new.options.now (M.state self.new.maker) self.new.current self.new.buffer.bytes.items self.new.line.bytes.items self.new.records ≡ with_state (states_of self.old.options.now (M.state self.old.maker) self.old.current self.old.buffer.bytes.items self.old.line.bytes.items self.old.records) Output.Notes (failed (at (states_of self.old.options.now (M.state self.old.maker) self.old.current self.old.buffer.bytes.items self.old.line.bytes.items self.old.records) Output.Notes))) }
     {
-        if self.line.flush(Which::Notes, &mut self.maker).is_err() {
-            return Err(self.records.fail(Which::Notes));
+        if self.line.flush(Output::Notes, &mut self.maker).is_err() {
+            return Err(self.records.fail(Output::Notes));
         }
-        self.records.end(Which::Notes);
+        self.records.end(Output::Notes);
         Ok(())
     }
 
     /// The maker, which tells what reached the files. What still waits is let go.
     pub(crate) fn into_maker(self) -> M
-        ensures same { M.told result ≡ M.told self.entry.maker }
+        ensures same { M.state result ≡ M.state self.entry.maker }
         ensures failing { M.failing result Notes ≡ K.notes_fail }
         ensures notes_fail { self.entry.records.notes.failures ≢ 0 → K.notes_fail ≡ true }
-        ensures reached { Tells (M.told result) (Reached (places_of self.entry.options.now (M.told self.entry.maker) self.entry.current self.entry.buffer.bytes.items self.entry.line.bytes.items self.entry.records)) }
+        ensures reached { Tells (M.state result) (Reached (states_of self.entry.options.now (M.state self.entry.maker) self.entry.current self.entry.buffer.bytes.items self.entry.line.bytes.items self.entry.records)) }
     {
         self.maker
     }
 }
 
 impl<'a, M: Maker + Drop, K: Devices> Outputs for FileOutputs<'a, M, K> {
-    ghost seen = { λ s. places_of s.options.now (M.told s.maker) s.current s.buffer.bytes.items s.line.bytes.items s.records };
+    ghost states = { λ s. states_of s.options.now (M.state s.maker) s.current s.buffer.bytes.items s.line.bytes.items s.records };
 
-    fn begin(&mut self, which: Which) -> Result<(), Fault> {
-        if which == Which::Notes {
+    fn begin(&mut self, output: Output) -> Result<(), Fault> {
+        if output == Output::Notes {
             return self.begin_notes();
         }
         match self.current {
             None => {}
-            Some(_) => return Err(self.records.fail(which)),
+            Some(_) => return Err(self.records.fail(output)),
         }
-        match self.maker.create(which, name_of(self.options, which)) {
+        match self.maker.create(output, name_of(self.options, output)) {
             Ok(()) => {
                 self.buffer.clear();
-                self.current = Some(which);
+                self.current = Some(output);
                 self.is_broken = false;
-                self.records.begin(which);
+                self.records.begin(output);
                 Ok(())
             }
-            Err(Fault) => Err(self.records.fail(which)),
+            Err(Fault) => Err(self.records.fail(output)),
         }
     }
 
-    fn write(&mut self, which: Which, bytes: &[u8]) -> Result<usize, Fault> {
-        if which == Which::Notes {
+    fn write(&mut self, output: Output, bytes: &[u8]) -> Result<usize, Fault> {
+        if output == Output::Notes {
             return self.note(bytes);
         }
-        match self.write_file(which, bytes) {
+        match self.write_file(output, bytes) {
             Ok(count) => Ok(count),
-            Err(Fault) => Err(self.records.fail(which)),
+            Err(Fault) => Err(self.records.fail(output)),
         }
     }
 
-    fn end(&mut self, which: Which) -> Result<(), Fault> {
-        if which == Which::Notes {
+    fn end(&mut self, output: Output) -> Result<(), Fault> {
+        if output == Output::Notes {
             return self.end_notes();
         }
-        if self.close(which).is_err() {
-            return Err(self.records.fail(which));
+        if self.close(output).is_err() {
+            return Err(self.records.fail(output));
         }
-        self.records.end(which);
+        self.records.end(output);
         Ok(())
     }
 }

@@ -1,24 +1,24 @@
 //! Which outputs were begun and ended, and how often each has failed.
 ghost use Rattle.std.specs.Prelude.{◌≡◌};
 
-use kc_conf::Which;
+use kc_conf::Output;
 use kc_dot::Fault;
 
 /// Whether an output was begun, whether it was ended since, and how often it has failed.
 #[derive(Drop)]
-pub(crate) struct Record {
+pub(crate) struct OutputRecord {
     is_begun: bool,
     is_ended: bool,
     failures: u64,
 }
 
-impl Record {
-    ghost use Rattle.kc_disk.specs.Standing.{fresh, record_begun, record_ended, record_failed};
+impl OutputRecord {
+    ghost use Rattle.kc_disk.specs.MakerOutputs.{new_record, record_begun, record_ended, record_failed};
 
-    fn new() -> Record
-        ensures { result ≡ fresh }
+    fn new() -> OutputRecord
+        ensures { result ≡ new_record }
     {
-        Record {
+        OutputRecord {
             is_begun: false,
             is_ended: false,
             failures: 0,
@@ -47,66 +47,66 @@ impl Record {
 
 /// One record for each output.
 #[derive(Drop)]
-pub(crate) struct Records {
-    config: Record,
-    header: Record,
-    minimal: Record,
-    depfile: Record,
-    notes: Record,
+pub(crate) struct OutputRecords {
+    config: OutputRecord,
+    header: OutputRecord,
+    minimal: OutputRecord,
+    depfile: OutputRecord,
+    notes: OutputRecord,
 }
 
-impl Records {
-    ghost use Rattle.kc_disk.specs.Standing.{fresh, record_at, record_begun, record_ended, record_failed, with_record};
+impl OutputRecords {
+    ghost use Rattle.kc_disk.specs.MakerOutputs.{new_record, record_at, record_begun, record_ended, record_failed, with_record};
 
     /// Records of outputs of which none was begun or has failed.
-    pub(crate) fn new() -> Records
-        ensures { result ≡ record { config = fresh; header = fresh; minimal = fresh; depfile = fresh; notes = fresh } }
+    pub(crate) fn new() -> OutputRecords
+        ensures { result ≡ record { config = new_record; header = new_record; minimal = new_record; depfile = new_record; notes = new_record } }
     {
-        Records {
-            config: Record::new(),
-            header: Record::new(),
-            minimal: Record::new(),
-            depfile: Record::new(),
-            notes: Record::new(),
+        OutputRecords {
+            config: OutputRecord::new(),
+            header: OutputRecord::new(),
+            minimal: OutputRecord::new(),
+            depfile: OutputRecord::new(),
+            notes: OutputRecord::new(),
         }
     }
 
     /// An output is begun.
-    pub(crate) fn begin(&mut self, which: Which)
-        ensures { self.new ≡ with_record self.old which (record_begun (record_at self.old which)) }
+    pub(crate) fn begin(&mut self, output: Output)
+        ensures { self.new ≡ with_record self.old output (record_begun (record_at self.old output)) }
     {
-        match which {
-            Which::Config => self.config.begin(),
-            Which::Header => self.header.begin(),
-            Which::Minimal => self.minimal.begin(),
-            Which::Depfile => self.depfile.begin(),
-            Which::Notes => self.notes.begin(),
+        match output {
+            Output::Config => self.config.begin(),
+            Output::Header => self.header.begin(),
+            Output::Minimal => self.minimal.begin(),
+            Output::Depfile => self.depfile.begin(),
+            Output::Notes => self.notes.begin(),
         }
     }
 
     /// An output is ended.
-    pub(crate) fn end(&mut self, which: Which)
-        ensures { self.new ≡ with_record self.old which (record_ended (record_at self.old which)) }
+    pub(crate) fn end(&mut self, output: Output)
+        ensures { self.new ≡ with_record self.old output (record_ended (record_at self.old output)) }
     {
-        match which {
-            Which::Config => self.config.end(),
-            Which::Header => self.header.end(),
-            Which::Minimal => self.minimal.end(),
-            Which::Depfile => self.depfile.end(),
-            Which::Notes => self.notes.end(),
+        match output {
+            Output::Config => self.config.end(),
+            Output::Header => self.header.end(),
+            Output::Minimal => self.minimal.end(),
+            Output::Depfile => self.depfile.end(),
+            Output::Notes => self.notes.end(),
         }
     }
 
     /// One failure more of an output is counted.
-    pub(crate) fn fail(&mut self, which: Which) -> Fault
-        ensures { self.new ≡ with_record self.old which (record_failed (record_at self.old which)) }
+    pub(crate) fn fail(&mut self, output: Output) -> Fault
+        ensures { self.new ≡ with_record self.old output (record_failed (record_at self.old output)) }
     {
-        match which {
-            Which::Config => self.config.fail(),
-            Which::Header => self.header.fail(),
-            Which::Minimal => self.minimal.fail(),
-            Which::Depfile => self.depfile.fail(),
-            Which::Notes => self.notes.fail(),
+        match output {
+            Output::Config => self.config.fail(),
+            Output::Header => self.header.fail(),
+            Output::Minimal => self.minimal.fail(),
+            Output::Depfile => self.depfile.fail(),
+            Output::Notes => self.notes.fail(),
         }
         Fault
     }

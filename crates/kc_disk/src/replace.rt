@@ -1,11 +1,11 @@
 //! A run whose files take their places at the end.
 ghost use Rattle.std.specs.Prelude.{◌≡◌, ◌++◌, string_bytes, IfErr, IfOk, OnErr, OnOk};
 ghost use Rattle.kc_load.specs.Faults.{IsLoadFault};
-ghost use Rattle.kc_conf.specs.Outcome.{root_of};
-ghost use Rattle.kc_conf.specs.declared.outputs.Which.TheVariants.{Notes};
-ghost use Rattle.kc_disk.specs.Openers.{source};
-ghost use Rattle.kc_disk.specs.Makers.{Tells, making, none_made};
-ghost use Rattle.kc_disk.specs.Placing.{IsClear, Shows, moving};
+ghost use Rattle.kc_conf.specs.Outcome.{root_file};
+ghost use Rattle.kc_conf.specs.declared.outputs.Output.TheVariants.{Notes};
+ghost use Rattle.kc_disk.specs.Openers.{read_device};
+ghost use Rattle.kc_disk.specs.Makers.{Tells, maker_call, none_made};
+ghost use Rattle.kc_disk.specs.Movers.{IsClear, Shows, mover_call};
 ghost use Rattle.kc_disk.specs.Replacing.{EndsReplacing, RanReplacing, Replaces, SameNotes, text_at, wanted_texts};
 ghost use Rattle.kc_disk.specs.Texts.{texts_of};
 
@@ -13,16 +13,16 @@ use crate::drafts::Drafts;
 use crate::maker::Maker;
 use crate::mover::Mover;
 use crate::opener::Opener;
-use crate::over::configure_over;
-use crate::settle::{Stop, Text, settle};
-use crate::tell::{tell_fault, tell_stop};
-use kc_conf::{FileMap, Kept, Options, Status};
+use crate::replace_files::{NamedText, ReplaceFault, replace_files};
+use crate::report::{report_load_fault, report_replace_fault};
+use crate::run::configure_over;
+use kc_conf::{AcceptedTree, FileMap, Options, Status};
 use kc_load::{Folder, LoadFault};
 use std::alloc::{AllocError, Global};
 
 // Adds the text of a file, where it is wanted.
 fn add<'n, 'b>(
-    texts: &mut Vec<Text<'n, 'b>>,
+    texts: &mut Vec<NamedText<'n, 'b>>,
     name: &'n Option<String>,
     bytes: &'b [u8],
 ) -> Result<(), AllocError>
@@ -31,7 +31,7 @@ fn add<'n, 'b>(
     let Some(name) = name else {
         return Ok(());
     };
-    texts.push(Text {
+    texts.push(NamedText {
         name: name.as_str(),
         bytes,
     })?;
@@ -46,11 +46,11 @@ fn wanted<'n, 'b>(
     header: &'b [u8],
     minimal: &'b [u8],
     depfile: &'b [u8],
-) -> Result<Vec<Text<'n, 'b>>, AllocError>
+) -> Result<Vec<NamedText<'n, 'b>>, AllocError>
     ensures { IfOk result (λ texts. texts_of texts.items ≡ wanted_texts options.now config.now header.now minimal.now depfile.now) }
 {
     let mut texts = Vec::new(alloc);
-    texts.push(Text {
+    texts.push(NamedText {
         name: options.out.as_str(),
         bytes: config,
     })?;
@@ -61,15 +61,15 @@ fn wanted<'n, 'b>(
 }
 
 // Puts the drafts of a run that is done in their places.
-fn place<'n, N: Maker + Drop, M: Mover>(
+fn replace_drafts<'n, N: Maker + Drop, M: Mover>(
     alloc: Global,
     options: &'n Options,
     ran: Status,
     drafts: &Drafts<N>,
     mover: &mut M,
-) -> Result<Status, Stop<'n>>
-    requires { Shows (M.told mover.old) IsClear }
-    ensures { Replaces (wanted_texts options.now drafts.now.config.bytes.items drafts.now.header.bytes.items drafts.now.minimal.bytes.items drafts.now.depfile.bytes.items) ran result (moving (M.told mover.old) (M.told mover.new) (M.failing mover.old)) }
+) -> Result<Status, ReplaceFault<'n>>
+    requires { Shows (M.state mover.old) IsClear }
+    ensures { Replaces (wanted_texts options.now drafts.now.config.bytes.items drafts.now.header.bytes.items drafts.now.minimal.bytes.items drafts.now.depfile.bytes.items) ran result (mover_call (M.state mover.old) (M.state mover.new) (M.failing mover.old)) }
 {
     let Status::Done = ran else {
         return Ok(ran);
@@ -82,7 +82,7 @@ fn place<'n, N: Maker + Drop, M: Mover>(
         &drafts.minimal.bytes,
         &drafts.depfile.bytes,
     )?;
-    settle(alloc, &texts, mover)?;
+    replace_files(alloc, &texts, mover)?;
     Ok(Status::Done)
 }
 
@@ -90,9 +90,9 @@ fn place<'n, N: Maker + Drop, M: Mover>(
 /// their text is not there already (our own). The maker takes the notes alone, and is handed back.
 ///
 /// The caller owes a maker that has made nothing, and a mover beside whose places nothing stands. After a run that is done
-/// each place holds its file's text; after any other, and after an error, every place is as it was. A `Stop` says that the run
-/// was done and a text could not take its place: what it leaves is as `settle` says. Nothing stands beside a place in the
-/// end.
+/// each place holds its file's text; after any other, and after an error, every place is as it was. A `ReplaceFault` says that
+/// the run was done and a text could not take its place: what it leaves is as `replace_files` says. Nothing stands beside a
+/// place in the end.
 pub fn replace_over<'n, F: Folder, P: Opener, N: Maker + Drop, M: Mover>(
     alloc: Global,
     folder: &mut F,
@@ -101,25 +101,25 @@ pub fn replace_over<'n, F: Folder, P: Opener, N: Maker + Drop, M: Mover>(
     notes: N,
     mover: &mut M,
     files: &mut FileMap,
-    kept: &mut Option<Kept>,
-) -> (Result<Result<Status, Stop<'n>>, LoadFault>, N)
-    requires notes { Tells (N.told notes) (λ t. t ≡ none_made) }
-    requires clear { Shows (M.told mover.old) IsClear }
+    kept: &mut Option<AcceptedTree>,
+) -> (Result<Result<Status, ReplaceFault<'n>>, LoadFault>, N)
+    requires notes { Tells (N.state notes) (λ t. t ≡ none_made) }
+    requires clear { Shows (M.state mover.old) IsClear }
     // The run leaves the outcome of the folder's files and of the streams by their names, or a part of it and a cause; what it
     // handed out was made, and took its places where it is done.
-    ensures ran { IfOk result.0 (λ ended. RanReplacing (source (F.files folder.old) (F.failing folder.old)) (source (P.files opener.now) (P.failing opener.now)) options.now ended (making (N.told notes) (N.told result.1) (N.failing notes Notes)) (moving (M.told mover.old) (M.told mover.new) (M.failing mover.old))) }
+    ensures ran { IfOk result.0 (λ ended. RanReplacing (read_device (F.files folder.old) (F.failing folder.old)) (read_device (P.files opener.now) (P.failing opener.now)) options.now ended (maker_call (N.state notes) (N.state result.1) (N.failing notes Notes)) (mover_call (M.state mover.old) (M.state mover.new) (M.failing mover.old))) }
     // A file of the tree that could not be read is one whose turn it was.
-    ensures fault { IfErr result.0 (IsLoadFault (F.files folder.old) (F.failing folder.old) (string_bytes options.now.root) (root_of options.now)) }
+    ensures fault { IfErr result.0 (IsLoadFault (F.files folder.old) (F.failing folder.old) (string_bytes options.now.root) (root_file options.now)) }
     // After a fault of loading nothing was told or moved.
-    ensures silent { OnErr result.0 (SameNotes (making (N.told notes) (N.told result.1) (N.failing notes Notes))) }
-    ensures untouched { OnErr result.0 (M.told mover.new ≡ M.told mover.old) }
+    ensures silent { OnErr result.0 (SameNotes (maker_call (N.state notes) (N.state result.1) (N.failing notes Notes))) }
+    ensures untouched { OnErr result.0 (M.state mover.new ≡ M.state mover.old) }
     ensures failing_stays { N.failing result.1 Notes ≡ N.failing notes Notes }
 {
     let drafts = Drafts::new(alloc, notes);
     let (ran, drafts) = configure_over(alloc, folder, opener, options, drafts, files, kept);
     match ran {
         Ok(ran) => {
-            let ended = place(alloc, options, ran, &drafts, mover);
+            let ended = replace_drafts(alloc, options, ran, &drafts, mover);
             (Ok(ended), drafts.into_notes())
         }
         Err(fault) => (Err(fault), drafts.into_notes()),
@@ -136,11 +136,11 @@ pub fn run_replacing<F: Folder, P: Opener, N: Maker + Drop, M: Mover>(
     notes: N,
     mover: &mut M,
     files: &mut FileMap,
-    kept: &mut Option<Kept>,
+    kept: &mut Option<AcceptedTree>,
 ) -> (Status, N)
-    requires notes { Tells (N.told notes) (λ t. t ≡ none_made) }
-    requires clear { Shows (M.told mover.old) IsClear }
-    ensures { EndsReplacing (source (F.files folder.old) (F.failing folder.old)) (source (P.files opener.now) (P.failing opener.now)) options.now result.0 (making (N.told notes) (N.told result.1) (N.failing notes Notes)) (moving (M.told mover.old) (M.told mover.new) (M.failing mover.old)) }
+    requires notes { Tells (N.state notes) (λ t. t ≡ none_made) }
+    requires clear { Shows (M.state mover.old) IsClear }
+    ensures { EndsReplacing (read_device (F.files folder.old) (F.failing folder.old)) (read_device (P.files opener.now) (P.failing opener.now)) options.now result.0 (maker_call (N.state notes) (N.state result.1) (N.failing notes Notes)) (mover_call (M.state mover.old) (M.state mover.new) (M.failing mover.old)) }
 {
     let (ended, mut notes) = replace_over(
         alloc, folder, opener, options, notes, mover, files, kept,
@@ -149,12 +149,12 @@ pub fn run_replacing<F: Folder, P: Opener, N: Maker + Drop, M: Mover>(
         Ok(placed) => match placed {
             Ok(status) => (status, notes),
             Err(stop) => {
-                tell_stop(alloc, &mut notes, &stop);
+                report_replace_fault(alloc, &mut notes, &stop);
                 (Status::Faulted, notes)
             }
         },
         Err(fault) => {
-            tell_fault(alloc, &mut notes, &fault);
+            report_load_fault(alloc, &mut notes, &fault);
             (Status::Faulted, notes)
         }
     }

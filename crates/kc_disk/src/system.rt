@@ -3,7 +3,7 @@ ghost use Rattle.std.specs.Prelude.{[], true, None};
 
 use crate::maker::Maker;
 use crate::opener::{OpenFault, Opener};
-use kc_conf::Which;
+use kc_conf::Output;
 use kc_dot::Fault;
 use std::fs::File;
 use std::io::{ErrorKind, Read, Write};
@@ -17,20 +17,20 @@ const NOT_OPEN: i32 = 9;
 /// Where standard error was closed when this was made, the notes fail: its descriptor may be that of a file that was opened
 /// since.
 #[derive(Drop)]
-pub(crate) struct System<'a> {
+pub(crate) struct SystemMaker<'a> {
     rt: &'a HostRuntime,
     file: Option<File>,
     has_notes: bool,
 }
 
-impl<'a> System<'a> {
+impl<'a> SystemMaker<'a> {
     /// No file is open. This is made before any other file is open.
-    pub(crate) fn new(rt: &'a HostRuntime) -> System<'a> {
+    pub(crate) fn new(rt: &'a HostRuntime) -> SystemMaker<'a> {
         let has_notes = match rt.stderr().as_fd().try_clone_to_owned() {
             Ok(_) => true,
             Err(error) => error.raw_os_error() != Some(NOT_OPEN),
         };
-        System {
+        SystemMaker {
             rt,
             file: None,
             has_notes,
@@ -38,13 +38,13 @@ impl<'a> System<'a> {
     }
 }
 
-impl<'a> Maker for System<'a> {
-    ghost told = { λ _. None };
+impl<'a> Maker for SystemMaker<'a> {
+    ghost state = { λ _. None };
 
     ghost failing = { λ _ _. true };
 
-    fn create(&mut self, which: Which, name: &str) -> Result<(), Fault> {
-        if which == Which::Notes {
+    fn create(&mut self, output: Output, name: &str) -> Result<(), Fault> {
+        if output == Output::Notes {
             return Err(Fault);
         }
         match File::create(self.rt, name) {
@@ -56,10 +56,10 @@ impl<'a> Maker for System<'a> {
         }
     }
 
-    fn write(&mut self, which: Which, bytes: &[u8]) -> Result<usize, Fault> {
-        let written = match (which, &mut self.file) {
-            (Which::Notes, _) if self.has_notes => self.rt.stderr().write(bytes),
-            (Which::Config | Which::Header | Which::Minimal | Which::Depfile, Some(file)) =>
+    fn write(&mut self, output: Output, bytes: &[u8]) -> Result<usize, Fault> {
+        let written = match (output, &mut self.file) {
+            (Output::Notes, _) if self.has_notes => self.rt.stderr().write(bytes),
+            (Output::Config | Output::Header | Output::Minimal | Output::Depfile, Some(file)) =>
                 file.write(bytes),
             _ => return Err(Fault),
         };
@@ -69,8 +69,8 @@ impl<'a> Maker for System<'a> {
         }
     }
 
-    fn close(&mut self, which: Which) -> Result<(), Fault> {
-        if which == Which::Notes {
+    fn close(&mut self, output: Output) -> Result<(), Fault> {
+        if output == Output::Notes {
             return Err(Fault);
         }
         self.file = None;
@@ -80,17 +80,17 @@ impl<'a> Maker for System<'a> {
 
 /// The files of a disk, to be read. It tells nothing.
 #[derive(Drop)]
-pub(crate) struct SystemFiles<'a> {
+pub(crate) struct SystemOpener<'a> {
     rt: &'a HostRuntime,
 }
 
-impl<'a> SystemFiles<'a> {
-    pub(crate) fn new(rt: &'a HostRuntime) -> SystemFiles<'a> {
-        SystemFiles { rt }
+impl<'a> SystemOpener<'a> {
+    pub(crate) fn new(rt: &'a HostRuntime) -> SystemOpener<'a> {
+        SystemOpener { rt }
     }
 }
 
-impl<'a> Opener for SystemFiles<'a> {
+impl<'a> Opener for SystemOpener<'a> {
     type File = File;
 
     ghost files = { λ _. None };

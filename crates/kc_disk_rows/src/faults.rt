@@ -33,7 +33,7 @@ const REFUSALS: &[Row] = &[
 const FAULTS: &[Row] = &[
     Row {
         name: "E18 of a file of the tree",
-        words: "--root dir Kconfig",
+        arguments: "--root dir Kconfig",
         tree: &[
             ("dir/Kconfig", b"source \"a\"\nsource \"b\"\n"),
             ("dir/a", b""),
@@ -45,7 +45,7 @@ const FAULTS: &[Row] = &[
     },
     Row {
         name: "E18 of a .config that has to exist",
-        words: "--must-exist --config old Kconfig",
+        arguments: "--must-exist --config old Kconfig",
         notes: b"error E18: cannot read old\n",
         ..FAULTED
     },
@@ -66,14 +66,14 @@ const FAULTS: &[Row] = &[
     },
     Row {
         name: "E18 of a fragment that is not there",
-        words: "Kconfig x.cfg site.config",
+        arguments: "Kconfig x.cfg site.config",
         streams: &[(".config", b""), ("x.cfg", b"")],
         notes: b"error E18: cannot read site.config\n",
         ..FAULTED
     },
     Row {
         name: "E18 of the first of two fragments that fail",
-        words: "Kconfig x.cfg y.cfg",
+        arguments: "Kconfig x.cfg y.cfg",
         streams: &[("y.cfg", b"")],
         broken: "y.cfg",
         notes: b"error E18: cannot read x.cfg\n",
@@ -89,13 +89,13 @@ const FAULTLESS: &[Row] = &[
     },
     Row {
         name: "a .config that has to exist and does",
-        words: "--must-exist Kconfig",
+        arguments: "--must-exist Kconfig",
         streams: &[(".config", b"")],
         ..DONE
     },
     Row {
         name: "the rule for make alone, of two files and a fragment",
-        words: "--root dir --out new --depfile rule.d Kconfig x.cfg",
+        arguments: "--root dir --out new --depfile rule.d Kconfig x.cfg",
         tree: &[("dir/Kconfig", b"source \"a\"\n"), ("dir/a", b"")],
         streams: &[("x.cfg", b"")],
         log: "make new\nclose config\nmake rule.d\nclose depfile\n",
@@ -104,7 +104,7 @@ const FAULTLESS: &[Row] = &[
     },
     Row {
         name: "the version makes nothing",
-        words: "--version",
+        arguments: "--version",
         log: "",
         config: b"",
         ..DONE
@@ -135,13 +135,13 @@ fn a_file_that_may_be_missing_is_no_fault(rt: HostRuntime) -> Result<(), Fail> {
     Ok(())
 }
 
-// The run of the words, which are a bad command line: it tells what is wrong, and makes nothing.
-fn is_bad(rt: &HostRuntime, words: &'static str) -> Result<(), Fail> {
-    let row = Row { words, ..DONE };
+// The run of the arguments, which are a bad command line: it tells what is wrong, and makes nothing.
+fn is_bad(rt: &HostRuntime, arguments: &'static str) -> Result<(), Fail> {
+    let row = Row { arguments, ..DONE };
     let (status, maker) = run_row(rt, &row, 0)?;
     let is_told = maker.notes.bytes.starts_with(b"error: ") && maker.log.is_empty();
     drop(maker);
-    is_so(is_told && status == Status::Usage, words)
+    is_so(is_told && status == Status::Usage, arguments)
 }
 
 #[test]

@@ -10,7 +10,7 @@ use std::alloc::{AllocError, Global};
 
 /// The files of a tree by path, of which one may fail.
 #[derive(Drop)]
-pub(crate) struct Shelf<'a> {
+pub(crate) struct MemoryFolder<'a> {
     pub files: &'a FileMap,
     /// The path whose file cannot be read.
     pub failing: &'a str,
@@ -27,7 +27,7 @@ fn copied(alloc: Global, bytes: Option<&[u8]>) -> Result<Option<Vec<u8>>, AllocE
     }
 }
 
-impl<'a> Folder for Shelf<'a> {
+impl<'a> Folder for MemoryFolder<'a> {
     ghost files = { λ s. Some (bytes_in s.files.now) };
 
     ghost failing = { λ s path. bytes_eq path s.failing.now };
@@ -52,7 +52,7 @@ pub(crate) struct OpenFile<'a> {
 
 /// The streams by name, of which one may not be opened, and one may fail where it should end.
 #[derive(Drop)]
-pub(crate) struct Store<'a> {
+pub(crate) struct MemoryOpener<'a> {
     pub files: &'a FileMap,
     /// The name of the file that cannot be opened.
     pub shut: &'a str,
@@ -62,7 +62,7 @@ pub(crate) struct Store<'a> {
     pub piece: usize,
 }
 
-impl<'a> Opener for Store<'a> {
+impl<'a> Opener for MemoryOpener<'a> {
     type File = OpenFile<'a>;
 
     ghost files = { λ s. Some (bytes_in s.files.now) };

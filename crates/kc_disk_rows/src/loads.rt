@@ -1,6 +1,6 @@
 //! Loading and running in one call, over devices in memory.
-use crate::files::{Shelf, files_of};
-use kc_conf::{FileMap, Kept, Options, Status};
+use crate::files::{MemoryFolder, files_of};
+use kc_conf::{AcceptedTree, FileMap, Options, Status};
 use kc_configure::configure;
 use kc_load::LoadFault;
 use kc_memory::{MemoryInput, MemoryOutputs};
@@ -10,8 +10,8 @@ use std::test::Fail;
 
 // The options of a run on the root file `Kconfig` alone.
 fn plain(alloc: Global) -> Result<Options, Fail> {
-    let words = vec![in alloc; String::from_str(alloc, "Kconfig")?]?;
-    match options_of(alloc, &words) {
+    let arguments = vec![in alloc; String::from_str(alloc, "Kconfig")?]?;
+    match options_of(alloc, &arguments) {
         Ok(options) => Ok(options),
         Err(_) => Err(Fail::from("the words give no options")),
     }
@@ -20,17 +20,17 @@ fn plain(alloc: Global) -> Result<Options, Fail> {
 // A run over this folder and the `.config` of the one symbol. `Fail` where the options name a fragment.
 fn configured(
     alloc: Global,
-    shelf: &mut Shelf<'_>,
+    folder: &mut MemoryFolder<'_>,
     outputs: &mut MemoryOutputs,
     files: &mut FileMap,
-    kept: &mut Option<Kept>,
+    kept: &mut Option<AcceptedTree>,
 ) -> Result<Result<Status, LoadFault>, Fail> {
     let options = plain(alloc)?;
     let mut inputs = vec![in alloc; MemoryInput::new(b"CONFIG_A=y\n", 6, 6)]?;
     if inputs.len() != options.fragments.len() + 1 {
         return Err(Fail::from("not one input for each stream"));
     }
-    Ok(configure(alloc, shelf, &options, &mut inputs, outputs, files, kept))
+    Ok(configure(alloc, folder, &options, &mut inputs, outputs, files, kept))
 }
 
 // The run over this tree, of which the file at one path may not be read: its answer, whether a tree was kept, whether the
@@ -41,7 +41,7 @@ fn left_by(
     outputs: &mut MemoryOutputs,
 ) -> Result<(Option<Status>, bool, bool), Fail> {
     let tree = files_of(alloc, &[("./Kconfig", b"config A\n\tbool \"a\"\n")])?;
-    let mut shelf = Shelf {
+    let mut folder = MemoryFolder {
         files: &tree,
         failing,
         failures: 0,
@@ -49,7 +49,7 @@ fn left_by(
     };
     let mut files = FileMap::new(alloc);
     let mut kept = None;
-    let ended = configured(alloc, &mut shelf, outputs, &mut files, &mut kept)?;
+    let ended = configured(alloc, &mut folder, outputs, &mut files, &mut kept)?;
     Ok((ended.ok(), kept.is_some(), files.get(b"Kconfig").is_some()))
 }
 

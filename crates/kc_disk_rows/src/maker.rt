@@ -1,24 +1,24 @@
 //! A maker of files in memory, of which a call of choice fails.
 ghost use Rattle.std.specs.Prelude.{◌≡◌, ◌<◌, ◌≤◌, ◌++◌, [], true, false, length, take, string_bytes, Some, IfOk, OnOk, OnErr};
 
-use kc_conf::Which;
+use kc_conf::Output;
 use kc_disk::Maker;
 use kc_dot::Fault;
 use std::alloc::{AllocError, Global};
 
 /// A file that was made, or standard error.
 #[derive(Drop)]
-pub(crate) struct MemoryFile {
+pub(crate) struct MakerFile {
     pub name: String,
     pub bytes: Vec<u8>,
     pub is_open: bool,
 }
 
-impl MemoryFile {
-    fn new(alloc: Global, is_open: bool) -> MemoryFile
+impl MakerFile {
+    fn new(alloc: Global, is_open: bool) -> MakerFile
         ensures { (string_bytes result.name ≡ []) × (result.bytes.items ≡ []) × (result.is_open ≡ is_open) }
     {
-        MemoryFile {
+        MakerFile {
             name: String::new(alloc),
             bytes: Vec::new(alloc),
             is_open,
@@ -65,11 +65,11 @@ const PIECE: usize = 40;
 /// The files of a run, and standard error.
 #[derive(Drop)]
 pub(crate) struct MemoryMaker {
-    pub config: MemoryFile,
-    pub header: MemoryFile,
-    pub minimal: MemoryFile,
-    pub depfile: MemoryFile,
-    pub notes: MemoryFile,
+    pub config: MakerFile,
+    pub header: MakerFile,
+    pub minimal: MakerFile,
+    pub depfile: MakerFile,
+    pub notes: MakerFile,
     /// A line for each file that was made and for each that was closed, in order.
     pub log: String,
     /// The writes to standard error so far.
@@ -83,18 +83,18 @@ pub(crate) struct MemoryMaker {
 
 impl MemoryMaker {
     ghost use Rattle.kc_disk.specs.Makers.{none_made};
-    ghost use Rattle.kc_disk_rows.specs.Memory.{told_by};
+    ghost use Rattle.kc_disk_rows.specs.Memory.{state_by};
 
     /// A maker that has made nothing.
     pub(crate) fn new(alloc: Global, fail_at: u64) -> MemoryMaker
-        ensures { told_by result ≡ none_made }
+        ensures { state_by result ≡ none_made }
     {
         MemoryMaker {
-            config: MemoryFile::new(alloc, false),
-            header: MemoryFile::new(alloc, false),
-            minimal: MemoryFile::new(alloc, false),
-            depfile: MemoryFile::new(alloc, false),
-            notes: MemoryFile::new(alloc, true),
+            config: MakerFile::new(alloc, false),
+            header: MakerFile::new(alloc, false),
+            minimal: MakerFile::new(alloc, false),
+            depfile: MakerFile::new(alloc, false),
+            notes: MakerFile::new(alloc, true),
             log: String::new(alloc),
             note_writes: 0,
             calls: 0,
@@ -105,7 +105,7 @@ impl MemoryMaker {
 
     // Whether this call is the one that fails.
     fn fails(&mut self) -> bool
-        ensures { told_by self.new ≡ told_by self.old }
+        ensures { state_by self.new ≡ state_by self.old }
     {
         self.calls = self.calls.saturating_add(1);
         self.calls == self.fail_at
@@ -113,7 +113,7 @@ impl MemoryMaker {
 
     // Writes a line of the log.
     fn note(&mut self, word: &str, name: &str) -> Result<(), AllocError>
-        ensures { told_by self.new ≡ told_by self.old }
+        ensures { state_by self.new ≡ state_by self.old }
     {
         self.log.push_str(word)?;
         self.log.push_str(name)?;
@@ -122,64 +122,64 @@ impl MemoryMaker {
 }
 
 // What an output is called in the log.
-fn label(which: Which) -> &'static str {
-    match which {
-        Which::Config => "config",
-        Which::Header => "header",
-        Which::Minimal => "minimal",
-        Which::Depfile => "depfile",
-        Which::Notes => "notes",
+fn label(output: Output) -> &'static str {
+    match output {
+        Output::Config => "config",
+        Output::Header => "header",
+        Output::Minimal => "minimal",
+        Output::Depfile => "depfile",
+        Output::Notes => "notes",
     }
 }
 
 impl Maker for MemoryMaker {
-    ghost use Rattle.kc_disk_rows.specs.Memory.{told_by};
+    ghost use Rattle.kc_disk_rows.specs.Memory.{state_by};
 
-    ghost told = { λ s. Some (told_by s) };
+    ghost state = { λ s. Some (state_by s) };
 
     // Memory may be refused.
     ghost failing = { λ _ _. true };
 
-    fn create(&mut self, which: Which, name: &str) -> Result<(), Fault> {
+    fn create(&mut self, output: Output, name: &str) -> Result<(), Fault> {
         if self.fails() || self.note("make ", name).is_err() {
             return Err(Fault);
         }
         let alloc = self.alloc;
-        match which {
-            Which::Config => self.config.open(alloc, name),
-            Which::Header => self.header.open(alloc, name),
-            Which::Minimal => self.minimal.open(alloc, name),
-            Which::Depfile => self.depfile.open(alloc, name),
-            Which::Notes => self.notes.open(alloc, name),
+        match output {
+            Output::Config => self.config.open(alloc, name),
+            Output::Header => self.header.open(alloc, name),
+            Output::Minimal => self.minimal.open(alloc, name),
+            Output::Depfile => self.depfile.open(alloc, name),
+            Output::Notes => self.notes.open(alloc, name),
         }
     }
 
-    fn write(&mut self, which: Which, bytes: &[u8]) -> Result<usize, Fault> {
+    fn write(&mut self, output: Output, bytes: &[u8]) -> Result<usize, Fault> {
         if self.fails() {
             return Err(Fault);
         }
-        match which {
-            Which::Config => self.config.write(bytes, PIECE),
-            Which::Header => self.header.write(bytes, PIECE),
-            Which::Minimal => self.minimal.write(bytes, PIECE),
-            Which::Depfile => self.depfile.write(bytes, PIECE),
-            Which::Notes => {
+        match output {
+            Output::Config => self.config.write(bytes, PIECE),
+            Output::Header => self.header.write(bytes, PIECE),
+            Output::Minimal => self.minimal.write(bytes, PIECE),
+            Output::Depfile => self.depfile.write(bytes, PIECE),
+            Output::Notes => {
                 self.note_writes = self.note_writes.saturating_add(1);
                 self.notes.write(bytes, bytes.len())
             }
         }
     }
 
-    fn close(&mut self, which: Which) -> Result<(), Fault> {
-        if self.fails() || self.note("close ", label(which)).is_err() {
+    fn close(&mut self, output: Output) -> Result<(), Fault> {
+        if self.fails() || self.note("close ", label(output)).is_err() {
             return Err(Fault);
         }
-        match which {
-            Which::Config => self.config.is_open = false,
-            Which::Header => self.header.is_open = false,
-            Which::Minimal => self.minimal.is_open = false,
-            Which::Depfile => self.depfile.is_open = false,
-            Which::Notes => self.notes.is_open = false,
+        match output {
+            Output::Config => self.config.is_open = false,
+            Output::Header => self.header.is_open = false,
+            Output::Minimal => self.minimal.is_open = false,
+            Output::Depfile => self.depfile.is_open = false,
+            Output::Notes => self.notes.is_open = false,
         }
         Ok(())
     }

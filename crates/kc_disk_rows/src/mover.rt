@@ -7,7 +7,7 @@ use std::alloc::{AllocError, Global};
 
 /// A file.
 #[derive(Drop)]
-pub(crate) struct Entry {
+pub(crate) struct HeldFile {
     /// Its name.
     pub name: String,
     /// What it holds.
@@ -20,17 +20,17 @@ pub(crate) struct Entry {
 #[derive(Drop)]
 pub(crate) struct MemoryMover {
     alloc: Global,
-    pub(crate) held: Vec<Entry>,
-    begun: Option<Entry>,
-    whole: Vec<Entry>,
+    pub(crate) held: Vec<HeldFile>,
+    begun: Option<HeldFile>,
+    whole: Vec<HeldFile>,
     pub(crate) moved: String,
     calls: u64,
     fail_at: u64,
 }
 
 // A file of these bytes.
-fn made(alloc: Global, name: &str, bytes: &[u8]) -> Result<Entry, AllocError> {
-    Ok(Entry {
+fn made(alloc: Global, name: &str, bytes: &[u8]) -> Result<HeldFile, AllocError> {
+    Ok(HeldFile {
         name: String::from_str(alloc, name)?,
         bytes: Vec::from_slice(alloc, bytes)?,
     })
@@ -75,7 +75,7 @@ impl MemoryMover {
 }
 
 /// What the file of this name holds.
-pub(crate) fn bytes_of<'a>(held: &'a [Entry], name: &str) -> Option<&'a [u8]> {
+pub(crate) fn bytes_of<'a>(held: &'a [HeldFile], name: &str) -> Option<&'a [u8]> {
     for file in held {
         if file.name.as_str() == name {
             return Some(&file.bytes);
@@ -92,7 +92,7 @@ fn note(moved: &mut String, name: &str) -> Result<(), AllocError> {
 }
 
 impl Mover for MemoryMover {
-    ghost told = { λ _. None };
+    ghost state = { λ _. None };
 
     ghost failing = { λ _. true };
 

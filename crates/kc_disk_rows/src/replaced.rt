@@ -9,7 +9,7 @@ use std::test::Fail;
 #[derive(Clone, Copy)]
 struct Replaced {
     name: &'static str,
-    words: &'static str,
+    arguments: &'static str,
     root: &'static [u8],
     // The mover's call that fails, counted from 1; 0 for none.
     fail_at: u64,
@@ -29,7 +29,7 @@ const HEADER: &[u8] = b"/*\n * Automatically generated file; DO NOT EDIT.\n * Ma
 // An empty tree, whose `.config` and header take their places.
 const NEW: Replaced = Replaced {
     name: "both are new",
-    words: "--replace --header h Kconfig",
+    arguments: "--replace --header h Kconfig",
     root: b"",
     fail_at: 0,
     before: &[],
@@ -76,14 +76,14 @@ const ROWS: &[Replaced] = &[
     },
     Replaced {
         name: "the rule for make takes its place last",
-        words: "--replace --header h --depfile d Kconfig",
+        arguments: "--replace --header h --depfile d Kconfig",
         rule: Some(b".config: \\\n ./Kconfig\n\n./Kconfig:\n"),
         moved: ".config\nh\nd\n",
         ..NEW
     },
     Replaced {
         name: "of two outputs of one name the later stays",
-        words: "--replace --header h --savedefconfig h Kconfig",
+        arguments: "--replace --header h --savedefconfig h Kconfig",
         header: Some(b""),
         moved: ".config\nh\nh\n",
         ..NEW
@@ -97,7 +97,7 @@ const ROWS: &[Replaced] = &[
     },
     Replaced {
         name: "a stream that cannot be read",
-        words: "--replace --header h --must-exist Kconfig",
+        arguments: "--replace --header h --must-exist Kconfig",
         notes: b"error E18: cannot read .config\n",
         ..BROKEN
     },
@@ -134,7 +134,7 @@ fn holds(row: &Replaced, mover: &MemoryMover) -> bool {
 fn gives_at(rt: &HostRuntime, row: &Replaced, fail_at: u64) -> Result<(), Fail> {
     let asked = Row {
         name: row.name,
-        words: row.words,
+        arguments: row.arguments,
         ..DONE
     };
     let tree = [("./Kconfig", row.root)];

@@ -7,8 +7,8 @@ use kc_conf::Status;
 pub(crate) struct Row {
     /// What the row shows.
     pub name: &'static str,
-    /// The words, between blanks.
-    pub words: &'static str,
+    /// The arguments, between blanks.
+    pub arguments: &'static str,
     /// The files of the tree, by path.
     pub tree: &'static [(&'static str, &'static [u8])],
     /// The streams, by name.
@@ -35,10 +35,10 @@ pub(crate) struct Row {
     pub depfile: &'static [u8],
 }
 
-/// An empty tree and no `.config`, without header and minimal file.
+/// An empty tree and no `.config`, without header, minimal file and rule for make.
 pub(crate) const DONE: Row = Row {
     name: "",
-    words: "Kconfig",
+    arguments: "Kconfig",
     tree: &[("./Kconfig", b"")],
     streams: &[],
     failing: "-",

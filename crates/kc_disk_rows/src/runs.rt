@@ -1,5 +1,5 @@
 //! The run of a row.
-use crate::files::{Shelf, Store, files_of};
+use crate::files::{MemoryFolder, MemoryOpener, files_of};
 use crate::maker::MemoryMaker;
 use crate::mover::MemoryMover;
 use crate::row::Row;
@@ -8,33 +8,33 @@ use kc_disk::kconf_over;
 use std::alloc::{AllocError, Global};
 use std::test::Fail;
 
-// The words between the blanks.
-fn words_of(alloc: Global, line: &str) -> Result<Vec<String>, AllocError> {
-    let mut words = Vec::new(alloc);
+// The arguments between the blanks.
+fn arguments_of(alloc: Global, line: &str) -> Result<Vec<String>, AllocError> {
+    let mut arguments = Vec::new(alloc);
     for word in line.split(' ') {
-        words.push(String::from_str(alloc, word)?)?;
+        arguments.push(String::from_str(alloc, word)?)?;
     }
-    Ok(words)
+    Ok(arguments)
 }
 
 // The run of the row over these files, and places for those of a row with `--replace`.
 fn run_over_files(
     rt: &HostRuntime,
     row: &Row,
-    words: &[String],
+    arguments: &[String],
     tree: &FileMap,
     streams: &FileMap,
     mover: &mut MemoryMover,
     fail_at: u64,
 ) -> (Status, MemoryMaker) {
     let alloc = rt.alloc();
-    let mut shelf = Shelf {
+    let mut folder = MemoryFolder {
         files: tree,
         failing: row.failing,
         failures: 0,
         alloc,
     };
-    let store = Store {
+    let opener = MemoryOpener {
         files: streams,
         shut: row.shut,
         broken: row.broken,
@@ -44,7 +44,14 @@ fn run_over_files(
     let mut kept = None;
     let maker = MemoryMaker::new(alloc, fail_at);
     kconf_over(
-        rt, words, &mut shelf, &store, maker, mover, &mut files, &mut kept,
+        rt,
+        arguments,
+        &mut folder,
+        &opener,
+        maker,
+        mover,
+        &mut files,
+        &mut kept,
     )
 }
 
@@ -57,10 +64,10 @@ fn run_streams(
     mover: &mut MemoryMover,
     fail_at: u64,
 ) -> Result<(Status, MemoryMaker), Fail> {
-    let words = words_of(rt.alloc(), row.words)?;
+    let arguments = arguments_of(rt.alloc(), row.arguments)?;
     let tree = files_of(rt.alloc(), tree)?;
     let streams = files_of(rt.alloc(), streams)?;
-    Ok(run_over_files(rt, row, &words, &tree, &streams, mover, fail_at))
+    Ok(run_over_files(rt, row, &arguments, &tree, &streams, mover, fail_at))
 }
 
 /// Runs the row. The maker's call of this number fails, counted from 1; 0 for none.

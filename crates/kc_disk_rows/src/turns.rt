@@ -7,7 +7,7 @@ use std::test::Fail;
 
 const TURN: &Row = &Row {
     name: "all files, and a warning",
-    words: "--header out.h --savedefconfig min.config --depfile rule.d Kconfig",
+    arguments: "--header out.h --savedefconfig min.config --depfile rule.d Kconfig",
     tree: &[("./Kconfig", b"config A\n\tbool \"a\"\n")],
     streams: &[(".config", b"CONFIG_A=y\nCONFIG_Q=y\n")],
     log: "make .config\nclose config\nmake out.h\nclose header\nmake min.config\nclose minimal\nmake rule.d\nclose depfile\n",

@@ -73,7 +73,7 @@ const OF_STREAMS: &[Row] = &[
     },
     Row {
         name: "K8",
-        words: "--config old --out new Kconfig",
+        arguments: "--config old --out new Kconfig",
         tree: &[("./Kconfig", b"config N\n\tint \"n\"\n")],
         streams: &[("old", b"CONFIG_N=many\n")],
         log: "make new\nclose config\n",
@@ -83,14 +83,14 @@ const OF_STREAMS: &[Row] = &[
     },
     Row {
         name: "K9, of a fragment",
-        words: "Kconfig site",
+        arguments: "Kconfig site",
         streams: &[("site", b"A=y\n")],
         notes: b"site:1: warning K9: malformed line\n",
         ..DONE
     },
     Row {
         name: "K10, of the second fragment",
-        words: "--root dir Kconfig x.cfg y.cfg",
+        arguments: "--root dir Kconfig x.cfg y.cfg",
         tree: &[("dir/Kconfig", b"config A\n\tbool \"a\"\n")],
         streams: &[("y.cfg", b"CONFIG_A=y\n"), ("x.cfg", b"CONFIG_A=n\n")],
         notes: b"y.cfg:1: warning K10: A is set again\n",
@@ -103,7 +103,7 @@ const OF_STREAMS: &[Row] = &[
 const OF_VALUES: &[Row] = &[
     Row {
         name: "K11",
-        words: "--savedefconfig min.config Kconfig",
+        arguments: "--savedefconfig min.config Kconfig",
         tree: &[(
             "./Kconfig",
             b"config A\n\tbool \"a\"\n\tdefault y\n\tselect B\nconfig B\n\tbool \"b\"\n\tdepends on C\nconfig C\n\tbool \"c\"\n",
@@ -115,7 +115,7 @@ const OF_VALUES: &[Row] = &[
     },
     Row {
         name: "K12 and K13",
-        words: "--header out.h --savedefconfig min.config Kconfig",
+        arguments: "--header out.h --savedefconfig min.config Kconfig",
         tree: &[(
             "./Kconfig",
             b"config N\n\tint \"n\"\n\trange 5 10\n\tdefault 20\n",
@@ -129,14 +129,14 @@ const OF_VALUES: &[Row] = &[
     },
     Row {
         name: "E21 behind a warning",
-        words: "--strict Kconfig",
+        arguments: "--strict Kconfig",
         tree: &[("./Kconfig", b"config A\n\tdefault y\n")],
         notes: b"Kconfig:1: warning K3: A has no type\nerror E21: warnings are refused\n",
         ..REFUSED
     },
     Row {
         name: "nothing is refused without a warning",
-        words: "--strict Kconfig",
+        arguments: "--strict Kconfig",
         ..DONE
     },
 ];

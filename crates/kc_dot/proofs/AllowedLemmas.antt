@@ -1,12 +1,11 @@
 -- What a line gives to a symbol is allowed for it.
-use Rattle.std.proofs.Common.{◌≡◌, ◌≢◌, ℕ, ◌+◌, ◌-◌, ◌<◌, ◌≤◌, zero, suc, List, [], ◌∷◌, ◌++◌, Bool, true, false, not, length, take, drop, get_or, eqb, cond, refl, sym, ap, ◌∙◌, subst, arith, inl, inr, Option, Some, None}
+use Rattle.std.proofs.Common.{◌≡◌, ℕ, ◌+◌, ◌-◌, ◌≤◌, suc, List, [], ◌∷◌, ◌++◌, Bool, true, false, not, length, take, drop, get_or, eqb, cond, refl, sym, ap, subst, arith, inl, inr, Option, Some, None}
 use Rattle.std.specs.Prelude.{◌||◌, ◌==◌, ◌&&◌, All, is_some, nat_le, nat_lt, slice_index}
 use Rattle.std.specs.List.{list_any, suffix_len, position_or_len, before_first, after_first}
 use Rattle.std.specs.Str.{bytes_eq}
 use Rattle.std.specs.Str.Lines.{strip_carriage_return}
 use Rattle.std.specs.Option.{option_map, option_and_then}
-use Rattle.std.proofs.lemmas.Bool.{ne_eqb, eqb-true, eqb-false, and_from, cases_Bool, or_parts, true≢false, le-leb, leb-true}
-use Rattle.std.proofs.lemmas.List.{length-append}
+use Rattle.std.proofs.lemmas.Bool.{eqb-true, and_from, cases_Bool, le-leb, leb-true}
 use Rattle.std.proofs.lemmas.List.Elements.{All-cons, All-nil, All-take, All-drop}
 use Rattle.std.proofs.lemmas.List.Folds.{list_any_none}
 use Rattle.kc_text.specs.Lines.{is_line_feed}
@@ -15,16 +14,16 @@ use Rattle.kc_text.specs.Lexemes.{is_blank}
 use Rattle.kc_text.specs.Numbers.{int_of, hex_of}
 use Rattle.kc_expr.specs.declared.expression.SymId.{SymId}
 use Rattle.kc_expr.specs.declared.expression.Tri.{Tri}
-use Rattle.kc_expr.specs.declared.expression.Tri.TheVariants.{N, M, Y}
+use Rattle.kc_expr.specs.declared.expression.Tri.TheVariants.{N, Y}
 use Rattle.kc_expr.specs.declared.expression.Kind.{Kind}
 use Rattle.kc_expr.specs.declared.expression.Kind.TheVariants as kind
 use Rattle.kc_tree.specs.TreeFacts.{TreeFacts, SymbolFacts}
-use Rattle.kc_user.specs.Given.{Given, Chosen, Typed}
+use Rattle.kc_user.specs.GivenValue.{GivenValue, GivenTruth, GivenText}
 use Rattle.kc_user.specs.Places.{allowed, allowed_by, allowed_for, fits_quoted}
 use Rattle.std.specs.Prelude.{slice_get}
-use Rattle.kc_dot.specs.ConfigLine.{Said, Nothing, Unset, Set, Malformed, says, text_says, not_unset, unset_name, unset_or, is_comment, set_or_malformed, set_parts, behind, sides, is_equals, trimmed}
-use Rattle.kc_dot.specs.Effects.{Effect, Silent, Warns, Assigns, effect_of, set_effect, unset_effect, set_by_kind, unset_by_kind, assigned_or, kind_in, kind_of, symbol_named}
-use Rattle.kc_dot.specs.LineValue.{inside, with_front, quoted, string_value, number_value, value_by, line_value, yes_or_no, yes_m_or_no}
+use Rattle.kc_dot.specs.DotLine.{LineMeaning, Nothing, Unset, Set, Malformed, meaning_of, meaning_of_text, not_unset, unset_name, unset_or, is_comment, set_or_malformed, name_and_value, split_at_equals, is_equals, trimmed}
+use Rattle.kc_dot.specs.Effects.{Assigns, effect_of, set_effect, unset_effect, set_by_kind, unset_by_kind, assigned_or, kind_in, symbol_named}
+use Rattle.kc_dot.specs.LineValue.{until_quote, with_front, string_value, number_value, value_by, line_value, yes_m_or_no}
 use Rattle.kc_dot.proofs.LineLemmas.{HasNoLf}
 
 with_front_some : (front : List ℕ) (o : Option (List ℕ)) (raw : List ℕ) → with_front front o ≡ Some raw → (rest : List ℕ) × (o ≡ Some rest) × (front ++ rest ≡ raw)
@@ -65,7 +64,7 @@ inner_taken c bs raw rest = record {
     at_most true = let s = rest.escaped in omega arith
     at_most false = let s = rest.escaped in omega arith
 
-inner : (body raw : List ℕ) → inside body ≡ Some raw → Inner body raw
+inner : (body raw : List ℕ) → until_quote body ≡ Some raw → Inner body raw
 inner [] raw e = cc
 inner (b ∷ []) raw e = one (eqb b 34) e
   where
@@ -78,12 +77,12 @@ inner (b ∷ c ∷ bs) raw e = elim (cases_Bool (eqb b 34)) [
       let h : [] ≡ raw = cc in subst (Inner (b ∷ c ∷ bs)) h (inner_empty b (c ∷ bs))
   | inr other ↦ elim (cases_Bool (eqb b 92)) [
     | inl slash ↦
-        let (rest, found, is) = with_front_some (b ∷ c ∷ []) (inside bs) raw (rw (other, slash) at e) in
+        let (rest, found, is) = with_front_some (b ∷ c ∷ []) (until_quote bs) raw (rw (other, slash) at e) in
         let taken : Inner (92 ∷ c ∷ bs) (92 ∷ c ∷ rest) = inner_taken c bs rest (inner bs rest found) in
         let b_is : 92 ≡ b = sym (eqb-true b 92 slash) in
         subst (Inner (b ∷ c ∷ bs)) is (subst (λ x. Inner (x ∷ c ∷ bs) (x ∷ c ∷ rest)) b_is taken)
     | inr plain ↦
-        let (rest, found, is) = with_front_some (b ∷ []) (inside (c ∷ bs)) raw (rw (other, plain) at e) in
+        let (rest, found, is) = with_front_some (b ∷ []) (until_quote (c ∷ bs)) raw (rw (other, plain) at e) in
         subst (Inner (b ∷ c ∷ bs)) is (inner_plain b (c ∷ bs) rest other plain (inner (c ∷ bs) rest found))
   ]
 ]
@@ -96,34 +95,35 @@ fits raw body text is none long short =
     (le-leb (length (escape (unescape raw)) + 2) 65000 (omega arith))
     (ap not (list_any_none is_line_feed (unescape raw) (is.one_line none)))
 
-string_allowed : (text : List ℕ) (g : Given) → HasNoLf text → length text ≤ 65000 → string_value text ≡ Some g → allowed_by kind.Str g ≡ true
+string_allowed : (text : List ℕ) (g : GivenValue) → HasNoLf text → length text ≤ 65000 → string_value text ≡ Some g → allowed_by kind.Str g ≡ true
 string_allowed [] g none short e = cc
 string_allowed (b ∷ body) g none short e = by_quote (eqb b 34) e
   where
-    by_raw : (o : Option (List ℕ)) → inside body ≡ o → option_map (λ raw. Typed (unescape raw)) o ≡ Some g → allowed_by kind.Str g ≡ true
+    by_raw : (o : Option (List ℕ)) → until_quote body ≡ o → option_map (λ raw. GivenText (unescape raw)) o ≡ Some g → allowed_by kind.Str g ≡ true
     by_raw None found is = cc
     by_raw (Some raw) found is =
-        let h : Typed (unescape raw) ≡ g = cc in
+        let h : GivenText (unescape raw) ≡ g = cc in
         subst (λ x. allowed_by kind.Str x ≡ true) h (fits raw body (b ∷ body) (inner body raw found) (λ k d lt. none (suc k) d (omega arith)) (omega arith) short)
 
-    by_quote : (quote : Bool) → option_map (λ raw. Typed (unescape raw)) (cond quote (inside body) None) ≡ Some g → allowed_by kind.Str g ≡ true
-    by_quote true is = by_raw (inside body) refl is
+    by_quote : (quote : Bool) → option_map (λ raw. GivenText (unescape raw)) (cond quote (until_quote body) None) ≡ Some g → allowed_by kind.Str g ≡ true
+    by_quote true is = by_raw (until_quote body) refl is
     by_quote false is = cc
 
-number_allowed : (k : Kind) (text : List ℕ) (g : Given) (is_number : Bool) → (is_number ≡ true → allowed_by k (Typed text) ≡ true) → number_value text is_number ≡ Some g → allowed_by k g ≡ true
-number_allowed k text g true allow e = let h : Typed text ≡ g = cc in subst (λ x. allowed_by k x ≡ true) h (allow refl)
+number_allowed : (k : Kind) (text : List ℕ) (g : GivenValue) (is_number : Bool) → (is_number ≡ true → allowed_by k (GivenText text) ≡ true) →
+    number_value text is_number ≡ Some g → allowed_by k g ≡ true
+number_allowed k text g true allow e = let h : GivenText text ≡ g = cc in subst (λ x. allowed_by k x ≡ true) h (allow refl)
 number_allowed k text g false allow e = cc
 
-bool_allowed : (yes no : Bool) (g : Given) → option_map Chosen (cond yes (Some Y) (cond no (Some N) None)) ≡ Some g → allowed_by kind.Bool g ≡ true
-bool_allowed true other g e = let h : Chosen Y ≡ g = cc in subst (λ x. allowed_by kind.Bool x ≡ true) h refl
-bool_allowed false true g e = let h : Chosen N ≡ g = cc in subst (λ x. allowed_by kind.Bool x ≡ true) h refl
+bool_allowed : (yes no : Bool) (g : GivenValue) → option_map GivenTruth (cond yes (Some Y) (cond no (Some N) None)) ≡ Some g → allowed_by kind.Bool g ≡ true
+bool_allowed true other g e = let h : GivenTruth Y ≡ g = cc in subst (λ x. allowed_by kind.Bool x ≡ true) h refl
+bool_allowed false true g e = let h : GivenTruth N ≡ g = cc in subst (λ x. allowed_by kind.Bool x ≡ true) h refl
 bool_allowed false false g e = cc
 
-tri_allowed : (o : Option Tri) (g : Given) → option_map Chosen o ≡ Some g → allowed_by kind.Tristate g ≡ true
+tri_allowed : (o : Option Tri) (g : GivenValue) → option_map GivenTruth o ≡ Some g → allowed_by kind.Tristate g ≡ true
 tri_allowed None g e = cc
-tri_allowed (Some t) g e = let h : Chosen t ≡ g = cc in subst (λ x. allowed_by kind.Tristate x ≡ true) h refl
+tri_allowed (Some t) g e = let h : GivenTruth t ≡ g = cc in subst (λ x. allowed_by kind.Tristate x ≡ true) h refl
 
-value_allowed : (k : Kind) (text : List ℕ) (g : Given) → HasNoLf text → length text ≤ 65000 → value_by k text ≡ Some g → allowed_by k g ≡ true
+value_allowed : (k : Kind) (text : List ℕ) (g : GivenValue) → HasNoLf text → length text ≤ 65000 → value_by k text ≡ Some g → allowed_by k g ≡ true
 value_allowed kind.Undefined text g none short e = cc
 value_allowed kind.Bool text g none short e = bool_allowed (get_or text 0 0 == 121) (get_or text 0 0 == 110) g e
 value_allowed kind.Tristate text g none short e = tri_allowed (yes_m_or_no (get_or text 0 0)) g e
@@ -133,18 +133,18 @@ value_allowed kind.Int text g none short e =
 value_allowed kind.Hex text g none short e =
     number_allowed kind.Hex text g (is_some (hex_of text)) (λ is. and_from (nat_le (length text) 65000) (is_some (hex_of text)) (le-leb (length text) 65000 short) is) e
 
-pub line_allowed : (k : Kind) (text : List ℕ) (g : Given) → HasNoLf text → line_value k text ≡ Some g → allowed_by k g ≡ true
+pub line_allowed : (k : Kind) (text : List ℕ) (g : GivenValue) → HasNoLf text → line_value k text ≡ Some g → allowed_by k g ≡ true
 line_allowed k text g none e = elim (cases_Bool (nat_le (length text) 65000)) [
   | inl short ↦ value_allowed k text g none (leb-true (length text) 65000 short) (rw short at e)
   | inr long ↦ let never : None ≡ Some g = rw long at e in cc
 ]
 
 -- an assignment of a set line or an unset line
-assigned : (name : List ℕ) (s t : SymId) (o : Option Given) (g : Given) → assigned_or name s o ≡ Assigns t g → (s ≡ t) × (o ≡ Some g)
+assigned : (name : List ℕ) (s t : SymId) (o : Option GivenValue) (g : GivenValue) → assigned_or name s o ≡ Assigns t g → (s ≡ t) × (o ≡ Some g)
 assigned name s t None g e = cc
 assigned name s t (Some h) g e = (cc, cc)
 
-kind_allowed : (k : Kind) (name text : List ℕ) (s t : SymId) (g : Given) → HasNoLf text → set_by_kind name s text k ≡ Assigns t g → (s ≡ t) × (allowed_by k g ≡ true)
+kind_allowed : (k : Kind) (name text : List ℕ) (s t : SymId) (g : GivenValue) → HasNoLf text → set_by_kind name s text k ≡ Assigns t g → (s ≡ t) × (allowed_by k g ≡ true)
 kind_allowed kind.Undefined name text s t g none e = cc
 kind_allowed kind.Bool name text s t g none e = let (same, is) = assigned name s t (line_value kind.Bool text) g e in (same, line_allowed kind.Bool text g none is)
 kind_allowed kind.Tristate name text s t g none e = let (same, is) = assigned name s t (line_value kind.Tristate text) g e in (same, line_allowed kind.Tristate text g none is)
@@ -152,42 +152,42 @@ kind_allowed kind.Str name text s t g none e = let (same, is) = assigned name s 
 kind_allowed kind.Int name text s t g none e = let (same, is) = assigned name s t (line_value kind.Int text) g e in (same, line_allowed kind.Int text g none is)
 kind_allowed kind.Hex name text s t g none e = let (same, is) = assigned name s t (line_value kind.Hex text) g e in (same, line_allowed kind.Hex text g none is)
 
-unset_allowed : (k : Kind) (name : List ℕ) (s t : SymId) (g : Given) → unset_by_kind name s k ≡ Assigns t g → (s ≡ t) × (allowed_by k g ≡ true)
+unset_allowed : (k : Kind) (name : List ℕ) (s t : SymId) (g : GivenValue) → unset_by_kind name s k ≡ Assigns t g → (s ≡ t) × (allowed_by k g ≡ true)
 unset_allowed kind.Undefined name s t g e = cc
-unset_allowed kind.Bool name s t g e = let h : Chosen N ≡ g = cc in (cc, subst (λ x. allowed_by kind.Bool x ≡ true) h refl)
-unset_allowed kind.Tristate name s t g e = let h : Chosen N ≡ g = cc in (cc, subst (λ x. allowed_by kind.Tristate x ≡ true) h refl)
+unset_allowed kind.Bool name s t g e = let h : GivenTruth N ≡ g = cc in (cc, subst (λ x. allowed_by kind.Bool x ≡ true) h refl)
+unset_allowed kind.Tristate name s t g e = let h : GivenTruth N ≡ g = cc in (cc, subst (λ x. allowed_by kind.Tristate x ≡ true) h refl)
 unset_allowed kind.Str name s t g e = cc
 unset_allowed kind.Int name s t g e = cc
 unset_allowed kind.Hex name s t g e = cc
 
-set_facts : (o : Option SymbolFacts) (name text : List ℕ) (s t : SymId) (g : Given) → HasNoLf text → set_by_kind name s text (kind_in o) ≡ Assigns t g → (s ≡ t) × (allowed_for o g ≡ true)
+set_facts : (o : Option SymbolFacts) (name text : List ℕ) (s t : SymId) (g : GivenValue) → HasNoLf text → set_by_kind name s text (kind_in o) ≡ Assigns t g → (s ≡ t) × (allowed_for o g ≡ true)
 set_facts None name text s t g none e = cc
 set_facts (Some f) name text s t g none e = kind_allowed f.kind name text s t g none e
 
-unset_facts : (o : Option SymbolFacts) (name : List ℕ) (s t : SymId) (g : Given) → unset_by_kind name s (kind_in o) ≡ Assigns t g → (s ≡ t) × (allowed_for o g ≡ true)
+unset_facts : (o : Option SymbolFacts) (name : List ℕ) (s t : SymId) (g : GivenValue) → unset_by_kind name s (kind_in o) ≡ Assigns t g → (s ≡ t) × (allowed_for o g ≡ true)
 unset_facts None name s t g e = cc
 unset_facts (Some f) name s t g e = unset_allowed f.kind name s t g e
 
 -- what a line says holds no line feed
-abbrev pub SaysNoLf : Said → Type 0
+abbrev pub SaysNoLf : LineMeaning → Type 0
 SaysNoLf Nothing = Unit {0}
 SaysNoLf (Unset name) = Unit {0}
 SaysNoLf (Set name text) = HasNoLf text
 SaysNoLf Malformed = Unit {0}
 
 module _ (tree : TreeFacts) where
-  here : (s t : SymId) (g : Given) → (s ≡ t) × (allowed tree s g ≡ true) → allowed tree t g ≡ true
+  here : (s t : SymId) (g : GivenValue) → (s ≡ t) × (allowed tree s g ≡ true) → allowed tree t g ≡ true
   here s t g (same, is) = subst (λ x. allowed tree x g ≡ true) same is
 
-  set_allowed : (found : Option SymId) (name text : List ℕ) (t : SymId) (g : Given) → HasNoLf text → set_effect tree name text found ≡ Assigns t g → allowed tree t g ≡ true
+  set_allowed : (found : Option SymId) (name text : List ℕ) (t : SymId) (g : GivenValue) → HasNoLf text → set_effect tree name text found ≡ Assigns t g → allowed tree t g ≡ true
   set_allowed None name text t g none e = cc
   set_allowed (Some s) name text t g none e = here s t g (set_facts (slice_get tree.symbols s.0) name text s t g none e)
 
-  unset_found : (found : Option SymId) (name : List ℕ) (t : SymId) (g : Given) → unset_effect tree name found ≡ Assigns t g → allowed tree t g ≡ true
+  unset_found : (found : Option SymId) (name : List ℕ) (t : SymId) (g : GivenValue) → unset_effect tree name found ≡ Assigns t g → allowed tree t g ≡ true
   unset_found None name t g e = cc
   unset_found (Some s) name t g e = here s t g (unset_facts (slice_get tree.symbols s.0) name s t g e)
 
-  pub effect_allowed : (said : Said) (t : SymId) (g : Given) → SaysNoLf said → effect_of tree said ≡ Assigns t g → allowed tree t g ≡ true
+  pub effect_allowed : (said : LineMeaning) (t : SymId) (g : GivenValue) → SaysNoLf said → effect_of tree said ≡ Assigns t g → allowed tree t g ≡ true
   effect_allowed Nothing t g none e = cc
   effect_allowed (Unset name) t g none e = unset_found (symbol_named tree name) name t g e
   effect_allowed (Set name text) t g none e = set_allowed (symbol_named tree name) name text t g none e
@@ -207,28 +207,25 @@ strip_no_lf bytes none = go (slice_index bytes (length bytes - 1) == 13)
     go true = take_no_lf (length bytes - 1) bytes none
     go false = none
 
-NoLfParts : Option (List ℕ × List ℕ) → Type 0
-NoLfParts None = Unit {0}
-NoLfParts (Some parts) = HasNoLf parts.1
-
 module _ (prefix : List ℕ) where
-  sides_no_lf : (b : Bool) (text : List ℕ) → HasNoLf text → SaysNoLf (set_or_malformed (cond b (Some (before_first is_equals text, after_first is_equals text)) None))
-  sides_no_lf true text none = drop_no_lf (position_or_len is_equals text + 1) text none
-  sides_no_lf false text none = tt
+  split_no_lf : (b : Bool) (text : List ℕ) → HasNoLf text → SaysNoLf (set_or_malformed (cond b (Some (before_first is_equals text, after_first is_equals text)) None))
+  split_no_lf true text none = drop_no_lf (position_or_len is_equals text + 1) text none
+  split_no_lf false text none = tt
 
-  behind_no_lf : (b : Bool) (text : List ℕ) → HasNoLf text → SaysNoLf (set_or_malformed (option_and_then sides (cond b (Some (drop (length prefix) text)) None)))
-  behind_no_lf true text none =
-      sides_no_lf (nat_lt 0 (position_or_len is_equals (drop (length prefix) text)) && nat_lt (position_or_len is_equals (drop (length prefix) text)) (length (drop (length prefix) text))) (drop (length prefix) text) (drop_no_lf (length prefix) text none)
-  behind_no_lf false text none = tt
+  without_prefix_no_lf : (b : Bool) (text : List ℕ) → HasNoLf text → SaysNoLf (set_or_malformed (option_and_then split_at_equals (cond b (Some (drop (length prefix) text)) None)))
+  without_prefix_no_lf true text none =
+      split_no_lf (nat_lt 0 (position_or_len is_equals (drop (length prefix) text)) && nat_lt (position_or_len is_equals (drop (length prefix) text))
+      (length (drop (length prefix) text))) (drop (length prefix) text) (drop_no_lf (length prefix) text none)
+  without_prefix_no_lf false text none = tt
 
   not_unset_no_lf : (text : List ℕ) → HasNoLf text → SaysNoLf (not_unset prefix text)
   not_unset_no_lf text none = go (is_comment text)
     where
-      go : (b : Bool) → SaysNoLf (cond b Nothing (set_or_malformed (set_parts prefix text)))
+      go : (b : Bool) → SaysNoLf (cond b Nothing (set_or_malformed (name_and_value prefix text)))
       go true = tt
-      go false = behind_no_lf (bytes_eq (take (length prefix) text) prefix) text none
+      go false = without_prefix_no_lf (bytes_eq (take (length prefix) text) prefix) text none
 
-  text_no_lf : (text : List ℕ) → HasNoLf text → SaysNoLf (text_says prefix text)
+  text_no_lf : (text : List ℕ) → HasNoLf text → SaysNoLf (meaning_of_text prefix text)
   text_no_lf text none = go (length text == 0) (unset_name prefix text)
     where
       go : (b : Bool) (o : Option (List ℕ)) → SaysNoLf (cond b Nothing (unset_or o (not_unset prefix text)))
@@ -236,9 +233,9 @@ module _ (prefix : List ℕ) where
       go false None = not_unset_no_lf text none
       go false (Some name) = tt
 
-  pub says_no_lf : (bytes : List ℕ) → HasNoLf bytes → SaysNoLf (says prefix bytes)
+  pub says_no_lf : (bytes : List ℕ) → HasNoLf bytes → SaysNoLf (meaning_of prefix bytes)
   says_no_lf bytes none = text_no_lf (trimmed bytes) (take_no_lf (length bytes - suffix_len is_blank bytes) bytes none)
 
 -- an assigned value is allowed for its symbol
-pub assigned_allowed : (tree : TreeFacts) (prefix bytes : List ℕ) (s : SymId) (g : Given) → HasNoLf bytes → effect_of tree (says prefix bytes) ≡ Assigns s g → allowed tree s g ≡ true
-assigned_allowed tree prefix bytes s g none e = effect_allowed tree (says prefix bytes) s g (says_no_lf prefix bytes none) e
+pub assigned_allowed : (tree : TreeFacts) (prefix bytes : List ℕ) (s : SymId) (g : GivenValue) → HasNoLf bytes → effect_of tree (meaning_of prefix bytes) ≡ Assigns s g → allowed tree s g ≡ true
+assigned_allowed tree prefix bytes s g none e = effect_allowed tree (meaning_of prefix bytes) s g (says_no_lf prefix bytes none) e

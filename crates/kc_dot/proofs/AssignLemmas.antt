@@ -16,7 +16,7 @@ use Rattle.kc_expr.specs.declared.expression.Tri.TheVariants.{N, M, Y}
 use Rattle.kc_expr.specs.declared.expression.Kind.{Kind}
 use Rattle.kc_expr.specs.declared.expression.Kind.TheVariants as kind
 use Rattle.kc_tree.specs.TreeFacts.{TreeFacts, SymbolFacts, IsWellFormed}
-use Rattle.kc_user.specs.Given.{Given, Chosen, Typed, Member}
+use Rattle.kc_user.specs.GivenValue.{GivenValue, GivenTruth, GivenText, Member}
 use Rattle.kc_user.specs.Places.{allowed, allowed_by, allowed_for, allowed_truth, allowed_text}
 use Rattle.kc_dot.specs.Effects.{Assigns, name_of, set_by_kind, assigned_or}
 use Rattle.kc_dot.specs.HasNames.{HasNames}
@@ -33,28 +33,28 @@ use Rattle.kc_dot.proofs.TextBytes.{int_bytes, hex_bytes, number_plain, number_n
 
 -- A text that stands right of a line's `=` and gives a symbol of this type the value.
 module _ (name : List ℕ) (s : SymId) where
-  pub record Sets (k : Kind) (g : Given) (value : List ℕ) : Type 0 where
+  pub record Sets (k : Kind) (g : GivenValue) (value : List ℕ) : Type 0 where
     pub none : HasNoLf value
     pub plain : EndsPlainly value
     pub short : length value ≤ 65000
     pub means : set_by_kind name s value k ≡ Assigns s g
 
-  letter : (k : Kind) (g : Given) (b : ℕ) → HasNoLf (b ∷ []) → EndsPlainly (b ∷ []) → set_by_kind name s (b ∷ []) k ≡ Assigns s g → (value : List ℕ) × Sets k g value
-  letter k g b none plain means = (b ∷ [], record { none = none; plain = plain; short = omega arith; means = means })
+  one_byte_sets : (k : Kind) (g : GivenValue) (b : ℕ) → HasNoLf (b ∷ []) → EndsPlainly (b ∷ []) → set_by_kind name s (b ∷ []) k ≡ Assigns s g → (value : List ℕ) × Sets k g value
+  one_byte_sets k g b none plain means = (b ∷ [], record { none = none; plain = plain; short = omega arith; means = means })
 
-  truth_sets : (k : Kind) (t : Tri) → allowed_truth k t ≡ true → (value : List ℕ) × Sets k (Chosen t) value
+  truth_sets : (k : Kind) (t : Tri) → allowed_truth k t ≡ true → (value : List ℕ) × Sets k (GivenTruth t) value
   truth_sets kind.Undefined t ok = absurd (true≢false (sym ok))
-  truth_sets kind.Bool N ok = letter kind.Bool (Chosen N) 110 (no_lf_check (110 ∷ []) refl) (plain_one 110 refl) refl
+  truth_sets kind.Bool N ok = one_byte_sets kind.Bool (GivenTruth N) 110 (no_lf_check (110 ∷ []) refl) (plain_one 110 refl) refl
   truth_sets kind.Bool M ok = absurd (true≢false (sym ok))
-  truth_sets kind.Bool Y ok = letter kind.Bool (Chosen Y) 121 (no_lf_check (121 ∷ []) refl) (plain_one 121 refl) refl
-  truth_sets kind.Tristate N ok = letter kind.Tristate (Chosen N) 110 (no_lf_check (110 ∷ []) refl) (plain_one 110 refl) refl
-  truth_sets kind.Tristate M ok = letter kind.Tristate (Chosen M) 109 (no_lf_check (109 ∷ []) refl) (plain_one 109 refl) refl
-  truth_sets kind.Tristate Y ok = letter kind.Tristate (Chosen Y) 121 (no_lf_check (121 ∷ []) refl) (plain_one 121 refl) refl
+  truth_sets kind.Bool Y ok = one_byte_sets kind.Bool (GivenTruth Y) 121 (no_lf_check (121 ∷ []) refl) (plain_one 121 refl) refl
+  truth_sets kind.Tristate N ok = one_byte_sets kind.Tristate (GivenTruth N) 110 (no_lf_check (110 ∷ []) refl) (plain_one 110 refl) refl
+  truth_sets kind.Tristate M ok = one_byte_sets kind.Tristate (GivenTruth M) 109 (no_lf_check (109 ∷ []) refl) (plain_one 109 refl) refl
+  truth_sets kind.Tristate Y ok = one_byte_sets kind.Tristate (GivenTruth Y) 121 (no_lf_check (121 ∷ []) refl) (plain_one 121 refl) refl
   truth_sets kind.Str t ok = absurd (true≢false (sym ok))
   truth_sets kind.Int t ok = absurd (true≢false (sym ok))
   truth_sets kind.Hex t ok = absurd (true≢false (sym ok))
 
-  string_sets : (text : List ℕ) → length (escape text) + 2 ≤ 65000 → HasNoLf text → Sets kind.Str (Typed text) (34 ∷ escape text ++ 34 ∷ [])
+  string_sets : (text : List ℕ) → length (escape text) + 2 ≤ 65000 → HasNoLf text → Sets kind.Str (GivenText text) (34 ∷ escape text ++ 34 ∷ [])
   string_sets text fits none = record {
     none = All-append (λ b. is_line_feed b ≡ false) (34 ∷ escape text) (34 ∷ []) (All-cons (λ b. is_line_feed b ≡ false) 34 (escape text) refl (escape_no_lf text none)) (no_lf_check (34 ∷ []) refl);
     plain = plain_quote text;
@@ -62,7 +62,7 @@ module _ (name : List ℕ) (s : SymId) where
     means = ap (assigned_or name s) (string_read_again text fits);
   }
 
-  text_sets : (k : Kind) (text : List ℕ) → allowed_text k text ≡ true → (value : List ℕ) × Sets k (Typed text) value
+  text_sets : (k : Kind) (text : List ℕ) → allowed_text k text ≡ true → (value : List ℕ) × Sets k (GivenText text) value
   text_sets kind.Undefined text ok = absurd (true≢false (sym ok))
   text_sets kind.Bool text ok = absurd (true≢false (sym ok))
   text_sets kind.Tristate text ok = absurd (true≢false (sym ok))
@@ -78,12 +78,12 @@ module _ (name : List ℕ) (s : SymId) where
       let bytes = hex_bytes text number in
       (text, record { none = number_no_lf text bytes; plain = number_plain text bytes; short = leb-true (length text) 65000 short; means = rw (short, number) refl })
 
-  sets : (k : Kind) (g : Given) → allowed_by k g ≡ true → (value : List ℕ) × Sets k g value
-  sets k (Chosen t) ok = truth_sets k t ok
-  sets k (Typed text) ok = text_sets k text ok
+  sets : (k : Kind) (g : GivenValue) → allowed_by k g ≡ true → (value : List ℕ) × Sets k g value
+  sets k (GivenTruth t) ok = truth_sets k t ok
+  sets k (GivenText text) ok = text_sets k text ok
   sets k (Member m) ok = absurd (true≢false (sym ok))
 
-module _ (tree : TreeFacts) (prefix stream : List ℕ) (is_pre : is_prefix prefix ≡ true) (formed : IsWellFormed tree) (s : SymId) (g : Given) where
+module _ (tree : TreeFacts) (prefix stream : List ℕ) (is_pre : is_prefix prefix ≡ true) (formed : IsWellFormed tree) (s : SymId) (g : GivenValue) where
   -- a line that gives the symbol the value
   abbrev IsAssigned : Type 0
   IsAssigned = (l : Line) × (l.ended ≡ true) × HasNoLf l.bytes × (is_within l ≡ true) × (effect tree prefix l ≡ Assigns s g)
@@ -97,7 +97,8 @@ module _ (tree : TreeFacts) (prefix stream : List ℕ) (is_pre : is_prefix prefi
       let (value, is) = sets (name_of tree s) s f.kind g ok in
       let few : length prefix ≤ 64 = short_prefix tree prefix stream is_pre formed named s f at defined in
       let body = (prefix ++ name_of tree s) ++ 61 ∷ value in
-      let fits : length body ≤ 65535 = (let v = is.short in let n = known.1 in omega (arith, v, n, few, length-append (prefix ++ name_of tree s) (61 ∷ value), length-append prefix (name_of tree s))) in (
+      let fits : length body ≤ 65535 = (let v = is.short in let n =
+      known.1 in omega (arith, v, n, few, length-append (prefix ++ name_of tree s) (61 ∷ value), length-append prefix (name_of tree s))) in (
         line stream 1 body true,
         refl,
         set_no_lf tree prefix stream is_pre formed named s f at defined value is.none,

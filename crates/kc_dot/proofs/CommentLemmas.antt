@@ -1,28 +1,25 @@
 -- Lines that begin with `#`: they say nothing, or unset a name.
-use Rattle.std.proofs.Common.{◌≡◌, ℕ, ◌+◌, ◌-◌, ◌<◌, ◌≤◌, zero, suc, List, [], ◌∷◌, ◌++◌, Bool, true, false, not, length, take, drop, reverse, get_or, eqb, cond, refl, sym, ap, ◌∙◌, subst, arith, inl, inr, ◌⊎◌, Option, Some, None, append_assoc, codes}
-use Rattle.std.specs.Prelude.{◌||◌, ◌==◌, ◌&&◌, All, nat_lt, slice_index}
+use Rattle.std.proofs.Common.{◌≡◌, ℕ, ◌+◌, ◌-◌, ◌≤◌, suc, List, [], ◌∷◌, ◌++◌, Bool, true, false, not, length, take, drop, reverse, get_or, eqb, cond, refl, sym, ap, ◌∙◌, arith, inl, inr, ◌⊎◌, Option, Some, None, append_assoc, codes}
+use Rattle.std.specs.Prelude.{◌==◌, All, nat_lt, slice_index}
 use Rattle.std.specs.List.{suffix_len, prefix_len, list_any}
 use Rattle.std.specs.Option.{option_and_then}
 use Rattle.std.specs.Str.{bytes_eq}
 use Rattle.std.specs.Str.Lines.{strip_carriage_return}
 use Rattle.std.proofs.Math.Seq.{take-append-add}
-use Rattle.std.proofs.lemmas.Bool.{cases_Bool, and_parts, true≢false, ne_eqb, not-true, false_from_ne_true}
+use Rattle.std.proofs.lemmas.Bool.{and_parts, true≢false, ne_eqb, not-true, false_from_ne_true}
 use Rattle.std.proofs.lemmas.List.{reverse-append, length-reverse, length-append, take-append-drop}
 use Rattle.std.proofs.lemmas.List.Elements.{All-append}
 use Rattle.std.proofs.lemmas.List.Folds.{list_any_at}
 use Rattle.std.proofs.lemmas.Slice.Eq.{bytes_eq-Decides}
-use Rattle.kc_text.specs.Lines.{is_line_feed}
 use Rattle.kc_text.specs.Lexemes.{is_blank}
 use Rattle.kc_tree.specs.TreeFacts.{TreeFacts}
-use Rattle.kc_dot.specs.ConfigLine.{Said, Nothing, Unset, trimmed, behind, ahead_of, is_plain, plain, unset_name, unset_or, says, text_says}
+use Rattle.kc_dot.specs.DotLine.{Nothing, Unset, trimmed, without_prefix, without_suffix, is_plain, plain, unset_name, unset_or, meaning_of, meaning_of_text}
 use Rattle.kc_dot.specs.Effects.{effect_of}
-use Rattle.kc_expr.specs.Names.{is_name_byte}
 use Rattle.kc_dot.specs.Prefixes.{is_prefix}
-use Rattle.kc_dot.specs.Reading.{Assignment, assignment_of}
-use Rattle.kc_dot.specs.Plain.{IsNoUnset, title_line}
-use Rattle.kc_dot.proofs.LineLemmas.{HasNoLf}
+use Rattle.kc_dot.specs.Reading.{assignment_of}
+use Rattle.kc_dot.specs.Plain.{IsNotUnsetLine}
 use Rattle.kc_dot.proofs.RoundTripLemmas.{prefix_bytes, name_no_blank}
-use Rattle.kc_dot.proofs.SymbolLineLemmas.{last_byte, strip_solid, last_cases}
+use Rattle.kc_dot.proofs.SymbolLineLemmas.{last_byte, strip_solid}
 
 -- What a byte that is no blank and no carriage return keeps in front of it.
 prefix_stop : (p : ℕ → Bool) (xs : List ℕ) (b : ℕ) (ys : List ℕ) → p b ≡ false → prefix_len p (xs ++ b ∷ ys) ≤ length xs
@@ -61,7 +58,7 @@ strip_front front b (x ∷ rest) e = by (slice_index (front ++ b ∷ x ∷ rest)
     by false = (x ∷ rest, refl)
 
 -- What is read of such a line.
-says_by : (prefix : List ℕ) (rest : List ℕ) → text_says prefix (35 ∷ rest) ≡ unset_or (unset_name prefix (35 ∷ rest)) Nothing
+says_by : (prefix : List ℕ) (rest : List ℕ) → meaning_of_text prefix (35 ∷ rest) ≡ unset_or (unset_name prefix (35 ∷ rest)) Nothing
 says_by prefix rest =
     let long : (length (35 ∷ rest) == 0) ≡ false = ne_eqb (length (35 ∷ rest)) 0 (λ e. absurd (omega arith)) in
     rw long refl
@@ -81,22 +78,23 @@ read_front front b rest blank return =
     (more, ap trimmed is ∙ then_)
 
 -- it says nothing, or unsets a name that it writes
-pub comment_says : (prefix bytes : List ℕ) → (says prefix (strip_carriage_return (35 ∷ bytes)) ≡ Nothing)
-    ⊎ ((name : List ℕ) × (says prefix (strip_carriage_return (35 ∷ bytes)) ≡ Unset name) × (unset_name prefix (text_read (35 ∷ bytes)) ≡ Some name))
+pub comment_says : (prefix bytes : List ℕ) → (meaning_of prefix (strip_carriage_return (35 ∷ bytes)) ≡ Nothing)
+    ⊎ ((name : List ℕ) × (meaning_of prefix (strip_carriage_return (35 ∷ bytes)) ≡ Unset name) × (unset_name prefix (text_read (35 ∷ bytes)) ≡ Some name))
 comment_says prefix bytes =
     let (more, is) = read_front [] 35 bytes refl refl in
     elim (either_said (unset_name prefix (35 ∷ more))) [
-      | inl e ↦ inl (ap (text_says prefix) is ∙ says_by prefix more ∙ e)
-      | inr (name, e, found) ↦ inr (name, ap (text_says prefix) is ∙ says_by prefix more ∙ e, ap (unset_name prefix) is ∙ found)
+      | inl e ↦ inl (ap (meaning_of_text prefix) is ∙ says_by prefix more ∙ e)
+      | inr (name, e, found) ↦ inr (name, ap (meaning_of_text prefix) is ∙ says_by prefix more ∙ e, ap (unset_name prefix) is ∙ found)
     ]
 
-pub silent : (tree : TreeFacts) (prefix bytes : List ℕ) → ((name : List ℕ) → unset_name prefix (text_read (35 ∷ bytes)) ≡ Some name → ⊥) → assignment_of (effect_of tree (says prefix (strip_carriage_return (35 ∷ bytes)))) ≡ None
+pub silent : (tree : TreeFacts) (prefix bytes : List ℕ) → ((name : List ℕ) → unset_name prefix (text_read (35 ∷ bytes)) ≡ Some name → ⊥) →
+    assignment_of (effect_of tree (meaning_of prefix (strip_carriage_return (35 ∷ bytes)))) ≡ None
 silent tree prefix bytes none = elim (comment_says prefix bytes) [
   | inl e ↦ rw e refl
   | inr (name, e, found) ↦ absurd (none name found)
 ]
 
-pub silent_plain : (tree : TreeFacts) (prefix bytes : List ℕ) → IsNoUnset prefix (35 ∷ bytes) → assignment_of (effect_of tree (says prefix (strip_carriage_return (35 ∷ bytes)))) ≡ None
+pub silent_plain : (tree : TreeFacts) (prefix bytes : List ℕ) → IsNotUnsetLine prefix (35 ∷ bytes) → assignment_of (effect_of tree (meaning_of prefix (strip_carriage_return (35 ∷ bytes)))) ≡ None
 silent_plain tree prefix bytes none = elim (comment_says prefix bytes) [
   | inl e ↦ rw e refl
   | inr (name, e, found) ↦ absurd (none name e)
@@ -110,12 +108,12 @@ if_then : (b : Bool) (x y : List ℕ) → cond b (Some x) None ≡ Some y → (b
 if_then true x y e = (refl, cc)
 if_then false x y e = cc
 
-behind_is : (front text rest : List ℕ) → behind front text ≡ Some rest → text ≡ front ++ rest
+behind_is : (front text rest : List ℕ) → without_prefix front text ≡ Some rest → text ≡ front ++ rest
 behind_is front text rest e =
     let (same, is) = if_then (bytes_eq (take (length front) text) front) (drop (length front) text) rest e in
     sym (take-append-drop (length front) text) ∙ ap (λ t. t ++ drop (length front) text) (bytes_same (take (length front) text) front same) ∙ ap (λ t. front ++ t) is
 
-ahead_is : (end text front : List ℕ) → ahead_of end text ≡ Some front → text ≡ front ++ end
+ahead_is : (end text front : List ℕ) → without_suffix end text ≡ Some front → text ≡ front ++ end
 ahead_is end text front e =
     let (same, is) = if_then (bytes_eq (drop (length text - length end) text) end) (take (length text - length end) text) front e in
     sym (take-append-drop (length text - length end) text) ∙ ap (λ t. take (length text - length end) text ++ t) (bytes_same (drop (length text - length end) text) end same) ∙ ap (λ t. t ++ end) is
@@ -126,9 +124,9 @@ then_some f (Some x) y e = (x, refl, e)
 
 pub unset_written : (prefix text name : List ℕ) → unset_name prefix text ≡ Some name → (text ≡ codes "# " ++ (prefix ++ (name ++ codes " is not set"))) × (is_plain name ≡ true)
 unset_written prefix text name e =
-    let (n, ahead, is_plain_name) = then_some plain (option_and_then (ahead_of (codes " is not set")) (option_and_then (behind prefix) (behind (codes "# ") text))) name e in
-    let (rest, behind_prefix, at_end) = then_some (ahead_of (codes " is not set")) (option_and_then (behind prefix) (behind (codes "# ") text)) n ahead in
-    let (body, hash, at_prefix) = then_some (behind prefix) (behind (codes "# ") text) rest behind_prefix in
+    let (n, ahead, is_plain_name) = then_some plain (option_and_then (without_suffix (codes " is not set")) (option_and_then (without_prefix prefix) (without_prefix (codes "# ") text))) name e in
+    let (rest, behind_prefix, at_end) = then_some (without_suffix (codes " is not set")) (option_and_then (without_prefix prefix) (without_prefix (codes "# ") text)) n ahead in
+    let (body, hash, at_prefix) = then_some (without_prefix prefix) (without_prefix (codes "# ") text) rest behind_prefix in
     let (plain_is, same) = if_then (is_plain n) n name is_plain_name in (
       behind_is (codes "# ") text body hash
           ∙ ap (λ t. codes "# " ++ t) (behind_is prefix body rest at_prefix)

@@ -9,24 +9,24 @@ use Rattle.kc_expr.specs.declared.expression.SymId.{SymId}
 use Rattle.kc_expr.specs.declared.expression.Tri.TheVariants.{N, M, Y}
 use Rattle.kc_expr.specs.declared.expression.Kind.TheVariants as kind
 use Rattle.kc_expr.specs.Names.{symbol}
-use Rattle.kc_expr.specs.Value.{Known, Truth, Written}
+use Rattle.kc_expr.specs.Value.{SymbolValue, Truth, TextValue}
 use Rattle.kc_order.specs.Solution.{Solves}
 use Rattle.kc_tree.specs.TreeFacts.{TreeFacts, SymbolFacts, ChoiceFacts, Shown, SymbolShown, MenuShown, EndShown, CommentShown, IsLineText, IsWellFormed, OfTitles, ShowsEach}
-use Rattle.kc_user.specs.Given.{Given, Member, Slot, At, In}
+use Rattle.kc_user.specs.GivenValue.{GivenValue, Member, UserPlace, SymbolPlace, ChoicePlace}
 use Rattle.kc_user.specs.Places.{Places, place_at, no_places, allowed, allowed_by, allowed_for, members_of}
 use Rattle.kc_values.specs.Differs as value
-use Rattle.kc_values.specs.Differs.{given_of, again}
+use Rattle.kc_values.specs.Differs.{given_of, reread_places}
 use Rattle.kc_values.specs.Laws.{MembersAreTheirs, MembersAreBools}
 use Rattle.kc_values.specs.Lookups.{choice_at}
-use Rattle.kc_values.specs.Solution.{symbol_count, seen, slot, equations}
-use Rattle.kc_values.specs.Written as ls
+use Rattle.kc_values.specs.Solution.{symbol_count, known_from, user_place, equations}
+use Rattle.kc_values.specs.WrittenSymbols as ls
 use Rattle.kc_values.proofs.FixedLines.{slot_cases, slot_of_member, Sel}
 use Rattle.kc_values.proofs.Selection.{found}
 use Rattle.kc_dot.specs.Effects.{name_of}
 use Rattle.kc_dot.specs.Prefixes.{is_prefix}
 use Rattle.kc_dot.specs.Reading.{Assignment, is_yes, places_given}
 use Rattle.kc_dot.specs.Plain.{HasPlainTitles}
-use Rattle.kc_dot.specs.Reread.{told_by, read_alone}
+use Rattle.kc_dot.specs.Reread.{valuation_view, read_alone}
 use Rattle.kc_dot.specs.HasNames.{HasNames}
 use Rattle.kc_dot.specs.SymbolLines.{config_line}
 use Rattle.kc_dot.specs.Texts.{config_text, symbol_config}
@@ -39,7 +39,8 @@ use Rattle.kc_dot.proofs.ShapeLemmas.{value_shape}
 use Rattle.kc_dot.proofs.SymbolLineLemmas.{IsOf, FitsLine, symbol_gives}
 
 -- what is found nowhere is no element
-missing_at : {X : Type 0} (p : X → Bool) (b : Bool) (x y : X) (xs : List X) → p x ≡ b → (find p xs ≡ None → Contains xs y → p y ≡ false) → cond b (Some x) (find p xs) ≡ None → Contains (x ∷ xs) y → p y ≡ false
+missing_at : {X : Type 0} (p : X → Bool) (b : Bool) (x y : X) (xs : List X) → p x ≡ b → (find p xs ≡ None → Contains xs y → p y ≡ false) →
+    cond b (Some x) (find p xs) ≡ None → Contains (x ∷ xs) y → p y ≡ false
 missing_at p true x y xs t rec e c = cc
 missing_at p false x y xs t rec e (zero, l, i) = ap p (sym i) ∙ t
 missing_at p false x y xs t rec e (suc n, l, i) = rec e (n, omega arith, i)
@@ -49,27 +50,32 @@ missing p [] y e c = absurd (no_element y c)
 missing p (x ∷ xs) y e c = missing_at p (p x) x y xs refl (missing p xs y) e c
 
 -- a symbol without a type is not written
-not_written : (tree : TreeFacts) (known : SymId → Known) (f : SymbolFacts) (choice : Option ℕ) → ((c : ℕ) → choice ≡ Some c → f.kind ≡ kind.Bool) → f.kind ≡ kind.Undefined → ls.written_by_choice tree known f choice ≡ false
+not_written : (tree : TreeFacts) (known : SymId → SymbolValue) (f : SymbolFacts) (choice : Option ℕ) → ((c : ℕ) → choice ≡ Some c → f.kind ≡ kind.Bool) →
+    f.kind ≡ kind.Undefined → ls.written_by_choice tree known f choice ≡ false
 not_written tree known f None bools e = ap (ls.written_by_kind tree known f) e
 not_written tree known f (Some c) bools e = let never : kind.Bool ≡ kind.Undefined = sym (bools c refl) ∙ e in cc
 
-yes_known : (k : Known) → is_yes (given_of k) ≡ value.is_yes k
+yes_known : (k : SymbolValue) → is_yes (given_of k) ≡ value.is_yes k
 yes_known (Truth N) = refl
 yes_known (Truth M) = refl
 yes_known (Truth Y) = refl
-yes_known (Written k bytes) = refl
+yes_known (TextValue k bytes) = refl
 
-yes_allowed : (k : Known) → value.is_yes k ≡ true → allowed_by kind.Bool (given_of k) ≡ true
+yes_allowed : (k : SymbolValue) → value.is_yes k ≡ true → allowed_by kind.Bool (given_of k) ≡ true
 yes_allowed (Truth N) e = refl
 yes_allowed (Truth M) e = absurd (true≢false (sym e))
 yes_allowed (Truth Y) e = refl
-yes_allowed (Written k bytes) e = absurd (true≢false (sym e))
+yes_allowed (TextValue k bytes) e = absurd (true≢false (sym e))
 
-module _ (tree : TreeFacts) (user : Slot → Option Given) (V : ℕ → Known) (formed : IsWellFormed tree) (theirs : MembersAreTheirs tree) (bools : MembersAreBools tree) (named_all : HasNames tree) (shows : ShowsEach tree) (texts : OfTitles IsLineText tree) (solves : Solves (symbol_count tree) (equations tree user) V) (fits : (s : SymId) → s.0 < symbol_count tree → ls.written tree (seen tree V) s ≡ true → FitsLine (V s.0)) (prefix : List ℕ) (is_pre : is_prefix prefix ≡ true) (plain : HasPlainTitles tree prefix (told_by tree user V)) where
-  abbrev K : SymId → Known
-  K = seen tree V
+module _ (tree : TreeFacts) (user : UserPlace → Option GivenValue) (V : ℕ → SymbolValue) (formed : IsWellFormed tree) (theirs : MembersAreTheirs tree)
+    (bools : MembersAreBools tree) (named_all : HasNames tree) (shows : ShowsEach tree) (texts : OfTitles IsLineText tree)
+    (solves : Solves (symbol_count tree) (equations tree user) V)
+    (fits : (s : SymId) → s.0 < symbol_count tree → ls.written tree (known_from tree V) s ≡ true → FitsLine (V s.0)) (prefix : List ℕ)
+    (is_pre : is_prefix prefix ≡ true) (plain : HasPlainTitles tree prefix (valuation_view tree user V)) where
+  abbrev K : SymId → SymbolValue
+  K = known_from tree V
 
-  abbrev pub value_to : SymId → Given
+  abbrev pub value_to : SymId → GivenValue
   value_to s = given_of (V s.0)
 
   abbrev pub has_line : SymId → Bool
@@ -84,12 +90,13 @@ module _ (tree : TreeFacts) (user : Slot → Option Given) (V : ℕ → Known) (
   abbrev given_to : SymId → List Assignment
   given_to s = cons_option (own_if (allowed tree s (given_of (V s.0))) s) []
 
-  written_gives : (stream : List ℕ) (s : SymId) → Contains tree.entries (SymbolShown s) → ls.written tree K s ≡ true → Gives tree prefix stream (symbol_config tree prefix (told_by tree user V) s) (given_to s)
+  written_gives : (stream : List ℕ) (s : SymId) → Contains tree.entries (SymbolShown s) → ls.written tree K s ≡ true →
+      Gives tree prefix stream (symbol_config tree prefix (valuation_view tree user V) s) (given_to s)
   written_gives stream s (n, at_n, is) w =
       let lt : s.0 < length tree.symbols = formed.entries_sound n (SymbolShown s) (slice_there n (SymbolShown s) at_n is) in
       let (f, at) = there tree.symbols s.0 lt in
-      let value_is : seen tree V s ≡ V s.0 = rw (lt-ltb s.0 (length tree.symbols) lt) refl in
-      let shape : IsOf f.kind (V s.0) = elim (value_shape tree (seen tree V) s f (user (slot tree s.0)) at bools) [
+      let value_is : known_from tree V s ≡ V s.0 = rw (lt-ltb s.0 (length tree.symbols) lt) refl in
+      let shape : IsOf f.kind (V s.0) = elim (value_shape tree (known_from tree V) s f (user (user_place tree s.0)) at bools) [
         | inl untyped ↦ absurd (true≢false (sym w ∙ ap (ls.written_facts tree K) at ∙ not_written tree K f f.choice (λ c e. bools s f c at e) untyped))
         | inr of ↦ rw (solves s.0 lt) of
       ] in
@@ -100,10 +107,10 @@ module _ (tree : TreeFacts) (user : Slot → Option Given) (V : ℕ → Known) (
       slice_there n entry lt e = slice_get-get_or tree.entries n entry lt ∙ ap Some e
 
   abbrev pub config_given : List Assignment
-  config_given = flat_map (entry_given tree prefix [] is_pre (told_by tree user V) given_to texts plain) tree.entries
+  config_given = flat_map (entry_given tree prefix [] is_pre (valuation_view tree user V) given_to texts plain) tree.entries
 
-  pub config_reads : (stream : List ℕ) → Gives tree prefix stream (config_text tree prefix (told_by tree user V)) config_given
-  config_reads stream = config_gives tree prefix stream is_pre (told_by tree user V) given_to texts plain (λ s c w. written_gives stream s c w)
+  pub config_reads : (stream : List ℕ) → Gives tree prefix stream (config_text tree prefix (valuation_view tree user V)) config_given
+  config_reads stream = config_gives tree prefix stream is_pre (valuation_view tree user V) given_to texts plain (λ s c w. written_gives stream s c w)
 
   in_own : (s : SymId) (a : Assignment) (ok : Bool) → Contains (cons_option (own_if ok s) []) a → (ok ≡ true) × (assignment_to s ≡ a)
   in_own s a true c = elim (contains_cases (assignment_to s) a [] c) [ inl e ↦ (refl, e) | inr later ↦ absurd (no_element a later) ]
@@ -121,7 +128,8 @@ module _ (tree : TreeFacts) (user : Slot → Option Given) (V : ℕ → Known) (
   to_entry s true e = to_own s (allowed tree s (given_of (V s.0))) e
   to_entry s false e = absurd (true≢false (sym e))
 
-  in_shown : (entry : Shown) (a : Assignment) → Contains (entry_given tree prefix [] is_pre (told_by tree user V) given_to texts plain entry) a → (s : SymId) × (entry ≡ SymbolShown s) × (has_line s ≡ true) × (assignment_to s ≡ a)
+  in_shown : (entry : Shown) (a : Assignment) → Contains (entry_given tree prefix [] is_pre (valuation_view tree user V) given_to texts plain entry) a →
+      (s : SymId) × (entry ≡ SymbolShown s) × (has_line s ≡ true) × (assignment_to s ≡ a)
   in_shown (SymbolShown s) a c = let (pass, is) = in_entry s a (ls.written tree K s) c in (s, refl, pass, is)
   in_shown (MenuShown text when) a c = absurd (no_element a c)
   in_shown (EndShown menu) a c = absurd (no_element a c)
@@ -130,7 +138,7 @@ module _ (tree : TreeFacts) (user : Slot → Option Given) (V : ℕ → Known) (
   pub config_holds : Holds tree value_to has_line config_given
   config_holds = record {
     sound = λ a c.
-        let (entry, (n, lt, at), mine) = in_flat_map (entry_given tree prefix [] is_pre (told_by tree user V) given_to texts plain) tree.entries a c in
+        let (entry, (n, lt, at), mine) = in_flat_map (entry_given tree prefix [] is_pre (valuation_view tree user V) given_to texts plain) tree.entries a c in
         let (s, shown, pass, is) = in_shown entry a mine in
         let same : s ≡ a.symbol = ap (λ (x : Assignment). x.symbol) is in
         let below : s.0 < length tree.symbols = formed.entries_sound n (SymbolShown s) (slice_get-get_or tree.entries n entry lt ∙ ap Some (at ∙ shown)) in (
@@ -140,7 +148,8 @@ module _ (tree : TreeFacts) (user : Slot → Option Given) (V : ℕ → Known) (
         );
     complete = λ s lt pass. (
       assignment_to s,
-      to_flat_map (entry_given tree prefix [] is_pre (told_by tree user V) given_to texts plain) tree.entries (SymbolShown s) (assignment_to s) (shows s lt) (to_entry s (ls.written tree K s) pass),
+      to_flat_map (entry_given tree prefix [] is_pre (valuation_view tree user V) given_to texts plain) tree.entries (SymbolShown s) (assignment_to s)
+          (shows s lt) (to_entry s (ls.written tree K s) pass),
       refl,
     );
   }
@@ -148,7 +157,7 @@ module _ (tree : TreeFacts) (user : Slot → Option Given) (V : ℕ → Known) (
   abbrev pub Reread : Places
   Reread = places_given tree (no_places tree) config_given
 
-  reread_own : (i : ℕ) → i < symbol_count tree → place_at Reread (At i) ≡ again tree V (At i)
+  reread_own : (i : ℕ) → i < symbol_count tree → place_at Reread (SymbolPlace i) ≡ reread_places tree V (SymbolPlace i)
   reread_own i lt = filled_symbol tree value_to has_line config_given config_holds i lt
 
   abbrev Wrote : SymId → Bool
@@ -175,7 +184,8 @@ module _ (tree : TreeFacts) (user : Slot → Option Given) (V : ℕ → Known) (
       let (w, ok) = and_parts (ls.written tree K x) (allowed tree x (given_of (V x.0))) pass in
       (f, found_f, member, and_from (ls.written tree K x) (value.is_yes (V x.0)) w (sym (yes_known (V x.0)) ∙ is_y))
 
-  reread_found : (c : ℕ) (o : Option ChoiceFacts) (r : Option SymId) → c < length tree.choices → choice_at tree c ≡ o → find Wrote (members_of o) ≡ r → place_at Reread (In c) ≡ option_map Member r
+  reread_found : (c : ℕ) (o : Option ChoiceFacts) (r : Option SymId) → c < length tree.choices → choice_at tree c ≡ o → find Wrote (members_of o) ≡ r →
+      place_at Reread (ChoicePlace c) ≡ option_map Member r
   reread_found c None (Some m) lt at e = let never : None ≡ Some m = e in cc
   reread_found c (Some f) (Some m) lt at e =
       let (wrote, member) = found Wrote f.members m e in
@@ -190,13 +200,14 @@ module _ (tree : TreeFacts) (user : Slot → Option Given) (V : ℕ → Known) (
       true≢false (sym wrote ∙ missing Wrote f.members x here member))
 
   -- the places that the written text gives are those that the written lines stand for
-  pub reread_at : (i : ℕ) → i < symbol_count tree → place_at Reread (slot tree i) ≡ again tree V (slot tree i)
+  pub reread_at : (i : ℕ) → i < symbol_count tree → place_at Reread (user_place tree i) ≡ reread_places tree V (user_place tree i)
   reread_at i lt = elim (slot_cases tree i) [
     | inl at ↦ rw at (reread_own i lt)
     | inr (c, at) ↦ rw at (reread_found c (choice_at tree c) (find Wrote (members_of (choice_at tree c))) (choice_there tree (symbol i) c formed lt (choice_by_slot tree (symbol i) c at)) refl refl)
   ]
 
-  pub config_read : (name : List ℕ) → (warned : List ℕ) × (read_alone tree prefix name (config_text tree prefix (told_by tree user V)) ≡ record { places = Reread; warned = warned; stopped = None })
+  pub config_read : (name : List ℕ) → (warned : List ℕ) ×
+      (read_alone tree prefix name (config_text tree prefix (valuation_view tree user V)) ≡ record { places = Reread; warned = warned; stopped = None })
   config_read name =
-      let (warned, is) = gives_whole tree prefix name (config_text tree prefix (told_by tree user V)) config_given (no_places tree) (config_reads name) in
-      (warned, read_alone_is tree prefix name (config_text tree prefix (told_by tree user V)) ∙ is)
+      let (warned, is) = gives_whole tree prefix name (config_text tree prefix (valuation_view tree user V)) config_given (no_places tree) (config_reads name) in
+      (warned, read_alone_is tree prefix name (config_text tree prefix (valuation_view tree user V)) ∙ is)

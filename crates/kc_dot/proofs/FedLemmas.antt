@@ -8,8 +8,7 @@ use Rattle.std.proofs.lemmas.List.Elements.{All-get_or, All-from_get_or}
 use Rattle.std.proofs.lemmas.List.Sums.{suffix_len_is, suffix_len-le-length, sum_by-append}
 use Rattle.kc_text.specs.Limits.{last_count}
 use Rattle.kc_text.specs.Lines.{is_line_feed}
-use Rattle.kc_dot.specs.Feeding.{Spot, IsOpen, fed, number_after}
-use Rattle.kc_dot.specs.Reading.{next_number}
+use Rattle.kc_dot.specs.Feeding.{StreamPosition, IsWithinLine, fed, number_after}
 use Rattle.kc_dot.proofs.LineLemmas.{HasNoLf}
 
 abbrev other : ℕ → Bool
@@ -50,20 +49,15 @@ number-other n b small is =
     let m : min n last_count ≡ n = omega arith in
     rw (is, e, m) refl
 
-number-lf : (n b : ℕ) → is_line_feed b ≡ true → number_after n (b ∷ []) ≡ next_number n
-number-lf n b is = rw is refl
-
 number-append : (n : ℕ) (a b : List ℕ) → number_after n (a ++ b) ≡ number_after (number_after n a) b
 number-append n a b =
     let c : count_by is_line_feed (a ++ b) ≡ count_by is_line_feed a + count_by is_line_feed b = sum_by-append (λ x. cond (is_line_feed x) 1 0) a b in
     rw c (omega arith)
 
-pub fed-other : (b : ℕ) (old : Spot) → IsOpen old → is_line_feed b ≡ false → let new : Spot = record { number = old.number; pending = old.pending ++ b ∷ [] } in new ≡ fed (b ∷ []) old
+pub fed-other : (b : ℕ) (old : StreamPosition) → IsWithinLine old → is_line_feed b ≡ false → let new : StreamPosition =
+    record { number = old.number; pending = old.pending ++ b ∷ [] } in new ≡ fed (b ∷ []) old
 fed-other b old opened is =
     rw (number-other old.number b opened.numbered is, after_last-other old.pending b is, after_last-none old.pending opened.one_line) refl
-
-pub fed-lf : (b : ℕ) (old : Spot) → is_line_feed b ≡ true → let new : Spot = record { number = next_number old.number; pending = [] } in new ≡ fed (b ∷ []) old
-fed-lf b old is = rw (number-lf old.number b is, after_last-lf old.pending b is) refl
 
 -- bytes without an LF wait behind what waits
 after_last-others : (bytes more : List ℕ) → HasNoLf more → after_last is_line_feed (bytes ++ more) ≡ after_last is_line_feed bytes ++ more
@@ -83,16 +77,17 @@ count-others (b ∷ more) one =
     rw is (count-others more rest)
 
 -- several bytes that are no LF wait for the end of their line
-pub fed-others : (a more : List ℕ) (old mid : Spot) → IsOpen mid → HasNoLf more → mid ≡ fed a old →
-    let new : Spot = record { number = mid.number; pending = mid.pending ++ more } in new ≡ fed (a ++ more) old
+pub fed-others : (a more : List ℕ) (old mid : StreamPosition) → IsWithinLine mid → HasNoLf more → mid ≡ fed a old →
+    let new : StreamPosition = record { number = mid.number; pending = mid.pending ++ more } in new ≡ fed (a ++ more) old
 fed-others a more old mid opened one is =
     let n : mid.number ≡ number_after old.number (a ++ more) =
-    ap (λ (s : Spot). s.number) is ∙ let c : count_by is_line_feed (a ++ more) ≡ count_by is_line_feed a + count_by is_line_feed more = sum_by-append (λ x. cond (is_line_feed x) 1 0) a more in
+    ap (λ (s : StreamPosition). s.number) is ∙ let c : count_by is_line_feed (a ++ more) ≡ count_by is_line_feed a + count_by is_line_feed more =
+    sum_by-append (λ x. cond (is_line_feed x) 1 0) a more in
     let z = count-others more one in
     let same : count_by is_line_feed (a ++ more) ≡ count_by is_line_feed a = omega arith in
     rw same refl in
     let p : mid.pending ++ more ≡ after_last is_line_feed (old.pending ++ (a ++ more)) =
-    ap (λ (s : Spot). s.pending ++ more) is ∙ sym (after_last-others (old.pending ++ a) more one) ∙ ap (after_last is_line_feed) (append_assoc old.pending a more) in
+    ap (λ (s : StreamPosition). s.pending ++ more) is ∙ sym (after_last-others (old.pending ++ a) more one) ∙ ap (after_last is_line_feed) (append_assoc old.pending a more) in
     rw (n, p) refl
 
 -- the first bytes are the first of them, and the first that follow
@@ -102,13 +97,13 @@ take_on (suc at) n [] = let e : suc at + n ≡ suc (at + n) = omega arith in rw 
 take_on (suc at) n (b ∷ bytes) = let e : suc at + n ≡ suc (at + n) = omega arith in rw e (ap (λ l. b ∷ l) (take_on at n bytes))
 
 -- nothing was fed
-pub fed-nothing : (old : Spot) → IsOpen old → old ≡ fed [] old
+pub fed-nothing : (old : StreamPosition) → IsWithinLine old → old ≡ fed [] old
 fed-nothing old opened =
     let n : min (old.number + 0) last_count ≡ old.number = let small = opened.numbered in omega arith in
     rw (n, append-nil, after_last-none old.pending opened.one_line) refl
 
 -- one byte more
-pub fed-append : (a : List ℕ) (b : ℕ) (old mid : Spot) → IsOpen mid → mid ≡ fed a old → fed (b ∷ []) mid ≡ fed (a ++ b ∷ []) old
+pub fed-append : (a : List ℕ) (b : ℕ) (old mid : StreamPosition) → IsWithinLine mid → mid ≡ fed a old → fed (b ∷ []) mid ≡ fed (a ++ b ∷ []) old
 fed-append a b old mid opened is = elim (cases_Bool (is_line_feed b)) [
   | inl e ↦
       let p : after_last is_line_feed (mid.pending ++ b ∷ []) ≡ after_last is_line_feed (old.pending ++ (a ++ b ∷ [])) =
@@ -116,13 +111,13 @@ fed-append a b old mid opened is = elim (cases_Bool (is_line_feed b)) [
       both p
   | inr e ↦
       let p : after_last is_line_feed (mid.pending ++ b ∷ []) ≡ after_last is_line_feed (old.pending ++ (a ++ b ∷ [])) =
-      after_last-other mid.pending b e ∙ ap (λ t. t ++ b ∷ []) (after_last-none mid.pending opened.one_line ∙ ap (λ (s : Spot). s.pending) is)
+      after_last-other mid.pending b e ∙ ap (λ t. t ++ b ∷ []) (after_last-none mid.pending opened.one_line ∙ ap (λ (s : StreamPosition). s.pending) is)
       ∙ sym (rw (← append_assoc) (after_last-other (old.pending ++ a) b e)) in
       both p
 ]
   where
     n : number_after mid.number (b ∷ []) ≡ number_after old.number (a ++ b ∷ [])
-    n = ap (λ (s : Spot). number_after s.number (b ∷ [])) is ∙ sym (number-append old.number a (b ∷ []))
+    n = ap (λ (s : StreamPosition). number_after s.number (b ∷ [])) is ∙ sym (number-append old.number a (b ∷ []))
 
     both : after_last is_line_feed (mid.pending ++ b ∷ []) ≡ after_last is_line_feed (old.pending ++ (a ++ b ∷ [])) → fed (b ∷ []) mid ≡ fed (a ++ b ∷ []) old
     both p = rw (n, p) refl

@@ -8,51 +8,47 @@ use Rattle.kc_tree.specs.TreeFacts.{TreeFacts}
 use Rattle.kc_user.specs.Places.{Places}
 use Rattle.kc_dot.specs.declared.fault.DotFault.{DotFault}
 use Rattle.kc_dot.specs.declared.fault.DotFault.TheVariants.{ConfigLineTooLong, Sink, Memory}
-use Rattle.kc_dot.specs.Feeding.{Spot, IsOpen, fed, to_come, BreaksAt, Goes, Feeds, Because, StopsAt, Refuses, Finishes, FailsToEnd}
+use Rattle.kc_dot.specs.Feeding.{StreamPosition, IsWithinLine, fed, to_come, BreaksAt, ReadsPiece, Feeds, StopsBecause, StopsAt, Refuses, Finishes, FailsToEnd}
 use Rattle.kc_dot.specs.LineSteps.{FailsIn}
-use Rattle.kc_dot.specs.Reading.{Line, line, is_within, next_number, lines_from, reading, told, places_after, warning}
+use Rattle.kc_dot.specs.Reading.{Line, line, is_within, next_number, lines_from, reading, with_warnings, places_after, warning}
 use Rattle.kc_dot.specs.Sink.{extended, BeginsWith, GoesBeyond}
 use Rattle.kc_dot.proofs.LineLemmas.{HasNoLf, lines_from-lf, lines_from-last, is_within-line}
 use Rattle.kc_dot.proofs.LongLineLemmas.{Stops-long, Stops-longer}
-use Rattle.kc_dot.proofs.ReadingLemmas.{told-told, reading_within}
+use Rattle.kc_dot.proofs.ReadingLemmas.{with_warnings-with_warnings, reading_within}
 use Rattle.kc_dot.proofs.SinkLemmas.{extended-extended, extended-nothing}
 
 module _ (tree : TreeFacts) (prefix name : List ℕ) where
-  pub Goes-nothing : (spot : Spot) (places : Places) → Goes tree prefix name [] spot spot places places []
-  Goes-nothing spot places rest more = refl
+  pub ReadsPiece-nothing : (position : StreamPosition) (places : Places) → ReadsPiece tree prefix name [] position position places places []
+  ReadsPiece-nothing position places rest more = refl
 
   -- two pieces are one
-  pub Goes-append : (a b : List ℕ) (old mid new : Spot) (before middle after : Places) (w v : List ℕ) →
-      Goes tree prefix name a old mid before middle w → Goes tree prefix name b mid new middle after v → Goes tree prefix name (a ++ b) old new before after (w ++ v)
-  Goes-append a b old mid new before middle after w v first second rest more =
-      rw append_assoc (first (b ++ rest) more ∙ ap (told w) (second rest more) ∙ told-told w v (reading tree prefix after (to_come name new rest more)))
+  pub ReadsPiece-append : (a b : List ℕ) (old mid new : StreamPosition) (before middle after : Places) (w v : List ℕ) →
+      ReadsPiece tree prefix name a old mid before middle w → ReadsPiece tree prefix name b mid new middle after v → ReadsPiece tree prefix name (a ++ b) old new before after (w ++ v)
+  ReadsPiece-append a b old mid new before middle after w v first second rest more =
+      rw append_assoc (first (b ++ rest) more ∙ ap (with_warnings w) (second rest more) ∙ with_warnings-with_warnings w v (reading tree prefix after (to_come name new rest more)))
 
-  pub Feeds-nothing : (spot : Spot) (places : Places) (taken : Option (List ℕ)) → Feeds tree prefix name [] spot spot places places taken taken
-  Feeds-nothing spot places taken = ([], extended-nothing taken, Goes-nothing spot places)
+  pub Feeds-nothing : (position : StreamPosition) (places : Places) (taken : Option (List ℕ)) → Feeds tree prefix name [] position position places places taken taken
+  Feeds-nothing position places taken = ([], extended-nothing taken, ReadsPiece-nothing position places)
 
-  pub Feeds-append : (a b : List ℕ) (old mid new : Spot) (before middle after : Places) (taken taken_mid taken_after : Option (List ℕ)) →
-      Feeds tree prefix name a old mid before middle taken taken_mid → Feeds tree prefix name b mid new middle after taken_mid taken_after → Feeds tree prefix name (a ++ b) old new before after taken taken_after
+  pub Feeds-append : (a b : List ℕ) (old mid new : StreamPosition) (before middle after : Places) (taken taken_mid taken_after : Option (List ℕ)) →
+      Feeds tree prefix name a old mid before middle taken taken_mid → Feeds tree prefix name b mid new middle after taken_mid taken_after →
+      Feeds tree prefix name (a ++ b) old new before after taken taken_after
   Feeds-append a b old mid new before middle after taken taken_mid taken_after (w, t, k) (v, u, l) =
-      (w ++ v, u ∙ ap (λ o. extended o v) t ∙ extended-extended taken w v, Goes-append a b old mid new before middle after w v k l)
-
-  -- a byte that is no LF waits for the end of its line
-  pub Feeds-byte : (b : ℕ) (old : Spot) (places : Places) (taken : Option (List ℕ)) →
-      Feeds tree prefix name (b ∷ []) old (record { number = old.number; pending = old.pending ++ b ∷ [] }) places places taken taken
-  Feeds-byte b old places taken = ([], extended-nothing taken, λ rest more. rw append_assoc refl)
+      (w ++ v, u ∙ ap (λ o. extended o v) t ∙ extended-extended taken w v, ReadsPiece-append a b old mid new before middle after w v k l)
 
   -- an LF ends the line
-  pub Goes-lf : (b : ℕ) (old : Spot) (before : Places) → IsOpen old → is_line_feed b ≡ true →
+  pub ReadsPiece-lf : (b : ℕ) (old : StreamPosition) (before : Places) → IsWithinLine old → is_line_feed b ≡ true →
       let l = line name old.number old.pending true in
-      Goes tree prefix name (b ∷ []) old (record { number = next_number old.number; pending = [] }) before (places_after tree prefix before (l ∷ [])) (warning tree prefix before l)
-  Goes-lf b old before open' lf rest more =
+      ReadsPiece tree prefix name (b ∷ []) old (record { number = next_number old.number; pending = [] }) before (places_after tree prefix before (l ∷ [])) (warning tree prefix before l)
+  ReadsPiece-lf b old before open' lf rest more =
       let l = line name old.number old.pending true in
       let e : lines_from name old.number (old.pending ++ b ∷ rest) ≡ l ∷ lines_from name (next_number old.number) rest = lines_from-lf name old.number old.pending b rest open'.one_line lf in
       rw e (reading_within tree prefix before l (lines_from name (next_number old.number) rest ++ more) (is_within-line name old.number old.pending true open'.within))
 
   -- the warning of the next line broke off
-  pub Because-lf : (b : ℕ) (old : Spot) (places : Places) (front : List ℕ) → IsOpen old → is_line_feed b ≡ true →
-      GoesBeyond (warning tree prefix places (line name old.number old.pending true)) front → Because tree prefix name Sink (b ∷ []) old places front
-  Because-lf b old places front open' lf begun =
+  pub StopsBecause-lf : (b : ℕ) (old : StreamPosition) (places : Places) (front : List ℕ) → IsWithinLine old → is_line_feed b ≡ true →
+      GoesBeyond (warning tree prefix places (line name old.number old.pending true)) front → StopsBecause tree prefix name Sink (b ∷ []) old places front
+  StopsBecause-lf b old places front open' lf begun =
       let same : old.pending ≡ old.pending ++ [] = sym (append-nil old.pending) in
       let is_10 : b ≡ 10 = eqb-true b 10 lf in
       record {
@@ -65,41 +61,42 @@ module _ (tree : TreeFacts) (prefix name : List ℕ) where
       }
 
   -- whatever follows, what was handed out begins the warnings of the lines from there on
-  pub begins_at_break : (left : List ℕ) (spot : Spot) (places : Places) (front : List ℕ) → BreaksAt tree prefix name left spot places front →
-      (rest : List ℕ) (more : List Line) → BeginsWith (reading tree prefix places (to_come name spot (left ++ rest) more)).warned front
-  begins_at_break left spot places front breaks rest more =
-      let bytes = spot.pending ++ breaks.text in
-      let l = line name spot.number bytes true in
+  pub begins_at_break : (left : List ℕ) (position : StreamPosition) (places : Places) (front : List ℕ) → BreaksAt tree prefix name left position places front →
+      (rest : List ℕ) (more : List Line) → BeginsWith (reading tree prefix places (to_come name position (left ++ rest) more)).warned front
+  begins_at_break left position places front breaks rest more =
+      let bytes = position.pending ++ breaks.text in
+      let l = line name position.number bytes true in
       let (b, beyond, begun) = breaks.begun in
-      let later = lines_from name (next_number spot.number) (breaks.later ++ rest) ++ more in
+      let later = lines_from name (next_number position.number) (breaks.later ++ rest) ++ more in
       let after = reading tree prefix (places_after tree prefix places (l ∷ [])) later in
-      let split : spot.pending ++ (left ++ rest) ≡ bytes ++ 10 ∷ (breaks.later ++ rest) =
-      ap (λ t. spot.pending ++ (t ++ rest)) breaks.ends ∙ ap (λ t. spot.pending ++ t) (append_assoc breaks.text (10 ∷ breaks.later) rest)
-      ∙ sym (append_assoc spot.pending breaks.text (10 ∷ (breaks.later ++ rest))) in
-      let cut : lines_from name spot.number (spot.pending ++ (left ++ rest)) ≡ l ∷ lines_from name (next_number spot.number) (breaks.later ++ rest) =
-      ap (lines_from name spot.number) split ∙ lines_from-lf name spot.number bytes 10 (breaks.later ++ rest) breaks.one_line refl in
-      let read : reading tree prefix places (to_come name spot (left ++ rest) more) ≡ told (warning tree prefix places l) after =
-      ap (λ ls. reading tree prefix places (ls ++ more)) cut ∙ reading_within tree prefix places l later (is_within-line name spot.number bytes true breaks.within) in
+      let split : position.pending ++ (left ++ rest) ≡ bytes ++ 10 ∷ (breaks.later ++ rest) =
+      ap (λ t. position.pending ++ (t ++ rest)) breaks.ends ∙ ap (λ t. position.pending ++ t) (append_assoc breaks.text (10 ∷ breaks.later) rest)
+      ∙ sym (append_assoc position.pending breaks.text (10 ∷ (breaks.later ++ rest))) in
+      let cut : lines_from name position.number (position.pending ++ (left ++ rest)) ≡ l ∷ lines_from name (next_number position.number) (breaks.later ++ rest) =
+      ap (lines_from name position.number) split ∙ lines_from-lf name position.number bytes 10 (breaks.later ++ rest) breaks.one_line refl in
+      let read : reading tree prefix places (to_come name position (left ++ rest) more) ≡ with_warnings (warning tree prefix places l) after =
+      ap (λ ls. reading tree prefix places (ls ++ more)) cut ∙ reading_within tree prefix places l later (is_within-line name position.number bytes true breaks.within) in
       rw read ((b ∷ beyond) ++ after.warned, rw begun (append_assoc front (b ∷ beyond) after.warned))
 
-  pub StopsAt-lf : (fault : DotFault) (b : ℕ) (old : Spot) (places : Places) (taken taken_after : Option (List ℕ)) → IsOpen old → is_line_feed b ≡ true →
+  pub StopsAt-lf : (fault : DotFault) (b : ℕ) (old : StreamPosition) (places : Places) (taken taken_after : Option (List ℕ)) → IsWithinLine old → is_line_feed b ≡ true →
       FailsIn (warning tree prefix places (line name old.number old.pending true)) fault taken taken_after → StopsAt tree prefix name fault (b ∷ []) old places taken taken_after
   StopsAt-lf (ConfigLineTooLong n) b old places taken taken_after open' lf never = absurd never
-  StopsAt-lf Sink b old places taken taken_after open' lf (front, begins, handed) = (front, handed, Because-lf b old places front open' lf begins)
+  StopsAt-lf Sink b old places taken taken_after open' lf (front, begins, handed) = (front, handed, StopsBecause-lf b old places front open' lf begins)
   StopsAt-lf Memory b old places taken taken_after open' lf same = ([], same ∙ extended-nothing taken, refl)
 
   -- the 65,536th byte of a line
-  pub StopsAt-long : (b : ℕ) (old : Spot) (places : Places) (taken : Option (List ℕ)) → IsOpen old → is_line_feed b ≡ false → 65535 ≤ length old.pending →
+  pub StopsAt-long : (b : ℕ) (old : StreamPosition) (places : Places) (taken : Option (List ℕ)) → IsWithinLine old → is_line_feed b ≡ false → 65535 ≤ length old.pending →
       StopsAt tree prefix name (ConfigLineTooLong old.number) (b ∷ []) old places taken taken
   StopsAt-long b old places taken open' other long =
       let within = open'.within in
       ([], extended-nothing taken, (refl, refl, omega arith, (b, [], refl, other), Stops-long tree prefix name b old places open' other long))
 
   -- whatever else follows in the piece
-  Because-longer : (fault : DotFault) (a b : List ℕ) (spot : Spot) (places : Places) (front : List ℕ) → Because tree prefix name fault a spot places front → Because tree prefix name fault (a ++ b) spot places front
-  Because-longer (ConfigLineTooLong n) a b spot places front (nothing, number, long, (x, rest, is, other), stops) =
-      (nothing, number, long, (x, rest ++ b, ap (λ t. t ++ b) is, other), Stops-longer tree prefix name a b spot places stops)
-  Because-longer Sink a b spot places front breaks = record {
+  StopsBecause-longer : (fault : DotFault) (a b : List ℕ) (position : StreamPosition) (places : Places) (front : List ℕ) →
+      StopsBecause tree prefix name fault a position places front → StopsBecause tree prefix name fault (a ++ b) position places front
+  StopsBecause-longer (ConfigLineTooLong n) a b position places front (nothing, number, long, (x, rest, is, other), stops) =
+      (nothing, number, long, (x, rest ++ b, ap (λ t. t ++ b) is, other), Stops-longer tree prefix name a b position places stops)
+  StopsBecause-longer Sink a b position places front breaks = record {
     text = breaks.text;
     later = breaks.later ++ b;
     ends = ap (λ t. t ++ b) breaks.ends ∙ append_assoc breaks.text (10 ∷ breaks.later) b;
@@ -107,14 +104,14 @@ module _ (tree : TreeFacts) (prefix name : List ℕ) where
     within = breaks.within;
     begun = breaks.begun;
   }
-  Because-longer Memory a b spot places front nothing = nothing
+  StopsBecause-longer Memory a b position places front nothing = nothing
 
-  pub StopsAt-longer : (fault : DotFault) (a b : List ℕ) (spot : Spot) (places : Places) (taken taken_after : Option (List ℕ)) →
-      StopsAt tree prefix name fault a spot places taken taken_after → StopsAt tree prefix name fault (a ++ b) spot places taken taken_after
-  StopsAt-longer fault a b spot places taken taken_after (front, handed, because) = (front, handed, Because-longer fault a b spot places front because)
+  pub StopsAt-longer : (fault : DotFault) (a b : List ℕ) (position : StreamPosition) (places : Places) (taken taken_after : Option (List ℕ)) →
+      StopsAt tree prefix name fault a position places taken taken_after → StopsAt tree prefix name fault (a ++ b) position places taken taken_after
+  StopsAt-longer fault a b position places taken taken_after (front, handed, because) = (front, handed, StopsBecause-longer fault a b position places front because)
 
   -- a refusal at one place of the piece
-  pub Refuses-at : (fault : DotFault) (piece : List ℕ) (at : ℕ) (old new : Spot) (before after : Places) (taken taken_mid taken_after : Option (List ℕ)) →
+  pub Refuses-at : (fault : DotFault) (piece : List ℕ) (at : ℕ) (old new : StreamPosition) (before after : Places) (taken taken_mid taken_after : Option (List ℕ)) →
       new ≡ fed (take at piece) old → Feeds tree prefix name (take at piece) old new before after taken taken_mid →
       StopsAt tree prefix name fault (drop at piece) new after taken_mid taken_after →
       Refuses tree prefix name fault piece old new before after taken taken_after
@@ -132,13 +129,13 @@ module _ (tree : TreeFacts) (prefix name : List ℕ) where
       }
 
   -- an LF's warning was handed out
-  pub Feeds-lf : (b : ℕ) (old new : Spot) (before after : Places) (taken taken_after : Option (List ℕ)) → IsOpen old → is_line_feed b ≡ true →
+  pub Feeds-lf : (b : ℕ) (old new : StreamPosition) (before after : Places) (taken taken_after : Option (List ℕ)) → IsWithinLine old → is_line_feed b ≡ true →
       after ≡ places_after tree prefix before (line name old.number old.pending true ∷ []) →
       taken_after ≡ extended taken (warning tree prefix before (line name old.number old.pending true)) →
       new ≡ record { number = next_number old.number; pending = [] } →
       Feeds tree prefix name (b ∷ []) old new before after taken taken_after
   Feeds-lf b old new before after taken taken_after open' lf places handed next =
-      (warning tree prefix before (line name old.number old.pending true), handed, λ rest more. rw (places, next) (Goes-lf b old before open' lf rest more))
+      (warning tree prefix before (line name old.number old.pending true), handed, λ rest more. rw (places, next) (ReadsPiece-lf b old before open' lf rest more))
 
 pub OnOk-three : {T E : Type 0} → (r : Result T E) (P Q R S : Type 0) → (P → Q → R → S) → OnOk r P → OnOk r Q → OnOk r R → OnOk r S
 OnOk-three (Ok x) P Q R S f p q r = f p q r
@@ -146,40 +143,40 @@ OnOk-three (Err e) P Q R S f p q r = tt
 
 module _ (tree : TreeFacts) (prefix name : List ℕ) where
   -- there is no last line
-  pub Finishes-nothing : (spot : Spot) (places : Places) (taken : Option (List ℕ)) → spot.pending ≡ [] → Finishes tree prefix name spot places places taken taken
-  Finishes-nothing spot places taken empty =
-      ([], extended-nothing taken, λ more. rw (empty, lines_from-last name spot.number [] (λ k d lt. absurd (omega arith))) refl)
+  pub Finishes-nothing : (position : StreamPosition) (places : Places) (taken : Option (List ℕ)) → position.pending ≡ [] → Finishes tree prefix name position places places taken taken
+  Finishes-nothing position places taken empty =
+      ([], extended-nothing taken, λ more. rw (empty, lines_from-last name position.number [] (λ k d lt. absurd (omega arith))) refl)
 
-  last_is : (spot : Spot) → IsOpen spot → 0 < length spot.pending → lines_from name spot.number spot.pending ≡ line name spot.number spot.pending false ∷ []
-  last_is spot opened some =
-      let e : (length spot.pending == 0) ≡ false = ne_eqb (length spot.pending) 0 (omega arith) in
-      lines_from-last name spot.number spot.pending opened.one_line ∙ rw e refl
+  last_is : (position : StreamPosition) → IsWithinLine position → 0 < length position.pending → lines_from name position.number position.pending ≡ line name position.number position.pending false ∷ []
+  last_is position opened some =
+      let e : (length position.pending == 0) ≡ false = ne_eqb (length position.pending) 0 (omega arith) in
+      lines_from-last name position.number position.pending opened.one_line ∙ rw e refl
 
   -- the last line was read
-  pub Finishes-line : (spot : Spot) (before after : Places) (taken taken_after : Option (List ℕ)) → IsOpen spot → 0 < length spot.pending →
-      after ≡ places_after tree prefix before (line name spot.number spot.pending false ∷ []) →
-      taken_after ≡ extended taken (warning tree prefix before (line name spot.number spot.pending false)) →
-      Finishes tree prefix name spot before after taken taken_after
-  Finishes-line spot before after taken taken_after opened some places handed =
-      let l = line name spot.number spot.pending false in (
+  pub Finishes-line : (position : StreamPosition) (before after : Places) (taken taken_after : Option (List ℕ)) → IsWithinLine position → 0 < length position.pending →
+      after ≡ places_after tree prefix before (line name position.number position.pending false ∷ []) →
+      taken_after ≡ extended taken (warning tree prefix before (line name position.number position.pending false)) →
+      Finishes tree prefix name position before after taken taken_after
+  Finishes-line position before after taken taken_after opened some places handed =
+      let l = line name position.number position.pending false in (
         warning tree prefix before l,
         handed,
-        λ more. rw (last_is spot opened some, places)
-            (reading_within tree prefix before l more (is_within-line name spot.number spot.pending false opened.within)),
+        λ more. rw (last_is position opened some, places)
+            (reading_within tree prefix before l more (is_within-line name position.number position.pending false opened.within)),
       )
 
   -- the warning of the last line broke off
-  pub FailsToEnd-line : (fault : DotFault) (spot : Spot) (places : Places) (taken taken_after : Option (List ℕ)) → IsOpen spot → 0 < length spot.pending →
-      FailsIn (warning tree prefix places (line name spot.number spot.pending false)) fault taken taken_after → FailsToEnd tree prefix name fault spot places taken taken_after
-  FailsToEnd-line (ConfigLineTooLong n) spot places taken taken_after opened some never = never
-  FailsToEnd-line Sink spot places taken taken_after opened some broke =
-      (line name spot.number spot.pending false, last_is spot opened some, is_within-line name spot.number spot.pending false opened.within, broke)
-  FailsToEnd-line Memory spot places taken taken_after opened some same = same
+  pub FailsToEnd-line : (fault : DotFault) (position : StreamPosition) (places : Places) (taken taken_after : Option (List ℕ)) → IsWithinLine position → 0 < length position.pending →
+      FailsIn (warning tree prefix places (line name position.number position.pending false)) fault taken taken_after → FailsToEnd tree prefix name fault position places taken taken_after
+  FailsToEnd-line (ConfigLineTooLong n) position places taken taken_after opened some never = never
+  FailsToEnd-line Sink position places taken taken_after opened some broke =
+      (line name position.number position.pending false, last_is position opened some, is_within-line name position.number position.pending false opened.within, broke)
+  FailsToEnd-line Memory position places taken taken_after opened some same = same
 
   -- whatever lines follow, what was handed out begins the warnings of the last line and theirs
-  pub begins_at_end : (spot : Spot) (places : Places) (last : Line) (front : List ℕ) → lines_from name spot.number spot.pending ≡ last ∷ [] → is_within last ≡ true →
+  pub begins_at_end : (position : StreamPosition) (places : Places) (last : Line) (front : List ℕ) → lines_from name position.number position.pending ≡ last ∷ [] → is_within last ≡ true →
       GoesBeyond (warning tree prefix places last) front →
-      (more : List Line) → BeginsWith (reading tree prefix places (lines_from name spot.number spot.pending ++ more)).warned front
-  begins_at_end spot places last front is within (b, beyond, begun) more =
+      (more : List Line) → BeginsWith (reading tree prefix places (lines_from name position.number position.pending ++ more)).warned front
+  begins_at_end position places last front is within (b, beyond, begun) more =
       let after = reading tree prefix (places_after tree prefix places (last ∷ [])) more in
       rw (is, reading_within tree prefix places last more within) ((b ∷ beyond) ++ after.warned, rw begun (append_assoc front (b ∷ beyond) after.warned))

@@ -1,15 +1,14 @@
 -- What assignments leave in empty places.
-use Rattle.std.proofs.Common.{◌≡◌, ℕ, ◌+◌, ◌<◌, ◌≤◌, zero, suc, List, [], ◌∷◌, ◌++◌, Bool, true, false, length, get_or, eqb, cond, refl, sym, ap, ◌∙◌, subst, arith, inl, inr, ◌⊎◌, Option, Some, None, replicate}
-use Rattle.std.specs.Prelude.{◌&&◌, ◌==◌, slice_get}
+use Rattle.std.proofs.Common.{◌≡◌, ℕ, ◌+◌, ◌<◌, zero, suc, List, [], ◌∷◌, Bool, true, false, length, get_or, eqb, cond, refl, sym, ap, ◌∙◌, subst, arith, inl, inr, ◌⊎◌, Option, Some, None, replicate}
+use Rattle.std.specs.Prelude.{◌&&◌}
 use Rattle.std.specs.List.{Contains, filter_map, flat_map, last_or, cons_option}
-use Rattle.std.specs.Option.{option_map, option_and_then}
-use Rattle.std.proofs.lemmas.Bool.{eqb-true, eq-eqb, cases_Bool, and_parts, and_from}
+use Rattle.std.proofs.lemmas.Bool.{eqb-true, eq-eqb, cases_Bool, and_parts}
 use Rattle.std.proofs.lemmas.List.{get_or-replicate, length-replicate}
 use Rattle.std.proofs.lemmas.List.Elements.{Contains-append_left, Contains-append_right, Contains-append_cases}
 use Rattle.kc_expr.specs.declared.expression.SymId.{SymId}
 use Rattle.kc_expr.specs.Names.{symbol}
 use Rattle.kc_tree.specs.TreeFacts.{TreeFacts}
-use Rattle.kc_user.specs.Given.{Given, Member, At, In}
+use Rattle.kc_user.specs.GivenValue.{GivenValue, Member, SymbolPlace, ChoicePlace}
 use Rattle.kc_user.specs.Places.{Places, place_at, no_places, member_place}
 use Rattle.kc_dot.specs.Reading.{Assignment, each_from, given_to, chosen_in, is_yes, is_choice, choice_of, places_given}
 
@@ -51,7 +50,8 @@ module _ {A B : Type 0} (f : A → Option B) where
   last_none (x ∷ xs) o none = one_more x xs o None (none x (contains_here x xs)) ∙ last_none xs o (λ y c. none y (contains_later x y xs c))
 
   -- each element that gives anything gives this, and some does
-  pub last_same : (g : B) (xs : List A) (o : Option B) → ((x : A) → Contains xs x → (f x ≡ None) ⊎ (f x ≡ Some g)) → (o ≡ Some g) ⊎ ((x : A) × Contains xs x × (f x ≡ Some g)) → last_or o (filter_map f xs) ≡ Some g
+  pub last_same : (g : B) (xs : List A) (o : Option B) → ((x : A) → Contains xs x → (f x ≡ None) ⊎ (f x ≡ Some g)) →
+      (o ≡ Some g) ⊎ ((x : A) × Contains xs x × (f x ≡ Some g)) → last_or o (filter_map f xs) ≡ Some g
   last_same g [] o each (inl e) = e
   last_same g [] o each (inr (x, c, e)) = absurd (no_element x c)
   last_same g (x ∷ xs) o each some = elim (each x (contains_here x xs)) [
@@ -73,21 +73,21 @@ get_each f n (x ∷ xs) (suc i) d e lt =
     let k : (n + 1) + i ≡ n + suc i = omega arith in
     get_each f (n + 1) xs i d e (omega arith) ∙ ap (λ j. f j (get_or xs i e)) k
 
-abbrev no_given : Option Given
+abbrev no_given : Option GivenValue
 no_given = None
 
 abbrev no_member : Option SymId
 no_member = None
 
 module _ (tree : TreeFacts) (given : List Assignment) where
-  pub symbol_place : (i : ℕ) → i < length tree.symbols → place_at (places_given tree (no_places tree) given) (At i) ≡ last_or None (filter_map (given_to i) given)
+  pub symbol_place : (i : ℕ) → i < length tree.symbols → place_at (places_given tree (no_places tree) given) (SymbolPlace i) ≡ last_or None (filter_map (given_to i) given)
   unfolding places_given
   symbol_place i lt =
       let long : i < length (replicate (length tree.symbols) no_given) = rw length-replicate lt in
       get_each (λ j old. last_or old (filter_map (given_to j) given)) 0 (replicate (length tree.symbols) no_given) i no_given no_given long
       ∙ (let z : 0 + i ≡ i = omega arith in rw (get_or-replicate (length tree.symbols) i no_given no_given lt, z) refl)
 
-  pub choice_place : (c : ℕ) → c < length tree.choices → place_at (places_given tree (no_places tree) given) (In c) ≡ member_place (last_or None (filter_map (chosen_in tree c) given))
+  pub choice_place : (c : ℕ) → c < length tree.choices → place_at (places_given tree (no_places tree) given) (ChoicePlace c) ≡ member_place (last_or None (filter_map (chosen_in tree c) given))
   unfolding places_given
   choice_place c lt =
       let long : c < length (replicate (length tree.choices) no_member) = rw length-replicate lt in
@@ -110,11 +110,11 @@ choice-is : (c : ℕ) (o : Option ℕ) → o ≡ Some c → is_choice c o ≡ tr
 choice-is c o e = rw e (eq-eqb c c refl)
 
 -- Assignments of their values to the symbols that pass a test.
-pub record Holds (tree : TreeFacts) (value : SymId → Given) (has : SymId → Bool) (given : List Assignment) : Type 0 where
+pub record Holds (tree : TreeFacts) (value : SymId → GivenValue) (has : SymId → Bool) (given : List Assignment) : Type 0 where
   pub sound : (a : Assignment) → Contains given a → (has a.symbol ≡ true) × (a.given ≡ value a.symbol) × (a.symbol.0 < length tree.symbols)
   pub complete : (s : SymId) → s.0 < length tree.symbols → has s ≡ true → (a : Assignment) × Contains given a × (a.symbol ≡ s)
 
-module _ (tree : TreeFacts) (value : SymId → Given) (has : SymId → Bool) (given : List Assignment) (holds : Holds tree value has given) where
+module _ (tree : TreeFacts) (value : SymId → GivenValue) (has : SymId → Bool) (given : List Assignment) (holds : Holds tree value has given) where
   abbrev Filled : Places
   Filled = places_given tree (no_places tree) given
 
@@ -125,7 +125,7 @@ module _ (tree : TreeFacts) (value : SymId → Given) (has : SymId → Bool) (gi
       rw (eq-eqb a.symbol.0 i is) (ap Some e)
 
   -- a symbol that passes has its value
-  pub filled_symbol : (i : ℕ) → i < length tree.symbols → place_at Filled (At i) ≡ cond (has (symbol i)) (Some (value (symbol i))) None
+  pub filled_symbol : (i : ℕ) → i < length tree.symbols → place_at Filled (SymbolPlace i) ≡ cond (has (symbol i)) (Some (value (symbol i))) None
   filled_symbol i lt = symbol_place tree given i lt ∙ by (has (symbol i)) refl
     where
       by : (b : Bool) → has (symbol i) ≡ b → last_or None (filter_map (given_to i) given) ≡ cond b (Some (value (symbol i))) None
@@ -156,7 +156,7 @@ module _ (tree : TreeFacts) (value : SymId → Given) (has : SymId → Bool) (gi
       let (is_y, choice) = and_parts (is_yes a.given) (is_choice c (choice_of tree a.symbol)) e in
       (h.2, h.0, is_choice-true c (choice_of tree a.symbol) choice, ap is_yes (sym h.1) ∙ is_y)
 
-  pub filled_member : (c : ℕ) (m : SymId) → c < length tree.choices → IsCandidate c m → ((x : SymId) → IsCandidate c x → x ≡ m) → place_at Filled (In c) ≡ Some (Member m)
+  pub filled_member : (c : ℕ) (m : SymId) → c < length tree.choices → IsCandidate c m → ((x : SymId) → IsCandidate c x → x ≡ m) → place_at Filled (ChoicePlace c) ≡ Some (Member m)
   filled_member c m lt is only =
       choice_place tree given c lt
       ∙ ap member_place (
@@ -174,7 +174,7 @@ module _ (tree : TreeFacts) (value : SymId → Given) (has : SymId → Bool) (gi
       ))
       )
 
-  pub filled_none : (c : ℕ) → c < length tree.choices → ((x : SymId) → IsCandidate c x → ⊥) → place_at Filled (In c) ≡ None
+  pub filled_none : (c : ℕ) → c < length tree.choices → ((x : SymId) → IsCandidate c x → ⊥) → place_at Filled (ChoicePlace c) ≡ None
   filled_none c lt none =
       choice_place tree given c lt
       ∙ ap member_place (

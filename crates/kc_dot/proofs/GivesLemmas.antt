@@ -1,22 +1,23 @@
 -- What the lines of a text give to the places, wherever it stands in a stream.
-use Rattle.std.proofs.Common.{◌≡◌, ℕ, ◌+◌, ◌<◌, ◌≤◌, suc, List, [], ◌∷◌, ◌++◌, true, false, length, refl, sym, ap, ◌∙◌, Option, Some, None, append_assoc, append-nil, arith}
+use Rattle.std.proofs.Common.{◌≡◌, ℕ, ◌+◌, ◌<◌, ◌≤◌, suc, List, [], ◌∷◌, ◌++◌, true, length, refl, sym, ap, ◌∙◌, Option, None, append_assoc, append-nil, arith}
 use Rattle.std.specs.List.{cons_option, flat_map, Contains}
 use Rattle.std.specs.Str.Lines.{strip_carriage_return}
 use Rattle.kc_tree.specs.TreeFacts.{TreeFacts}
 use Rattle.kc_user.specs.Places.{Places}
-use Rattle.kc_dot.specs.ConfigLine.{says}
+use Rattle.kc_dot.specs.DotLine.{meaning_of}
 use Rattle.kc_dot.specs.Effects.{effect_of}
-use Rattle.kc_dot.specs.Reading.{Line, Read, Assignment, line, next_number, lines_from, reading, told, warning, places_given, places_after, effect, assignment_of}
+use Rattle.kc_dot.specs.Reading.{Assignment, line, next_number, lines_from, reading, with_warnings, warning, places_given, places_after, effect, assignment_of}
 use Rattle.kc_dot.proofs.LineLemmas.{HasNoLf, lines_from-lf, lines_from-last, is_within-line}
 use Rattle.kc_dot.proofs.PlaceLemmas.{places_given-append, places_given-nothing}
-use Rattle.kc_dot.proofs.ReadingLemmas.{reading_within, reading-nothing, told-told}
+use Rattle.kc_dot.proofs.ReadingLemmas.{reading_within, reading-nothing, with_warnings-with_warnings}
 
 module _ (tree : TreeFacts) (prefix stream : List ℕ) where
   -- wherever the text stands, reading it makes these assignments and goes on behind it
   abbrev pub Gives : List ℕ → List Assignment → Type 0
   Gives text given =
       (n : ℕ) (rest : List ℕ) (places : Places) →
-      (next : ℕ) × (warned : List ℕ) × (reading tree prefix places (lines_from stream n (text ++ rest)) ≡ told warned (reading tree prefix (places_given tree places given) (lines_from stream next rest)))
+      (next : ℕ) × (warned : List ℕ) × (reading tree prefix places (lines_from stream n (text ++ rest)) ≡ with_warnings warned
+      (reading tree prefix (places_given tree places given) (lines_from stream next rest)))
 
   pub gives_nothing : Gives [] []
   gives_nothing n rest places = (n, [], rw (places_given-nothing tree places) refl)
@@ -27,11 +28,14 @@ module _ (tree : TreeFacts) (prefix stream : List ℕ) where
       let (next, v, then_) = second mid rest (places_given tree places g) in (
         next,
         w ++ v,
-        rw (append_assoc, places_given-append tree places g h) (is ∙ ap (told w) then_ ∙ told-told w v (reading tree prefix (places_given tree (places_given tree places g) h) (lines_from stream next rest))),
+        rw (append_assoc, places_given-append tree places g h)
+            (is ∙ ap (with_warnings w) then_ ∙ with_warnings-with_warnings w v
+            (reading tree prefix (places_given tree (places_given tree places g) h) (lines_from stream next rest))),
       )
 
   -- one line
-  pub gives_line : (body : List ℕ) (o : Option Assignment) → HasNoLf body → length body ≤ 65535 → assignment_of (effect_of tree (says prefix (strip_carriage_return body))) ≡ o → Gives (body ++ 10 ∷ []) (cons_option o [])
+  pub gives_line : (body : List ℕ) (o : Option Assignment) → HasNoLf body → length body ≤ 65535 →
+      assignment_of (effect_of tree (meaning_of prefix (strip_carriage_return body))) ≡ o → Gives (body ++ 10 ∷ []) (cons_option o [])
   unfolding effect
   gives_line body o none short is n rest places =
       let l = line stream n body true in

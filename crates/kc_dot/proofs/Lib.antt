@@ -19,7 +19,7 @@ pub mod PlaceLemmas
 pub mod QuotedLemmas
 pub mod ReadingLemmas
 pub mod RoundTripLemmas
-pub mod SettledLaws
+pub mod IdempotentLaws
 pub mod ShapeLemmas
 pub mod ShortTextLemmas
 pub mod SinkLemmas

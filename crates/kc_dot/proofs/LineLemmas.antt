@@ -6,10 +6,10 @@ use Rattle.std.proofs.lemmas.List.Splits.{slice_split_at, slice_split_none, slic
 use Rattle.kc_text.specs.Lines.{is_line_feed}
 use Rattle.kc_tree.specs.TreeFacts.{TreeFacts}
 use Rattle.kc_user.specs.Places.{Places}
-use Rattle.kc_dot.specs.ConfigLine.{says}
+use Rattle.kc_dot.specs.DotLine.{meaning_of}
 use Rattle.kc_dot.specs.Effects.{Effect, Silent, Warns, Assigns, effect_of}
 use Rattle.kc_dot.specs.LineSteps.{places_by}
-use Rattle.kc_dot.specs.Reading.{Line, line, is_within, next_number, last_line, lines_from, text_of, effect, assignment_of, places_given, places_after, warning, warning_words, trouble_of}
+use Rattle.kc_dot.specs.Reading.{Line, line, is_within, next_number, last_line, lines_from, text_of, effect, assignment_of, places_given, places_after, warning, warning_line_if, effect_warning}
 use Rattle.kc_dot.proofs.PlaceLemmas.{places_given-nothing}
 
 -- there is a first part
@@ -41,16 +41,16 @@ lines_from-last stream n bytes one = rw (slice_split_none is_line_feed bytes one
 -- What one line does.
 after_effect : (tree : TreeFacts) (places : Places) (e : Effect) → places_given tree places (cons_option (assignment_of e) []) ≡ places_by tree places e
 after_effect tree places Silent = places_given-nothing tree places
-after_effect tree places (Warns trouble) = places_given-nothing tree places
+after_effect tree places (Warns line_warning) = places_given-nothing tree places
 after_effect tree places (Assigns s given) = refl
 
 pub places_after-line : (tree : TreeFacts) (prefix : List ℕ) (places : Places) (l : Line) (text : List ℕ) → text ≡ text_of l →
-    places_after tree prefix places (l ∷ []) ≡ places_by tree places (effect_of tree (says prefix text))
+    places_after tree prefix places (l ∷ []) ≡ places_by tree places (effect_of tree (meaning_of prefix text))
 unfolding effect
-places_after-line tree prefix places l text is = rw is (after_effect tree places (effect_of tree (says prefix (text_of l))))
+places_after-line tree prefix places l text is = rw is (after_effect tree places (effect_of tree (meaning_of prefix (text_of l))))
 
 pub warning-line : (tree : TreeFacts) (prefix : List ℕ) (places : Places) (l : Line) (text : List ℕ) → text ≡ text_of l →
-    warning tree prefix places l ≡ warning_words l.stream l.number (trouble_of tree places (effect_of tree (says prefix text)))
+    warning tree prefix places l ≡ warning_line_if l.stream l.number (effect_warning tree places (effect_of tree (meaning_of prefix text)))
 unfolding warning effect
 warning-line tree prefix places l text is = rw is refl
 

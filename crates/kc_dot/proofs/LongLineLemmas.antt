@@ -1,5 +1,5 @@
 -- A line of more than 65,535 bytes, whatever follows.
-use Rattle.std.proofs.Common.{◌≡◌, ℕ, ◌<◌, ◌≤◌, List, [], ◌∷◌, ◌++◌, Bool, true, false, length, suc, refl, ap, ◌∙◌, arith, Some, length-append, append_assoc, ◌==◌}
+use Rattle.std.proofs.Common.{◌≡◌, ℕ, ◌<◌, ◌≤◌, List, [], ◌∷◌, ◌++◌, Bool, true, false, length, suc, refl, ap, ◌∙◌, arith, length-append, append_assoc, ◌==◌}
 use Rattle.std.specs.Prelude.{nat_le}
 use Rattle.std.specs.List.{slice_split, onto_first}
 use Rattle.std.proofs.lemmas.Bool.{ne_eqb}
@@ -8,8 +8,8 @@ use Rattle.std.proofs.lemmas.List.Splits.{slice_split-cons_no}
 use Rattle.kc_text.specs.Lines.{is_line_feed}
 use Rattle.kc_tree.specs.TreeFacts.{TreeFacts}
 use Rattle.kc_user.specs.Places.{Places}
-use Rattle.kc_dot.specs.Feeding.{Spot, IsOpen, Stops}
-use Rattle.kc_dot.specs.Reading.{Line, line, is_within, lines_from, lines_of_parts, reading, stop_at}
+use Rattle.kc_dot.specs.Feeding.{StreamPosition, IsWithinLine, Stops}
+use Rattle.kc_dot.specs.Reading.{Line, line, is_within, lines_from, lines_of_parts}
 use Rattle.kc_dot.proofs.LineLemmas.{HasNoLf, split_form}
 use Rattle.kc_dot.proofs.ReadingLemmas.{reading_long}
 
@@ -20,7 +20,8 @@ split_behind (b ∷ bytes) rest part parts one is =
     slice_split-cons_no is_line_feed b (bytes ++ rest) (one 0 b (omega arith)) ∙ ap (onto_first b) (split_behind bytes rest part parts (λ k d lt. one (suc k) d (omega (arith, lt))) is)
 
 -- the first line of these parts is the first part
-first_line : (stream : List ℕ) (n : ℕ) (part : List ℕ) (parts : List (List ℕ)) → 0 < length part → (ended : Bool) × (lines : List Line) × (lines_of_parts stream n (part ∷ parts) ≡ line stream n part ended ∷ lines)
+first_line : (stream : List ℕ) (n : ℕ) (part : List ℕ) (parts : List (List ℕ)) → 0 < length part → (ended : Bool) × (lines : List Line)
+    × (lines_of_parts stream n (part ∷ parts) ≡ line stream n part ended ∷ lines)
 first_line stream n part [] some = let e : (length part == 0) ≡ false = ne_eqb (length part) 0 (omega (arith, some)) in (false, [], rw e refl)
 first_line stream n part (next ∷ parts) some = (true, lines_of_parts stream _ (next ∷ parts), refl)
 
@@ -30,19 +31,22 @@ begins_line : (stream : List ℕ) (n : ℕ) (bytes : List ℕ) (b : ℕ) (rest :
 unfolding lines_from
 begins_line stream n bytes b rest one other =
     let (part, parts, is) = split_form rest in
-    let whole : slice_split is_line_feed (bytes ++ b ∷ rest) ≡ (bytes ++ b ∷ part) ∷ parts = split_behind bytes (b ∷ rest) (b ∷ part) parts one (slice_split-cons_no is_line_feed b rest other ∙ ap (onto_first b) is) in
+    let whole : slice_split is_line_feed (bytes ++ b ∷ rest) ≡ (bytes ++ b ∷ part) ∷ parts =
+    split_behind bytes (b ∷ rest) (b ∷ part) parts one (slice_split-cons_no is_line_feed b rest other ∙ ap (onto_first b) is) in
     let (ended, lines, first) = first_line stream n (bytes ++ b ∷ part) parts (omega (arith, length-append bytes (b ∷ part))) in
     (part, ended, lines, ap (lines_of_parts stream n) whole ∙ first)
 
 -- the 65,536th byte of a line stops the reading there
-pub Stops-long : (tree : TreeFacts) (prefix name : List ℕ) (b : ℕ) (spot : Spot) (places : Places) → IsOpen spot → is_line_feed b ≡ false → 65535 ≤ length spot.pending → Stops tree prefix name (b ∷ []) spot places
-Stops-long tree prefix name b spot places opened other long rest more =
-    let (part, ended, lines, is) = begins_line name spot.number spot.pending b rest opened.one_line other in
-    let l = line name spot.number (spot.pending ++ b ∷ part) ended in
-    let count = length-append spot.pending (b ∷ part) in
-    let too_long : is_within l ≡ false = (let e : nat_le (length (spot.pending ++ b ∷ part)) 65535 ≡ false = grind (arith, nat_tests) in e) in
+pub Stops-long : (tree : TreeFacts) (prefix name : List ℕ) (b : ℕ) (position : StreamPosition) (places : Places) → IsWithinLine position →
+    is_line_feed b ≡ false → 65535 ≤ length position.pending → Stops tree prefix name (b ∷ []) position places
+Stops-long tree prefix name b position places opened other long rest more =
+    let (part, ended, lines, is) = begins_line name position.number position.pending b rest opened.one_line other in
+    let l = line name position.number (position.pending ++ b ∷ part) ended in
+    let count = length-append position.pending (b ∷ part) in
+    let too_long : is_within l ≡ false = (let e : nat_le (length (position.pending ++ b ∷ part)) 65535 ≡ false = grind (arith, nat_tests) in e) in
     rw is (reading_long tree prefix places l (lines ++ more) too_long)
 
 -- whatever else follows in the piece
-pub Stops-longer : (tree : TreeFacts) (prefix name a b : List ℕ) (spot : Spot) (places : Places) → Stops tree prefix name a spot places → Stops tree prefix name (a ++ b) spot places
-Stops-longer tree prefix name a b spot places stops rest more = rw append_assoc (stops (b ++ rest) more)
+pub Stops-longer : (tree : TreeFacts) (prefix name a b : List ℕ) (position : StreamPosition) (places : Places) → Stops tree prefix name a position places →
+    Stops tree prefix name (a ++ b) position places
+Stops-longer tree prefix name a b position places stops rest more = rw append_assoc (stops (b ++ rest) more)

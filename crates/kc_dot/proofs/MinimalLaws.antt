@@ -3,20 +3,20 @@ use Rattle.std.proofs.Common.{◌≡◌, ℕ, ◌<◌, List, Bool, true, false, 
 use Rattle.std.specs.Prelude.{not}
 use Rattle.std.proofs.lemmas.Bool.{and_parts}
 use Rattle.kc_expr.specs.declared.expression.SymId.{SymId}
-use Rattle.kc_expr.specs.Value.{Known}
+use Rattle.kc_expr.specs.Value.{SymbolValue}
 use Rattle.kc_order.specs.Minimal.{kept, Restores, NothingCanGo}
 use Rattle.kc_order.specs.Solution.{Solves}
 use Rattle.kc_tree.specs.TreeFacts.{TreeFacts, IsWellFormed}
-use Rattle.kc_user.specs.Given.{Given, Slot, At, In}
+use Rattle.kc_user.specs.GivenValue.{GivenValue, UserPlace, SymbolPlace, ChoicePlace}
 use Rattle.kc_user.specs.Places.{Places, place_at, no_places}
-use Rattle.kc_values.specs.Differs.{differs, default_selection, line_of, AllowedPlaces}
+use Rattle.kc_values.specs.Differs.{differs, default_selection, minimal_line, AllowedPlaces}
 use Rattle.kc_values.specs.Laws.{MembersAreTheirs, MembersAreBools, DifferingAreAllowed}
-use Rattle.kc_values.specs.Solution.{symbol_count, slot, rhs, equations}
+use Rattle.kc_values.specs.Solution.{symbol_count, user_place, rhs, equations}
 use Rattle.kc_tree.specs.Words.{is_symbol_of}
 use Rattle.kc_values.proofs.FixedLines.{slot_cases, named, Sel, differs-member}
 use Rattle.kc_dot.specs.Prefixes.{is_prefix}
-use Rattle.kc_dot.specs.Reading.{Read, lines_from, reading, places_given}
-use Rattle.kc_dot.specs.Reread.{told_by, kept_lines, read_alone, IsOneSolution, HasOtherSolution}
+use Rattle.kc_dot.specs.Reading.{ReadResult, lines_from, reading, places_given}
+use Rattle.kc_dot.specs.Reread.{valuation_view, kept_lines, read_alone, IsOneSolution, HasOtherSolution}
 use Rattle.kc_dot.specs.HasNames.{HasNames}
 use Rattle.kc_dot.specs.Texts.{minimal_text}
 use Rattle.kc_dot.proofs.GivesLemmas.{gives_whole}
@@ -26,24 +26,27 @@ use Rattle.kc_dot.proofs.MinimalTextLemmas.{keeps_differing, tells_differing, st
 pub read_alone_is : (tree : TreeFacts) (prefix name text : List ℕ) → read_alone tree prefix name text ≡ reading tree prefix (no_places tree) (lines_from name 1 text)
 read_alone_is tree prefix name text = ap (reading tree prefix (no_places tree)) (append-nil (lines_from name 1 text))
 
-module _ (tree : TreeFacts) (user : Slot → Option Given) (V : ℕ → Known) (formed : IsWellFormed tree) (theirs : MembersAreTheirs tree) (bools : MembersAreBools tree) (named_all : HasNames tree) (allowed_at : AllowedPlaces tree user) (law : DifferingAreAllowed) (solves : Solves (symbol_count tree) (equations tree user) V) (prefix : List ℕ) (is_pre : is_prefix prefix ≡ true) where
-  abbrev Keep : Slot → Bool
+module _ (tree : TreeFacts) (user : UserPlace → Option GivenValue) (V : ℕ → SymbolValue) (formed : IsWellFormed tree) (theirs : MembersAreTheirs tree)
+    (bools : MembersAreBools tree) (named_all : HasNames tree) (allowed_at : AllowedPlaces tree user) (law : DifferingAreAllowed)
+    (solves : Solves (symbol_count tree) (equations tree user) V) (prefix : List ℕ) (is_pre : is_prefix prefix ≡ true) where
+  abbrev Keep : UserPlace → Bool
   Keep = keeps_differing tree user V theirs solves
 
   abbrev Assigned : (SymId → Bool) → Places
   Assigned keep = places_given tree (no_places tree) (all_given tree user V formed theirs bools named_all allowed_at law solves prefix is_pre keep)
 
-  abbrev Stays : (SymId → Bool) → Slot → Bool
+  abbrev Stays : (SymId → Bool) → UserPlace → Bool
   Stays keep = stays tree user V formed theirs bools named_all allowed_at law solves prefix is_pre keep
 
   read_kept : (keep : SymId → Bool) (name : List ℕ) →
-      (warned : List ℕ) × (read_alone tree prefix name (kept_lines tree prefix (told_by tree user V) keep) ≡ record { places = Assigned keep; warned = warned; stopped = None })
+      (warned : List ℕ) × (read_alone tree prefix name (kept_lines tree prefix (valuation_view tree user V) keep) ≡ record { places = Assigned keep; warned = warned; stopped = None })
   read_kept keep name =
       let gives = minimal_gives tree user V formed theirs bools named_all allowed_at law solves prefix is_pre keep name in
-      let (warned, is) = gives_whole tree prefix name (kept_lines tree prefix (told_by tree user V) keep) (all_given tree user V formed theirs bools named_all allowed_at law solves prefix is_pre keep) (no_places tree) gives in
-      (warned, read_alone_is tree prefix name (kept_lines tree prefix (told_by tree user V) keep) ∙ is)
+      let (warned, is) = gives_whole tree prefix name (kept_lines tree prefix (valuation_view tree user V) keep)
+      (all_given tree user V formed theirs bools named_all allowed_at law solves prefix is_pre keep) (no_places tree) gives in
+      (warned, read_alone_is tree prefix name (kept_lines tree prefix (valuation_view tree user V) keep) ∙ is)
 
-  place_is : (keep : SymId → Bool) (i : ℕ) → i < symbol_count tree → place_at (Assigned keep) (slot tree i) ≡ kept (Stays keep) (kept Keep (line_of tree user V)) (slot tree i)
+  place_is : (keep : SymId → Bool) (i : ℕ) → i < symbol_count tree → place_at (Assigned keep) (user_place tree i) ≡ kept (Stays keep) (kept Keep (minimal_line tree user V)) (user_place tree i)
   place_is keep i lt = left_at tree user V formed theirs bools named_all allowed_at law solves prefix is_pre keep i lt
 
   abbrev all : SymId → Bool
@@ -53,28 +56,29 @@ module _ (tree : TreeFacts) (user : Slot → Option Given) (V : ℕ → Known) (
   all_members None = refl
   all_members (Some m) = refl
 
-  all_stay : (p : Slot) → Stays all p ≡ true
-  all_stay (At i) = refl
-  all_stay (In c) = all_members (Sel tree user V solves c)
+  all_stay : (p : UserPlace) → Stays all p ≡ true
+  all_stay (SymbolPlace i) = refl
+  all_stay (ChoicePlace c) = all_members (Sel tree user V solves c)
 
-  all_kept : (p : Slot) → kept (Stays all) (kept Keep (line_of tree user V)) p ≡ kept Keep (line_of tree user V) p
-  all_kept p = ap (λ b. cond b (kept Keep (line_of tree user V) p) None) (all_stay p)
+  all_kept : (p : UserPlace) → kept (Stays all) (kept Keep (minimal_line tree user V)) p ≡ kept Keep (minimal_line tree user V) p
+  all_kept p = ap (λ b. cond b (kept Keep (minimal_line tree user V) p) None) (all_stay p)
 
   -- the whole file
-  pub gives_back : Restores (symbol_count tree) (slot tree) (rhs tree) (line_of tree user V) V Keep → (name : List ℕ) →
-      let read = read_alone tree prefix name (minimal_text tree prefix (told_by tree user V)) in (read.stopped ≡ None) × IsOneSolution tree read.places V
+  pub gives_back : Restores (symbol_count tree) (user_place tree) (rhs tree) (minimal_line tree user V) V Keep → (name : List ℕ) →
+      let read = read_alone tree prefix name (minimal_text tree prefix (valuation_view tree user V)) in (read.stopped ≡ None) × IsOneSolution tree read.places V
   unfolding minimal_text
   gives_back restores name =
       let (warned, is) = read_kept all name in
-      let same : (i : ℕ) → i < symbol_count tree → place_at (Assigned all) (slot tree i) ≡ kept Keep (line_of tree user V) (slot tree i) = λ i lt. place_is all i lt ∙ all_kept (slot tree i) in (
-        ap (λ (r : Read). r.stopped) is,
-        subst (λ (r : Read). IsOneSolution tree r.places V) (sym is) (record {
+      let same : (i : ℕ) → i < symbol_count tree → place_at (Assigned all) (user_place tree i) ≡ kept Keep (minimal_line tree user V) (user_place tree i) =
+      λ i lt. place_is all i lt ∙ all_kept (user_place tree i) in (
+        ap (λ (r : ReadResult). r.stopped) is,
+        subst (λ (r : ReadResult). IsOneSolution tree r.places V) (sym is) (record {
           solves = λ i lt. restores.solves i lt ∙ ap (λ g. rhs tree i g V) (sym (same i lt));
           only = λ W w. restores.only W (λ i lt. w i lt ∙ ap (λ g. rhs tree i g W) (same i lt));
         }),
       )
 
-  gone : (keep : SymId → Bool) (s : SymId) → s.0 < symbol_count tree → differs tree user V s.0 ≡ true → keep s ≡ false → Stays keep (slot tree s.0) ≡ false
+  gone : (keep : SymId → Bool) (s : SymId) → s.0 < symbol_count tree → differs tree user V s.0 ≡ true → keep s ≡ false → Stays keep (user_place tree s.0) ≡ false
   gone keep s lt other away = elim (slot_cases tree s.0) [
     | inl at ↦ ap (Stays keep) at ∙ away
     | inr (c, at) ↦
@@ -83,15 +87,15 @@ module _ (tree : TreeFacts) (user : Slot → Option Given) (V : ℕ → Known) (
   ]
 
   -- without some of its lines
-  pub none_to_spare : NothingCanGo (symbol_count tree) (slot tree) (rhs tree) (line_of tree user V) V Keep → (name : List ℕ) (keep : SymId → Bool) (s : SymId) →
+  pub none_to_spare : NothingCanGo (symbol_count tree) (user_place tree) (rhs tree) (minimal_line tree user V) V Keep → (name : List ℕ) (keep : SymId → Bool) (s : SymId) →
       s.0 < symbol_count tree → differs tree user V s.0 ≡ true → keep s ≡ false →
-      let read = read_alone tree prefix name (kept_lines tree prefix (told_by tree user V) keep) in (read.stopped ≡ None) × HasOtherSolution tree read.places V
+      let read = read_alone tree prefix name (kept_lines tree prefix (valuation_view tree user V) keep) in (read.stopped ≡ None) × HasOtherSolution tree read.places V
   none_to_spare nothing name keep s lt other away =
       let (warned, is) = read_kept keep name in
       let tells = tells_differing tree user V theirs solves in (
-        ap (λ (r : Read). r.stopped) is,
-        subst (λ (r : Read). HasOtherSolution tree r.places V) (sym is)
+        ap (λ (r : ReadResult). r.stopped) is,
+        subst (λ (r : ReadResult). HasOtherSolution tree r.places V) (sym is)
             (λ W w same.
-            nothing (Stays keep) (slot tree s.0) (tells.every s.0 lt other) (gone keep s lt other away) W
+            nothing (Stays keep) (user_place tree s.0) (tells.every s.0 lt other) (gone keep s lt other away) W
             (λ i below. w i below ∙ ap (λ g. rhs tree i g W) (place_is keep i below)) same),
       )

@@ -9,24 +9,24 @@ use Rattle.std.proofs.lemmas.List.FromFn.{length-map-range_with_len, get_or-map-
 use Rattle.kc_expr.specs.declared.expression.SymId.{SymId}
 use Rattle.kc_expr.specs.declared.expression.Tri.TheVariants.{N, Y}
 use Rattle.kc_expr.specs.Names.{symbol}
-use Rattle.kc_expr.specs.Value.{Known, Truth}
+use Rattle.kc_expr.specs.Value.{SymbolValue, Truth}
 use Rattle.kc_order.specs.Minimal.{kept}
 use Rattle.kc_order.specs.Solution.{Solves}
 use Rattle.kc_tree.specs.TreeFacts.{TreeFacts, SymbolFacts, IsWellFormed}
-use Rattle.kc_user.specs.Given.{Given, Member, Slot, At, In}
+use Rattle.kc_user.specs.GivenValue.{GivenValue, Member, UserPlace, SymbolPlace, ChoicePlace}
 use Rattle.kc_user.specs.Places.{place_at, no_places, allowed, allowed_by, allowed_for}
-use Rattle.kc_values.specs.Differs.{given_of, differs, default_selection, line_of, TellsDiffering, AllowedPlaces}
+use Rattle.kc_values.specs.Differs.{given_of, differs, default_selection, minimal_line, TellsDiffering, AllowedPlaces}
 use Rattle.kc_values.specs.Laws.{MembersAreTheirs, MembersAreBools, DifferingAreAllowed}
 use Rattle.kc_values.specs.Lookups.{facts, choice_at}
 use Rattle.kc_values.specs.Solution as sol
-use Rattle.kc_values.specs.Solution.{symbol_count, seen, slot, rhs, equations}
+use Rattle.kc_values.specs.Solution.{symbol_count, known_from, user_place, equations}
 use Rattle.kc_tree.specs.Words.{is_symbol_of}
 use Rattle.kc_values.proofs.FixedLines.{slot_cases, slot_of_member, names_itself, named, Sel, member_now, differs-member}
 use Rattle.kc_values.proofs.Selection.{selected_member}
 use Rattle.kc_dot.specs.Effects.{name_of}
 use Rattle.kc_dot.specs.Prefixes.{is_prefix}
 use Rattle.kc_dot.specs.Reading.{Assignment, choice_of, is_yes, places_given}
-use Rattle.kc_dot.specs.Reread.{told_by, kept_lines}
+use Rattle.kc_dot.specs.Reread.{valuation_view, kept_lines}
 use Rattle.kc_dot.specs.HasNames.{HasNames}
 use Rattle.kc_dot.specs.Texts.{symbols_of, symbol_config}
 use Rattle.kc_dot.specs.SymbolLines.{config_line}
@@ -52,22 +52,22 @@ symbols_all tree s lt =
     (s.0, omega (arith, lt, length-map-range_with_len symbol 0 (length tree.symbols)), get_or-map-range_with_len symbol 0 (length tree.symbols) s.0 s.0 s lt (omega arith))
 
 -- A symbol's choice and its place.
-slot_choice : (i c : ℕ) (o : Option SymbolFacts) → option_and_then (λ (f : SymbolFacts). f.choice) o ≡ Some c → sol.slot_of_facts i o ≡ In c
+slot_choice : (i c : ℕ) (o : Option SymbolFacts) → option_and_then (λ (f : SymbolFacts). f.choice) o ≡ Some c → sol.user_place_of i o ≡ ChoicePlace c
 slot_choice i c None e = cc
-slot_choice i c (Some f) e = ap (sol.slot_by i) e
+slot_choice i c (Some f) e = ap (sol.user_place_by i) e
 
-pub slot_by_choice : (tree : TreeFacts) (x : SymId) (c : ℕ) → choice_of tree x ≡ Some c → slot tree x.0 ≡ In c
+pub slot_by_choice : (tree : TreeFacts) (x : SymId) (c : ℕ) → choice_of tree x ≡ Some c → user_place tree x.0 ≡ ChoicePlace c
 slot_by_choice tree x c e = slot_choice x.0 c (facts tree x) e
 
-choice_by : (i c : ℕ) (o : Option ℕ) → sol.slot_by i o ≡ In c → o ≡ Some c
+choice_by : (i c : ℕ) (o : Option ℕ) → sol.user_place_by i o ≡ ChoicePlace c → o ≡ Some c
 choice_by i c None e = cc
 choice_by i c (Some d) e = let h : d ≡ c = cc in ap Some h
 
-choice_facts : (i c : ℕ) (o : Option SymbolFacts) → sol.slot_of_facts i o ≡ In c → option_and_then (λ (f : SymbolFacts). f.choice) o ≡ Some c
+choice_facts : (i c : ℕ) (o : Option SymbolFacts) → sol.user_place_of i o ≡ ChoicePlace c → option_and_then (λ (f : SymbolFacts). f.choice) o ≡ Some c
 choice_facts i c None e = cc
 choice_facts i c (Some f) e = choice_by i c f.choice e
 
-pub choice_by_slot : (tree : TreeFacts) (x : SymId) (c : ℕ) → slot tree x.0 ≡ In c → choice_of tree x ≡ Some c
+pub choice_by_slot : (tree : TreeFacts) (x : SymId) (c : ℕ) → user_place tree x.0 ≡ ChoicePlace c → choice_of tree x ≡ Some c
 choice_by_slot tree x c e = choice_facts x.0 c (facts tree x) e
 
 pub choice_there : (tree : TreeFacts) (x : SymId) (c : ℕ) → IsWellFormed tree → x.0 < length tree.symbols → choice_of tree x ≡ Some c → c < length tree.choices
@@ -82,7 +82,7 @@ yes_if : (b : Bool) → is_yes (given_of (Truth (cond b Y N))) ≡ true → b �
 yes_if true e = refl
 yes_if false e = e
 
-module _ (tree : TreeFacts) (user : Slot → Option Given) (V : ℕ → Known) (theirs : MembersAreTheirs tree) (solves : Solves (symbol_count tree) (equations tree user) V) where
+module _ (tree : TreeFacts) (user : UserPlace → Option GivenValue) (V : ℕ → SymbolValue) (theirs : MembersAreTheirs tree) (solves : Solves (symbol_count tree) (equations tree user) V) where
   abbrev Selected : ℕ → Option SymId
   Selected c = Sel tree user V solves c
 
@@ -92,41 +92,41 @@ module _ (tree : TreeFacts) (user : Slot → Option Given) (V : ℕ → Known) (
       let now = member_now tree user V solves x.0 c lt (slot_by_choice tree x c is) in
       named (Selected c) x (yes_if (is_symbol_of x (Selected c)) (sym (ap (λ k. is_yes (given_of k)) now) ∙ yes_now))
 
-  pub selected_yes : (x : SymId) (c : ℕ) → Selected c ≡ Some x → (x.0 < length tree.symbols) × (slot tree x.0 ≡ In c) × (is_yes (given_of (V x.0)) ≡ true)
+  pub selected_yes : (x : SymId) (c : ℕ) → Selected c ≡ Some x → (x.0 < length tree.symbols) × (user_place tree x.0 ≡ ChoicePlace c) × (is_yes (given_of (V x.0)) ≡ true)
   selected_yes x c sel =
-      let at = selected_member tree (seen tree V) (choice_at tree c) (user (In c)) x sel in
+      let at = selected_member tree (known_from tree V) (choice_at tree c) (user (ChoicePlace c)) x sel in
       let mine = theirs c at.0 x at.1 at.2 in
       let place = slot_of_member tree x mine.1.0 c mine.1.1 mine.1.2 in
       let now = member_now tree user V solves x.0 c mine.0 place ∙ ap (λ r. Truth (cond (is_symbol_of x r) Y N)) sel ∙ ap (λ b. Truth (cond b Y N)) (names_itself x) in
       (mine.0, place, ap (λ k. is_yes (given_of k)) now)
 
   -- the places of the symbols that differ
-  abbrev pub is_own : Slot → Bool
-  is_own (At i) = true
-  is_own (In c) = false
+  abbrev pub is_own : UserPlace → Bool
+  is_own (SymbolPlace i) = true
+  is_own (ChoicePlace c) = false
 
   abbrev pub differing_member : Option SymId → Bool
   differing_member None = false
   differing_member (Some m) = differs tree user V m.0
 
-  abbrev pub keeps_differing : Slot → Bool
-  keeps_differing (At i) = nat_lt i (symbol_count tree) && (is_own (slot tree i) && differs tree user V i)
-  keeps_differing (In c) = differing_member (Selected c)
+  abbrev pub keeps_differing : UserPlace → Bool
+  keeps_differing (SymbolPlace i) = nat_lt i (symbol_count tree) && (is_own (user_place tree i) && differs tree user V i)
+  keeps_differing (ChoicePlace c) = differing_member (Selected c)
 
-  kept_own : (i : ℕ) → slot tree i ≡ At i → i < symbol_count tree → keeps_differing (At i) ≡ differs tree user V i
+  kept_own : (i : ℕ) → user_place tree i ≡ SymbolPlace i → i < symbol_count tree → keeps_differing (SymbolPlace i) ≡ differs tree user V i
   kept_own i at lt = rw (lt-ltb i (symbol_count tree) lt, at) refl
 
-  own_slot : (i : ℕ) → is_own (slot tree i) ≡ true → slot tree i ≡ At i
+  own_slot : (i : ℕ) → is_own (user_place tree i) ≡ true → user_place tree i ≡ SymbolPlace i
   own_slot i e = elim (slot_cases tree i) [
     | inl at ↦ at
     | inr (c, at) ↦ let never : false ≡ true = sym (ap is_own at) ∙ e in cc
   ]
 
-  tell_member : (c : ℕ) (r : Option SymId) → Selected c ≡ r → differing_member r ≡ true → (i : ℕ) × (i < symbol_count tree) × (slot tree i ≡ In c) × (differs tree user V i ≡ true)
+  tell_member : (c : ℕ) (r : Option SymId) → Selected c ≡ r → differing_member r ≡ true → (i : ℕ) × (i < symbol_count tree) × (user_place tree i ≡ ChoicePlace c) × (differs tree user V i ≡ true)
   tell_member c None sel e = absurd (true≢false (sym e))
   tell_member c (Some m) sel e = let (lt, place, is_y) = selected_yes m c sel in (m.0, lt, place, e)
 
-  member_told : (i c : ℕ) → slot tree i ≡ In c → differs tree user V i ≡ true → differing_member (Selected c) ≡ true
+  member_told : (i c : ℕ) → user_place tree i ≡ ChoicePlace c → differs tree user V i ≡ true → differing_member (Selected c) ≡ true
   member_told i c place e =
       let both = and_parts (is_symbol_of (symbol i) (Selected c)) (not (is_symbol_of (symbol i) (default_selection tree V c))) (sym (differs-member tree user V solves i c place) ∙ e) in
       ap differing_member (named (Selected c) (symbol i) both.0) ∙ e
@@ -134,22 +134,24 @@ module _ (tree : TreeFacts) (user : Slot → Option Given) (V : ℕ → Known) (
   pub tells_differing : TellsDiffering tree user V keeps_differing
   tells_differing = record { differing = telling; every = told_each }
     where
-      telling : (p : Slot) → keeps_differing p ≡ true → (i : ℕ) × (i < symbol_count tree) × (slot tree i ≡ p) × (differs tree user V i ≡ true)
-      telling (At i) e =
-          let (below, rest) = and_parts (nat_lt i (symbol_count tree)) (is_own (slot tree i) && differs tree user V i) e in
-          let (its_own, other) = and_parts (is_own (slot tree i)) (differs tree user V i) rest in
+      telling : (p : UserPlace) → keeps_differing p ≡ true → (i : ℕ) × (i < symbol_count tree) × (user_place tree i ≡ p) × (differs tree user V i ≡ true)
+      telling (SymbolPlace i) e =
+          let (below, rest) = and_parts (nat_lt i (symbol_count tree)) (is_own (user_place tree i) && differs tree user V i) e in
+          let (its_own, other) = and_parts (is_own (user_place tree i)) (differs tree user V i) rest in
           (i, ltb-true i (symbol_count tree) below, own_slot i its_own, other)
-      telling (In c) e = tell_member c (Selected c) refl e
+      telling (ChoicePlace c) e = tell_member c (Selected c) refl e
 
-      told_each : (i : ℕ) → i < symbol_count tree → differs tree user V i ≡ true → keeps_differing (slot tree i) ≡ true
+      told_each : (i : ℕ) → i < symbol_count tree → differs tree user V i ≡ true → keeps_differing (user_place tree i) ≡ true
       told_each i lt e = elim (slot_cases tree i) [
         | inl at ↦ ap keeps_differing at ∙ kept_own i at lt ∙ e
         | inr (c, at) ↦ ap keeps_differing at ∙ member_told i c at e
       ]
 
 -- Reading the lines of the symbols that differ and that a test keeps.
-module _ (tree : TreeFacts) (user : Slot → Option Given) (V : ℕ → Known) (formed : IsWellFormed tree) (theirs : MembersAreTheirs tree) (bools : MembersAreBools tree) (named_all : HasNames tree) (allowed_at : AllowedPlaces tree user) (law : DifferingAreAllowed) (solves : Solves (symbol_count tree) (equations tree user) V) (prefix : List ℕ) (is_pre : is_prefix prefix ≡ true) (keep : SymId → Bool) where
-  abbrev pub value_of_symbol : SymId → Given
+module _ (tree : TreeFacts) (user : UserPlace → Option GivenValue) (V : ℕ → SymbolValue) (formed : IsWellFormed tree) (theirs : MembersAreTheirs tree)
+    (bools : MembersAreBools tree) (named_all : HasNames tree) (allowed_at : AllowedPlaces tree user) (law : DifferingAreAllowed)
+    (solves : Solves (symbol_count tree) (equations tree user) V) (prefix : List ℕ) (is_pre : is_prefix prefix ≡ true) (keep : SymId → Bool) where
+  abbrev pub value_of_symbol : SymId → GivenValue
   value_of_symbol s = given_of (V s.0)
 
   abbrev pub passes : SymId → Bool
@@ -158,16 +160,14 @@ module _ (tree : TreeFacts) (user : Slot → Option Given) (V : ℕ → Known) (
   abbrev assignment_to : SymId → Assignment
   assignment_to s = record { symbol = s; given = given_of (V s.0) }
 
-  kept_given : SymId → List Assignment
-  kept_given s = cond (keep s) (cond (differs tree user V s.0) (assignment_to s ∷ []) []) []
-
-  differing_gives : (stream : List ℕ) (s : SymId) → s.0 < length tree.symbols → differs tree user V s.0 ≡ true → Gives tree prefix stream (symbol_config tree prefix (told_by tree user V) s) (assignment_to s ∷ [])
+  differing_gives : (stream : List ℕ) (s : SymId) → s.0 < length tree.symbols → differs tree user V s.0 ≡ true →
+      Gives tree prefix stream (symbol_config tree prefix (valuation_view tree user V) s) (assignment_to s ∷ [])
   differing_gives stream s lt e =
       let (f, at) = there tree.symbols s.0 lt in
       let ok : allowed tree s (given_of (V s.0)) ≡ true = law tree user V s.0 lt bools allowed_at solves e in
       let ok_kind : allowed_by f.kind (given_of (V s.0)) ≡ true = sym (ap (λ o. allowed_for o (given_of (V s.0))) at) ∙ ok in
       let value_is : told_value s ≡ V s.0 = rw (lt-ltb s.0 (length tree.symbols) lt) refl in
-      let shape : IsOf f.kind (V s.0) = elim (value_shape tree (seen tree V) s f (user (slot tree s.0)) at bools) [
+      let shape : IsOf f.kind (V s.0) = elim (value_shape tree (known_from tree V) s f (user (user_place tree s.0)) at bools) [
         | inl untyped ↦ absurd (untyped_not f.kind (given_of (V s.0)) untyped ok_kind)
         | inr of ↦ rw (solves s.0 lt) of
       ] in
@@ -176,11 +176,11 @@ module _ (tree : TreeFacts) (user : Slot → Option Given) (V : ℕ → Known) (
       subst (λ k. Gives tree prefix stream (config_line (prefix ++ name_of tree s) k) (assignment_to s ∷ [])) (sym value_is)
       (subst (λ o. Gives tree prefix stream (config_line (prefix ++ name_of tree s) (V s.0)) (cons_option o [])) own_is line)
     where
-      told_value : SymId → Known
-      told_value = seen tree V
+      told_value : SymId → SymbolValue
+      told_value = known_from tree V
 
   abbrev line_if : Bool → Bool → SymId → List ℕ
-  line_if stay other s = cond stay (cond other (symbol_config tree prefix (told_by tree user V) s) []) []
+  line_if stay other s = cond stay (cond other (symbol_config tree prefix (valuation_view tree user V) s) []) []
 
   abbrev given_if : Bool → Bool → SymId → List Assignment
   given_if stay other s = cond stay (cond other (assignment_to s ∷ []) []) []
@@ -193,7 +193,7 @@ module _ (tree : TreeFacts) (user : Slot → Option Given) (V : ℕ → Known) (
   abbrev pub all_given : List Assignment
   all_given = flat_map (λ s. given_if (keep s) (differs tree user V s.0) s) (symbols_of tree)
 
-  pub minimal_gives : (stream : List ℕ) → Gives tree prefix stream (kept_lines tree prefix (told_by tree user V) keep) all_given
+  pub minimal_gives : (stream : List ℕ) → Gives tree prefix stream (kept_lines tree prefix (valuation_view tree user V) keep) all_given
   minimal_gives stream =
       gives_all tree prefix stream (λ s. line_if (keep s) (differs tree user V s.0) s) (λ s. given_if (keep s) (differs tree user V s.0) s) (symbols_of tree)
       (λ s c. gives_if stream s (symbols_below tree s c) (keep s) (differs tree user V s.0) refl)
@@ -230,21 +230,21 @@ module _ (tree : TreeFacts) (user : Slot → Option Given) (V : ℕ → Known) (
   stays_member None = true
   stays_member (Some m) = keep m
 
-  abbrev pub stays : Slot → Bool
-  stays (At i) = keep (symbol i)
-  stays (In c) = stays_member (Sel tree user V solves c)
+  abbrev pub stays : UserPlace → Bool
+  stays (SymbolPlace i) = keep (symbol i)
+  stays (ChoicePlace c) = stays_member (Sel tree user V solves c)
 
-  abbrev Lines : Slot → Option Given
-  Lines = kept stays (kept (keeps_differing tree user V theirs solves) (line_of tree user V))
+  abbrev Lines : UserPlace → Option GivenValue
+  Lines = kept stays (kept (keeps_differing tree user V theirs solves) (minimal_line tree user V))
 
-  abbrev Left : Slot → Option Given
+  abbrev Left : UserPlace → Option GivenValue
   Left = place_at (places_given tree (no_places tree) all_given)
 
-  both_if : (a b : Bool) (o : Option Given) → cond (a && b) o None ≡ cond a (cond b o None) None
+  both_if : (a b : Bool) (o : Option GivenValue) → cond (a && b) o None ≡ cond a (cond b o None) None
   both_if true b o = refl
   both_if false b o = refl
 
-  left_own : (i : ℕ) → i < symbol_count tree → slot tree i ≡ At i → Left (At i) ≡ Lines (At i)
+  left_own : (i : ℕ) → i < symbol_count tree → user_place tree i ≡ SymbolPlace i → Left (SymbolPlace i) ≡ Lines (SymbolPlace i)
   left_own i lt at =
       filled_symbol tree value_of_symbol passes all_given minimal_holds i lt
       ∙ both_if (keep (symbol i)) (differs tree user V i) (Some (given_of (V i)))
@@ -254,7 +254,7 @@ module _ (tree : TreeFacts) (user : Slot → Option Given) (V : ℕ → Known) (
   candidate_selected c x (lt, pass, choice, is_y) = yes_selected tree user V theirs solves x c lt choice is_y
 
   left_member : (c : ℕ) (r : Option SymId) → c < length tree.choices → Sel tree user V solves c ≡ r →
-      Left (In c) ≡ cond (stays_member r) (cond (differing_member tree user V theirs solves r) (option_map Member r) None) None
+      Left (ChoicePlace c) ≡ cond (stays_member r) (cond (differing_member tree user V theirs solves r) (option_map Member r) None) None
   left_member c None lt sel =
       filled_none tree value_of_symbol passes all_given minimal_holds c lt
       (λ x candidate. let never : None ≡ Some x = sym sel ∙ candidate_selected c x candidate in cc)
@@ -275,7 +275,7 @@ module _ (tree : TreeFacts) (user : Slot → Option Given) (V : ℕ → Known) (
   ]
 
   -- the places that these lines leave are those that the lines stand for
-  pub left_at : (i : ℕ) → i < symbol_count tree → Left (slot tree i) ≡ Lines (slot tree i)
+  pub left_at : (i : ℕ) → i < symbol_count tree → Left (user_place tree i) ≡ Lines (user_place tree i)
   left_at i lt = elim (slot_cases tree i) [
     | inl at ↦ rw at (left_own i lt at)
     | inr (c, at) ↦ rw at (left_member c (Sel tree user V solves c) (choice_there tree (symbol i) c formed lt (choice_by_slot tree (symbol i) c at)) refl)

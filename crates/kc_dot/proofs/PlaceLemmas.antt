@@ -6,8 +6,8 @@ use Rattle.std.proofs.lemmas.Bool.{eq-eqb, ne_eqb}
 use Rattle.std.proofs.lemmas.List.Elements.{filter_map-append}
 use Rattle.kc_expr.specs.declared.expression.SymId.{SymId}
 use Rattle.kc_tree.specs.TreeFacts.{TreeFacts}
-use Rattle.kc_user.specs.Given.{Given}
-use Rattle.kc_user.specs.Places.{Places, IsUserOf}
+use Rattle.kc_user.specs.GivenValue.{GivenValue}
+use Rattle.kc_user.specs.Places.{Places, ArePlacesOf}
 use Rattle.kc_dot.specs.LineSteps.{with_member}
 use Rattle.kc_dot.specs.Reading.{Assignment, each_from, given_to, chosen_in, places_given, is_yes, choice_of, is_choice}
 
@@ -70,7 +70,7 @@ member_place true None s choices = each_same 0 choices
 member_place true (Some c) s choices = one_place c 0 c s choices (omega arith)
 
 -- what one assignment leaves in the places
-pub places_given-one : (tree : TreeFacts) (places : Places) (s : SymId) (given : Given) →
+pub places_given-one : (tree : TreeFacts) (places : Places) (s : SymId) (given : GivenValue) →
     places_given tree places (record { symbol = s; given = given } ∷ [])
     ≡ record { symbols = slice_set places.symbols s.0 (Some given); choices = with_member (is_yes given) (choice_of tree s) s places.choices }
 unfolding places_given
@@ -82,9 +82,9 @@ length-each_from f n [] = refl
 length-each_from f n (x ∷ xs) = ap suc (length-each_from f (n + 1) xs)
 
 -- there are as many places as before
-pub IsUserOf-given : (tree : TreeFacts) (places : Places) (given : List Assignment) → IsUserOf tree places → IsUserOf tree (places_given tree places given)
+pub ArePlacesOf-given : (tree : TreeFacts) (places : Places) (given : List Assignment) → ArePlacesOf tree places → ArePlacesOf tree (places_given tree places given)
 unfolding places_given
-IsUserOf-given tree places given fits = record {
+ArePlacesOf-given tree places given fits = record {
   symbols = length-each_from _ 0 places.symbols ∙ fits.symbols;
   choices = length-each_from _ 0 places.choices ∙ fits.choices;
 }

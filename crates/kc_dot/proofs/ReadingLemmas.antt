@@ -4,7 +4,7 @@ use Rattle.std.proofs.lemmas.List.Elements.{filter_map-append}
 use Rattle.std.proofs.lemmas.List.Sums.{take_while-cons}
 use Rattle.kc_tree.specs.TreeFacts.{TreeFacts}
 use Rattle.kc_user.specs.Places.{Places}
-use Rattle.kc_dot.specs.Reading.{Line, Read, told, stop_at, is_within, assignments, places_after, warning, warnings, counted, reading}
+use Rattle.kc_dot.specs.Reading.{Line, ReadResult, with_warnings, stream_location, is_within, assignments, places_after, warning, warnings, before_too_long, reading}
 use Rattle.kc_dot.proofs.PlaceLemmas.{places_given-append, places_given-nothing}
 
 module _ (tree : TreeFacts) (prefix : List ℕ) where
@@ -28,23 +28,23 @@ module _ (tree : TreeFacts) (prefix : List ℕ) where
 
   -- a line that is not too long, and then the others from the places after it
   pub reading_within : (places : Places) (l : Line) (lines : List Line) → is_within l ≡ true →
-      reading tree prefix places (l ∷ lines) ≡ told (warning tree prefix places l) (reading tree prefix (places_after tree prefix places (l ∷ [])) lines)
+      reading tree prefix places (l ∷ lines) ≡ with_warnings (warning tree prefix places l) (reading tree prefix (places_after tree prefix places (l ∷ [])) lines)
   unfolding reading warnings
   reading_within places l lines short =
-      let front : counted (l ∷ lines) ≡ l ∷ counted lines = take_while-cons is_within l lines ∙ rw short refl in
-      let after : places_after tree prefix places (l ∷ counted lines) ≡ places_after tree prefix (places_after tree prefix places (l ∷ [])) (counted lines) =
-      places_after-append places (l ∷ []) (counted lines) in
-      let told_later : warnings tree prefix places (l ∷ []) (counted lines) ≡ warnings tree prefix (places_after tree prefix places (l ∷ [])) [] (counted lines) =
-      warnings-before places (l ∷ []) [] (counted lines) in
+      let front : before_too_long (l ∷ lines) ≡ l ∷ before_too_long lines = take_while-cons is_within l lines ∙ rw short refl in
+      let after : places_after tree prefix places (l ∷ before_too_long lines) ≡ places_after tree prefix (places_after tree prefix places (l ∷ [])) (before_too_long lines) =
+      places_after-append places (l ∷ []) (before_too_long lines) in
+      let told_later : warnings tree prefix places (l ∷ []) (before_too_long lines) ≡ warnings tree prefix (places_after tree prefix places (l ∷ [])) [] (before_too_long lines) =
+      warnings-before places (l ∷ []) [] (before_too_long lines) in
       let before : places_after tree prefix places [] ≡ places = places_after-nothing places in
       rw (front, after, told_later, before, short) refl
 
   -- a line that is too long ends it
   pub reading_long : (places : Places) (l : Line) (lines : List Line) → is_within l ≡ false →
-      reading tree prefix places (l ∷ lines) ≡ record { places = places; warned = []; stopped = Some (stop_at l) }
+      reading tree prefix places (l ∷ lines) ≡ record { places = places; warned = []; stopped = Some (stream_location l) }
   unfolding reading warnings
   reading_long places l lines long =
-      let front : counted (l ∷ lines) ≡ [] = take_while-cons is_within l lines ∙ rw long refl in
+      let front : before_too_long (l ∷ lines) ≡ [] = take_while-cons is_within l lines ∙ rw long refl in
       let before : places_after tree prefix places [] ≡ places = places_after-nothing places in
       rw (front, before, long) refl
 
@@ -52,8 +52,8 @@ module _ (tree : TreeFacts) (prefix : List ℕ) where
   unfolding reading warnings
   reading-nothing places = rw (places_after-nothing places) refl
 
-pub told-told : (a b : List ℕ) (read : Read) → told a (told b read) ≡ told (a ++ b) read
-told-told a b read = rw append_assoc refl
+pub with_warnings-with_warnings : (a b : List ℕ) (read : ReadResult) → with_warnings a (with_warnings b read) ≡ with_warnings (a ++ b) read
+with_warnings-with_warnings a b read = rw append_assoc refl
 
-pub told-nothing : (read : Read) → told [] read ≡ read
-told-nothing read = refl
+pub with_warnings-nothing : (read : ReadResult) → with_warnings [] read ≡ read
+with_warnings-nothing read = refl

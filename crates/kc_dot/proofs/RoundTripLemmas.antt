@@ -11,15 +11,15 @@ use Rattle.std.proofs.lemmas.List.Elements.{All-append}
 use Rattle.std.proofs.lemmas.List.Folds.{list_any_none}
 use Rattle.std.proofs.lemmas.List.Sums.{AllPass-from_list_all}
 use Rattle.std.proofs.lemmas.Slice.Eq.{bytes_eq-Decides}
-use Rattle.kc_expr.specs.Value.{Known, Truth, Written}
+use Rattle.kc_expr.specs.Value.{SymbolValue, Truth, TextValue}
 use Rattle.kc_expr.specs.declared.expression.Tri.TheVariants.{N, M, Y}
 use Rattle.kc_expr.specs.declared.expression.Kind.TheVariants as kind
 use Rattle.kc_dot.specs.SymbolLines.{config_line}
 use Rattle.kc_text.specs.Escapes.{escape}
 use Rattle.kc_text.specs.Lexemes.{is_blank}
 use Rattle.kc_text.proofs.Unescaping.{unescape_law}
-use Rattle.kc_dot.specs.ConfigLine.{trimmed, behind, ahead_of, plain, unset_name, is_equals, sides, set_parts, is_comment}
-use Rattle.kc_dot.specs.LineValue.{inside, with_front}
+use Rattle.kc_dot.specs.DotLine.{trimmed, without_prefix, without_suffix, plain, unset_name, is_equals, split_at_equals, name_and_value, is_comment}
+use Rattle.kc_dot.specs.LineValue.{until_quote, with_front}
 use Rattle.kc_expr.specs.Names.{is_name_byte}
 use Rattle.kc_dot.specs.Prefixes.{is_prefix}
 use Rattle.kc_dot.specs.RoundTrip.{IsName, IsShortText, UnsetLineReadAgain, SetLineReadAgain, StringReadAgain}
@@ -27,11 +27,11 @@ use Rattle.kc_dot.specs.RoundTrip.{IsName, IsShortText, UnsetLineReadAgain, SetL
 same_bytes : (bytes : List ℕ) → bytes_eq bytes bytes ≡ true
 same_bytes bytes = let d = bytes_eq-Decides bytes bytes in d.1 refl
 
-behind-front : (front rest : List ℕ) → behind front (front ++ rest) ≡ Some rest
-behind-front front rest = rw (take-append_seam front rest, same_bytes front, drop-append_seam front rest) refl
+without_prefix-front : (front rest : List ℕ) → without_prefix front (front ++ rest) ≡ Some rest
+without_prefix-front front rest = rw (take-append_seam front rest, same_bytes front, drop-append_seam front rest) refl
 
-ahead_of-end : (front end : List ℕ) → ahead_of end (front ++ end) ≡ Some front
-ahead_of-end front end =
+without_suffix-end : (front end : List ℕ) → without_suffix end (front ++ end) ≡ Some front
+without_suffix-end front end =
     let k : length (front ++ end) - length end ≡ length front = omega (arith, length-append front end) in
     rw (k, drop-append_seam front end, same_bytes end, take-append_seam front end) refl
 
@@ -59,9 +59,9 @@ regroup a p n t = simp append_assoc
 
 -- the name between these words
 unset_by : (hash prefix name tail : List ℕ) → IsName name →
-    option_and_then plain (option_and_then (ahead_of tail) (option_and_then (behind prefix) (behind hash ((hash ++ (prefix ++ name)) ++ tail)))) ≡ Some name
+    option_and_then plain (option_and_then (without_suffix tail) (option_and_then (without_prefix prefix) (without_prefix hash ((hash ++ (prefix ++ name)) ++ tail)))) ≡ Some name
 unset_by hash prefix name tail is =
-    rw (regroup hash prefix name tail, behind-front hash (prefix ++ (name ++ tail)), behind-front prefix (name ++ tail), ahead_of-end name tail) (plain-name name is)
+    rw (regroup hash prefix name tail, without_prefix-front hash (prefix ++ (name ++ tail)), without_prefix-front prefix (name ++ tail), without_suffix-end name tail) (plain-name name is)
 
 pub unset_read_again : UnsetLineReadAgain
 unset_read_again prefix name is =
@@ -85,11 +85,18 @@ position-equals (b ∷ name) value named =
     let later : position_or_len is_equals (name ++ 61 ∷ value) ≡ length name = position-equals name value (λ k d lt. named (suc k) d (omega arith)) in
     rw (other, later) (omega arith)
 
-sides-name : (name value : List ℕ) → IsName name → sides (name ++ 61 ∷ value) ≡ Some (name, value)
-sides-name name value is =
+split_at_equals-name : (name value : List ℕ) → IsName name → split_at_equals (name ++ 61 ∷ value) ≡ Some (name, value)
+split_at_equals-name name value is =
     let some : 0 < length name = is.some in
     let within : length name < length (name ++ 61 ∷ value) = omega (arith, length-append name (61 ∷ value)) in
-    rw (position-equals name value is.bytes, lt-ltb 0 (length name) some, lt-ltb (length name) (length (name ++ 61 ∷ value)) within, take-append_seam name (61 ∷ value), drop-append-add name (61 ∷ value) 1) refl
+    rw (
+      position-equals name value is.bytes,
+      lt-ltb 0 (length name) some,
+      lt-ltb (length name) (length (name ++ 61 ∷ value)) within,
+      take-append_seam name
+          (61 ∷ value),
+      drop-append-add name (61 ∷ value) 1,
+    ) refl
 
 pub prefix_bytes : (prefix : List ℕ) → is_prefix prefix ≡ true → All (λ b. is_name_byte b ≡ true) prefix
 prefix_bytes prefix is =
@@ -113,45 +120,49 @@ set_read_again prefix name value is_pre is whole =
     let (no_unset, no_comment) = not_other prefix b (rest ++ 61 ∷ value) named in
     let unset : unset_name prefix ((prefix ++ name) ++ 61 ∷ value) ≡ None = rw text no_unset in
     let comment : is_comment ((prefix ++ name) ++ 61 ∷ value) ≡ false = rw text no_comment in
-    let parts : set_parts prefix ((prefix ++ name) ++ 61 ∷ value) ≡ Some (name, value) =
-    rw (append_assoc prefix name (61 ∷ value), behind-front prefix (name ++ 61 ∷ value)) (sides-name name value is) in
+    let parts : name_and_value prefix ((prefix ++ name) ++ 61 ∷ value) ≡ Some (name, value) =
+    rw (append_assoc prefix name (61 ∷ value), without_prefix-front prefix (name ++ 61 ∷ value)) (split_at_equals-name name value is) in
     let long : (length ((prefix ++ name) ++ 61 ∷ value) == 0) ≡ false = ne_eqb (length ((prefix ++ name) ++ 61 ∷ value)) 0 (let l = length-append (prefix ++ name) (61 ∷ value) in omega arith) in
     rw (whole, long, unset, comment, parts) refl
 
 -- an escaped text ends at the quote after it
-inside-escaped : (text : List ℕ) → inside (escape text ++ 34 ∷ []) ≡ Some (escape text)
-inside-escaped [] = refl
-inside-escaped (b ∷ text) = elim (cases_Bool (eqb b 34 || eqb b 92)) [
-  | inl e ↦ rw e (ap (with_front (92 ∷ b ∷ [])) (inside-escaped text))
-  | inr e ↦ rw e (plain_byte b (escape text ++ 34 ∷ []) (or_parts _ _ e).0 (or_parts _ _ e).1 ∙ ap (with_front (b ∷ [])) (inside-escaped text))
+until_quote-escaped : (text : List ℕ) → until_quote (escape text ++ 34 ∷ []) ≡ Some (escape text)
+until_quote-escaped [] = refl
+until_quote-escaped (b ∷ text) = elim (cases_Bool (eqb b 34 || eqb b 92)) [
+  | inl e ↦ rw e (ap (with_front (92 ∷ b ∷ [])) (until_quote-escaped text))
+  | inr e ↦ rw e (plain_byte b (escape text ++ 34 ∷ []) (or_parts _ _ e).0 (or_parts _ _ e).1 ∙ ap (with_front (b ∷ [])) (until_quote-escaped text))
 ]
   where
-    plain_byte : (c : ℕ) (rest : List ℕ) → eqb c 34 ≡ false → eqb c 92 ≡ false → inside (c ∷ rest) ≡ with_front (c ∷ []) (inside rest)
+    plain_byte : (c : ℕ) (rest : List ℕ) → eqb c 34 ≡ false → eqb c 92 ≡ false → until_quote (c ∷ rest) ≡ with_front (c ∷ []) (until_quote rest)
     plain_byte c [] quote slash = rw quote refl
     plain_byte c (d ∷ rest) quote slash = rw (quote, slash) refl
 
 pub string_read_again : StringReadAgain
 string_read_again text short =
     let within : length (34 ∷ escape text ++ 34 ∷ []) ≤ 65000 = omega (arith, length-append (escape text) (34 ∷ [])) in
-    rw (le-leb (length (34 ∷ escape text ++ 34 ∷ [])) 65000 within, inside-escaped text, unescape_law text) refl
+    rw (le-leb (length (34 ∷ escape text ++ 34 ∷ [])) 65000 within, until_quote-escaped text, unescape_law text) refl
 
 module _ (prefix name : List ℕ) (few : length prefix ≤ 64) (short : length name ≤ 255) where
   whole_name : length (prefix ++ name) ≤ 319
   whole_name = omega (arith, length-append prefix name)
 
-  ends_short : (n : ℕ) (text : List ℕ) → length text ≤ n → length ((prefix ++ name) ++ text) ≤ 319 + n
-  ends_short n text le = omega (arith, length-append (prefix ++ name) text, whole_name)
-
-  pub written_short : (known : Known) → IsShortText known → length (config_line (prefix ++ name) known) ≤ 65323
+  pub written_short : (known : SymbolValue) → IsShortText known → length (config_line (prefix ++ name) known) ≤ 65323
   written_short (Truth N) fits = omega (arith, length-append (codes "# ") (prefix ++ name), length-append (codes "# " ++ (prefix ++ name)) (codes " is not set\n"), whole_name)
   written_short (Truth M) fits = omega (arith, length-append (prefix ++ name) (codes "=m\n"), whole_name)
   written_short (Truth Y) fits = omega (arith, length-append (prefix ++ name) (codes "=y\n"), whole_name)
-  written_short (Written kind.Undefined text) fits = omega arith
-  written_short (Written kind.Bool text) fits = omega arith
-  written_short (Written kind.Tristate text) fits = omega arith
-  written_short (Written kind.Str text) fits =
-      omega (arith, length-append ((prefix ++ name) ++ codes "=\"" ++ escape text) (codes "\"\n"), length-append ((prefix ++ name) ++ codes "=\"") (escape text), length-append (prefix ++ name) (codes "=\""), whole_name)
-  written_short (Written kind.Int text) fits =
+  written_short (TextValue kind.Undefined text) fits = omega arith
+  written_short (TextValue kind.Bool text) fits = omega arith
+  written_short (TextValue kind.Tristate text) fits = omega arith
+  written_short (TextValue kind.Str text) fits =
+      omega (
+        arith,
+        length-append ((prefix ++ name) ++ codes "=\"" ++ escape text) (codes "\"\n"),
+        length-append
+            ((prefix ++ name) ++ codes "=\"") (escape text),
+        length-append (prefix ++ name) (codes "=\""),
+        whole_name,
+      )
+  written_short (TextValue kind.Int text) fits =
       omega (arith, length-append ((prefix ++ name) ++ codes "=" ++ text) (codes "\n"), length-append ((prefix ++ name) ++ codes "=") text, length-append (prefix ++ name) (codes "="), whole_name)
-  written_short (Written kind.Hex text) fits =
+  written_short (TextValue kind.Hex text) fits =
       omega (arith, length-append ((prefix ++ name) ++ codes "=" ++ text) (codes "\n"), length-append ((prefix ++ name) ++ codes "=") text, length-append (prefix ++ name) (codes "="), whole_name)

@@ -1,6 +1,6 @@
 -- What a value is by the type of its symbol, and when its text fits a line.
-use Rattle.std.proofs.Common.{◌≡◌, ℕ, ◌+◌, ◌<◌, ◌≤◌, List, [], ◌∷◌, ◌++◌, Bool, true, false, not, length, cond, refl, sym, ap, ◌∙◌, subst, arith, inl, inr, ◌⊎◌, Option, Some, None}
-use Rattle.std.specs.Prelude.{◌&&◌, is_some, nat_le, slice_get}
+use Rattle.std.proofs.Common.{◌≡◌, ℕ, ◌+◌, List, Bool, true, false, not, length, refl, sym, ap, ◌∙◌, subst, arith, inl, inr, ◌⊎◌, Option, Some, None}
+use Rattle.std.specs.Prelude.{is_some, nat_le}
 use Rattle.std.specs.List.{list_any}
 use Rattle.std.proofs.lemmas.Bool.{leb-true, and_parts, not-true, true≢false}
 use Rattle.std.proofs.lemmas.List.Folds.{list_any_at}
@@ -8,13 +8,11 @@ use Rattle.kc_text.specs.Lines.{is_line_feed}
 use Rattle.kc_text.specs.Escapes.{escape}
 use Rattle.kc_text.specs.Numbers.{int_of, hex_of}
 use Rattle.kc_expr.specs.declared.expression.SymId.{SymId}
-use Rattle.kc_expr.specs.declared.expression.Tri.{Tri}
 use Rattle.kc_expr.specs.declared.expression.Kind.{Kind}
 use Rattle.kc_expr.specs.declared.expression.Kind.TheVariants as kind
-use Rattle.kc_expr.specs.Names.{symbol}
-use Rattle.kc_expr.specs.Value.{Known, Truth, Written}
+use Rattle.kc_expr.specs.Value.{SymbolValue, Truth, TextValue}
 use Rattle.kc_tree.specs.TreeFacts.{TreeFacts, SymbolFacts}
-use Rattle.kc_user.specs.Given.{Given, Chosen, Typed, Member}
+use Rattle.kc_user.specs.GivenValue.{GivenValue, GivenTruth, GivenText, Member}
 use Rattle.kc_user.specs.Places.{allowed_by}
 use Rattle.kc_values.specs.Differs.{given_of}
 use Rattle.kc_values.specs.Laws.{MembersAreBools}
@@ -25,9 +23,9 @@ use Rattle.kc_dot.proofs.SymbolLineLemmas.{IsOf, FitsLine}
 use Rattle.kc_dot.proofs.TextBytes.{int_bytes, hex_bytes, number_plain, number_no_lf}
 use Rattle.std.proofs.lemmas.Bool.{false_from_ne_true}
 
-module _ (tree : TreeFacts) (known : SymId → Known) (s : SymId) (f : SymbolFacts) where
+module _ (tree : TreeFacts) (known : SymId → SymbolValue) (s : SymId) (f : SymbolFacts) where
   -- a symbol without a type, or a value of its type
-  kind_shape : (kd : Kind) (user : Option Given) → (kd ≡ kind.Undefined) ⊎ IsOf kd (v.by_kind tree known s f kd user)
+  kind_shape : (kd : Kind) (user : Option GivenValue) → (kd ≡ kind.Undefined) ⊎ IsOf kd (v.by_kind tree known s f kd user)
   kind_shape kind.Undefined user = inl refl
   kind_shape kind.Bool user = inr tt
   kind_shape kind.Tristate user = inr tt
@@ -35,43 +33,43 @@ module _ (tree : TreeFacts) (known : SymId → Known) (s : SymId) (f : SymbolFac
   kind_shape kind.Int user = inr refl
   kind_shape kind.Hex user = inr refl
 
-  choice_shape : (choice : Option ℕ) (user : Option Given) → ((c : ℕ) → choice ≡ Some c → f.kind ≡ kind.Bool) → (f.kind ≡ kind.Undefined) ⊎ IsOf f.kind (v.by_choice tree known s f choice user)
+  choice_shape : (choice : Option ℕ) (user : Option GivenValue) → ((c : ℕ) → choice ≡ Some c → f.kind ≡ kind.Bool) → (f.kind ≡ kind.Undefined) ⊎ IsOf f.kind (v.by_choice tree known s f choice user)
   choice_shape None user bools = kind_shape f.kind user
   choice_shape (Some c) user bools = inr (subst (λ k. IsOf k (v.by_choice tree known s f (Some c) user)) (sym (bools c refl)) tt)
 
-  pub value_shape : (user : Option Given) → facts tree s ≡ Some f → MembersAreBools tree → (f.kind ≡ kind.Undefined) ⊎ IsOf f.kind (v.equation tree known s (facts tree s) user)
+  pub value_shape : (user : Option GivenValue) → facts tree s ≡ Some f → MembersAreBools tree → (f.kind ≡ kind.Undefined) ⊎ IsOf f.kind (v.equation tree known s (facts tree s) user)
   value_shape user at bools = rw at (choice_shape f.choice user (λ c is. bools s f c at is))
 
 -- an allowed text fits a line
 pub no_line_feed : (text : List ℕ) → list_any is_line_feed text ≡ false → HasNoLf text
 no_line_feed text none = λ k d lt. false_from_ne_true _ (λ e. true≢false (sym (list_any_at is_line_feed text k d lt e) ∙ none))
 
-text_fits : (kd l : Kind) (text : List ℕ) → IsOf kd (Written l text) → allowed_by kd (Typed text) ≡ true → FitsLine (Written l text)
+text_fits : (kd l : Kind) (text : List ℕ) → IsOf kd (TextValue l text) → allowed_by kd (GivenText text) ≡ true → FitsLine (TextValue l text)
 text_fits kind.Undefined l text of ok = absurd of
 text_fits kind.Bool l text of ok = absurd of
 text_fits kind.Tristate l text of ok = absurd of
 text_fits kind.Str l text of ok =
     let (short, one) = and_parts (nat_le (length (escape text) + 2) 65000) (not (list_any is_line_feed text)) ok in
     let n = leb-true (length (escape text) + 2) 65000 short in
-    subst (λ x. FitsLine (Written x text)) (sym of) (no_line_feed text (not-true _ one), omega arith)
+    subst (λ x. FitsLine (TextValue x text)) (sym of) (no_line_feed text (not-true _ one), omega arith)
 text_fits kind.Int l text of ok =
     let (short, number) = and_parts (nat_le (length text) 65000) (is_some (int_of text)) ok in
     let bytes = int_bytes text number in
-    subst (λ x. FitsLine (Written x text)) (sym of) (number_no_lf text bytes, leb-true (length text) 65000 short, number_plain text bytes)
+    subst (λ x. FitsLine (TextValue x text)) (sym of) (number_no_lf text bytes, leb-true (length text) 65000 short, number_plain text bytes)
 text_fits kind.Hex l text of ok =
     let (short, number) = and_parts (nat_le (length text) 65000) (is_some (hex_of text)) ok in
     let bytes = hex_bytes text number in
-    subst (λ x. FitsLine (Written x text)) (sym of) (number_no_lf text bytes, leb-true (length text) 65000 short, number_plain text bytes)
+    subst (λ x. FitsLine (TextValue x text)) (sym of) (number_no_lf text bytes, leb-true (length text) 65000 short, number_plain text bytes)
 
-pub allowed_fits : (kd : Kind) (known : Known) → IsOf kd known → allowed_by kd (given_of known) ≡ true → FitsLine known
+pub allowed_fits : (kd : Kind) (known : SymbolValue) → IsOf kd known → allowed_by kd (given_of known) ≡ true → FitsLine known
 allowed_fits kd (Truth t) of ok = tt
-allowed_fits kd (Written l text) of ok = text_fits kd l text of ok
+allowed_fits kd (TextValue l text) of ok = text_fits kd l text of ok
 
 -- nothing is allowed for a symbol without a type
-pub untyped_not : (kd : Kind) (g : Given) → kd ≡ kind.Undefined → allowed_by kd g ≡ true → ⊥
+pub untyped_not : (kd : Kind) (g : GivenValue) → kd ≡ kind.Undefined → allowed_by kd g ≡ true → ⊥
 untyped_not kd g is ok = none g (sym (ap (λ k. allowed_by k g) is) ∙ ok)
   where
-    none : (g : Given) → allowed_by kind.Undefined g ≡ true → ⊥
-    none (Chosen t) e = true≢false (sym e)
-    none (Typed t) e = true≢false (sym e)
+    none : (g : GivenValue) → allowed_by kind.Undefined g ≡ true → ⊥
+    none (GivenTruth t) e = true≢false (sym e)
+    none (GivenText t) e = true≢false (sym e)
     none (Member m) e = true≢false (sym e)

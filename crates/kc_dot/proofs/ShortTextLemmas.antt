@@ -11,20 +11,20 @@ use Rattle.kc_text.specs.Escapes.{escape}
 use Rattle.kc_expr.specs.declared.expression.SymId.{SymId}
 use Rattle.kc_expr.specs.declared.expression.Tri.TheVariants.{N, M, Y}
 use Rattle.kc_expr.specs.declared.expression.Kind.TheVariants as kind
-use Rattle.kc_expr.specs.Value.{Known, Truth, Written}
+use Rattle.kc_expr.specs.Value.{SymbolValue, Truth, TextValue}
 use Rattle.kc_tree.specs.TreeFacts.{TreeFacts, Shown, SymbolShown, MenuShown, EndShown, CommentShown, IsLineText, IsWellFormed, OfTitles}
-use Rattle.kc_user.specs.Given.{Given, Slot}
-use Rattle.kc_values.specs.Solution.{symbol_count, seen}
+use Rattle.kc_user.specs.GivenValue.{GivenValue, UserPlace}
+use Rattle.kc_values.specs.Solution.{symbol_count, known_from}
 use Rattle.kc_dot.specs.Effects.{name_of}
 use Rattle.kc_dot.specs.HasNames.{HasNames}
 use Rattle.kc_dot.specs.Laws.{HasShortLines}
 use Rattle.kc_dot.specs.Plain.{title_line}
 use Rattle.kc_dot.specs.Prefixes.{is_prefix}
 use Rattle.kc_dot.specs.Reading.{Line, line, is_within, next_number, lines_from}
-use Rattle.kc_dot.specs.Reread.{told_by}
+use Rattle.kc_dot.specs.Reread.{valuation_view}
 use Rattle.kc_dot.specs.SymbolLines.{config_line}
 use Rattle.kc_dot.specs.Texts.{config_heading, config_text, title_lines, end_line, end_if, gap, shown_title, ends_after, symbol_config, symbols_of, entry_text, entries_text, minimal_if, minimal_text}
-use Rattle.kc_dot.specs.Told.{Told, is_shown}
+use Rattle.kc_dot.specs.SolutionView.{SolutionView, is_shown}
 use Rattle.kc_dot.proofs.FilledLemmas.{contains_here, contains_later}
 use Rattle.kc_dot.proofs.LineLemmas.{HasNoLf, lines_from-lf, lines_from-last, is_within-line}
 use Rattle.kc_dot.proofs.MinimalTextLemmas.{there, symbols_below}
@@ -89,29 +89,33 @@ module _ (stream : List ℕ) where
         short_line (front ++ text) (name ++ codes "=" ++ text ++ codes "\n") refl (All-append (λ b. is_line_feed b ≡ false) front text (behind (codes "=") (no_lf_check (codes "=") refl)) solid)
         (omega (arith, few, fits, longer, length-append name (codes "="), length-append front text))
 
-    known_short : (k : Known) → fits_known k ≡ true → Short (config_line name k)
+    known_short : (k : SymbolValue) → fits_known k ≡ true → Short (config_line name k)
     known_short (Truth N) e =
         let front : List ℕ = codes "# " ++ name in
         let body : List ℕ = front ++ codes " is not set" in
         let front_none : HasNoLf front = All-append (λ b. is_line_feed b ≡ false) (codes "# ") name (no_lf_check (codes "# ") refl) none in
-        short_line body (config_line name (Truth N)) (sym (append_assoc front (codes " is not set") (10 ∷ []))) (All-append (λ b. is_line_feed b ≡ false) front (codes " is not set") front_none (no_lf_check (codes " is not set") refl))
+        short_line body (config_line name (Truth N)) (sym (append_assoc front (codes " is not set") (10 ∷ [])))
+        (All-append (λ b. is_line_feed b ≡ false) front (codes " is not set") front_none (no_lf_check (codes " is not set") refl))
         (omega (arith, few, length-append (codes "# ") name, length-append front (codes " is not set")))
     known_short (Truth M) e =
-        short_line (name ++ codes "=m") (config_line name (Truth M)) (sym (append_assoc name (codes "=m") (10 ∷ []))) (behind (codes "=m") (no_lf_check (codes "=m") refl)) (omega (arith, few, length-append name (codes "=m")))
+        short_line (name ++ codes "=m") (config_line name (Truth M)) (sym (append_assoc name (codes "=m") (10 ∷ [])))
+        (behind (codes "=m") (no_lf_check (codes "=m") refl)) (omega (arith, few, length-append name (codes "=m")))
     known_short (Truth Y) e =
-        short_line (name ++ codes "=y") (config_line name (Truth Y)) (sym (append_assoc name (codes "=y") (10 ∷ []))) (behind (codes "=y") (no_lf_check (codes "=y") refl)) (omega (arith, few, length-append name (codes "=y")))
-    known_short (Written kind.Undefined text) e = short_nothing
-    known_short (Written kind.Bool text) e = short_nothing
-    known_short (Written kind.Tristate text) e = short_nothing
-    known_short (Written kind.Str text) e =
+        short_line (name ++ codes "=y") (config_line name (Truth Y)) (sym (append_assoc name (codes "=y") (10 ∷ [])))
+        (behind (codes "=y") (no_lf_check (codes "=y") refl)) (omega (arith, few, length-append name (codes "=y")))
+    known_short (TextValue kind.Undefined text) e = short_nothing
+    known_short (TextValue kind.Bool text) e = short_nothing
+    known_short (TextValue kind.Tristate text) e = short_nothing
+    known_short (TextValue kind.Str text) e =
         let (solid, fits) = fits_parts text e in
         let open_ : List ℕ = name ++ codes "=\"" in
         let front : List ℕ = open_ ++ escape text in
         let front_none : HasNoLf front = All-append (λ b. is_line_feed b ≡ false) open_ (escape text) (behind (codes "=\"") (no_lf_check (codes "=\"") refl)) (escape_no_lf text solid) in
-        short_line (front ++ codes "\"") (config_line name (Written kind.Str text)) (sym (append_assoc front (codes "\"") (10 ∷ []))) (All-append (λ b. is_line_feed b ≡ false) front (codes "\"") front_none (no_lf_check (codes "\"") refl))
+        short_line (front ++ codes "\"") (config_line name (TextValue kind.Str text)) (sym (append_assoc front (codes "\"") (10 ∷ [])))
+        (All-append (λ b. is_line_feed b ≡ false) front (codes "\"") front_none (no_lf_check (codes "\"") refl))
         (omega (arith, few, fits, length-append name (codes "=\""), length-append open_ (escape text), length-append front (codes "\"")))
-    known_short (Written kind.Int text) e = number_short text (fits_parts text e).0 (fits_parts text e).1
-    known_short (Written kind.Hex text) e = number_short text (fits_parts text e).0 (fits_parts text e).1
+    known_short (TextValue kind.Int text) e = number_short text (fits_parts text e).0 (fits_parts text e).1
+    known_short (TextValue kind.Hex text) e = number_short text (fits_parts text e).0 (fits_parts text e).1
 
   -- Titles.
   empty_short : Short (10 ∷ [])
@@ -158,34 +162,39 @@ module _ (stream : List ℕ) where
   gap_short false = short_nothing
 
   -- Entries.
-  module _ (tree : TreeFacts) (prefix : List ℕ) (told : Told) (texts : OfTitles IsLineText tree) where
+  module _ (tree : TreeFacts) (prefix : List ℕ) (solution : SolutionView) (texts : OfTitles IsLineText tree) where
     end_if_short : (b : Bool) (text : List ℕ) → IsLineText text → Short (end_if (cond b (Some text) None))
     end_if_short true text line = end_short text line
     end_if_short false text line = short_nothing
 
-    end_shown : (menu : ℕ) (o : Option Shown) → slice_get tree.entries menu ≡ o → Short (end_if (shown_title told o))
+    end_shown : (menu : ℕ) (o : Option Shown) → slice_get tree.entries menu ≡ o → Short (end_if (shown_title solution o))
     end_shown menu None at = short_nothing
     end_shown menu (Some (SymbolShown s)) at = short_nothing
-    end_shown menu (Some (MenuShown text when)) at = end_if_short (is_shown (told.truth when)) text (texts.entries menu (MenuShown text when) at)
+    end_shown menu (Some (MenuShown text when)) at = end_if_short (is_shown (solution.truth when)) text (texts.entries menu (MenuShown text when) at)
     end_shown menu (Some (EndShown other)) at = short_nothing
     end_shown menu (Some (CommentShown text when)) at = short_nothing
 
-    entry_short : (i : ℕ) (entry : Shown) (after_end : Bool) → slice_get tree.entries i ≡ Some entry → ((s : SymId) → entry ≡ SymbolShown s → Short (symbol_config tree prefix told s)) → Short (entry_text tree prefix told after_end entry)
-    entry_short i (SymbolShown s) after_end at symbol = short_if (told.written s) (gap after_end ++ symbol_config tree prefix told s) (short_append (gap after_end) (symbol_config tree prefix told s) (gap_short after_end) (symbol s refl))
-    entry_short i (MenuShown text when) after_end at symbol = short_if (is_shown (told.truth when)) (title_lines text) (title_lines_short text (texts.entries i (MenuShown text when) at))
+    entry_short : (i : ℕ) (entry : Shown) (after_end : Bool) → slice_get tree.entries i ≡ Some entry →
+        ((s : SymId) → entry ≡ SymbolShown s → Short (symbol_config tree prefix solution s)) → Short (entry_text tree prefix solution after_end entry)
+    entry_short i (SymbolShown s) after_end at symbol = short_if (solution.written s) (gap after_end ++ symbol_config tree prefix solution s)
+        (short_append (gap after_end) (symbol_config tree prefix solution s) (gap_short after_end) (symbol s refl))
+    entry_short i (MenuShown text when) after_end at symbol = short_if (is_shown (solution.truth when)) (title_lines text) (title_lines_short text (texts.entries i (MenuShown text when) at))
     entry_short i (EndShown menu) after_end at symbol = end_shown menu (slice_get tree.entries menu) refl
-    entry_short i (CommentShown text when) after_end at symbol = short_if (is_shown (told.truth when)) (title_lines text) (title_lines_short text (texts.entries i (CommentShown text when) at))
+    entry_short i (CommentShown text when) after_end at symbol = short_if (is_shown (solution.truth when)) (title_lines text) (title_lines_short text (texts.entries i (CommentShown text when) at))
 
-    entries_short : (entries : List Shown) (after_end : Bool) → ((entry : Shown) (ends : Bool) → Contains entries entry → Short (entry_text tree prefix told ends entry)) → Short (entries_text tree prefix told after_end entries)
+    entries_short : (entries : List Shown) (after_end : Bool) →
+        ((entry : Shown) (ends : Bool) → Contains entries entry → Short (entry_text tree prefix solution ends entry)) →
+        Short (entries_text tree prefix solution after_end entries)
     entries_short [] after_end each = short_nothing
     entries_short (entry ∷ entries) after_end each =
-        short_append (entry_text tree prefix told after_end entry) (entries_text tree prefix told (ends_after tree told after_end entry) entries) (each entry after_end (contains_here entry entries))
-        (entries_short entries (ends_after tree told after_end entry) (λ e ends c. each e ends (contains_later entry e entries c)))
+        short_append (entry_text tree prefix solution after_end entry) (entries_text tree prefix solution (ends_after tree solution after_end entry) entries)
+        (each entry after_end (contains_here entry entries))
+        (entries_short entries (ends_after tree solution after_end entry) (λ e ends c. each e ends (contains_later entry e entries c)))
 
-    config_short : ((i : ℕ) (s : SymId) → slice_get tree.entries i ≡ Some (SymbolShown s) → Short (symbol_config tree prefix told s)) → Short (config_text tree prefix told)
+    config_short : ((i : ℕ) (s : SymId) → slice_get tree.entries i ≡ Some (SymbolShown s) → Short (symbol_config tree prefix solution s)) → Short (config_text tree prefix solution)
     unfolding config_text
     config_short symbol =
-        short_append (config_heading tree.main_menu) (entries_text tree prefix told false tree.entries) (heading_short tree.main_menu texts.main_menu)
+        short_append (config_heading tree.main_menu) (entries_text tree prefix solution false tree.entries) (heading_short tree.main_menu texts.main_menu)
         (entries_short tree.entries false (λ entry ends (i, lt, is).
         let at : slice_get tree.entries i ≡ Some entry = slice_get-get_or tree.entries i entry lt ∙ ap Some is in
         entry_short i entry ends at (λ s e. symbol i s (at ∙ ap Some e))))
@@ -198,26 +207,27 @@ module _ (stream : List ℕ) where
       let is : lines_from stream 1 text ≡ p.lines = ap (lines_from stream 1) (sym (append-nil text)) ∙ p.is ∙ ap (λ t. p.lines ++ t) last ∙ append-nil p.lines in
       subst (All Within) (sym is) p.short
 
-module _ (tree : TreeFacts) (user : Slot → Option Given) (V : ℕ → Known) (prefix : List ℕ) (is_pre : is_prefix prefix ≡ true) (formed : IsWellFormed tree) (fits : (i : ℕ) → i < symbol_count tree → fits_known (V i) ≡ true) where
-  symbol_short : (stream : List ℕ) (s : SymId) → s.0 < symbol_count tree → Short stream (symbol_config tree prefix (told_by tree user V) s)
+module _ (tree : TreeFacts) (user : UserPlace → Option GivenValue) (V : ℕ → SymbolValue) (prefix : List ℕ) (is_pre : is_prefix prefix ≡ true)
+    (formed : IsWellFormed tree) (fits : (i : ℕ) → i < symbol_count tree → fits_known (V i) ≡ true) where
+  symbol_short : (stream : List ℕ) (s : SymId) → s.0 < symbol_count tree → Short stream (symbol_config tree prefix (valuation_view tree user V) s)
   symbol_short stream s lt =
       let named : HasNames tree = has_names tree formed in
       let (f, at) = there tree.symbols s.0 lt in
       let few : length prefix ≤ 64 = short_prefix tree prefix stream is_pre formed named s f at lt in
       let known = named s lt in
-      let value_is : seen tree V s ≡ V s.0 = rw (lt-ltb s.0 (length tree.symbols) lt) refl in
+      let value_is : known_from tree V s ≡ V s.0 = rw (lt-ltb s.0 (length tree.symbols) lt) refl in
       let most : length (prefix ++ name_of tree s) ≤ 319 = (let n = known.1 in omega (arith, n, few, length-append prefix (name_of tree s))) in
       subst (λ k. Short stream (config_line (prefix ++ name_of tree s) k)) (sym value_is)
       (known_short stream (prefix ++ name_of tree s) (full_no_lf tree prefix stream is_pre formed named s f at lt) most (V s.0) (fits s.0 lt))
 
-  pub config_is_short : HasShortLines (config_text tree prefix (told_by tree user V))
+  pub config_is_short : HasShortLines (config_text tree prefix (valuation_view tree user V))
   config_is_short name =
-      short_whole name (config_text tree prefix (told_by tree user V))
-      (config_short name tree prefix (told_by tree user V) formed.texts.titles (λ i s at. symbol_short name s (formed.entries_sound i (SymbolShown s) at)))
+      short_whole name (config_text tree prefix (valuation_view tree user V))
+      (config_short name tree prefix (valuation_view tree user V) formed.texts.titles (λ i s at. symbol_short name s (formed.entries_sound i (SymbolShown s) at)))
 
-  pub minimal_is_short : HasShortLines (minimal_text tree prefix (told_by tree user V))
+  pub minimal_is_short : HasShortLines (minimal_text tree prefix (valuation_view tree user V))
   unfolding minimal_text
   minimal_is_short name =
-      short_whole name (flat_map (minimal_if tree prefix (told_by tree user V)) (symbols_of tree))
-      (short_all name (minimal_if tree prefix (told_by tree user V)) (symbols_of tree)
-      (λ s c. short_if name ((told_by tree user V).differs s) (symbol_config tree prefix (told_by tree user V) s) (symbol_short name s (symbols_below tree s c))))
+      short_whole name (flat_map (minimal_if tree prefix (valuation_view tree user V)) (symbols_of tree))
+      (short_all name (minimal_if tree prefix (valuation_view tree user V)) (symbols_of tree)
+      (λ s c. short_if name ((valuation_view tree user V).differs s) (symbol_config tree prefix (valuation_view tree user V) s) (symbol_short name s (symbols_below tree s c))))

@@ -1,5 +1,5 @@
 -- What was told, as more and more of a text is taken.
-use Rattle.std.proofs.Common.{◌≡◌, ℕ, ◌+◌, ◌-◌, ◌<◌, List, [], ◌∷◌, ◌++◌, length, take, drop, get_or, refl, sym, ap, ◌∙◌, append_assoc, append-nil, Option, Some, None, Result, Ok, Err, OnOk}
+use Rattle.std.proofs.Common.{◌≡◌, ℕ, ◌+◌, ◌-◌, ◌<◌, List, [], ◌∷◌, ◌++◌, length, take, drop, get_or, refl, sym, ap, ◌∙◌, append_assoc, append-nil, Option, Some, None}
 use Rattle.std.proofs.Math.Seq.{take-add}
 use Rattle.std.proofs.lemmas.List.{drop_more, take-append-drop, take_rest}
 use Rattle.kc_dot.specs.Sink.{extended, BreaksOff, HandsOut}
@@ -27,7 +27,3 @@ pub BreaksOff-take : (text : List ℕ) (old new : Option (List ℕ)) (at : ℕ) 
 BreaksOff-take text old new at more is =
     let next : drop at text ≡ get_or text at 0 ∷ drop (at + 1) text = drop_more text at 0 more in
     (take at text, (get_or text at 0, drop (at + 1) text, sym (take-append-drop at text) ∙ ap (λ t. take at text ++ t) next), is)
-
-pub OnOk-weaker_both : {T E : Type 0} → (r : Result T E) (P Q R : Type 0) → (P → Q → R) → OnOk r P → OnOk r Q → OnOk r R
-OnOk-weaker_both (Ok x) P Q R f p q = f p q
-OnOk-weaker_both (Err e) P Q R f p q = tt

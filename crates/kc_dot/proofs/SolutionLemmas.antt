@@ -1,7 +1,6 @@
 -- A tree and a solution, as the laws of the written texts want them.
-use Rattle.std.proofs.Common.{◌≡◌, ◌<◌, ◌≤◌, [], length, subst, arith}
+use Rattle.std.proofs.Common.{◌≡◌, [], subst, arith}
 use Rattle.std.proofs.lemmas.Option.{slice_get-get_or}
-use Rattle.kc_expr.specs.declared.expression.SymId.{SymId}
 use Rattle.kc_order.specs.Solution.{Solves}
 use Rattle.kc_solve.specs.Solved.{IsSolution, Solution, value_of}
 use Rattle.kc_tree.specs.TreeFacts.{TreeFacts, IsWellFormed}

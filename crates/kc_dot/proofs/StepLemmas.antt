@@ -1,15 +1,14 @@
 -- What one line does to the places.
-use Rattle.std.proofs.Common.{◌≡◌, ℕ, ◌<◌, List, [], ◌∷◌, true, false, length, refl, sym, ap, Option, Some, None, slice_set}
+use Rattle.std.proofs.Common.{◌≡◌, ℕ, ◌<◌, List, [], ◌∷◌, true, false, length, refl, sym, Option, Some, None, slice_set}
 use Rattle.std.specs.Prelude.{slice_get, IfSome}
-use Rattle.std.specs.Option.{option_map}
 use Rattle.std.proofs.lemmas.Option.{slice_get_within}
 use Rattle.kc_expr.specs.declared.expression.SymId.{SymId}
 use Rattle.kc_expr.specs.declared.expression.Kind.{Kind}
 use Rattle.kc_expr.specs.declared.expression.Kind.TheVariants as kind
 use Rattle.kc_tree.specs.TreeFacts.{TreeFacts, SymbolFacts, IsWellFormed}
 use Rattle.kc_tree.specs.Contexts.{mode_view}
-use Rattle.kc_tree.specs.declared.parts.ChoiceId.{ChoiceId}
-use Rattle.kc_user.specs.Given.{Given}
+use Rattle.kc_tree.specs.declared.rows.ChoiceId.{ChoiceId}
+use Rattle.kc_user.specs.GivenValue.{GivenValue}
 use Rattle.kc_user.specs.Places.{Places}
 use Rattle.kc_dot.specs.Effects.{set_effect, set_by_kind, assigned_or, kind_in}
 use Rattle.kc_dot.specs.LineValue.{line_value}
@@ -18,7 +17,7 @@ use Rattle.kc_dot.specs.LineSteps.{with_member}
 use Rattle.kc_dot.specs.Reading.{places_given, is_yes, choice_of}
 use Rattle.kc_dot.proofs.PlaceLemmas.{places_given-one}
 
-by_value : (tree : TreeFacts) (name : List ℕ) (s : SymId) (found : Option Given) → s.0 < length tree.symbols → AssignsDefined tree (assigned_or name s found)
+by_value : (tree : TreeFacts) (name : List ℕ) (s : SymId) (found : Option GivenValue) → s.0 < length tree.symbols → AssignsDefined tree (assigned_or name s found)
 by_value tree name s None defined = tt
 by_value tree name s (Some given) defined = defined
 
@@ -48,20 +47,20 @@ choice_there tree i facts (Some k) formed found is =
     slice_get_within tree.choices k.0 c listed
 
 -- the places after an assignment, whose symbol's choice was seen to before
-pub assigned : (tree : TreeFacts) (old mid new : Places) (s : SymId) (given : Given) →
+pub assigned : (tree : TreeFacts) (old mid new : Places) (s : SymId) (given : GivenValue) →
     mid ≡ record { symbols = old.symbols; choices = with_member (is_yes given) (choice_of tree s) s old.choices } →
     new ≡ record { symbols = slice_set mid.symbols s.0 (Some given); choices = mid.choices } →
     new ≡ places_given tree old (record { symbol = s; given = given } ∷ [])
 assigned tree old mid new s given chosen set =
     rw (set, chosen) (sym (places_given-one tree old s given))
 
-pub assigned_yes : (tree : TreeFacts) (old mid new : Places) (s : SymId) (given : Given) → is_yes given ≡ true →
+pub assigned_yes : (tree : TreeFacts) (old mid new : Places) (s : SymId) (given : GivenValue) → is_yes given ≡ true →
     mid ≡ record { symbols = old.symbols; choices = with_member true (choice_of tree s) s old.choices } →
     new ≡ record { symbols = slice_set mid.symbols s.0 (Some given); choices = mid.choices } →
     new ≡ places_given tree old (record { symbol = s; given = given } ∷ [])
 assigned_yes tree old mid new s given is_y chosen set = assigned tree old mid new s given (rw is_y chosen) set
 
-pub assigned_no : (tree : TreeFacts) (old mid new : Places) (s : SymId) (given : Given) → is_yes given ≡ false → mid ≡ old →
+pub assigned_no : (tree : TreeFacts) (old mid new : Places) (s : SymId) (given : GivenValue) → is_yes given ≡ false → mid ≡ old →
     new ≡ record { symbols = slice_set mid.symbols s.0 (Some given); choices = mid.choices } →
     new ≡ places_given tree old (record { symbol = s; given = given } ∷ [])
 assigned_no tree old mid new s given is_other same set = assigned tree old mid new s given (rw is_other same) set

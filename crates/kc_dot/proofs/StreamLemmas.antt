@@ -11,16 +11,16 @@ use Rattle.std.specs.Str.Lines.{strip_carriage_return}
 use Rattle.kc_text.specs.Lines.{is_line_feed}
 use Rattle.kc_expr.specs.declared.expression.SymId.{SymId}
 use Rattle.kc_tree.specs.TreeFacts.{TreeFacts, SymbolFacts, IsWellFormed}
-use Rattle.kc_user.specs.Given.{Given}
+use Rattle.kc_user.specs.GivenValue.{GivenValue}
 use Rattle.kc_user.specs.Laws.{EmptyArePlaces, SettingKeepsPlaces, SelectingKeepsPlaces}
 use Rattle.kc_user.specs.Places.{ArePlaces, Places, allowed, members_of, no_places}
-use Rattle.kc_dot.specs.Calls.{Call, Feed, Finish, NextStream, Answers, Run, rest_of, more_of, lines_fed}
-use Rattle.kc_dot.specs.ConfigLine.{says}
+use Rattle.kc_dot.specs.Calls.{Call, Feed, Finish, NextStream, Answers, AllAnswered, rest_of, more_of, lines_fed}
+use Rattle.kc_dot.specs.DotLine.{meaning_of}
 use Rattle.kc_dot.specs.Effects.{Effect, Silent, Warns, Assigns, effect_of}
-use Rattle.kc_dot.specs.Feeding.{Spot, fed, ended, first_spot, Goes, Ends}
+use Rattle.kc_dot.specs.Feeding.{StreamPosition, fed, ended, stream_start, ReadsPiece, Ends}
 use Rattle.kc_dot.specs.LineSteps.{with_member}
 use Rattle.kc_dot.specs.ReaderState.{ReaderState}
-use Rattle.kc_dot.specs.Reading.{Assignment, Line, Read, Stream, assignment_of, assignments, choice_of, counted, effect, is_within, is_yes, last_line, line, lines_from, lines_of, lines_of_parts, next_number, places_given, reading, text_of, told}
+use Rattle.kc_dot.specs.Reading.{Assignment, Line, ReadResult, Stream, assignment_of, assignments, choice_of, before_too_long, effect, is_within, is_yes, last_line, line, lines_from, lines_of, lines_of_parts, next_number, places_given, reading, text_of, with_warnings}
 use Rattle.kc_dot.specs.Streams.{Pieces, stream_of, feeds, calls_after, RefusalsKeepPlaces, StreamsAreRead, StreamsLeavePlaces, ReadingKeepsPlaces}
 use Rattle.kc_dot.proofs.AllowedLemmas.{assigned_allowed, strip_no_lf}
 use Rattle.kc_dot.proofs.CallLemmas.{calls_join}
@@ -40,24 +40,28 @@ rest_of_after : (streams : List Pieces) → rest_of (calls_after streams) ≡ []
 rest_of_after [] = refl
 rest_of_after (s ∷ streams) = refl
 
-feed_more : (pieces : List (List ℕ)) (name : List ℕ) (spot : Spot) (calls : List Call) (lines : List Line) → ((later : Spot) → more_of name later calls ≡ lines) → more_of name spot (feeds pieces ++ calls) ≡ lines
-feed_more [] name spot calls lines is = is spot
-feed_more (piece ∷ pieces) name spot calls lines is = feed_more pieces name (fed piece spot) calls lines is
+feed_more : (pieces : List (List ℕ)) (name : List ℕ) (position : StreamPosition) (calls : List Call) (lines : List Line) →
+    ((later : StreamPosition) → more_of name later calls ≡ lines) → more_of name position (feeds pieces ++ calls) ≡ lines
+feed_more [] name position calls lines is = is position
+feed_more (piece ∷ pieces) name position calls lines is = feed_more pieces name (fed piece position) calls lines is
 
-more_of_after : (streams : List Pieces) (name : List ℕ) (spot : Spot) → more_of name spot (calls_after streams) ≡ lines_of (map stream_of streams)
-more_of_after [] name spot = rw (no_lines name (ended spot).number) refl
-more_of_after (s ∷ streams) name spot =
-    let e : rest_of (feeds s.pieces ++ calls_after streams) ≡ concat s.pieces = rest_of_feeds s.pieces (calls_after streams) ∙ ap (λ t. concat s.pieces ++ t) (rest_of_after streams) ∙ append-nil (concat s.pieces) in
-    let m : more_of s.name first_spot (feeds s.pieces ++ calls_after streams) ≡ lines_of (map stream_of streams) = feed_more s.pieces s.name first_spot (calls_after streams) (lines_of (map stream_of streams)) (more_of_after streams s.name) in
+more_of_after : (streams : List Pieces) (name : List ℕ) (position : StreamPosition) → more_of name position (calls_after streams) ≡ lines_of (map stream_of streams)
+more_of_after [] name position = rw (no_lines name (ended position).number) refl
+more_of_after (s ∷ streams) name position =
+    let e : rest_of (feeds s.pieces ++ calls_after streams) ≡ concat s.pieces = rest_of_feeds s.pieces (calls_after streams)
+    ∙ ap (λ t. concat s.pieces ++ t) (rest_of_after streams) ∙ append-nil (concat s.pieces) in
+    let m : more_of s.name stream_start (feeds s.pieces ++ calls_after streams) ≡ lines_of (map stream_of streams) =
+    feed_more s.pieces s.name stream_start (calls_after streams) (lines_of (map stream_of streams)) (more_of_after streams s.name) in
     rw (e, m) refl
 
-more_of_feeds : (pieces : List (List ℕ)) (name : List ℕ) (spot : Spot) (streams : List Pieces) → more_of name spot (feeds pieces ++ calls_after streams) ≡ lines_of (map stream_of streams)
-more_of_feeds pieces name spot streams = feed_more pieces name spot (calls_after streams) (lines_of (map stream_of streams)) (more_of_after streams name)
+more_of_feeds : (pieces : List (List ℕ)) (name : List ℕ) (position : StreamPosition) (streams : List Pieces) →
+    more_of name position (feeds pieces ++ calls_after streams) ≡ lines_of (map stream_of streams)
+more_of_feeds pieces name position streams = feed_more pieces name position (calls_after streams) (lines_of (map stream_of streams)) (more_of_after streams name)
 
 -- the last call ends the stream
-ends_empty : (calls : List Call) (old new : ReaderState) (before after : Places) (warned : List ℕ) → Run (calls ++ Finish ∷ []) old new before after warned → new.spot.pending ≡ []
+ends_empty : (calls : List Call) (old new : ReaderState) (before after : Places) (warned : List ℕ) → AllAnswered (calls ++ Finish ∷ []) old new before after warned → new.position.pending ≡ []
 ends_empty [] old new before after warned (mid, middle, first, later, (is, ends), (same, places, nothing), joined) =
-    ap (λ (r : ReaderState). r.spot.pending) same ∙ ap (λ (r : ReaderState). r.spot.pending) is
+    ap (λ (r : ReaderState). r.position.pending) same ∙ ap (λ (r : ReaderState). r.position.pending) is
 ends_empty (call ∷ calls) old new before after warned (mid, middle, first, later, answers, run, joined) = ends_empty calls mid new middle after later run
 
 ends_with_finish : (streams : List Pieces) → (calls : List Call) × (calls_after streams ≡ calls ++ Finish ∷ [])
@@ -72,16 +76,16 @@ streams_are_read first streams old new before after warned named fresh run =
     let joined = calls_join all old new before after warned run in
     let (calls, is) = ends_with_finish streams in
     let split : all ≡ (feeds first.pieces ++ calls) ++ Finish ∷ [] = ap (λ t. feeds first.pieces ++ t) is ∙ sym (append_assoc (feeds first.pieces) calls (Finish ∷ [])) in
-    let empty : new.spot.pending ≡ [] = ends_empty (feeds first.pieces ++ calls) old new before after warned (subst (λ c. Run c old new before after warned) split run) in
+    let empty : new.position.pending ≡ [] = ends_empty (feeds first.pieces ++ calls) old new before after warned (subst (λ c. AllAnswered c old new before after warned) split run) in
     let rest : rest_of all ≡ concat first.pieces = rest_of_feeds first.pieces (calls_after streams) ∙ ap (λ t. concat first.pieces ++ t) (rest_of_after streams) ∙ append-nil (concat first.pieces) in
     let fed_lines : lines_fed old all ≡ lines_of (map stream_of (first ∷ streams)) =
-    rw (named, fresh, rest, more_of_feeds first.pieces first.name first_spot streams) refl in
-    let nothing : lines_from new.name new.spot.number new.spot.pending ≡ [] = ap (lines_from new.name new.spot.number) empty ∙ no_lines new.name new.spot.number in
+    rw (named, fresh, rest, more_of_feeds first.pieces first.name stream_start streams) refl in
+    let nothing : lines_from new.name new.position.number new.position.pending ≡ [] = ap (lines_from new.name new.position.number) empty ∙ no_lines new.name new.position.number in
     ap (reading old.tree old.prefix before) (sym fed_lines) ∙ joined
-    ∙ ap (λ lines. told warned (reading old.tree old.prefix after lines)) nothing ∙ ap (told warned) (reading-nothing old.tree old.prefix after)
+    ∙ ap (λ lines. with_warnings warned (reading old.tree old.prefix after lines)) nothing ∙ ap (with_warnings warned) (reading-nothing old.tree old.prefix after)
     ∙ told_end after warned
   where
-    told_end : (after : Places) (warned : List ℕ) → told warned (record { places = after; warned = []; stopped = None }) ≡ record { places = after; warned = warned; stopped = None }
+    told_end : (after : Places) (warned : List ℕ) → with_warnings warned (record { places = after; warned = []; stopped = None }) ≡ record { places = after; warned = warned; stopped = None }
     told_end after warned = rw (append-nil warned) refl
 
 -- Places that hold what is allowed.
@@ -89,13 +93,14 @@ module _ (tree : TreeFacts) (prefix : List ℕ) (formed : IsWellFormed tree) (se
   abbrev IsAllowed : Assignment → Type 0
   IsAllowed a = allowed tree a.symbol a.given ≡ true
 
-  member_of_choice : (s : SymId) (c : ℕ) (o : Option SymbolFacts) → slice_get tree.symbols s.0 ≡ o → option_and_then (λ (f : SymbolFacts). f.choice) o ≡ Some c → Contains (members_of (slice_get tree.choices c)) s
+  member_of_choice : (s : SymId) (c : ℕ) (o : Option SymbolFacts) → slice_get tree.symbols s.0 ≡ o →
+      option_and_then (λ (f : SymbolFacts). f.choice) o ≡ Some c → Contains (members_of (slice_get tree.choices c)) s
   member_of_choice s c None at e = cc
   member_of_choice s c (Some f) at e =
       let (cf, found, member) = formed.members_listed s.0 f at c e in
       subst (λ o. Contains (members_of o) s) (sym found) member
 
-  chosen_keeps : (symbols : List (Option Given)) (choices : List (Option SymId)) (s : SymId) (yes_now : Bool) (choice : Option ℕ) → choice_of tree s ≡ choice →
+  chosen_keeps : (symbols : List (Option GivenValue)) (choices : List (Option SymId)) (s : SymId) (yes_now : Bool) (choice : Option ℕ) → choice_of tree s ≡ choice →
       ArePlaces tree (record { symbols = symbols; choices = choices }) → ArePlaces tree (record { symbols = symbols; choices = with_member yes_now choice s choices })
   chosen_keeps symbols choices s false choice is old = old
   chosen_keeps symbols choices s true None is old = old
@@ -122,27 +127,28 @@ module _ (tree : TreeFacts) (prefix : List ℕ) (formed : IsWellFormed tree) (se
       by true = strip_no_lf l.bytes none
       by false = none
 
-  effect_allowed : (l : Line) → OneLine l → (e : Effect) → effect_of tree (says prefix (text_of l)) ≡ e → (rest : List Assignment) → AllByRecursion IsAllowed rest → AllByRecursion IsAllowed (cons_option (assignment_of e) rest)
+  effect_allowed : (l : Line) → OneLine l → (e : Effect) → effect_of tree (meaning_of prefix (text_of l)) ≡ e → (rest : List Assignment) →
+      AllByRecursion IsAllowed rest → AllByRecursion IsAllowed (cons_option (assignment_of e) rest)
   effect_allowed l none Silent is rest ok = ok
-  effect_allowed l none (Warns trouble) is rest ok = ok
+  effect_allowed l none (Warns line_warning) is rest ok = ok
   effect_allowed l none (Assigns s given) is rest ok = (assigned_allowed tree prefix (text_of l) s given (line_no_lf l none) is, ok)
 
   lines_allowed : (lines : List Line) → AllByRecursion OneLine lines → AllByRecursion IsAllowed (assignments tree prefix lines)
   unfolding effect
   lines_allowed [] none = tt
-  lines_allowed (l ∷ lines) none = effect_allowed l none.0 (effect_of tree (says prefix (text_of l))) refl (assignments tree prefix lines) (lines_allowed lines none.1)
+  lines_allowed (l ∷ lines) none = effect_allowed l none.0 (effect_of tree (meaning_of prefix (text_of l))) refl (assignments tree prefix lines) (lines_allowed lines none.1)
 
-  counted_lines : (lines : List Line) → AllByRecursion OneLine lines → AllByRecursion OneLine (counted lines)
+  counted_lines : (lines : List Line) → AllByRecursion OneLine lines → AllByRecursion OneLine (before_too_long lines)
   counted_lines [] none = tt
   counted_lines (l ∷ lines) none = rw (take_while-cons is_within l lines) (by (is_within l) (counted_lines lines none.1))
     where
-      by : (b : Bool) → AllByRecursion OneLine (counted lines) → AllByRecursion OneLine (cond b (l ∷ counted lines) [])
+      by : (b : Bool) → AllByRecursion OneLine (before_too_long lines) → AllByRecursion OneLine (cond b (l ∷ before_too_long lines) [])
       by true rest = (none.0, rest)
       by false rest = tt
 
   reading_keeps : (lines : List Line) (places : Places) → AllByRecursion OneLine lines → ArePlaces tree places → ArePlaces tree (reading tree prefix places lines).places
   unfolding reading
-  reading_keeps lines places none old = all_keep (assignments tree prefix (counted lines)) places (lines_allowed (counted lines) (counted_lines lines none)) old
+  reading_keeps lines places none old = all_keep (assignments tree prefix (before_too_long lines)) places (lines_allowed (before_too_long lines) (counted_lines lines none)) old
 
 -- The lines of a stream hold no line feed.
 parts_no_lf : (bytes : List ℕ) → AllByRecursion HasNoLf (slice_split is_line_feed bytes)
@@ -153,7 +159,8 @@ parts_no_lf (b ∷ bytes) = by (is_line_feed b) refl (parts_no_lf bytes)
     onto other [] ok = (All-cons (λ x. is_line_feed x ≡ false) b [] other (All-nil (λ x. is_line_feed x ≡ false)), tt)
     onto other (part ∷ parts) ok = (All-cons (λ x. is_line_feed x ≡ false) b part other ok.0, ok.1)
 
-    by : (c : Bool) → is_line_feed b ≡ c → AllByRecursion HasNoLf (slice_split is_line_feed bytes) → AllByRecursion HasNoLf (cond c ([] ∷ slice_split is_line_feed bytes) (onto_first b (slice_split is_line_feed bytes)))
+    by : (c : Bool) → is_line_feed b ≡ c → AllByRecursion HasNoLf (slice_split is_line_feed bytes) →
+        AllByRecursion HasNoLf (cond c ([] ∷ slice_split is_line_feed bytes) (onto_first b (slice_split is_line_feed bytes)))
     by true is ok = (All-nil (λ x. is_line_feed x ≡ false), ok)
     by false is ok = onto is (slice_split is_line_feed bytes) ok
 
@@ -173,7 +180,8 @@ pub stream_lines : (stream : List ℕ) (n : ℕ) (bytes : List ℕ) → AllByRec
 unfolding lines_from
 stream_lines stream n bytes = part_lines stream n (slice_split is_line_feed bytes) (parts_no_lf bytes)
 
-all_lines-append : (ls ms : List Line) → AllByRecursion (λ (l : Line). HasNoLf l.bytes) ls → AllByRecursion (λ (l : Line). HasNoLf l.bytes) ms → AllByRecursion (λ (l : Line). HasNoLf l.bytes) (ls ++ ms)
+all_lines-append : (ls ms : List Line) → AllByRecursion (λ (l : Line). HasNoLf l.bytes) ls → AllByRecursion (λ (l : Line). HasNoLf l.bytes) ms →
+    AllByRecursion (λ (l : Line). HasNoLf l.bytes) (ls ++ ms)
 all_lines-append [] ms a b = b
 all_lines-append (l ∷ ls) ms a b = (a.0, all_lines-append ls ms a.1 b)
 
@@ -200,38 +208,48 @@ module _ (setting : SettingKeepsPlaces) (selecting : SelectingKeepsPlaces) where
   no_more_lines : (name : List ℕ) (n : ℕ) (bytes : List ℕ) → AllByRecursion (λ (l : Line). HasNoLf l.bytes) (lines_from name n bytes ++ [])
   no_more_lines name n bytes = subst (λ lines. AllByRecursion (λ (l : Line). HasNoLf l.bytes) lines) (sym (append-nil (lines_from name n bytes))) (stream_lines name n bytes)
 
-  end_keeps : (tree : TreeFacts) (prefix name : List ℕ) (spot : Spot) (before after : Places) (warned : List ℕ) → IsWellFormed tree → Ends tree prefix name spot before after warned → ArePlaces tree before → ArePlaces tree after
-  end_keeps tree prefix name spot before after warned formed ends old =
-      let is : (reading tree prefix before (lines_from name spot.number spot.pending ++ [])).places ≡ after = ap (λ (r : Read). r.places) (ends [] ∙ ap (told warned) (reading-nothing tree prefix after)) in
-      subst (ArePlaces tree) is (reading_keeps tree prefix formed setting selecting (lines_from name spot.number spot.pending ++ []) before (no_more_lines name spot.number spot.pending) old)
+  end_keeps : (tree : TreeFacts) (prefix name : List ℕ) (position : StreamPosition) (before after : Places) (warned : List ℕ) → IsWellFormed tree →
+      Ends tree prefix name position before after warned → ArePlaces tree before → ArePlaces tree after
+  end_keeps tree prefix name position before after warned formed ends old =
+      let is : (reading tree prefix before (lines_from name position.number position.pending ++ [])).places ≡ after =
+      ap (λ (r : ReadResult). r.places) (ends [] ∙ ap (with_warnings warned) (reading-nothing tree prefix after)) in
+      subst (ArePlaces tree) is (reading_keeps tree prefix formed setting selecting (lines_from name position.number position.pending ++ []) before
+      (no_more_lines name position.number position.pending) old)
 
   -- a line that is too long changes nothing
-  long_line : (tree : TreeFacts) (prefix name : List ℕ) (spot : Spot) (after : Places) (n : ℕ) → 65535 < n → HasNoLf spot.pending → (reading tree prefix after (lines_from name spot.number (spot.pending ++ replicate n 120) ++ [])).places ≡ after
-  long_line tree prefix name spot after n far none =
-      let bytes : List ℕ = spot.pending ++ replicate n 120 in
-      let size : length bytes ≡ length spot.pending + n = length-append spot.pending (replicate n 120) ∙ ap (λ k. length spot.pending + k) (length-replicate n 120) in
-      let one : HasNoLf bytes = All-append (λ b. is_line_feed b ≡ false) spot.pending (replicate n 120) none (λ k d lt. ap is_line_feed (get_or-replicate n k 120 d (subst (λ m. k < m) (length-replicate n 120) lt))) in
+  long_line : (tree : TreeFacts) (prefix name : List ℕ) (position : StreamPosition) (after : Places) (n : ℕ) → 65535 < n → HasNoLf position.pending →
+      (reading tree prefix after (lines_from name position.number (position.pending ++ replicate n 120) ++ [])).places ≡ after
+  long_line tree prefix name position after n far none =
+      let bytes : List ℕ = position.pending ++ replicate n 120 in
+      let size : length bytes ≡ length position.pending + n = length-append position.pending (replicate n 120) ∙ ap (λ k. length position.pending + k) (length-replicate n 120) in
+      let one : HasNoLf bytes = All-append (λ b. is_line_feed b ≡ false) position.pending (replicate n 120) none
+      (λ k d lt. ap is_line_feed (get_or-replicate n k 120 d (subst (λ m. k < m) (length-replicate n 120) lt))) in
       let some : (length bytes == 0) ≡ false = ne_eqb (length bytes) 0 (λ e. absurd (omega arith)) in
-      let lines : lines_from name spot.number bytes ++ [] ≡ line name spot.number bytes false ∷ [] = append-nil (lines_from name spot.number bytes) ∙ lines_from-last name spot.number bytes one ∙ ap (λ b. cond b [] (line name spot.number bytes false ∷ [])) some in
-      let long : is_within (line name spot.number bytes false) ≡ false = lt-leb (length bytes) 65535 (omega arith) in
-      ap (λ (r : Read). r.places) (ap (reading tree prefix after) lines ∙ reading_long tree prefix after (line name spot.number bytes false) [] long)
+      let lines : lines_from name position.number bytes ++ [] ≡ line name position.number bytes false ∷ [] = append-nil (lines_from name position.number bytes)
+      ∙ lines_from-last name position.number bytes one ∙ ap (λ b. cond b [] (line name position.number bytes false ∷ [])) some in
+      let long : is_within (line name position.number bytes false) ≡ false = lt-leb (length bytes) 65535 (omega arith) in
+      ap (λ (r : ReadResult). r.places) (ap (reading tree prefix after) lines ∙ reading_long tree prefix after (line name position.number bytes false) [] long)
 
-  feed_keeps : (tree : TreeFacts) (prefix name piece : List ℕ) (old new : Spot) (before after : Places) (warned : List ℕ) (n : ℕ) → 65535 < n → IsWellFormed tree → HasNoLf new.pending → Goes tree prefix name piece old new before after warned → ArePlaces tree before → ArePlaces tree after
+  feed_keeps : (tree : TreeFacts) (prefix name piece : List ℕ) (old new : StreamPosition) (before after : Places) (warned : List ℕ) (n : ℕ) → 65535 < n →
+      IsWellFormed tree → HasNoLf new.pending → ReadsPiece tree prefix name piece old new before after warned → ArePlaces tree before → ArePlaces tree after
   feed_keeps tree prefix name piece old new before after warned n far formed none goes held =
       let is : (reading tree prefix before (lines_from name old.number (old.pending ++ (piece ++ replicate n 120)) ++ [])).places ≡ after =
-      ap (λ (r : Read). r.places) (goes (replicate n 120) []) ∙ long_line tree prefix name new after n far none in
-      subst (ArePlaces tree) is (reading_keeps tree prefix formed setting selecting (lines_from name old.number (old.pending ++ (piece ++ replicate n 120)) ++ []) before (no_more_lines name old.number (old.pending ++ (piece ++ replicate n 120))) held)
+      ap (λ (r : ReadResult). r.places) (goes (replicate n 120) []) ∙ long_line tree prefix name new after n far none in
+      subst (ArePlaces tree) is (reading_keeps tree prefix formed setting selecting
+      (lines_from name old.number (old.pending ++ (piece ++ replicate n 120)) ++ []) before
+      (no_more_lines name old.number (old.pending ++ (piece ++ replicate n 120))) held)
 
-  call_keeps : (call : Call) (old new : ReaderState) (before after : Places) (warned : List ℕ) → IsWellFormed old.tree → Answers call old new before after warned → ArePlaces old.tree before → (new.tree ≡ old.tree) × ArePlaces old.tree after
+  call_keeps : (call : Call) (old new : ReaderState) (before after : Places) (warned : List ℕ) → IsWellFormed old.tree →
+      Answers call old new before after warned → ArePlaces old.tree before → (new.tree ≡ old.tree) × ArePlaces old.tree after
   call_keeps (Feed piece) old new before after warned formed (is, goes) held = (
     ap (λ (r : ReaderState). r.tree) is,
-    feed_keeps old.tree old.prefix old.name piece old.spot new.spot before after warned 65536 (omega arith) formed
-        (subst HasNoLf (sym (ap (λ (r : ReaderState). r.spot.pending) is)) (waiting_no_lf (old.spot.pending ++ piece))) goes held,
+    feed_keeps old.tree old.prefix old.name piece old.position new.position before after warned 65536 (omega arith) formed
+        (subst HasNoLf (sym (ap (λ (r : ReaderState). r.position.pending) is)) (waiting_no_lf (old.position.pending ++ piece))) goes held,
   )
   call_keeps Finish old new before after warned formed (is, ends) held =
-      (ap (λ (r : ReaderState). r.tree) is, end_keeps old.tree old.prefix old.name old.spot before after warned formed ends held)
+      (ap (λ (r : ReaderState). r.tree) is, end_keeps old.tree old.prefix old.name old.position before after warned formed ends held)
   call_keeps (NextStream name) old new before after warned formed (is, ends) held =
-      (ap (λ (r : ReaderState). r.tree) is, end_keeps old.tree old.prefix old.name old.spot before after warned formed ends held)
+      (ap (λ (r : ReaderState). r.tree) is, end_keeps old.tree old.prefix old.name old.position before after warned formed ends held)
 
   pub calls_keep : ReadingKeepsPlaces
   calls_keep [] old new before after warned formed (same, places, nothing) held = subst (ArePlaces old.tree) (sym places) held
@@ -249,4 +267,4 @@ module _ (setting : SettingKeepsPlaces) (selecting : SelectingKeepsPlaces) where
   pub refusals_keep : RefusalsKeepPlaces
   refusals_keep tree prefix name fault piece old new before after taken taken_after formed refuses held =
       feed_keeps tree prefix name refuses.done old new before after refuses.warned 65536 (omega arith) formed
-      (subst HasNoLf (sym (ap (λ (s : Spot). s.pending) refuses.stands)) (waiting_no_lf (old.pending ++ refuses.done))) refuses.goes held
+      (subst HasNoLf (sym (ap (λ (s : StreamPosition). s.pending) refuses.stands)) (waiting_no_lf (old.pending ++ refuses.done))) refuses.goes held

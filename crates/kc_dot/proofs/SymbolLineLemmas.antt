@@ -21,12 +21,12 @@ use Rattle.kc_expr.specs.declared.expression.Tri.TheVariants.{N, M, Y}
 use Rattle.kc_expr.specs.declared.expression.Kind.{Kind}
 use Rattle.kc_expr.specs.declared.expression.Kind.TheVariants as kind
 use Rattle.kc_expr.specs.Names.{same_name}
-use Rattle.kc_expr.specs.Value.{Known, Truth, Written}
+use Rattle.kc_expr.specs.Value.{SymbolValue, Truth, TextValue}
 use Rattle.kc_tree.specs.TreeFacts.{TreeFacts, SymbolFacts, IsWellFormed}
-use Rattle.kc_user.specs.Given.{Given, Chosen, Typed}
+use Rattle.kc_user.specs.GivenValue.{GivenValue, GivenTruth, GivenText}
 use Rattle.kc_user.specs.Places.{allowed, allowed_by, allowed_for, fits_quoted}
 use Rattle.kc_values.specs.Differs.{given_of}
-use Rattle.kc_dot.specs.ConfigLine.{Set, Unset, says, trimmed}
+use Rattle.kc_dot.specs.DotLine.{Set, Unset, meaning_of, trimmed}
 use Rattle.kc_dot.specs.Effects.{effect_of, set_by_kind, unset_by_kind, assigned_or, symbol_named, name_of}
 use Rattle.kc_dot.specs.LineValue.{line_value, number_value}
 use Rattle.kc_expr.specs.Names.{is_name_byte}
@@ -92,29 +92,29 @@ named_itself tree s formed defined =
     rw (at, lt-ltb s.0 (length tree.names) lt) refl
 
 -- Values of a symbol of a type.
-abbrev pub IsOf : Kind → Known → Type 0
+abbrev pub IsOf : Kind → SymbolValue → Type 0
 IsOf kind.Undefined (Truth t) = ⊥
-IsOf kind.Undefined (Written l text) = ⊥
+IsOf kind.Undefined (TextValue l text) = ⊥
 IsOf kind.Bool (Truth t) = Unit {0}
-IsOf kind.Bool (Written l text) = ⊥
+IsOf kind.Bool (TextValue l text) = ⊥
 IsOf kind.Tristate (Truth t) = Unit {0}
-IsOf kind.Tristate (Written l text) = ⊥
+IsOf kind.Tristate (TextValue l text) = ⊥
 IsOf kind.Str (Truth t) = ⊥
-IsOf kind.Str (Written l text) = l ≡ kind.Str
+IsOf kind.Str (TextValue l text) = l ≡ kind.Str
 IsOf kind.Int (Truth t) = ⊥
-IsOf kind.Int (Written l text) = l ≡ kind.Int
+IsOf kind.Int (TextValue l text) = l ≡ kind.Int
 IsOf kind.Hex (Truth t) = ⊥
-IsOf kind.Hex (Written l text) = l ≡ kind.Hex
+IsOf kind.Hex (TextValue l text) = l ≡ kind.Hex
 
 -- the text fits a line: it holds no line feed, is not too long, and a number ends plainly
-abbrev pub FitsLine : Known → Type 0
+abbrev pub FitsLine : SymbolValue → Type 0
 FitsLine (Truth t) = Unit {0}
-FitsLine (Written kind.Undefined text) = Unit {0}
-FitsLine (Written kind.Bool text) = Unit {0}
-FitsLine (Written kind.Tristate text) = Unit {0}
-FitsLine (Written kind.Str text) = HasNoLf text × (length (escape text) ≤ 65000)
-FitsLine (Written kind.Int text) = HasNoLf text × (length text ≤ 65000) × EndsPlainly text
-FitsLine (Written kind.Hex text) = HasNoLf text × (length text ≤ 65000) × EndsPlainly text
+FitsLine (TextValue kind.Undefined text) = Unit {0}
+FitsLine (TextValue kind.Bool text) = Unit {0}
+FitsLine (TextValue kind.Tristate text) = Unit {0}
+FitsLine (TextValue kind.Str text) = HasNoLf text × (length (escape text) ≤ 65000)
+FitsLine (TextValue kind.Int text) = HasNoLf text × (length text ≤ 65000) × EndsPlainly text
+FitsLine (TextValue kind.Hex text) = HasNoLf text × (length text ≤ 65000) × EndsPlainly text
 
 pub no_lf_check : (xs : List ℕ) → list_all (λ b. not (is_line_feed b)) xs ≡ true → HasNoLf xs
 no_lf_check xs all = λ k d lt. not-true _ (AllPass-from_list_all (λ b. not (is_line_feed b)) xs all k d lt)
@@ -134,7 +134,8 @@ pub plain_one : (c : ℕ) → is_end_byte c ≡ false → EndsPlainly (c ∷ [])
 plain_one c plain front b is = rw (← last_byte [] front c b is) plain
 
 -- The line of one symbol.
-module _ (tree : TreeFacts) (prefix stream : List ℕ) (is_pre : is_prefix prefix ≡ true) (formed : IsWellFormed tree) (named : HasNames tree) (s : SymId) (f : SymbolFacts) (at : slice_get tree.symbols s.0 ≡ Some f) (defined : s.0 < length tree.symbols) where
+module _ (tree : TreeFacts) (prefix stream : List ℕ) (is_pre : is_prefix prefix ≡ true) (formed : IsWellFormed tree) (named : HasNames tree) (s : SymId)
+    (f : SymbolFacts) (at : slice_get tree.symbols s.0 ≡ Some f) (defined : s.0 < length tree.symbols) where
   abbrev pub full : List ℕ
   full = prefix ++ name_of tree s
 
@@ -144,33 +145,33 @@ module _ (tree : TreeFacts) (prefix stream : List ℕ) (is_pre : is_prefix prefi
   pub full_no_lf : HasNoLf full
   full_no_lf = no_lf_by is_name_byte full refl full_bytes
 
-  pub set_says : (value : List ℕ) → EndsPlainly value → effect_of tree (says prefix (strip_carriage_return (full ++ 61 ∷ value))) ≡ set_by_kind (name_of tree s) s value f.kind
+  pub set_says : (value : List ℕ) → EndsPlainly value → effect_of tree (meaning_of prefix (strip_carriage_return (full ++ 61 ∷ value))) ≡ set_by_kind (name_of tree s) s value f.kind
   set_says value plain =
       let whole = whole_set full value plain in
       let n = named s defined in
-      let said : says prefix (full ++ 61 ∷ value) ≡ Set (name_of tree s) value = set_read_again prefix (name_of tree s) value is_pre n.0 whole.trimmed_is in
+      let said : meaning_of prefix (full ++ 61 ∷ value) ≡ Set (name_of tree s) value = set_read_again prefix (name_of tree s) value is_pre n.0 whole.trimmed_is in
       rw (whole.strip_is, said, named_itself tree s formed defined, at) refl
 
-  unset_says : effect_of tree (says prefix (strip_carriage_return ((codes "# " ++ full) ++ codes " is not set"))) ≡ unset_by_kind (name_of tree s) s f.kind
+  unset_says : effect_of tree (meaning_of prefix (strip_carriage_return ((codes "# " ++ full) ++ codes " is not set"))) ≡ unset_by_kind (name_of tree s) s f.kind
   unset_says =
       let front : List ℕ = (codes "# " ++ full) ++ codes " is not se" in
       let e : (codes "# " ++ full) ++ codes " is not set" ≡ front ++ 116 ∷ [] = sym (append_assoc (codes "# " ++ full) (codes " is not se") (116 ∷ [])) in
       let whole = whole_by front 116 ((codes "# " ++ full) ++ codes " is not set") e refl in
       let n = named s defined in
-      let said : says prefix ((codes "# " ++ full) ++ codes " is not set") ≡ Unset (name_of tree s) = unset_read_again prefix (name_of tree s) n.0 in
+      let said : meaning_of prefix ((codes "# " ++ full) ++ codes " is not set") ≡ Unset (name_of tree s) = unset_read_again prefix (name_of tree s) n.0 in
       rw (whole.strip_is, said, named_itself tree s formed defined, at) refl
 
   -- the value's own assignment, where it is allowed
-  abbrev pub assignment : Known → Assignment
+  abbrev pub assignment : SymbolValue → Assignment
   assignment known = record { symbol = s; given = given_of known }
 
-  abbrev own_if : Bool → Known → Option Assignment
+  abbrev own_if : Bool → SymbolValue → Option Assignment
   own_if ok known = cond ok (Some (assignment known)) None
 
-  abbrev pub own : Known → Option Assignment
+  abbrev pub own : SymbolValue → Option Assignment
   own known = own_if (allowed tree s (given_of known)) known
 
-  assigned_if : (ok : Bool) (known : Known) → assignment_of (assigned_or (name_of tree s) s (cond ok (Some (given_of known)) None)) ≡ own_if ok known
+  assigned_if : (ok : Bool) (known : SymbolValue) → assignment_of (assigned_or (name_of tree s) s (cond ok (Some (given_of known)) None)) ≡ own_if ok known
   assigned_if true known = refl
   assigned_if false known = refl
 
@@ -179,7 +180,8 @@ module _ (tree : TreeFacts) (prefix stream : List ℕ) (is_pre : is_prefix prefi
 
   unset_no_lf : HasNoLf ((codes "# " ++ full) ++ codes " is not set")
   unset_no_lf =
-      All-append (λ b. is_line_feed b ≡ false) (codes "# " ++ full) (codes " is not set") (All-append (λ b. is_line_feed b ≡ false) (codes "# ") full (no_lf_check (codes "# ") refl) full_no_lf) (no_lf_check (codes " is not set") refl)
+      All-append (λ b. is_line_feed b ≡ false) (codes "# " ++ full) (codes " is not set")
+      (All-append (λ b. is_line_feed b ≡ false) (codes "# ") full (no_lf_check (codes "# ") refl) full_no_lf) (no_lf_check (codes " is not set") refl)
 
   pub short_prefix : length prefix ≤ 64
   short_prefix =
@@ -187,7 +189,7 @@ module _ (tree : TreeFacts) (prefix stream : List ℕ) (is_pre : is_prefix prefi
       let (short, bytes) = and_parts (nat_le (length prefix) 64) _ rest in
       leb-true (length prefix) 64 short
 
-  short_line : (body : List ℕ) (known : Known) → IsShortText known → config_line full known ≡ body ++ 10 ∷ [] → length body ≤ 65535
+  short_line : (body : List ℕ) (known : SymbolValue) → IsShortText known → config_line full known ≡ body ++ 10 ∷ [] → length body ≤ 65535
   short_line body known fits is =
       let n = named s defined in
       let all : length (config_line full known) ≤ 65323 = written_short prefix (name_of tree s) short_prefix n.1 known fits in
@@ -195,7 +197,7 @@ module _ (tree : TreeFacts) (prefix stream : List ℕ) (is_pre : is_prefix prefi
       omega (arith, all, same, length-append body (10 ∷ []))
 
   -- a line that sets the symbol
-  gives_set : (known : Known) (value : List ℕ) → HasNoLf value → EndsPlainly value → IsShortText known → config_line full known ≡ (full ++ 61 ∷ value) ++ 10 ∷ [] →
+  gives_set : (known : SymbolValue) (value : List ℕ) → HasNoLf value → EndsPlainly value → IsShortText known → config_line full known ≡ (full ++ 61 ∷ value) ++ 10 ∷ [] →
       assignment_of (set_by_kind (name_of tree s) s value f.kind) ≡ own known → Gives tree prefix stream (config_line full known) (cons_option (own known) [])
   gives_set known value none plain fits is means =
       let body = full ++ 61 ∷ value in
@@ -209,14 +211,14 @@ module _ (tree : TreeFacts) (prefix stream : List ℕ) (is_pre : is_prefix prefi
       subst (λ t. Gives tree prefix stream t (cons_option (own (Truth N)) [])) (sym is)
       (gives_line tree prefix stream body (own (Truth N)) unset_no_lf (short_line body (Truth N) tt is) (ap assignment_of unset_says ∙ means))
 
-  allowed_is : (g : Given) → allowed tree s g ≡ allowed_by f.kind g
+  allowed_is : (g : GivenValue) → allowed tree s g ≡ allowed_by f.kind g
   allowed_is g = ap (λ o. allowed_for o g) at
 
   -- what a line of a truth value does
   truth_means : (kd : Kind) → kd ≡ f.kind → IsOf kd (Truth N) →
-      (assignment_of (unset_by_kind (name_of tree s) s kd) ≡ own_if (allowed_by kd (Chosen N)) (Truth N))
-      × (assignment_of (set_by_kind (name_of tree s) s (109 ∷ []) kd) ≡ own_if (allowed_by kd (Chosen M)) (Truth M))
-      × (assignment_of (set_by_kind (name_of tree s) s (121 ∷ []) kd) ≡ own_if (allowed_by kd (Chosen Y)) (Truth Y))
+      (assignment_of (unset_by_kind (name_of tree s) s kd) ≡ own_if (allowed_by kd (GivenTruth N)) (Truth N))
+      × (assignment_of (set_by_kind (name_of tree s) s (109 ∷ []) kd) ≡ own_if (allowed_by kd (GivenTruth M)) (Truth M))
+      × (assignment_of (set_by_kind (name_of tree s) s (121 ∷ []) kd) ≡ own_if (allowed_by kd (GivenTruth Y)) (Truth Y))
   truth_means kind.Undefined is of = absurd of
   truth_means kind.Bool is of = (refl, refl, refl)
   truth_means kind.Tristate is of = (refl, refl, refl)
@@ -242,7 +244,7 @@ module _ (tree : TreeFacts) (prefix stream : List ℕ) (is_pre : is_prefix prefi
       gives_set (Truth Y) (121 ∷ []) (no_lf_check (121 ∷ []) refl) (plain_one 121 refl) tt (sym (append_assoc full (61 ∷ 121 ∷ []) (10 ∷ []))) (rw allowed_is means.2)
 
   -- a string's line gives it where it is not too long
-  quoted_value : (text : List ℕ) → HasNoLf text → line_value kind.Str (34 ∷ escape text ++ 34 ∷ []) ≡ cond (fits_quoted text) (Some (Typed text)) None
+  quoted_value : (text : List ℕ) → HasNoLf text → line_value kind.Str (34 ∷ escape text ++ 34 ∷ []) ≡ cond (fits_quoted text) (Some (GivenText text)) None
   quoted_value text none =
       let one : list_any is_line_feed text ≡ false = list_any_none is_line_feed text none in
       let n : length (34 ∷ escape text ++ 34 ∷ []) ≡ length (escape text) + 2 = omega (arith, length-append (34 ∷ escape text) (34 ∷ [])) in
@@ -251,40 +253,47 @@ module _ (tree : TreeFacts) (prefix stream : List ℕ) (is_pre : is_prefix prefi
         | inr long ↦ let far : nat_le (length (34 ∷ escape text ++ 34 ∷ [])) 65000 ≡ false = ap (λ k. nat_le k 65000) n ∙ long in rw (far, long) refl
       ]
 
-  number_value_if : (short is_number : Bool) (text : List ℕ) → cond short (number_value text is_number) None ≡ cond (short && is_number) (Some (Typed text)) None
+  number_value_if : (short is_number : Bool) (text : List ℕ) → cond short (number_value text is_number) None ≡ cond (short && is_number) (Some (GivenText text)) None
   number_value_if true is_number text = refl
   number_value_if false is_number text = refl
 
-  str_gives : (kd : Kind) (text : List ℕ) → kd ≡ f.kind → kd ≡ kind.Str → FitsLine (Written kind.Str text) → Gives tree prefix stream (config_line full (Written kind.Str text)) (cons_option (own (Written kind.Str text)) [])
+  str_gives : (kd : Kind) (text : List ℕ) → kd ≡ f.kind → kd ≡ kind.Str → FitsLine (TextValue kind.Str text) →
+      Gives tree prefix stream (config_line full (TextValue kind.Str text)) (cons_option (own (TextValue kind.Str text)) [])
   str_gives kd text is str (none, short) =
       let k : f.kind ≡ kind.Str = sym is ∙ str in
-      let line_is : config_line full (Written kind.Str text) ≡ (full ++ 61 ∷ (34 ∷ escape text ++ 34 ∷ [])) ++ 10 ∷ [] = simp append_assoc in
-      let no_lf : HasNoLf (34 ∷ escape text ++ 34 ∷ []) = All-append (λ b. is_line_feed b ≡ false) (34 ∷ escape text) (34 ∷ []) (All-cons (λ b. is_line_feed b ≡ false) 34 (escape text) refl (escape_no_lf text none)) (no_lf_check (34 ∷ []) refl) in
-      gives_set (Written kind.Str text) (34 ∷ escape text ++ 34 ∷ []) no_lf (plain_quote text) short line_is
-      (rw (allowed_is, k, quoted_value text none) (assigned_if (fits_quoted text) (Written kind.Str text)))
+      let line_is : config_line full (TextValue kind.Str text) ≡ (full ++ 61 ∷ (34 ∷ escape text ++ 34 ∷ [])) ++ 10 ∷ [] = simp append_assoc in
+      let no_lf : HasNoLf (34 ∷ escape text ++ 34 ∷ []) =
+      All-append (λ b. is_line_feed b ≡ false) (34 ∷ escape text) (34 ∷ [])
+      (All-cons (λ b. is_line_feed b ≡ false) 34 (escape text) refl (escape_no_lf text none)) (no_lf_check (34 ∷ []) refl) in
+      gives_set (TextValue kind.Str text) (34 ∷ escape text ++ 34 ∷ []) no_lf (plain_quote text) short line_is
+      (rw (allowed_is, k, quoted_value text none) (assigned_if (fits_quoted text) (TextValue kind.Str text)))
 
-  int_gives : (text : List ℕ) → f.kind ≡ kind.Int → FitsLine (Written kind.Int text) → Gives tree prefix stream (config_line full (Written kind.Int text)) (cons_option (own (Written kind.Int text)) [])
+  int_gives : (text : List ℕ) → f.kind ≡ kind.Int → FitsLine (TextValue kind.Int text) →
+      Gives tree prefix stream (config_line full (TextValue kind.Int text)) (cons_option (own (TextValue kind.Int text)) [])
   int_gives text k (none, short, plain) =
-      gives_set (Written kind.Int text) text none plain short (simp append_assoc)
-      (rw (allowed_is, k, number_value_if (nat_le (length text) 65000) (is_some (int_of text)) text) (assigned_if (nat_le (length text) 65000 && is_some (int_of text)) (Written kind.Int text)))
+      gives_set (TextValue kind.Int text) text none plain short (simp append_assoc)
+      (rw (allowed_is, k, number_value_if (nat_le (length text) 65000) (is_some (int_of text)) text) (assigned_if (nat_le (length text) 65000 && is_some (int_of text)) (TextValue kind.Int text)))
 
-  hex_gives : (text : List ℕ) → f.kind ≡ kind.Hex → FitsLine (Written kind.Hex text) → Gives tree prefix stream (config_line full (Written kind.Hex text)) (cons_option (own (Written kind.Hex text)) [])
+  hex_gives : (text : List ℕ) → f.kind ≡ kind.Hex → FitsLine (TextValue kind.Hex text) →
+      Gives tree prefix stream (config_line full (TextValue kind.Hex text)) (cons_option (own (TextValue kind.Hex text)) [])
   hex_gives text k (none, short, plain) =
-      gives_set (Written kind.Hex text) text none plain short (simp append_assoc)
-      (rw (allowed_is, k, number_value_if (nat_le (length text) 65000) (is_some (hex_of text)) text) (assigned_if (nat_le (length text) 65000 && is_some (hex_of text)) (Written kind.Hex text)))
+      gives_set (TextValue kind.Hex text) text none plain short (simp append_assoc)
+      (rw (allowed_is, k, number_value_if (nat_le (length text) 65000) (is_some (hex_of text)) text) (assigned_if (nat_le (length text) 65000 && is_some (hex_of text)) (TextValue kind.Hex text)))
 
-  written_gives : (kd l : Kind) (text : List ℕ) → kd ≡ f.kind → IsOf kd (Written l text) → FitsLine (Written l text) → Gives tree prefix stream (config_line full (Written l text)) (cons_option (own (Written l text)) [])
+  written_gives : (kd l : Kind) (text : List ℕ) → kd ≡ f.kind → IsOf kd (TextValue l text) → FitsLine (TextValue l text) →
+      Gives tree prefix stream (config_line full (TextValue l text)) (cons_option (own (TextValue l text)) [])
   written_gives kind.Undefined l text is of fits = absurd of
   written_gives kind.Bool l text is of fits = absurd of
   written_gives kind.Tristate l text is of fits = absurd of
   written_gives kind.Str l text is of fits =
-      subst (λ x. FitsLine (Written x text) → Gives tree prefix stream (config_line full (Written x text)) (cons_option (own (Written x text)) [])) (sym of) (str_gives kind.Str text is refl) fits
+      subst (λ x. FitsLine (TextValue x text) → Gives tree prefix stream (config_line full (TextValue x text)) (cons_option (own (TextValue x text)) []))
+      (sym of) (str_gives kind.Str text is refl) fits
   written_gives kind.Int l text is of fits =
-      subst (λ x. FitsLine (Written x text) → Gives tree prefix stream (config_line full (Written x text)) (cons_option (own (Written x text)) [])) (sym of) (int_gives text (sym is)) fits
+      subst (λ x. FitsLine (TextValue x text) → Gives tree prefix stream (config_line full (TextValue x text)) (cons_option (own (TextValue x text)) [])) (sym of) (int_gives text (sym is)) fits
   written_gives kind.Hex l text is of fits =
-      subst (λ x. FitsLine (Written x text) → Gives tree prefix stream (config_line full (Written x text)) (cons_option (own (Written x text)) [])) (sym of) (hex_gives text (sym is)) fits
+      subst (λ x. FitsLine (TextValue x text) → Gives tree prefix stream (config_line full (TextValue x text)) (cons_option (own (TextValue x text)) [])) (sym of) (hex_gives text (sym is)) fits
 
   -- the line of the symbol gives it its value where that is allowed, and nothing else
-  pub symbol_gives : (known : Known) → IsOf f.kind known → FitsLine known → Gives tree prefix stream (config_line full known) (cons_option (own known) [])
+  pub symbol_gives : (known : SymbolValue) → IsOf f.kind known → FitsLine known → Gives tree prefix stream (config_line full known) (cons_option (own known) [])
   symbol_gives (Truth t) of fits = truth_gives t of
-  symbol_gives (Written l text) of fits = written_gives f.kind l text refl of fits
+  symbol_gives (TextValue l text) of fits = written_gives f.kind l text refl of fits

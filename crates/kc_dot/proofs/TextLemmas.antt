@@ -1,5 +1,5 @@
 -- Texts that are handed out symbol by symbol and entry by entry.
-use Rattle.std.proofs.Common.{◌≡◌, ℕ, ◌+◌, ◌<◌, ◌≤◌, List, [], ◌∷◌, ◌++◌, Bool, true, false, length, map, take, drop, get_or, refl, sym, ap, ◌∙◌, subst, arith, append_assoc, append-nil, Option, Some}
+use Rattle.std.proofs.Common.{◌≡◌, ℕ, ◌+◌, ◌<◌, ◌≤◌, List, [], ◌∷◌, ◌++◌, Bool, true, false, length, map, drop, get_or, refl, sym, ap, ◌∙◌, arith, Some}
 use Rattle.std.specs.Prelude.{slice_get}
 use Rattle.std.specs.List.{flat_map}
 use Rattle.std.specs.Option.{option_map}
@@ -8,35 +8,35 @@ use Rattle.std.proofs.lemmas.List.FromFn.{length-map-range_with_len, get_or-map-
 use Rattle.std.proofs.lemmas.Option.{get_or_from_slice_get, slice_get_read, slice_get-map}
 use Rattle.kc_expr.specs.declared.expression.SymId.{SymId}
 use Rattle.kc_expr.specs.Names.{symbol}
-use Rattle.kc_expr.specs.Value.{Known}
+use Rattle.kc_expr.specs.Value.{SymbolValue}
 use Rattle.kc_tree.specs.TreeFacts.{TreeFacts, Shown, SymbolShown, MenuShown, EndShown, CommentShown, IsWellFormed, IsEntrySound}
 use Rattle.kc_tree.specs.Layouts.{IsLayoutOf, shown_of}
 use Rattle.kc_tree.specs.declared.layout.Layout.{Layout}
 use Rattle.kc_tree.specs.declared.layout.Tables.{Tables}
-use Rattle.kc_tree.specs.declared.parts.Entry.{Entry}
+use Rattle.kc_tree.specs.declared.rows.ShownEntry.{ShownEntry}
 use Rattle.kc_dot.specs.Named.{HasName}
 use Rattle.kc_dot.specs.Effects.{name_of}
 use Rattle.kc_dot.specs.SymbolLines.{config_line, header_line}
 use Rattle.kc_dot.specs.Texts.{symbols_of, header_if, minimal_if, gap, entry_text, ends_after, entries_text}
-use Rattle.kc_dot.specs.Told.{Told}
+use Rattle.kc_dot.specs.SolutionView.{SolutionView}
 
 -- the name of a symbol, as the tree hands it out
 pub name_is : (tree : TreeFacts) (s : SymId) (name : List ℕ) → slice_get tree.names s.0 ≡ Some name → name ≡ name_of tree s
 name_is tree s name found = sym (get_or_from_slice_get tree.names s.0 name [] found)
 
-module _ (tree : TreeFacts) (prefix : List ℕ) (told : Told) (s : SymId) where
-  pub header_if-written : (name : List ℕ) (known : Known) → told.written s ≡ true → slice_get tree.names s.0 ≡ Some name → known ≡ told.value s →
-      header_line (prefix ++ name) known ≡ header_if tree prefix told s
+module _ (tree : TreeFacts) (prefix : List ℕ) (solution : SolutionView) (s : SymId) where
+  pub header_if-written : (name : List ℕ) (known : SymbolValue) → solution.written s ≡ true → slice_get tree.names s.0 ≡ Some name → known ≡ solution.value s →
+      header_line (prefix ++ name) known ≡ header_if tree prefix solution s
   header_if-written name known written found value = rw (written, name_is tree s name found, value) refl
 
-  pub header_if-not : told.written s ≡ false → [] ≡ header_if tree prefix told s
+  pub header_if-not : solution.written s ≡ false → [] ≡ header_if tree prefix solution s
   header_if-not not_written = rw not_written refl
 
-  pub minimal_if-differs : (name : List ℕ) (known : Known) → told.differs s ≡ true → slice_get tree.names s.0 ≡ Some name → known ≡ told.value s →
-      config_line (prefix ++ name) known ≡ minimal_if tree prefix told s
+  pub minimal_if-differs : (name : List ℕ) (known : SymbolValue) → solution.differs s ≡ true → slice_get tree.names s.0 ≡ Some name → known ≡ solution.value s →
+      config_line (prefix ++ name) known ≡ minimal_if tree prefix solution s
   minimal_if-differs name known differs found value = rw (differs, name_is tree s name found, value) refl
 
-  pub minimal_if-not : told.differs s ≡ false → [] ≡ minimal_if tree prefix told s
+  pub minimal_if-not : solution.differs s ≡ false → [] ≡ minimal_if tree prefix solution s
   minimal_if-not same = rw same refl
 
 -- Symbol by symbol.
@@ -59,24 +59,24 @@ module _ (tree : TreeFacts) (f : SymId → List ℕ) where
       let within : length (symbols_of tree) ≤ n = rw length-symbols_of all in
       rw (drop_all n (symbols_of tree) within) refl
 
-module _ (tree : TreeFacts) (prefix : List ℕ) (told : Told) where
+module _ (tree : TreeFacts) (prefix : List ℕ) (solution : SolutionView) where
   -- the line of a symbol that is written
-  pub symbol-written : (after_end : Bool) (s : SymId) (name : List ℕ) (known : Known) → told.written s ≡ true → slice_get tree.names s.0 ≡ Some name → known ≡ told.value s →
-      gap after_end ++ config_line (prefix ++ name) known ≡ entry_text tree prefix told after_end (SymbolShown s)
+  pub symbol-written : (after_end : Bool) (s : SymId) (name : List ℕ) (known : SymbolValue) → solution.written s ≡ true → slice_get tree.names s.0 ≡ Some name → known ≡ solution.value s →
+      gap after_end ++ config_line (prefix ++ name) known ≡ entry_text tree prefix solution after_end (SymbolShown s)
   symbol-written after_end s name known written found value = rw (written, name_is tree s name found, value) refl
 
   module _ (t : Tables) where
     -- one entry more
-    pub entries_next : (entries : List Entry) (i : ℕ) (entry : Entry) (after_end next : Bool) → i < length entries → entry ≡ get_or entries i entry →
-        next ≡ ends_after tree told after_end (shown_of t entry) →
-        entries_text tree prefix told after_end (map (shown_of t) (drop i entries)) ≡
-        entry_text tree prefix told after_end (shown_of t entry) ++ entries_text tree prefix told next (map (shown_of t) (drop (i + 1) entries))
+    pub entries_next : (entries : List ShownEntry) (i : ℕ) (entry : ShownEntry) (after_end next : Bool) → i < length entries → entry ≡ get_or entries i entry →
+        next ≡ ends_after tree solution after_end (shown_of t entry) →
+        entries_text tree prefix solution after_end (map (shown_of t) (drop i entries)) ≡
+        entry_text tree prefix solution after_end (shown_of t entry) ++ entries_text tree prefix solution next (map (shown_of t) (drop (i + 1) entries))
     entries_next entries i entry after_end next lt is goes =
-        let e : drop i entries ≡ entry ∷ drop (i + 1) entries = drop_more entries i entry lt ∙ ap (λ (x : Entry). x ∷ drop (i + 1) entries) (sym is) in
+        let e : drop i entries ≡ entry ∷ drop (i + 1) entries = drop_more entries i entry lt ∙ ap (λ (x : ShownEntry). x ∷ drop (i + 1) entries) (sym is) in
         rw (e, goes) refl
 
     -- no entry more
-    pub entries_end : (entries : List Entry) (i : ℕ) (after_end : Bool) → length entries ≤ i → entries_text tree prefix told after_end (map (shown_of t) (drop i entries)) ≡ []
+    pub entries_end : (entries : List ShownEntry) (i : ℕ) (after_end : Bool) → length entries ≤ i → entries_text tree prefix solution after_end (map (shown_of t) (drop i entries)) ≡ []
     entries_end entries i after_end end = rw (drop_all i entries end) refl
 
 -- a symbol among the entries is defined, so that it has a name
@@ -93,8 +93,9 @@ module _ (tree : TreeFacts) (formed : IsWellFormed tree) where
   pub entry_has_name : (i : ℕ) (shown : Shown) → slice_get tree.entries i ≡ Some shown → HasName tree shown
   entry_has_name i shown found = shown_has_name i shown (formed.entries_sound i shown found)
 
--- the entry at a place, by its row
-pub entry_at : (tree : TreeFacts) (l : Layout) (entries : List Entry) (i : ℕ) (entry : Entry) → IsLayoutOf tree l → entries ≡ l.tables.entries.items → i < length entries → entry ≡ get_or entries i entry →
+-- an entry by its number, and by its row
+pub entry_at : (tree : TreeFacts) (l : Layout) (entries : List ShownEntry) (i : ℕ) (entry : ShownEntry) → IsLayoutOf tree l → entries ≡ l.tables.entries.items →
+    i < length entries → entry ≡ get_or entries i entry →
     slice_get tree.entries i ≡ Some (shown_of l.tables entry)
 entry_at tree l entries i entry laid are lt is =
     let here : slice_get entries i ≡ Some entry = slice_get_read entries (length entries) i entry refl lt is in
@@ -102,5 +103,5 @@ entry_at tree l entries i entry laid are lt is =
     ∙ ap (option_map (shown_of l.tables)) (sym (ap (λ es. slice_get es i) are) ∙ here)
 
 -- the entries are shown by their rows
-pub entries_are : (tree : TreeFacts) (l : Layout) (entries : List Entry) → IsLayoutOf tree l → entries ≡ l.tables.entries.items → tree.entries ≡ map (shown_of l.tables) entries
+pub entries_are : (tree : TreeFacts) (l : Layout) (entries : List ShownEntry) → IsLayoutOf tree l → entries ≡ l.tables.entries.items → tree.entries ≡ map (shown_of l.tables) entries
 entries_are tree l entries laid are = laid.entries ∙ sym (ap (map (shown_of l.tables)) are)

@@ -19,23 +19,23 @@ use Rattle.kc_expr.specs.declared.expression.Kind.{Kind}
 use Rattle.kc_expr.specs.declared.expression.Kind.TheVariants as kind
 use Rattle.kc_expr.specs.Form.{Form, Text, Symbol, Single, Related, Negated, Every, Some_of}
 use Rattle.kc_expr.specs.Names.{symbol}
-use Rattle.kc_expr.specs.Value.{Known, Truth, Written, text_of_known, tri_text}
-use Rattle.kc_order.specs.Needs.{needs_in, stuck_after}
+use Rattle.kc_expr.specs.Value.{SymbolValue, Truth, TextValue, text_of_value, tri_text}
+use Rattle.kc_order.specs.Needs.{needs_in, unordered_after}
 use Rattle.kc_order.specs.Solution.{Solves}
 use Rattle.kc_tree.specs.TreeFacts.{TreeFacts, SymbolFacts, Guarded, HasLineTexts, IsLineForm, IsLineText}
-use Rattle.kc_user.specs.Given.{Given, Chosen, Typed, Member, Slot, At}
+use Rattle.kc_user.specs.GivenValue.{GivenValue, GivenTruth, GivenText, Member, UserPlace, SymbolPlace}
 use Rattle.kc_user.specs.Places.{allowed_by, allowed_for, allowed_text}
 use Rattle.kc_values.specs.declared.numbers.Interval.{Interval}
 use Rattle.kc_values.specs.Differs.{AllowedPlaces}
 use Rattle.kc_values.specs.Laws.{IsAccepted, EquationsReadNeeds, NeedsAreDefined}
 use Rattle.kc_values.specs.Lookups.{facts, name, is_defined}
 use Rattle.kc_values.specs.Needs.{needs, needs_of}
-use Rattle.kc_values.specs.Numbers.{number_text, is_inside, clamped, if_inside, counted}
+use Rattle.kc_values.specs.Numbers.{number_text, is_inside, clamped, if_inside, number_or_zero}
 use Rattle.kc_values.specs.Solution as sol
-use Rattle.kc_values.specs.Solution.{symbol_count, seen, slot, rhs, equations}
+use Rattle.kc_values.specs.Solution.{symbol_count, known_from, user_place, equations}
 use Rattle.kc_values.specs.Values as v
 use Rattle.kc_values.specs.Values.{is_n}
-use Rattle.kc_values.specs.Written.{written}
+use Rattle.kc_values.specs.WrittenSymbols.{written}
 use Rattle.kc_values.proofs.Selection.{found}
 use Rattle.kc_dot.specs.Plain.{IsPlainNumber, HasPlainNumbers}
 use Rattle.kc_dot.proofs.LineLemmas.{HasNoLf}
@@ -47,9 +47,9 @@ use Rattle.kc_dot.proofs.TextBytes.{number_byte, byte_not, int_bytes, hex_bytes}
 abbrev pub fits_text : List ℕ → Bool
 fits_text t = nat_le (length (escape t)) 65000 && not (list_any is_line_feed t)
 
-abbrev pub fits_known : Known → Bool
+abbrev pub fits_known : SymbolValue → Bool
 fits_known (Truth t) = true
-fits_known (Written k t) = fits_text t
+fits_known (TextValue k t) = fits_text t
 
 fits_from : (t : List ℕ) → length (escape t) ≤ 65000 → HasNoLf t → fits_text t ≡ true
 fits_from t short none = and_from (nat_le (length (escape t)) 65000) (not (list_any is_line_feed t)) (le-leb (length (escape t)) 65000 short) (ap not (list_any_none is_line_feed t none))
@@ -110,7 +110,8 @@ simple_fits t all short =
     fits_from t (omega arith) (λ k d lt. (simple_parts (get_or t k d) (all k d lt)).0)
 
 number_simple : (t : List ℕ) → All (λ b. number_byte b ≡ true) t → All (λ b. is_simple b ≡ true) t
-number_simple t all = λ k d lt. let is = all k d lt in simple_from (get_or t k d) (byte_not number_byte (get_or t k d) 10 refl is) (byte_not number_byte (get_or t k d) 34 refl is) (byte_not number_byte (get_or t k d) 92 refl is)
+number_simple t all = λ k d lt. let is = all k d lt in simple_from (get_or t k d) (byte_not number_byte (get_or t k d) 10 refl is)
+    (byte_not number_byte (get_or t k d) 34 refl is) (byte_not number_byte (get_or t k d) 92 refl is)
 
 line_fits : (t : List ℕ) → IsLineText t → fits_text t ≡ true
 line_fits t line =
@@ -121,8 +122,10 @@ line_fits t line =
 -- Numbers that are written.
 glyph_simple : (d : ℕ) → is_simple (digit_glyph false d) ≡ true
 glyph_simple d = elim (cases_lt d 10) [
-  | inl lt ↦ rw (lt-ltb d 10 lt) (simple_from (48 + d) (ne_eqb (48 + d) 10 (λ e. absurd (omega arith))) (ne_eqb (48 + d) 34 (λ e. absurd (omega arith))) (ne_eqb (48 + d) 92 (λ e. absurd (omega arith))))
-  | inr le ↦ rw (le-ltb d 10 le) (simple_from (87 + d) (ne_eqb (87 + d) 10 (λ e. absurd (omega arith))) (ne_eqb (87 + d) 34 (λ e. absurd (omega arith))) (ne_eqb (87 + d) 92 (λ e. absurd (omega arith))))
+  | inl lt ↦ rw (lt-ltb d 10 lt) (simple_from (48 + d) (ne_eqb (48 + d) 10 (λ e. absurd (omega arith))) (ne_eqb (48 + d) 34 (λ e. absurd (omega arith)))
+      (ne_eqb (48 + d) 92 (λ e. absurd (omega arith))))
+  | inr le ↦ rw (le-ltb d 10 le) (simple_from (87 + d) (ne_eqb (87 + d) 10 (λ e. absurd (omega arith))) (ne_eqb (87 + d) 34 (λ e. absurd (omega arith)))
+      (ne_eqb (87 + d) 92 (λ e. absurd (omega arith))))
 ]
 
 abbrev Simple : ℕ → List ℕ → Type 0
@@ -135,7 +138,8 @@ digits_simple (suc k) base n m acc (all, short) = by (n / base == 0) (digits_sim
     more : All (λ b. is_simple b ≡ true) (digit_glyph false (n % base) ∷ acc)
     more = All-cons (λ b. is_simple b ≡ true) (digit_glyph false (n % base)) acc (glyph_simple (n % base)) all
 
-    by : (c : Bool) → Simple (k + (m + 1)) (digits_onto k base false (n / base) (digit_glyph false (n % base) ∷ acc)) → Simple (suc k + m) (cond c (digit_glyph false (n % base) ∷ acc) (digits_onto k base false (n / base) (digit_glyph false (n % base) ∷ acc)))
+    by : (c : Bool) → Simple (k + (m + 1)) (digits_onto k base false (n / base) (digit_glyph false (n % base) ∷ acc)) →
+        Simple (suc k + m) (cond c (digit_glyph false (n % base) ∷ acc) (digits_onto k base false (n / base) (digit_glyph false (n % base) ∷ acc)))
     by true (a, s) = (more, omega arith)
     by false (a, s) = (a, omega arith)
 
@@ -153,7 +157,8 @@ decimal_fits (negsuc n) = simple_cons 45 (digits 10 false (suc n)) (simple_from 
 hexadecimal_fits : (n : ℕ) → fits_text (codes "0x" ++ digits 16 false n) ≡ true
 hexadecimal_fits n =
     let (all, short) = written_digits 16 n in
-    simple_fits (48 ∷ 120 ∷ digits 16 false n) (All-cons (λ x. is_simple x ≡ true) 48 (120 ∷ digits 16 false n) (simple_from 48 refl refl refl) (All-cons (λ x. is_simple x ≡ true) 120 (digits 16 false n) (simple_from 120 refl refl refl) all)) (omega arith)
+    simple_fits (48 ∷ 120 ∷ digits 16 false n) (All-cons (λ x. is_simple x ≡ true) 48 (120 ∷ digits 16 false n) (simple_from 48 refl refl refl)
+    (All-cons (λ x. is_simple x ≡ true) 120 (digits 16 false n) (simple_from 120 refl refl refl) all)) (omega arith)
 
 number_fits : (k : Kind) (n : ℤ) → fits_text (number_text k n) ≡ true
 number_fits kind.Undefined n = decimal_fits n
@@ -170,8 +175,8 @@ fits_either false s t a b = b
 clamped_fits : (k : Kind) (range : Option Interval) (t : List ℕ) → fits_text t ≡ true → fits_text (clamped k range t) ≡ true
 clamped_fits k None t e = e
 clamped_fits k (Some r) t e =
-    fits_either (int_lt (counted k t) r.low) (number_text k r.low) (cond (int_lt r.high (counted k t)) (number_text k r.high) t) (number_fits k r.low)
-    (fits_either (int_lt r.high (counted k t)) (number_text k r.high) t (number_fits k r.high) e)
+    fits_either (int_lt (number_or_zero k t) r.low) (number_text k r.low) (cond (int_lt r.high (number_or_zero k t)) (number_text k r.high) t) (number_fits k r.low)
+    (fits_either (int_lt r.high (number_or_zero k t)) (number_text k r.high) t (number_fits k r.high) e)
 
 -- A user's text that is allowed.
 allowed_fits_text : (k : Kind) (t : List ℕ) → allowed_text k t ≡ true → fits_text t ≡ true
@@ -194,33 +199,36 @@ tri_fits N = refl
 tri_fits M = refl
 tri_fits Y = refl
 
-known_text_fits : (k : Known) → fits_known k ≡ true → fits_text (text_of_known k) ≡ true
+known_text_fits : (k : SymbolValue) → fits_known k ≡ true → fits_text (text_of_value k) ≡ true
 known_text_fits (Truth t) e = tri_fits t
-known_text_fits (Written k t) e = e
+known_text_fits (TextValue k t) e = e
 
 -- where the user's text is allowed and the default's fits
-typed_fits : (k : Kind) (u : Option Given) (vis : Tri) (d : List ℕ) → ((t : List ℕ) → u ≡ Some (Typed t) → allowed_text k t ≡ true) → fits_text d ≡ true → fits_text (unwrap_or (v.typed u vis) d) ≡ true
-typed_fits k None vis d given e = e
-typed_fits k (Some (Chosen t)) vis d given e = e
-typed_fits k (Some (Member m)) vis d given e = e
-typed_fits k (Some (Typed t)) N d given e = e
-typed_fits k (Some (Typed t)) M d given e = allowed_fits_text k t (given t refl)
-typed_fits k (Some (Typed t)) Y d given e = allowed_fits_text k t (given t refl)
+visible_text_fits : (k : Kind) (u : Option GivenValue) (vis : Tri) (d : List ℕ) → ((t : List ℕ) → u ≡ Some (GivenText t) → allowed_text k t ≡ true) →
+    fits_text d ≡ true → fits_text (unwrap_or (v.visible_text u vis) d) ≡ true
+visible_text_fits k None vis d given e = e
+visible_text_fits k (Some (GivenTruth t)) vis d given e = e
+visible_text_fits k (Some (Member m)) vis d given e = e
+visible_text_fits k (Some (GivenText t)) N d given e = e
+visible_text_fits k (Some (GivenText t)) M d given e = allowed_fits_text k t (given t refl)
+visible_text_fits k (Some (GivenText t)) Y d given e = allowed_fits_text k t (given t refl)
 
 inside_fits : (b : Bool) (t d : List ℕ) → fits_text t ≡ true → fits_text d ≡ true → fits_text (unwrap_or (cond b (Some t) None) d) ≡ true
 inside_fits true t d a e = a
 inside_fits false t d a e = e
 
-ranged_fits : (k : Kind) (range : Option Interval) (u : Option Given) (vis : Tri) (d : List ℕ) → ((t : List ℕ) → u ≡ Some (Typed t) → allowed_text k t ≡ true) → fits_text d ≡ true → fits_text (unwrap_or (if_inside k range (v.typed u vis)) d) ≡ true
+ranged_fits : (k : Kind) (range : Option Interval) (u : Option GivenValue) (vis : Tri) (d : List ℕ) →
+    ((t : List ℕ) → u ≡ Some (GivenText t) → allowed_text k t ≡ true) → fits_text d ≡ true →
+    fits_text (unwrap_or (if_inside k range (v.visible_text u vis)) d) ≡ true
 ranged_fits k range None vis d given e = e
-ranged_fits k range (Some (Chosen t)) vis d given e = e
+ranged_fits k range (Some (GivenTruth t)) vis d given e = e
 ranged_fits k range (Some (Member m)) vis d given e = e
-ranged_fits k range (Some (Typed t)) N d given e = e
-ranged_fits k range (Some (Typed t)) M d given e = inside_fits (is_inside k range t) t d (allowed_fits_text k t (given t refl)) e
-ranged_fits k range (Some (Typed t)) Y d given e = inside_fits (is_inside k range t) t d (allowed_fits_text k t (given t refl)) e
+ranged_fits k range (Some (GivenText t)) N d given e = e
+ranged_fits k range (Some (GivenText t)) M d given e = inside_fits (is_inside k range t) t d (allowed_fits_text k t (given t refl)) e
+ranged_fits k range (Some (GivenText t)) Y d given e = inside_fits (is_inside k range t) t d (allowed_fits_text k t (given t refl)) e
 
 -- Under what is known, where it fits.
-module _ (tree : TreeFacts) (known : SymId → Known) (all : (s : SymId) → fits_known (known s) ≡ true) where
+module _ (tree : TreeFacts) (known : SymId → SymbolValue) (all : (s : SymId) → fits_known (known s) ≡ true) where
   single_fits : (form : Form) → IsLineForm form → fits_text (v.single_text known form) ≡ true
   single_fits (Single (Text bytes)) line = line_fits bytes line
   single_fits (Single (Symbol s)) line = known_text_fits (known s) (all s)
@@ -233,33 +241,39 @@ module _ (tree : TreeFacts) (known : SymId → Known) (all : (s : SymId) → fit
   default_fits None lines = refl
   default_fits (Some g) lines = single_fits g.what (lines g refl)
 
-  open_fits : (f : SymbolFacts) → ((g : Guarded Form) → Contains f.defaults g → IsLineForm g.what) → fits_text (v.default_text known (v.first_open tree known f.defaults)) ≡ true
-  open_fits f lines =
-      default_fits (v.first_open tree known f.defaults)
+  met_fits : (f : SymbolFacts) → ((g : Guarded Form) → Contains f.defaults g → IsLineForm g.what) → fits_text (v.default_text known (v.first_met tree known f.defaults)) ≡ true
+  met_fits f lines =
+      default_fits (v.first_met tree known f.defaults)
       (λ g e. lines g (found (λ (h : Guarded Form). not (is_n (v.condition tree known h.when))) f.defaults g e).1)
 
-  kind_fits : (s : SymId) (f : SymbolFacts) (kd : Kind) (u : Option Given) → kd ≡ f.kind → fits_text (name tree s) ≡ true → ((g : Guarded Form) → Contains f.defaults g → IsLineForm g.what) → ((g : Given) → u ≡ Some g → allowed_by f.kind g ≡ true) →
+  kind_fits : (s : SymId) (f : SymbolFacts) (kd : Kind) (u : Option GivenValue) → kd ≡ f.kind → fits_text (name tree s) ≡ true →
+      ((g : Guarded Form) → Contains f.defaults g → IsLineForm g.what) → ((g : GivenValue) → u ≡ Some g → allowed_by f.kind g ≡ true) →
       fits_known (v.by_kind tree known s f kd u) ≡ true
   kind_fits s f kind.Undefined u is named lines given = named
   kind_fits s f kind.Bool u is named lines given = refl
   kind_fits s f kind.Tristate u is named lines given = refl
-  kind_fits s f kind.Str u is named lines given = typed_fits f.kind u (v.visibility tree known f) (v.default_text known (v.first_open tree known f.defaults)) (λ t e. given (Typed t) e) (open_fits f lines)
+  kind_fits s f kind.Str u is named lines given = visible_text_fits f.kind u (v.visibility tree known f)
+      (v.default_text known (v.first_met tree known f.defaults)) (λ t e. given (GivenText t) e) (met_fits f lines)
   kind_fits s f kind.Int u is named lines given =
-      let d = clamped_fits f.kind (v.active_range tree known f) (v.default_text known (v.first_open tree known f.defaults)) (open_fits f lines) in
-      ranged_fits f.kind (v.active_range tree known f) u (v.visibility tree known f) (clamped f.kind (v.active_range tree known f) (v.default_text known (v.first_open tree known f.defaults))) (λ t e. given (Typed t) e) d
+      let d = clamped_fits f.kind (v.active_range tree known f) (v.default_text known (v.first_met tree known f.defaults)) (met_fits f lines) in
+      ranged_fits f.kind (v.active_range tree known f) u (v.visibility tree known f)
+      (clamped f.kind (v.active_range tree known f) (v.default_text known (v.first_met tree known f.defaults))) (λ t e. given (GivenText t) e) d
   kind_fits s f kind.Hex u is named lines given =
-      let d = clamped_fits f.kind (v.active_range tree known f) (v.default_text known (v.first_open tree known f.defaults)) (open_fits f lines) in
-      ranged_fits f.kind (v.active_range tree known f) u (v.visibility tree known f) (clamped f.kind (v.active_range tree known f) (v.default_text known (v.first_open tree known f.defaults))) (λ t e. given (Typed t) e) d
+      let d = clamped_fits f.kind (v.active_range tree known f) (v.default_text known (v.first_met tree known f.defaults)) (met_fits f lines) in
+      ranged_fits f.kind (v.active_range tree known f) u (v.visibility tree known f)
+      (clamped f.kind (v.active_range tree known f) (v.default_text known (v.first_met tree known f.defaults))) (λ t e. given (GivenText t) e) d
 
-  choice_fits : (s : SymId) (f : SymbolFacts) (choice : Option ℕ) (u : Option Given) → fits_text (name tree s) ≡ true → ((g : Guarded Form) → Contains f.defaults g → IsLineForm g.what) → ((g : Given) → choice ≡ None → u ≡ Some g → allowed_by f.kind g ≡ true) →
+  choice_fits : (s : SymId) (f : SymbolFacts) (choice : Option ℕ) (u : Option GivenValue) → fits_text (name tree s) ≡ true →
+      ((g : Guarded Form) → Contains f.defaults g → IsLineForm g.what) → ((g : GivenValue) → choice ≡ None → u ≡ Some g → allowed_by f.kind g ≡ true) →
       fits_known (v.by_choice tree known s f choice u) ≡ true
   choice_fits s f None u named lines given = kind_fits s f f.kind u refl named lines (λ g e. given g refl e)
   choice_fits s f (Some c) u named lines given = refl
 
-  facts_fits : (s : SymId) (o : Option SymbolFacts) (u : Option Given) → fits_text (name tree s) ≡ true → ((f : SymbolFacts) → o ≡ Some f → (g : Guarded Form) → Contains f.defaults g → IsLineForm g.what) →
-      ((g : Given) → sol.slot_of_facts s.0 o ≡ At s.0 → u ≡ Some g → allowed_for o g ≡ true) → fits_known (v.equation tree known s o u) ≡ true
+  facts_fits : (s : SymId) (o : Option SymbolFacts) (u : Option GivenValue) → fits_text (name tree s) ≡ true →
+      ((f : SymbolFacts) → o ≡ Some f → (g : Guarded Form) → Contains f.defaults g → IsLineForm g.what) →
+      ((g : GivenValue) → sol.user_place_of s.0 o ≡ SymbolPlace s.0 → u ≡ Some g → allowed_for o g ≡ true) → fits_known (v.equation tree known s o u) ≡ true
   facts_fits s None u named lines given = named
-  facts_fits s (Some f) u named lines given = choice_fits s f f.choice u named (lines f refl) (λ g none e. given g (ap (sol.slot_by s.0) none) e)
+  facts_fits s (Some f) u named lines given = choice_fits s f f.choice u named (lines f refl) (λ g none e. given g (ap (sol.user_place_by s.0) none) e)
 
 name_fits : (tree : TreeFacts) (s : SymId) → HasLineTexts tree → fits_text (name tree s) ≡ true
 name_fits tree s texts = elim (cases_lt s.0 (length tree.names)) [
@@ -271,9 +285,10 @@ fails_each : (p : ℕ → Bool) (xs : List ℕ) (x : ℕ) → list_any p xs ≡ 
 fails_each p xs x e (n, lt, is) = false_from_ne_true _ (λ t. true≢false (sym (list_any_at p xs n x lt (ap p is ∙ t)) ∙ e))
 
 -- The values of an accepted tree, one round of needs after another.
-module _ (tree : TreeFacts) (user : Slot → Option Given) (V : ℕ → Known) (texts : HasLineTexts tree) (allowed_at : AllowedPlaces tree user) (reads : EquationsReadNeeds) (within : NeedsAreDefined) (solves : Solves (symbol_count tree) (equations tree user) V) where
+module _ (tree : TreeFacts) (user : UserPlace → Option GivenValue) (V : ℕ → SymbolValue) (texts : HasLineTexts tree) (allowed_at : AllowedPlaces tree user)
+    (reads : EquationsReadNeeds) (within : NeedsAreDefined) (solves : Solves (symbol_count tree) (equations tree user) V) where
   -- the values that fit, and n in place of the others
-  tamed : ℕ → Known
+  tamed : ℕ → SymbolValue
   tamed i = cond (fits_known (V i)) (V i) (Truth N)
 
   tamed_fits : (i : ℕ) → fits_known (tamed i) ≡ true
@@ -288,26 +303,26 @@ module _ (tree : TreeFacts) (user : Slot → Option Given) (V : ℕ → Known) (
   unfolding tamed
   tamed_same i e = rw e refl
 
-  seen_fits : (s : SymId) → fits_known (seen tree tamed s) ≡ true
+  seen_fits : (s : SymId) → fits_known (known_from tree tamed s) ≡ true
   seen_fits s = by (is_defined tree s)
     where
-      by : (b : Bool) → fits_known (cond b (tamed s.0) (Written kind.Undefined (name tree s))) ≡ true
+      by : (b : Bool) → fits_known (cond b (tamed s.0) (TextValue kind.Undefined (name tree s))) ≡ true
       by true = tamed_fits s.0
       by false = name_fits tree s texts
 
   rhs_fits : (i : ℕ) → fits_known (equations tree user i tamed) ≡ true
   rhs_fits i =
-      facts_fits tree (seen tree tamed) seen_fits (symbol i) (facts tree (symbol i)) (user (slot tree i)) (name_fits tree (symbol i) texts) (λ f at g c. texts.defaults i f at g c)
+      facts_fits tree (known_from tree tamed) seen_fits (symbol i) (facts tree (symbol i)) (user (user_place tree i)) (name_fits tree (symbol i) texts) (λ f at g c. texts.defaults i f at g c)
       (λ g at e. allowed_at i g (sym (ap user at) ∙ e))
 
-  fits_after : (k i : ℕ) → i < symbol_count tree → stuck_after (needs_in (needs tree)) k i ≡ false → fits_known (V i) ≡ true
+  fits_after : (k i : ℕ) → i < symbol_count tree → unordered_after (needs_in (needs tree)) k i ≡ false → fits_known (V i) ≡ true
   fits_after zero i lt e = absurd (true≢false e)
   fits_after (suc k) i lt e =
       let count : length (needs tree) ≡ symbol_count tree = length-map-range_with_len (needs_of tree) 0 (symbol_count tree) in
       let same : equations tree user i V ≡ equations tree user i tamed =
       reads tree user i V tamed (λ t c.
       let below : t < length (needs tree) = within tree i t (omega (arith, lt, count)) c in
-      tamed_same t (fits_after k t (omega (arith, below, count)) (fails_each (stuck_after (needs_in (needs tree)) k) (needs_in (needs tree) i) t e c))) in
+      tamed_same t (fits_after k t (omega (arith, below, count)) (fails_each (unordered_after (needs_in (needs tree)) k) (needs_in (needs tree) i) t e c))) in
       ap fits_known (solves i lt ∙ same) ∙ rhs_fits i
 
   pub values_fit : IsAccepted tree → (i : ℕ) → i < symbol_count tree → fits_known (V i) ≡ true
@@ -315,15 +330,16 @@ module _ (tree : TreeFacts) (user : Slot → Option Given) (V : ℕ → Known) (
       let count : length (needs tree) ≡ symbol_count tree = length-map-range_with_len (needs_of tree) 0 (symbol_count tree) in
       fits_after (length (needs tree)) i lt (accepted i (omega (arith, lt, count)))
 
-fits_line : (k : Known) → fits_known k ≡ true → IsPlainNumber k → FitsLine k
+fits_line : (k : SymbolValue) → fits_known k ≡ true → IsPlainNumber k → FitsLine k
 fits_line (Truth t) e plain = tt
-fits_line (Written kind.Undefined t) e plain = tt
-fits_line (Written kind.Bool t) e plain = tt
-fits_line (Written kind.Tristate t) e plain = tt
-fits_line (Written kind.Str t) e plain = fits_parts t e
-fits_line (Written kind.Int t) e plain = let (none, short) = fits_parts t e in let l = escape_longer t in (none, omega arith, plain)
-fits_line (Written kind.Hex t) e plain = let (none, short) = fits_parts t e in let l = escape_longer t in (none, omega arith, plain)
+fits_line (TextValue kind.Undefined t) e plain = tt
+fits_line (TextValue kind.Bool t) e plain = tt
+fits_line (TextValue kind.Tristate t) e plain = tt
+fits_line (TextValue kind.Str t) e plain = fits_parts t e
+fits_line (TextValue kind.Int t) e plain = let (none, short) = fits_parts t e in let l = escape_longer t in (none, omega arith, plain)
+fits_line (TextValue kind.Hex t) e plain = let (none, short) = fits_parts t e in let l = escape_longer t in (none, omega arith, plain)
 
-pub values_fit_lines : (tree : TreeFacts) (user : Slot → Option Given) (V : ℕ → Known) → HasLineTexts tree → AllowedPlaces tree user → EquationsReadNeeds → NeedsAreDefined → Solves (symbol_count tree) (equations tree user) V → IsAccepted tree → HasPlainNumbers tree V →
-    (s : SymId) → s.0 < symbol_count tree → written tree (seen tree V) s ≡ true → FitsLine (V s.0)
+pub values_fit_lines : (tree : TreeFacts) (user : UserPlace → Option GivenValue) (V : ℕ → SymbolValue) → HasLineTexts tree → AllowedPlaces tree user →
+    EquationsReadNeeds → NeedsAreDefined → Solves (symbol_count tree) (equations tree user) V → IsAccepted tree → HasPlainNumbers tree V →
+    (s : SymId) → s.0 < symbol_count tree → written tree (known_from tree V) s ≡ true → FitsLine (V s.0)
 values_fit_lines tree user V texts allowed_at reads within solves accepted plain s lt w = fits_line (V s.0) (values_fit tree user V texts allowed_at reads within solves accepted s.0 lt) (plain s lt w)

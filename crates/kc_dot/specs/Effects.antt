@@ -7,23 +7,23 @@ use Rattle.kc_expr.specs.declared.expression.Kind.{Kind}
 use Rattle.kc_expr.specs.declared.expression.Kind.TheVariants as kind
 use Rattle.kc_expr.specs.Names.{symbol, same_name}
 use Rattle.kc_tree.specs.TreeFacts.{TreeFacts}
-use Rattle.kc_user.specs.Given.{Given, Chosen}
+use Rattle.kc_user.specs.GivenValue.{GivenValue, GivenTruth}
 pub use Rattle.kc_values.specs.Lookups.{name as name_of}
 pub use Rattle.kc_values.specs.Table.{kind_in}
-use Rattle.kc_dot.specs.ConfigLine.{Said, Nothing, Unset, Set, Malformed}
+use Rattle.kc_dot.specs.DotLine.{LineMeaning, Nothing, Unset, Set, Malformed}
 use Rattle.kc_dot.specs.LineValue.{line_value}
 
 -- what a warning tells
-pub data Trouble : Type 0 where
-  UnknownSymbol : List ℕ → Trouble
-  NotAllowed : List ℕ → Trouble
-  MalformedLine : Trouble
-  SetAgain : List ℕ → Trouble
+pub data LineWarning : Type 0 where
+  UnknownSymbol : List ℕ → LineWarning
+  NotAllowed : List ℕ → LineWarning
+  MalformedLine : LineWarning
+  SetAgain : List ℕ → LineWarning
 
 pub data Effect : Type 0 where
   Silent : Effect
-  Warns : Trouble → Effect
-  Assigns : SymId → Given → Effect
+  Warns : LineWarning → Effect
+  Assigns : SymId → GivenValue → Effect
 
 -- the type of a symbol; a name that is not defined has none
 abbrev pub kind_of : TreeFacts → SymId → Kind
@@ -32,7 +32,7 @@ kind_of tree s = kind_in (slice_get tree.symbols s.0)
 abbrev pub symbol_named : TreeFacts → List ℕ → Option SymId
 symbol_named tree name = option_map symbol (position (same_name name) tree.names)
 
-abbrev pub assigned_or : List ℕ → SymId → Option Given → Effect
+abbrev pub assigned_or : List ℕ → SymId → Option GivenValue → Effect
 assigned_or name s None = Warns (NotAllowed name)
 assigned_or name s (Some given) = Assigns s given
 
@@ -47,8 +47,8 @@ set_by_kind name s text kind.Hex = assigned_or name s (line_value kind.Hex text)
 -- an unset line makes a bool or tristate n; a symbol of another type it leaves alone
 abbrev pub unset_by_kind : List ℕ → SymId → Kind → Effect
 unset_by_kind name s kind.Undefined = Warns (UnknownSymbol name)
-unset_by_kind name s kind.Bool = Assigns s (Chosen N)
-unset_by_kind name s kind.Tristate = Assigns s (Chosen N)
+unset_by_kind name s kind.Bool = Assigns s (GivenTruth N)
+unset_by_kind name s kind.Tristate = Assigns s (GivenTruth N)
 unset_by_kind name s kind.Str = Silent
 unset_by_kind name s kind.Int = Silent
 unset_by_kind name s kind.Hex = Silent
@@ -61,20 +61,20 @@ abbrev pub unset_effect : TreeFacts → List ℕ → Option SymId → Effect
 unset_effect tree name None = Warns (UnknownSymbol name)
 unset_effect tree name (Some s) = unset_by_kind name s (kind_of tree s)
 
-abbrev pub effect_of : TreeFacts → Said → Effect
+abbrev pub effect_of : TreeFacts → LineMeaning → Effect
 effect_of tree Nothing = Silent
 effect_of tree (Unset name) = unset_effect tree name (symbol_named tree name)
 effect_of tree (Set name text) = set_effect tree name text (symbol_named tree name)
 effect_of tree Malformed = Warns MalformedLine
 
 -- Warnings.
-abbrev pub trouble_text : Trouble → List ℕ
-trouble_text (UnknownSymbol name) = codes "K7: unknown symbol " ++ name
-trouble_text (NotAllowed name) = codes "K8: value not allowed for " ++ name
-trouble_text MalformedLine = codes "K9: malformed line"
-trouble_text (SetAgain name) = codes "K10: " ++ name ++ codes " is set again"
+abbrev pub warning_text : LineWarning → List ℕ
+warning_text (UnknownSymbol name) = codes "K7: unknown symbol " ++ name
+warning_text (NotAllowed name) = codes "K8: value not allowed for " ++ name
+warning_text MalformedLine = codes "K9: malformed line"
+warning_text (SetAgain name) = codes "K10: " ++ name ++ codes " is set again"
 
 -- the whole line: the stream's name and the line's number stand first
-abbrev pub warning_line : List ℕ → ℕ → Trouble → List ℕ
-warning_line stream number trouble =
-    stream ++ codes ":" ++ decimal number ++ codes ": warning " ++ trouble_text trouble ++ codes "\n"
+abbrev pub warning_line : List ℕ → ℕ → LineWarning → List ℕ
+warning_line stream number line_warning =
+    stream ++ codes ":" ++ decimal number ++ codes ": warning " ++ warning_text line_warning ++ codes "\n"

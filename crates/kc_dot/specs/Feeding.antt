@@ -9,119 +9,119 @@ use Rattle.kc_user.specs.Places.{Places}
 use Rattle.kc_dot.specs.declared.fault.DotFault.{DotFault}
 use Rattle.kc_dot.specs.declared.fault.DotFault.TheVariants.{ConfigLineTooLong, Sink, Memory}
 use Rattle.kc_dot.specs.Limits.{longest_config_line}
-use Rattle.kc_dot.specs.Reading.{Line, line, is_within, next_number, lines_from, reading, told, warning}
+use Rattle.kc_dot.specs.Reading.{Line, line, is_within, next_number, lines_from, reading, with_warnings, warning}
 use Rattle.kc_dot.specs.Sink.{extended, next_failure, BreaksOff, GoesBeyond}
 
 -- where a reader stands in its stream: the number of the line not yet ended, and its bytes so far
-pub record Spot : Type 0 where
+pub record StreamPosition : Type 0 where
   pub number : ℕ
   pub pending : List ℕ
 
 -- the beginning of a stream
-abbrev pub first_spot : Spot
-first_spot = record { number = 1; pending = [] }
+abbrev pub stream_start : StreamPosition
+stream_start = record { number = 1; pending = [] }
 
 -- the pending bytes are those of one line that is not too long
-pub record IsOpen (spot : Spot) : Type 0 where
-  pub numbered : spot.number ≤ last_count
-  pub within : length spot.pending ≤ longest_config_line
-  pub one_line : All (λ b. is_line_feed b ≡ false) spot.pending
+pub record IsWithinLine (position : StreamPosition) : Type 0 where
+  pub numbered : position.number ≤ last_count
+  pub within : length position.pending ≤ longest_config_line
+  pub one_line : All (λ b. is_line_feed b ≡ false) position.pending
 
 -- the line's number after these bytes: one more for each LF
 abbrev pub number_after : ℕ → List ℕ → ℕ
 number_after n bytes = min (n + count_by is_line_feed bytes) last_count
 
 -- where the reader stands after a piece: the bytes after its last LF are pending, or all where it has none
-abbrev pub fed : List ℕ → Spot → Spot
-fed piece spot = record { number = number_after spot.number piece; pending = after_last is_line_feed (spot.pending ++ piece) }
+abbrev pub fed : List ℕ → StreamPosition → StreamPosition
+fed piece position = record { number = number_after position.number piece; pending = after_last is_line_feed (position.pending ++ piece) }
 
 -- where it stands once the last line is ended
-abbrev pub ended : Spot → Spot
-ended spot = record { number = if length spot.pending == 0 then spot.number else next_number spot.number; pending = [] }
+abbrev pub ended : StreamPosition → StreamPosition
+ended position = record { number = if length position.pending == 0 then position.number else next_number position.number; pending = [] }
 
 -- a count of failures after a fault: the sink's alone counts
-abbrev pub counted_fault : DotFault → ℕ → ℕ
-counted_fault (ConfigLineTooLong n) count = count
-counted_fault Sink count = next_failure count
-counted_fault Memory count = count
+abbrev pub failures_after : DotFault → ℕ → ℕ
+failures_after (ConfigLineTooLong n) count = count
+failures_after Sink count = next_failure count
+failures_after Memory count = count
 
 -- another byte than an LF comes next
 abbrev pub GoesOn : List ℕ → Type 0
 GoesOn bytes = (b : ℕ) × (rest : List ℕ) × (bytes ≡ b ∷ rest) × (is_line_feed b ≡ false)
 
 -- the lines of a stream that are still to come: those of the pending bytes and the rest, and more of other streams
-abbrev pub to_come : List ℕ → Spot → List ℕ → List Line → List Line
-to_come name spot rest more = lines_from name spot.number (spot.pending ++ rest) ++ more
+abbrev pub to_come : List ℕ → StreamPosition → List ℕ → List Line → List Line
+to_come name position rest more = lines_from name position.number (position.pending ++ rest) ++ more
 
 -- For a tree, a prefix and the name of the stream.
 module _ (tree : TreeFacts) (prefix name : List ℕ) where
-  -- Whatever follows: reading the piece and it from the old spot and places is these warnings, and then reading it
-  -- from the new spot and places.
-  abbrev pub Goes : List ℕ → Spot → Spot → Places → Places → List ℕ → Type 0
-  Goes piece old new before after warned =
+  -- Whatever follows: reading the piece and it from the old position and places is these warnings, and then reading it
+  -- from the new position and places.
+  abbrev pub ReadsPiece : List ℕ → StreamPosition → StreamPosition → Places → Places → List ℕ → Type 0
+  ReadsPiece piece old new before after warned =
       (rest : List ℕ) (more : List Line) →
-      reading tree prefix before (to_come name old (piece ++ rest) more) ≡ told warned (reading tree prefix after (to_come name new rest more))
+      reading tree prefix before (to_come name old (piece ++ rest) more) ≡ with_warnings warned (reading tree prefix after (to_come name new rest more))
 
   -- the warnings of the piece were handed out
-  abbrev pub Feeds : List ℕ → Spot → Spot → Places → Places → Option (List ℕ) → Option (List ℕ) → Type 0
+  abbrev pub Feeds : List ℕ → StreamPosition → StreamPosition → Places → Places → Option (List ℕ) → Option (List ℕ) → Type 0
   Feeds piece old new before after taken taken_after =
-      (warned : List ℕ) × (taken_after ≡ extended taken warned) × Goes piece old new before after warned
+      (warned : List ℕ) × (taken_after ≡ extended taken warned) × ReadsPiece piece old new before after warned
 
-  -- Whatever follows: the line at this spot is too long.
-  abbrev pub Stops : List ℕ → Spot → Places → Type 0
-  Stops left spot places =
+  -- Whatever follows: the line at this position is too long.
+  abbrev pub Stops : List ℕ → StreamPosition → Places → Type 0
+  Stops left position places =
       (rest : List ℕ) (more : List Line) →
-      reading tree prefix places (to_come name spot (left ++ rest) more)
-      ≡ record { places = places; warned = []; stopped = Some (record { stream = name; number = spot.number }) }
+      reading tree prefix places (to_come name position (left ++ rest) more)
+      ≡ record { places = places; warned = []; stopped = Some (record { stream = name; number = position.number }) }
 
-  -- The sink failed at the warning of the line at this spot: that line is the pending bytes and the first of what is
+  -- The sink failed at the warning of the line at this position: that line is the pending bytes and the first of what is
   -- left, up to an LF, and of its warning a beginning was handed out, and not the whole.
-  pub record BreaksAt (left : List ℕ) (spot : Spot) (places : Places) (front : List ℕ) : Type 0 where
+  pub record BreaksAt (left : List ℕ) (position : StreamPosition) (places : Places) (front : List ℕ) : Type 0 where
     pub text : List ℕ
     pub later : List ℕ
     pub ends : left ≡ text ++ byte "\n" ∷ later
-    pub one_line : All (λ b. is_line_feed b ≡ false) (spot.pending ++ text)
-    pub within : length (spot.pending ++ text) ≤ longest_config_line
-    pub begun : GoesBeyond (warning tree prefix places (line name spot.number (spot.pending ++ text) true)) front
+    pub one_line : All (λ b. is_line_feed b ≡ false) (position.pending ++ text)
+    pub within : length (position.pending ++ text) ≤ longest_config_line
+    pub begun : GoesBeyond (warning tree prefix places (line name position.number (position.pending ++ text) true)) front
 
   -- why a reader stops before what is left, with a beginning of the next line's warning handed out
-  abbrev pub Because : DotFault → List ℕ → Spot → Places → List ℕ → Type 0
-  Because (ConfigLineTooLong n) left spot places front =
-      (front ≡ []) × (n ≡ spot.number) × (length spot.pending ≡ longest_config_line) × GoesOn left × Stops left spot places
-  Because Sink left spot places front = BreaksAt left spot places front
-  Because Memory left spot places front = front ≡ []
+  abbrev pub StopsBecause : DotFault → List ℕ → StreamPosition → Places → List ℕ → Type 0
+  StopsBecause (ConfigLineTooLong n) left position places front =
+      (front ≡ []) × (n ≡ position.number) × (length position.pending ≡ longest_config_line) × GoesOn left × Stops left position places
+  StopsBecause Sink left position places front = BreaksAt left position places front
+  StopsBecause Memory left position places front = front ≡ []
 
   -- nothing of it was taken but a beginning of the next line's warning
-  abbrev pub StopsAt : DotFault → List ℕ → Spot → Places → Option (List ℕ) → Option (List ℕ) → Type 0
-  StopsAt fault left spot places taken taken_after =
-      (front : List ℕ) × (taken_after ≡ extended taken front) × Because fault left spot places front
+  abbrev pub StopsAt : DotFault → List ℕ → StreamPosition → Places → Option (List ℕ) → Option (List ℕ) → Type 0
+  StopsAt fault left position places taken taken_after =
+      (front : List ℕ) × (taken_after ≡ extended taken front) × StopsBecause fault left position places front
 
   -- The lines before the refused one are read, and their warnings handed out; there the reader stands.
-  pub record Refuses (fault : DotFault) (piece : List ℕ) (old new : Spot) (before after : Places) (taken taken_after : Option (List ℕ)) : Type 0 where
+  pub record Refuses (fault : DotFault) (piece : List ℕ) (old new : StreamPosition) (before after : Places) (taken taken_after : Option (List ℕ)) : Type 0 where
     pub done : List ℕ
     pub left : List ℕ
     pub warned : List ℕ
     pub front : List ℕ
     pub split : piece ≡ done ++ left
     pub stands : new ≡ fed done old
-    pub goes : Goes done old new before after warned
+    pub goes : ReadsPiece done old new before after warned
     pub handed : taken_after ≡ extended taken (warned ++ front)
-    pub because : Because fault left new after front
+    pub because : StopsBecause fault left new after front
 
   -- Whatever lines follow: the last line is ended, with its warning.
-  abbrev pub Ends : Spot → Places → Places → List ℕ → Type 0
+  abbrev pub Ends : StreamPosition → Places → Places → List ℕ → Type 0
   Ends old before after warned =
       (more : List Line) →
-      reading tree prefix before (lines_from name old.number old.pending ++ more) ≡ told warned (reading tree prefix after more)
+      reading tree prefix before (lines_from name old.number old.pending ++ more) ≡ with_warnings warned (reading tree prefix after more)
 
-  abbrev pub Finishes : Spot → Places → Places → Option (List ℕ) → Option (List ℕ) → Type 0
+  abbrev pub Finishes : StreamPosition → Places → Places → Option (List ℕ) → Option (List ℕ) → Type 0
   Finishes old before after taken taken_after =
       (warned : List ℕ) × (taken_after ≡ extended taken warned) × Ends old before after warned
 
   -- the last line could not be ended: where the sink failed, a beginning of its warning was handed out, and not the whole
-  abbrev pub FailsToEnd : DotFault → Spot → Places → Option (List ℕ) → Option (List ℕ) → Type 0
-  FailsToEnd (ConfigLineTooLong n) spot places taken taken_after = ⊥
-  FailsToEnd Sink spot places taken taken_after =
-      (last : Line) × (lines_from name spot.number spot.pending ≡ last ∷ []) × (is_within last ≡ true)
+  abbrev pub FailsToEnd : DotFault → StreamPosition → Places → Option (List ℕ) → Option (List ℕ) → Type 0
+  FailsToEnd (ConfigLineTooLong n) position places taken taken_after = ⊥
+  FailsToEnd Sink position places taken taken_after =
+      (last : Line) × (lines_from name position.number position.pending ≡ last ∷ []) × (is_within last ≡ true)
       × BreaksOff (warning tree prefix places last) taken taken_after
-  FailsToEnd Memory spot places taken taken_after = taken_after ≡ taken
+  FailsToEnd Memory position places taken taken_after = taken_after ≡ taken

@@ -1,5 +1,5 @@
 pub mod Calls
-pub mod ConfigLine
+pub mod DotLine
 pub mod EffectView
 pub mod Effects
 pub mod Feeding
@@ -18,10 +18,10 @@ pub mod Reading
 pub mod Reread
 pub mod RoundTrip
 pub mod Sink
-pub mod SolutionTold
+pub mod SolvedView
 pub mod Streams
 pub mod SymbolLines
 pub mod Texts
-pub mod Told
-pub mod ValueSeen
+pub mod SolutionView
+pub mod KnownValue
 pub mod Writing

@@ -18,7 +18,7 @@ with_member true (Some c) s choices = slice_set choices c (Some s)
 -- the places after an effect
 abbrev pub places_by : TreeFacts → Places → Effect → Places
 places_by tree places Silent = places
-places_by tree places (Warns trouble) = places
+places_by tree places (Warns line_warning) = places
 places_by tree places (Assigns s given) = places_given tree places (record { symbol = s; given = given } ∷ [])
 
 -- a beginning of the text, and not the whole, was handed out where the sink failed, nothing where there was no memory

@@ -9,7 +9,7 @@ use Rattle.kc_expr.specs.declared.expression.Tri.TheVariants.{N, M, Y}
 use Rattle.kc_expr.specs.declared.expression.Kind.{Kind}
 use Rattle.kc_expr.specs.declared.expression.Kind.TheVariants as kind
 use Rattle.kc_user.specs.Limits.{longest_value}
-use Rattle.kc_user.specs.Given.{Given, Chosen, Typed}
+use Rattle.kc_user.specs.GivenValue.{GivenValue, GivenTruth, GivenText}
 
 -- y and n, by the first byte alone
 abbrev pub yes_or_no : ℕ → Option Tri
@@ -23,30 +23,30 @@ abbrev pub with_front : List ℕ → Option (List ℕ) → Option (List ℕ)
 with_front front found = option_map (λ text. front ++ text) found
 
 -- what stands before the first `"` that no `\` takes away: a `\` takes away the byte after it
-abbrev pub inside : List ℕ → Option (List ℕ)
-inside [] = None
-inside (b ∷ []) = if b == byte "\"" then Some [] else None
-inside (b ∷ c ∷ bs) =
-    if b == byte "\"" then Some [] else (if b == byte "\\" then with_front (b ∷ c ∷ []) (inside bs) else with_front (b ∷ []) (inside (c ∷ bs)))
+abbrev pub until_quote : List ℕ → Option (List ℕ)
+until_quote [] = None
+until_quote (b ∷ []) = if b == byte "\"" then Some [] else None
+until_quote (b ∷ c ∷ bs) =
+    if b == byte "\"" then Some [] else (if b == byte "\\" then with_front (b ∷ c ∷ []) (until_quote bs) else with_front (b ∷ []) (until_quote (c ∷ bs)))
 
 -- what stands between the `"` that the text begins with and the one that closes it
 abbrev pub quoted : List ℕ → Option (List ℕ)
-quoted text = if slice_index text 0 == byte "\"" then inside (drop 1 text) else None
+quoted text = if slice_index text 0 == byte "\"" then until_quote (drop 1 text) else None
 
-abbrev pub string_value : List ℕ → Option Given
-string_value text = option_map (λ raw. Typed (unescape raw)) (quoted text)
+abbrev pub string_value : List ℕ → Option GivenValue
+string_value text = option_map (λ raw. GivenText (unescape raw)) (quoted text)
 
-abbrev pub number_value : List ℕ → Bool → Option Given
-number_value text is_number = if is_number then Some (Typed text) else None
+abbrev pub number_value : List ℕ → Bool → Option GivenValue
+number_value text is_number = if is_number then Some (GivenText text) else None
 
-abbrev pub value_by : Kind → List ℕ → Option Given
+abbrev pub value_by : Kind → List ℕ → Option GivenValue
 value_by kind.Undefined text = None
-value_by kind.Bool text = option_map Chosen (yes_or_no (slice_index text 0))
-value_by kind.Tristate text = option_map Chosen (yes_m_or_no (slice_index text 0))
+value_by kind.Bool text = option_map GivenTruth (yes_or_no (slice_index text 0))
+value_by kind.Tristate text = option_map GivenTruth (yes_m_or_no (slice_index text 0))
 value_by kind.Str text = string_value text
 value_by kind.Int text = number_value text (is_some (int_of text))
 value_by kind.Hex text = number_value text (is_some (hex_of text))
 
 -- a text that is too long gives no value
-abbrev pub line_value : Kind → List ℕ → Option Given
+abbrev pub line_value : Kind → List ℕ → Option GivenValue
 line_value kind text = if nat_le (length text) longest_value then value_by kind text else None

@@ -5,12 +5,12 @@ use Rattle.kc_text.specs.Bytes.{byte}
 use Rattle.kc_text.specs.Lexemes.{is_blank}
 use Rattle.kc_expr.specs.declared.expression.Kind.TheVariants as kind
 use Rattle.kc_expr.specs.declared.expression.SymId.{SymId}
-use Rattle.kc_expr.specs.Value.{Known, Truth, Written}
+use Rattle.kc_expr.specs.Value.{SymbolValue, Truth, TextValue}
 use Rattle.kc_tree.specs.TreeFacts.{TreeFacts, Shown, SymbolShown, MenuShown, EndShown, CommentShown}
-use Rattle.kc_values.specs.Solution.{seen, symbol_count}
-use Rattle.kc_values.specs.Written.{written}
-use Rattle.kc_dot.specs.ConfigLine.{Unset, says}
-use Rattle.kc_dot.specs.Told.{Told, is_shown}
+use Rattle.kc_values.specs.Solution.{known_from, symbol_count}
+use Rattle.kc_values.specs.WrittenSymbols.{written}
+use Rattle.kc_dot.specs.DotLine.{Unset, meaning_of}
+use Rattle.kc_dot.specs.SolutionView.{SolutionView, is_shown}
 
 -- a blank or a carriage return
 abbrev pub is_end_byte : ℕ → Bool
@@ -25,31 +25,31 @@ abbrev pub title_line : List ℕ → List ℕ
 title_line text = codes "# " ++ text
 
 -- the line does not read as an unset line
-abbrev pub IsNoUnset : List ℕ → List ℕ → Type 0
-IsNoUnset prefix bytes = (name : List ℕ) → says prefix (strip_carriage_return bytes) ≡ Unset name → ⊥
+abbrev pub IsNotUnsetLine : List ℕ → List ℕ → Type 0
+IsNotUnsetLine prefix bytes = (name : List ℕ) → meaning_of prefix (strip_carriage_return bytes) ≡ Unset name → ⊥
 
 -- the title of an entry, where it is shown, is not written as such a line
-abbrev pub HasPlainTitle : List ℕ → Told → Shown → Type 0
-HasPlainTitle prefix told (SymbolShown s) = Unit {0}
-HasPlainTitle prefix told (MenuShown text when) = is_shown (told.truth when) ≡ true → IsNoUnset prefix (title_line text)
-HasPlainTitle prefix told (EndShown menu) = Unit {0}
-HasPlainTitle prefix told (CommentShown text when) = is_shown (told.truth when) ≡ true → IsNoUnset prefix (title_line text)
+abbrev pub HasPlainTitle : List ℕ → SolutionView → Shown → Type 0
+HasPlainTitle prefix solution (SymbolShown s) = Unit {0}
+HasPlainTitle prefix solution (MenuShown text when) = is_shown (solution.truth when) ≡ true → IsNotUnsetLine prefix (title_line text)
+HasPlainTitle prefix solution (EndShown menu) = Unit {0}
+HasPlainTitle prefix solution (CommentShown text when) = is_shown (solution.truth when) ≡ true → IsNotUnsetLine prefix (title_line text)
 
 -- plain titles: neither the main menu's text nor that of a menu or comment that is shown is written as a line that reads
 -- as an unset line
-pub record HasPlainTitles (tree : TreeFacts) (prefix : List ℕ) (told : Told) : Type 0 where
-  pub main_menu : IsNoUnset prefix (title_line tree.main_menu)
-  pub entries : (i : ℕ) (e : Shown) → slice_get tree.entries i ≡ Some e → HasPlainTitle prefix told e
+pub record HasPlainTitles (tree : TreeFacts) (prefix : List ℕ) (solution : SolutionView) : Type 0 where
+  pub main_menu : IsNotUnsetLine prefix (title_line tree.main_menu)
+  pub entries : (i : ℕ) (e : Shown) → slice_get tree.entries i ≡ Some e → HasPlainTitle prefix solution e
 
 -- plain numbers: no int or hex value that is written ends in a blank or a carriage return
-abbrev pub IsPlainNumber : Known → Type 0
+abbrev pub IsPlainNumber : SymbolValue → Type 0
 IsPlainNumber (Truth t) = Unit {0}
-IsPlainNumber (Written kind.Undefined text) = Unit {0}
-IsPlainNumber (Written kind.Bool text) = Unit {0}
-IsPlainNumber (Written kind.Tristate text) = Unit {0}
-IsPlainNumber (Written kind.Str text) = Unit {0}
-IsPlainNumber (Written kind.Int text) = EndsPlainly text
-IsPlainNumber (Written kind.Hex text) = EndsPlainly text
+IsPlainNumber (TextValue kind.Undefined text) = Unit {0}
+IsPlainNumber (TextValue kind.Bool text) = Unit {0}
+IsPlainNumber (TextValue kind.Tristate text) = Unit {0}
+IsPlainNumber (TextValue kind.Str text) = Unit {0}
+IsPlainNumber (TextValue kind.Int text) = EndsPlainly text
+IsPlainNumber (TextValue kind.Hex text) = EndsPlainly text
 
-abbrev pub HasPlainNumbers : TreeFacts → (ℕ → Known) → Type 0
-HasPlainNumbers tree V = (s : SymId) → s.0 < symbol_count tree → written tree (seen tree V) s ≡ true → IsPlainNumber (V s.0)
+abbrev pub HasPlainNumbers : TreeFacts → (ℕ → SymbolValue) → Type 0
+HasPlainNumbers tree V = (s : SymId) → s.0 < symbol_count tree → written tree (known_from tree V) s ≡ true → IsPlainNumber (V s.0)

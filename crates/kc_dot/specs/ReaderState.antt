@@ -5,26 +5,26 @@ use Rattle.kc_tree.specs.TreeFacts.{TreeFacts}
 use Rattle.kc_tree.specs.TreeCode.{tree_code}
 use Rattle.kc_dot.specs.declared.fault.DotFault.{DotFault}
 use Rattle.kc_dot.specs.contracts.fault.DotFault as dot_fault
-use Rattle.kc_dot.specs.Feeding.{Spot}
+use Rattle.kc_dot.specs.Feeding.{StreamPosition}
 
 -- the tree and prefix that it reads for, its stream's name, where it stands in it, and the refusal that it keeps
 pub record ReaderState : Type 0 where
   pub tree : TreeFacts
   pub prefix : List ℕ
   pub name : List ℕ
-  pub spot : Spot
+  pub position : StreamPosition
   pub refusal : Option DotFault
 
 abbrev bytes_code : Coded (List ℕ)
 bytes_code = coded_list coded_ℕ
 
-abbrev pub spot_code : Coded Spot
-spot_code = code_by (ℕ × List ℕ) (coded× coded_ℕ bytes_code) (λ s. (s.number, s.pending)) (λ p. record { number = p.0; pending = p.1 }) (λ _. refl)
+abbrev pub position_code : Coded StreamPosition
+position_code = code_by (ℕ × List ℕ) (coded× coded_ℕ bytes_code) (λ s. (s.number, s.pending)) (λ p. record { number = p.0; pending = p.1 }) (λ _. refl)
 
 abbrev pub reader_code : Coded ReaderState
 reader_code =
-    code_by (TreeFacts × ((List ℕ × List ℕ) × (Spot × Option DotFault)))
-    (coded× tree_code (coded× (coded× bytes_code bytes_code) (coded× spot_code (coded_option dot_fault.the_row.coded))))
-    (λ r. (r.tree, ((r.prefix, r.name), (r.spot, r.refusal))))
-    (λ p. record { tree = p.0; prefix = p.1.0.0; name = p.1.0.1; spot = p.1.1.0; refusal = p.1.1.1 })
+    code_by (TreeFacts × ((List ℕ × List ℕ) × (StreamPosition × Option DotFault)))
+    (coded× tree_code (coded× (coded× bytes_code bytes_code) (coded× position_code (coded_option dot_fault.the_row.coded))))
+    (λ r. (r.tree, ((r.prefix, r.name), (r.position, r.refusal))))
+    (λ p. record { tree = p.0; prefix = p.1.0.0; name = p.1.0.1; position = p.1.1.0; refusal = p.1.1.1 })
     (λ _. refl)

@@ -1,6 +1,6 @@
 -- Trusted: What the fields of a reader say.
-use Rattle.kc_dot.specs.Feeding.{Spot}
-use Rattle.kc_dot.specs.declared.cursor.Cursor.{Cursor}
+use Rattle.kc_dot.specs.Feeding.{StreamPosition}
+use Rattle.kc_dot.specs.declared.line_buffer.LineBuffer.{LineBuffer}
 
-abbrev pub spot_of : Cursor → Spot
-spot_of cursor = record { number = cursor.number; pending = cursor.pending.items }
+abbrev pub position_of : LineBuffer → StreamPosition
+position_of line_buffer = record { number = line_buffer.number; pending = line_buffer.pending.items }

@@ -8,11 +8,11 @@ use Rattle.kc_text.specs.Lines.{is_line_feed}
 use Rattle.kc_expr.specs.declared.expression.SymId.{SymId}
 use Rattle.kc_expr.specs.declared.expression.Tri.TheVariants.{N, M, Y}
 use Rattle.kc_tree.specs.TreeFacts.{TreeFacts}
-use Rattle.kc_user.specs.Given.{Given, Chosen, Typed, Member, At}
+use Rattle.kc_user.specs.GivenValue.{GivenValue, GivenTruth, GivenText, Member, SymbolPlace}
 use Rattle.kc_user.specs.Places.{Places, place_at}
-use Rattle.kc_dot.specs.ConfigLine.{says}
+use Rattle.kc_dot.specs.DotLine.{meaning_of}
 use Rattle.kc_dot.specs.Limits.{longest_config_line}
-use Rattle.kc_dot.specs.Effects.{Effect, Silent, Warns, Assigns, Trouble, SetAgain, effect_of, name_of, warning_line}
+use Rattle.kc_dot.specs.Effects.{Effect, Silent, Warns, Assigns, LineWarning, SetAgain, effect_of, name_of, warning_line}
 
 -- A line of a stream: its bytes before the LF, and whether an LF ended it.
 pub record Line : Type 0 where
@@ -52,18 +52,18 @@ is_within l = nat_le (length l.bytes) longest_config_line
 -- a value for a symbol
 pub record Assignment : Type 0 where
   pub symbol : SymId
-  pub given : Given
+  pub given : GivenValue
 
 abbrev pub assignment_of : Effect → Option Assignment
 assignment_of Silent = None
-assignment_of (Warns trouble) = None
+assignment_of (Warns line_warning) = None
 assignment_of (Assigns s given) = Some (record { symbol = s; given = given })
 
-abbrev pub is_yes : Given → Bool
-is_yes (Chosen N) = false
-is_yes (Chosen M) = false
-is_yes (Chosen Y) = true
-is_yes (Typed text) = false
+abbrev pub is_yes : GivenValue → Bool
+is_yes (GivenTruth N) = false
+is_yes (GivenTruth M) = false
+is_yes (GivenTruth Y) = true
+is_yes (GivenText text) = false
 is_yes (Member m) = false
 
 abbrev pub is_choice : ℕ → Option ℕ → Bool
@@ -75,7 +75,7 @@ abbrev pub choice_of : TreeFacts → SymId → Option ℕ
 choice_of tree s = option_and_then (λ facts. facts.choice) (slice_get tree.symbols s.0)
 
 -- the value that an assignment gives to symbol i
-abbrev pub given_to : ℕ → Assignment → Option Given
+abbrev pub given_to : ℕ → Assignment → Option GivenValue
 given_to i a = if a.symbol.0 == i then Some a.given else None
 
 -- the member of choice c that an assignment makes y
@@ -95,42 +95,42 @@ places_given tree places given = record {
 }
 
 -- what a reading gives: the places, the warnings' lines, and the stream and number of the line that is too long
-pub record Stop : Type 0 where
+pub record StreamLocation : Type 0 where
   pub stream : List ℕ
   pub number : ℕ
 
-pub record Read : Type 0 where
+pub record ReadResult : Type 0 where
   pub places : Places
   pub warned : List ℕ
-  pub stopped : Option Stop
+  pub stopped : Option StreamLocation
 
-abbrev pub told : List ℕ → Read → Read
-told warned read = record { places = read.places; warned = warned ++ read.warned; stopped = read.stopped }
+abbrev pub with_warnings : List ℕ → ReadResult → ReadResult
+with_warnings warned read = record { places = read.places; warned = warned ++ read.warned; stopped = read.stopped }
 
-abbrev pub stop_at : Line → Stop
-stop_at l = record { stream = l.stream; number = l.number }
+abbrev pub stream_location : Line → StreamLocation
+stream_location l = record { stream = l.stream; number = l.number }
 
 -- the symbol's place is filled already
-abbrev pub again : TreeFacts → Places → SymId → Option Trouble
-again tree places s = if is_some (place_at places (At s.0)) then Some (SetAgain (name_of tree s)) else None
+abbrev pub set_again : TreeFacts → Places → SymId → Option LineWarning
+set_again tree places s = if is_some (place_at places (SymbolPlace s.0)) then Some (SetAgain (name_of tree s)) else None
 
-abbrev pub trouble_of : TreeFacts → Places → Effect → Option Trouble
-trouble_of tree places Silent = None
-trouble_of tree places (Warns trouble) = Some trouble
-trouble_of tree places (Assigns s given) = again tree places s
+abbrev pub effect_warning : TreeFacts → Places → Effect → Option LineWarning
+effect_warning tree places Silent = None
+effect_warning tree places (Warns line_warning) = Some line_warning
+effect_warning tree places (Assigns s given) = set_again tree places s
 
-abbrev pub warning_words : List ℕ → ℕ → Option Trouble → List ℕ
-warning_words stream number None = []
-warning_words stream number (Some trouble) = warning_line stream number trouble
+abbrev pub warning_line_if : List ℕ → ℕ → Option LineWarning → List ℕ
+warning_line_if stream number None = []
+warning_line_if stream number (Some line_warning) = warning_line stream number line_warning
 
 -- the lines before the first that is too long count
-abbrev pub counted : List Line → List Line
-counted lines = take_while is_within lines
+abbrev pub before_too_long : List Line → List Line
+before_too_long lines = take_while is_within lines
 
 -- For a tree and a prefix.
 module _ (tree : TreeFacts) (prefix : List ℕ) where
   unfoldable pub effect : Line → Effect
-  effect l = effect_of tree (says prefix (text_of l))
+  effect l = effect_of tree (meaning_of prefix (text_of l))
 
   -- the valid assignments of the lines, in order
   abbrev pub assignments : List Line → List Assignment
@@ -141,18 +141,18 @@ module _ (tree : TreeFacts) (prefix : List ℕ) where
 
   -- what a line warns of, given the places before it
   unfoldable pub warning : Places → Line → List ℕ
-  warning places l = warning_words l.stream l.number (trouble_of tree places (effect l))
+  warning places l = warning_line_if l.stream l.number (effect_warning tree places (effect l))
 
   -- what the lines warn of, given the places before all of them and the lines before these
   unfoldable pub warnings : Places → List Line → List Line → List ℕ
   warnings places before [] = []
   warnings places before (l ∷ lines) = warning (places_after places before) l ++ warnings places (before ++ l ∷ []) lines
 
-  unfoldable pub reading : Places → List Line → Read
+  unfoldable pub reading : Places → List Line → ReadResult
   reading places lines = record {
-    places = places_after places (counted lines);
-    warned = warnings places [] (counted lines);
-    stopped = option_map stop_at (find (λ l. not (is_within l)) lines);
+    places = places_after places (before_too_long lines);
+    warned = warnings places [] (before_too_long lines);
+    stopped = option_map stream_location (find (λ l. not (is_within l)) lines);
   }
 
 -- a stream of bytes under a name
@@ -164,5 +164,5 @@ abbrev pub lines_of : List Stream → List Line
 lines_of streams = flat_map (λ s. lines_from s.name 1 s.bytes) streams
 
 -- what reading the streams gives, from these places: each stream ends its own last line
-abbrev pub reading_of : TreeFacts → List ℕ → Places → List Stream → Read
+abbrev pub reading_of : TreeFacts → List ℕ → Places → List Stream → ReadResult
 reading_of tree prefix places streams = reading tree prefix places (lines_of streams)

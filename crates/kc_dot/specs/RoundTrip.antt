@@ -2,14 +2,14 @@
 use Rattle.std.specs.Prelude.{◌≡◌, ℕ, ◌+◌, ◌<◌, ◌≤◌, ◌++◌, List, [], ◌∷◌, length, true, All, Some, codes}
 use Rattle.kc_text.specs.Bytes.{byte}
 use Rattle.kc_text.specs.Escapes.{escape}
-use Rattle.kc_user.specs.Given.{Typed}
+use Rattle.kc_user.specs.GivenValue.{GivenText}
 use Rattle.kc_user.specs.Limits.{longest_value}
 use Rattle.kc_expr.specs.Limits.{longest_name}
 use Rattle.kc_expr.specs.Names.{is_name_byte}
-use Rattle.kc_expr.specs.Value.{Known, Truth, Written}
+use Rattle.kc_expr.specs.Value.{SymbolValue, Truth, TextValue}
 use Rattle.kc_expr.specs.declared.expression.Kind.TheVariants as kind
 use Rattle.kc_dot.specs.SymbolLines.{config_line}
-use Rattle.kc_dot.specs.ConfigLine.{Set, Unset, says, trimmed}
+use Rattle.kc_dot.specs.DotLine.{Set, Unset, meaning_of, trimmed}
 use Rattle.kc_dot.specs.LineValue.{line_value}
 use Rattle.kc_dot.specs.Limits.{longest_prefix}
 use Rattle.kc_dot.specs.Prefixes.{is_prefix}
@@ -22,33 +22,33 @@ pub record IsName (name : List ℕ) : Type 0 where
 -- `# CONFIG_NAME is not set` unsets NAME, whatever the prefix
 abbrev pub UnsetLineReadAgain : Type 0
 UnsetLineReadAgain =
-    (prefix name : List ℕ) → IsName name → says prefix ((codes "# " ++ (prefix ++ name)) ++ codes " is not set") ≡ Unset name
+    (prefix name : List ℕ) → IsName name → meaning_of prefix ((codes "# " ++ (prefix ++ name)) ++ codes " is not set") ≡ Unset name
 
 -- `CONFIG_NAME=value` sets NAME to the value, whatever the prefix, where no blank ends the line
 abbrev pub SetLineReadAgain : Type 0
 SetLineReadAgain =
     (prefix name value : List ℕ) → is_prefix prefix ≡ true → IsName name →
     trimmed ((prefix ++ name) ++ byte "=" ∷ value) ≡ (prefix ++ name) ++ byte "=" ∷ value →
-    says prefix ((prefix ++ name) ++ byte "=" ∷ value) ≡ Set name value
+    meaning_of prefix ((prefix ++ name) ++ byte "=" ∷ value) ≡ Set name value
 
 -- a string's text, quoted and escaped, is read as that text
 abbrev pub StringReadAgain : Type 0
 StringReadAgain =
     (text : List ℕ) → length (escape text) + 2 ≤ longest_value →
-    line_value kind.Str (byte "\"" ∷ escape text ++ byte "\"" ∷ []) ≡ Some (Typed text)
+    line_value kind.Str (byte "\"" ∷ escape text ++ byte "\"" ∷ []) ≡ Some (GivenText text)
 
 -- the text that a line shows is no longer than a value may be
-abbrev pub IsShortText : Known → Type 0
+abbrev pub IsShortText : SymbolValue → Type 0
 IsShortText (Truth t) = Unit {0}
-IsShortText (Written kind.Undefined text) = Unit {0}
-IsShortText (Written kind.Bool text) = Unit {0}
-IsShortText (Written kind.Tristate text) = Unit {0}
-IsShortText (Written kind.Str text) = length (escape text) ≤ longest_value
-IsShortText (Written kind.Int text) = length text ≤ longest_value
-IsShortText (Written kind.Hex text) = length text ≤ longest_value
+IsShortText (TextValue kind.Undefined text) = Unit {0}
+IsShortText (TextValue kind.Bool text) = Unit {0}
+IsShortText (TextValue kind.Tristate text) = Unit {0}
+IsShortText (TextValue kind.Str text) = length (escape text) ≤ longest_value
+IsShortText (TextValue kind.Int text) = length text ≤ longest_value
+IsShortText (TextValue kind.Hex text) = length text ≤ longest_value
 
 -- a line that is written is no longer than a prefix, a name and a value, with `=`, two quotes and the LF
 abbrev pub WrittenLinesAreShort : Type 0
 WrittenLinesAreShort =
-    (prefix name : List ℕ) (known : Known) → length prefix ≤ longest_prefix → length name ≤ longest_name → IsShortText known →
+    (prefix name : List ℕ) (known : SymbolValue) → length prefix ≤ longest_prefix → length name ≤ longest_name → IsShortText known →
     length (config_line (prefix ++ name) known) ≤ longest_prefix + longest_name + longest_value + 4

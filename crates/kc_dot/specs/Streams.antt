@@ -3,9 +3,9 @@ use Rattle.std.specs.Prelude.{◌≡◌, ℕ, List, [], ◌∷◌, ◌++◌, map
 use Rattle.std.specs.List.{concat}
 use Rattle.kc_user.specs.Places.{ArePlaces, Places, no_places}
 use Rattle.kc_tree.specs.TreeFacts.{TreeFacts, IsWellFormed}
-use Rattle.kc_dot.specs.Calls.{Call, Feed, Finish, NextStream, Run}
+use Rattle.kc_dot.specs.Calls.{Call, Feed, Finish, NextStream, AllAnswered}
 use Rattle.kc_dot.specs.declared.fault.DotFault.{DotFault}
-use Rattle.kc_dot.specs.Feeding.{Spot, Refuses, first_spot}
+use Rattle.kc_dot.specs.Feeding.{StreamPosition, Refuses, stream_start}
 use Rattle.kc_dot.specs.ReaderState.{ReaderState}
 use Rattle.kc_dot.specs.Reading.{Stream, reading_of}
 
@@ -29,14 +29,14 @@ calls_after (s ∷ streams) = NextStream s.name ∷ (feeds s.pieces ++ calls_aft
 abbrev pub StreamsAreRead : Type 0
 StreamsAreRead =
     (first : Pieces) (streams : List Pieces) (old new : ReaderState) (before after : Places) (warned : List ℕ) →
-    old.name ≡ first.name → old.spot ≡ first_spot → Run (feeds first.pieces ++ calls_after streams) old new before after warned →
+    old.name ≡ first.name → old.position ≡ stream_start → AllAnswered (feeds first.pieces ++ calls_after streams) old new before after warned →
     reading_of old.tree old.prefix before (map stream_of (first ∷ streams)) ≡ record { places = after; warned = warned; stopped = None }
 
 -- Places that hold what is allowed still do after any calls.
 abbrev pub ReadingKeepsPlaces : Type 0
 ReadingKeepsPlaces =
     (calls : List Call) (old new : ReaderState) (before after : Places) (warned : List ℕ) → IsWellFormed old.tree →
-    Run calls old new before after warned → ArePlaces old.tree before → ArePlaces old.tree after
+    AllAnswered calls old new before after warned → ArePlaces old.tree before → ArePlaces old.tree after
 
 -- What reading any streams leaves, from empty places, holds what is allowed.
 abbrev pub StreamsLeavePlaces : Type 0
@@ -47,6 +47,6 @@ StreamsLeavePlaces =
 -- Places that hold what is allowed still do after a call that was refused.
 abbrev pub RefusalsKeepPlaces : Type 0
 RefusalsKeepPlaces =
-    (tree : TreeFacts) (prefix name : List ℕ) (fault : DotFault) (piece : List ℕ) (old new : Spot) (before after : Places) (taken taken_after : Option (List ℕ)) →
+    (tree : TreeFacts) (prefix name : List ℕ) (fault : DotFault) (piece : List ℕ) (old new : StreamPosition) (before after : Places) (taken taken_after : Option (List ℕ)) →
     IsWellFormed tree → Refuses tree prefix name fault piece old new before after taken taken_after →
     ArePlaces tree before → ArePlaces tree after

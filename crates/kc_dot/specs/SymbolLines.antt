@@ -2,33 +2,33 @@
 use Rattle.std.specs.Prelude.{ℕ, ◌++◌, List, [], codes, if◌then◌else◌}
 use Rattle.kc_text.specs.Escapes.{escape}
 use Rattle.kc_text.specs.Numbers.{has_hex_prefix}
-use Rattle.kc_expr.specs.Value.{Known, Truth, Written}
+use Rattle.kc_expr.specs.Value.{SymbolValue, Truth, TextValue}
 use Rattle.kc_expr.specs.declared.expression.Tri.TheVariants.{N, M, Y}
 use Rattle.kc_expr.specs.declared.expression.Kind.TheVariants as kind
 
 -- `CONFIG_NAME=value`, or `# CONFIG_NAME is not set`, with the line's LF; the prefix and the name stand in one
-abbrev pub config_line : List ℕ → Known → List ℕ
+abbrev pub config_line : List ℕ → SymbolValue → List ℕ
 config_line name (Truth N) = codes "# " ++ name ++ codes " is not set\n"
 config_line name (Truth M) = name ++ codes "=m\n"
 config_line name (Truth Y) = name ++ codes "=y\n"
-config_line name (Written kind.Undefined text) = []
-config_line name (Written kind.Bool text) = []
-config_line name (Written kind.Tristate text) = []
-config_line name (Written kind.Str text) = name ++ codes "=\"" ++ escape text ++ codes "\"\n"
-config_line name (Written kind.Int text) = name ++ codes "=" ++ text ++ codes "\n"
-config_line name (Written kind.Hex text) = name ++ codes "=" ++ text ++ codes "\n"
+config_line name (TextValue kind.Undefined text) = []
+config_line name (TextValue kind.Bool text) = []
+config_line name (TextValue kind.Tristate text) = []
+config_line name (TextValue kind.Str text) = name ++ codes "=\"" ++ escape text ++ codes "\"\n"
+config_line name (TextValue kind.Int text) = name ++ codes "=" ++ text ++ codes "\n"
+config_line name (TextValue kind.Hex text) = name ++ codes "=" ++ text ++ codes "\n"
 
 -- a hex begins with `0x` in a header
 abbrev pub hex_text : List ℕ → List ℕ
 hex_text text = if has_hex_prefix text then text else codes "0x" ++ text
 
-abbrev pub header_line : List ℕ → Known → List ℕ
+abbrev pub header_line : List ℕ → SymbolValue → List ℕ
 header_line name (Truth N) = []
 header_line name (Truth M) = codes "#define " ++ name ++ codes "_MODULE 1\n"
 header_line name (Truth Y) = codes "#define " ++ name ++ codes " 1\n"
-header_line name (Written kind.Undefined text) = []
-header_line name (Written kind.Bool text) = []
-header_line name (Written kind.Tristate text) = []
-header_line name (Written kind.Str text) = codes "#define " ++ name ++ codes " \"" ++ escape text ++ codes "\"\n"
-header_line name (Written kind.Int text) = codes "#define " ++ name ++ codes " " ++ text ++ codes "\n"
-header_line name (Written kind.Hex text) = codes "#define " ++ name ++ codes " " ++ hex_text text ++ codes "\n"
+header_line name (TextValue kind.Undefined text) = []
+header_line name (TextValue kind.Bool text) = []
+header_line name (TextValue kind.Tristate text) = []
+header_line name (TextValue kind.Str text) = codes "#define " ++ name ++ codes " \"" ++ escape text ++ codes "\"\n"
+header_line name (TextValue kind.Int text) = codes "#define " ++ name ++ codes " " ++ text ++ codes "\n"
+header_line name (TextValue kind.Hex text) = codes "#define " ++ name ++ codes " " ++ hex_text text ++ codes "\n"

@@ -6,7 +6,7 @@ use Rattle.kc_expr.specs.Names.{symbol}
 use Rattle.kc_tree.specs.TreeFacts.{TreeFacts, Shown, SymbolShown, MenuShown, EndShown, CommentShown}
 use Rattle.kc_dot.specs.Effects.{name_of}
 use Rattle.kc_dot.specs.SymbolLines.{config_line, header_line}
-use Rattle.kc_dot.specs.Told.{Told, is_shown}
+use Rattle.kc_dot.specs.SolutionView.{SolutionView, is_shown}
 
 -- the symbols in order of their first definition
 abbrev pub symbols_of : TreeFacts → List SymId
@@ -40,52 +40,52 @@ abbrev pub is_title : Option (List ℕ) → Bool
 is_title None = false
 is_title (Some text) = true
 
--- the title of the menu at a place among the entries, where it is shown
-abbrev pub shown_title : Told → Option Shown → Option (List ℕ)
-shown_title told None = None
-shown_title told (Some (SymbolShown s)) = None
-shown_title told (Some (MenuShown text when)) = if is_shown (told.truth when) then Some text else None
-shown_title told (Some (EndShown menu)) = None
-shown_title told (Some (CommentShown text when)) = None
+-- the title of the menu of this number among the entries, where it is shown
+abbrev pub shown_title : SolutionView → Option Shown → Option (List ℕ)
+shown_title solution None = None
+shown_title solution (Some (SymbolShown s)) = None
+shown_title solution (Some (MenuShown text when)) = if is_shown (solution.truth when) then Some text else None
+shown_title solution (Some (EndShown menu)) = None
+shown_title solution (Some (CommentShown text when)) = None
 
 -- whether the last line is an end line after an entry
-abbrev pub ends_after : TreeFacts → Told → Bool → Shown → Bool
-ends_after tree told after_end (SymbolShown s) = if told.written s then false else after_end
-ends_after tree told after_end (MenuShown text when) = if is_shown (told.truth when) then false else after_end
-ends_after tree told after_end (EndShown menu) = if is_title (shown_title told (slice_get tree.entries menu)) then true else after_end
-ends_after tree told after_end (CommentShown text when) = if is_shown (told.truth when) then false else after_end
+abbrev pub ends_after : TreeFacts → SolutionView → Bool → Shown → Bool
+ends_after tree solution after_end (SymbolShown s) = if solution.written s then false else after_end
+ends_after tree solution after_end (MenuShown text when) = if is_shown (solution.truth when) then false else after_end
+ends_after tree solution after_end (EndShown menu) = if is_title (shown_title solution (slice_get tree.entries menu)) then true else after_end
+ends_after tree solution after_end (CommentShown text when) = if is_shown (solution.truth when) then false else after_end
 
-module _ (tree : TreeFacts) (prefix : List ℕ) (told : Told) where
+module _ (tree : TreeFacts) (prefix : List ℕ) (solution : SolutionView) where
   abbrev pub symbol_config : SymId → List ℕ
-  symbol_config s = config_line (prefix ++ name_of tree s) (told.value s)
+  symbol_config s = config_line (prefix ++ name_of tree s) (solution.value s)
 
   abbrev pub symbol_header : SymId → List ℕ
-  symbol_header s = header_line (prefix ++ name_of tree s) (told.value s)
+  symbol_header s = header_line (prefix ++ name_of tree s) (solution.value s)
 
   -- what an entry gives, where the line before it is an end line or is not
   abbrev pub entry_text : Bool → Shown → List ℕ
-  entry_text after_end (SymbolShown s) = if told.written s then gap after_end ++ symbol_config s else []
-  entry_text after_end (MenuShown text when) = title_if (is_shown (told.truth when)) text
-  entry_text after_end (EndShown menu) = end_if (shown_title told (slice_get tree.entries menu))
-  entry_text after_end (CommentShown text when) = title_if (is_shown (told.truth when)) text
+  entry_text after_end (SymbolShown s) = if solution.written s then gap after_end ++ symbol_config s else []
+  entry_text after_end (MenuShown text when) = title_if (is_shown (solution.truth when)) text
+  entry_text after_end (EndShown menu) = end_if (shown_title solution (slice_get tree.entries menu))
+  entry_text after_end (CommentShown text when) = title_if (is_shown (solution.truth when)) text
 
   abbrev pub entries_text : Bool → List Shown → List ℕ
   entries_text after_end [] = []
-  entries_text after_end (entry ∷ entries) = entry_text after_end entry ++ entries_text (ends_after tree told after_end entry) entries
+  entries_text after_end (entry ∷ entries) = entry_text after_end entry ++ entries_text (ends_after tree solution after_end entry) entries
 
   -- the heading, and the lines of the entries in order
   unfoldable pub config_text : List ℕ
   config_text = config_heading tree.main_menu ++ entries_text false tree.entries
 
   abbrev pub header_if : SymId → List ℕ
-  header_if s = if told.written s then symbol_header s else []
+  header_if s = if solution.written s then symbol_header s else []
 
   -- the heading, and the header lines of the written symbols
   unfoldable pub header_text : List ℕ
   header_text = header_heading tree.main_menu ++ flat_map header_if (symbols_of tree)
 
   abbrev pub minimal_if : SymId → List ℕ
-  minimal_if s = if told.differs s then symbol_config s else []
+  minimal_if s = if solution.differs s then symbol_config s else []
 
   -- the lines of the symbols that differ
   unfoldable pub minimal_text : List ℕ

@@ -5,16 +5,16 @@ ghost use Rattle.kc_tree.specs.TreeFacts.{SymbolShown};
 ghost use Rattle.kc_tree.specs.Layouts.{IsLayoutOf, shown_of, title_at, title_text};
 ghost use Rattle.kc_dot.specs.Laws.{ConfigGivesBack, HasShortLines};
 ghost use Rattle.kc_dot.specs.Sink.{extended, HandsOut};
-ghost use Rattle.kc_dot.specs.SolutionTold.{told_of};
+ghost use Rattle.kc_dot.specs.SolvedView.{solution_view};
 ghost use Rattle.kc_dot.specs.Texts.{title_if, end_if, gap, is_title, shown_title, entry_text, ends_after, entries_text, config_heading, config_text};
-ghost use Rattle.kc_dot.specs.Told.{is_shown};
+ghost use Rattle.kc_dot.specs.SolutionView.{is_shown};
 ghost use Rattle.kc_dot.specs.Named.{HasName};
-ghost use Rattle.kc_dot.specs.Writing.{counted_write};
+ghost use Rattle.kc_dot.specs.Writing.{failures_after_write};
 ghost use Rattle.kc_solve.specs.Solved.{value_of};
 ghost use Rattle.kc_user.specs.Places.{ArePlaces};
 
 use crate::fault::WriteFault;
-use crate::laws::{config_settles, written_texts_are_short};
+use crate::laws::{config_is_idempotent, written_texts_are_short};
 use crate::page::{add_parts, new_page, put_full};
 use crate::prefix::Prefix;
 use crate::sink::{Sink, put};
@@ -22,7 +22,7 @@ use crate::symbol_line::{add_config_line, symbol_value};
 use kc_expr::expression::{SymId, Tri};
 use kc_solve::solved::Solved;
 use kc_tree::layout::Layout;
-use kc_tree::parts::{Entry, TitleId};
+use kc_tree::rows::{ShownEntry, TitleId};
 use kc_tree::tree::Tree;
 use std::alloc::{AllocError, Global};
 
@@ -76,20 +76,20 @@ fn text_of(layout: &Layout, title: TitleId) -> &[u8]
     }
 }
 
-// The title of the menu at this place among the entries, where it is shown.
+// The title of the menu of this number among the entries, where it is shown.
 fn shown_title<'a>(tree: &'a Tree, solved: &Solved<'_>, menu: usize) -> Option<&'a [u8]>
     requires { solved.now.tree ≡ tree.now }
-    ensures { option_copied result ≡ shown_title (told_of solved.now) (slice_get tree.now.entries menu) }
+    ensures { option_copied result ≡ shown_title (solution_view solved.now) (slice_get tree.now.entries menu) }
 {
     let layout = tree.layout();
     match layout.entries().get(menu) {
-        Some(Entry::Menu(title)) => {
+        Some(ShownEntry::Menu(title)) => {
             if is_shown(solved.shown(menu)) {
                 return Some(text_of(layout, *title));
             }
             None
         }
-        Some(Entry::Symbol(_) | Entry::End(_) | Entry::Comment(_)) => None,
+        Some(ShownEntry::Symbol(_) | ShownEntry::End(_) | ShownEntry::Comment(_)) => None,
         None => None,
     }
 }
@@ -105,8 +105,8 @@ fn add_symbol_if(
     page: &mut Vec<u8>,
 ) -> Result<bool, AllocError>
     requires { id.0 < length tree.now.names }
-    ensures text { OnOk result (page.new.items ≡ page.old.items ++ entry_text tree.now prefix.now (told_of solved.now) after_end (SymbolShown id)) }
-    ensures next { IfOk result (λ next. next ≡ ends_after tree.now (told_of solved.now) after_end (SymbolShown id)) }
+    ensures text { OnOk result (page.new.items ≡ page.old.items ++ entry_text tree.now prefix.now (solution_view solved.now) after_end (SymbolShown id)) }
+    ensures next { IfOk result (λ next. next ≡ ends_after tree.now (solution_view solved.now) after_end (SymbolShown id)) }
 {
     if !solved.written(id) {
         return Ok(after_end);
@@ -145,25 +145,29 @@ fn add_entry(
     layout: &Layout,
     solved: &Solved<'_>,
     prefix: &Prefix,
-    place: usize,
-    entry: &Entry,
+    index: usize,
+    entry: &ShownEntry,
     after_end: bool,
     page: &mut Vec<u8>,
 ) -> Result<bool, AllocError>
-    requires there { slice_get tree.now.entries place ≡ Some (shown_of layout.now.tables entry.now) }
+    requires there { slice_get tree.now.entries index ≡ Some (shown_of layout.now.tables entry.now) }
     requires laid { IsLayoutOf tree.now layout.now }
     requires name { HasName tree.now (shown_of layout.now.tables entry.now) }
     requires same { solved.now.tree ≡ tree.now }
-    ensures text { OnOk result (page.new.items ≡ page.old.items ++ entry_text tree.now prefix.now (told_of solved.now) after_end (shown_of layout.now.tables entry.now)) }
-    ensures next { IfOk result (λ next. next ≡ ends_after tree.now (told_of solved.now) after_end (shown_of layout.now.tables entry.now)) }
+    ensures text { OnOk result (page.new.items ≡ page.old.items ++ entry_text tree.now prefix.now (solution_view solved.now) after_end (shown_of layout.now.tables entry.now)) }
+    ensures next { IfOk result (λ next. next ≡ ends_after tree.now (solution_view solved.now) after_end (shown_of layout.now.tables entry.now)) }
 {
     match entry {
-        Entry::Symbol(id) => add_symbol_if(tree, solved, prefix, *id, after_end, page),
-        Entry::Menu(title) | Entry::Comment(title) => {
-            let shown = is_shown(solved.shown(place));
+        ShownEntry::Symbol(id) => add_symbol_if(tree, solved, prefix, *id, after_end, page),
+        ShownEntry::Menu(title) | ShownEntry::Comment(title) => {
+            let shown = is_shown(solved.shown(index));
             add_title(shown, text_of(layout, *title), after_end, page)
         }
-        Entry::End(menu) => add_end(shown_title(tree, solved, *menu as usize), after_end, page),
+        ShownEntry::End(menu) => add_end(
+            shown_title(tree, solved, *menu as usize),
+            after_end,
+            page,
+        ),
     }
 }
 
@@ -176,10 +180,10 @@ fn put_entries<S: Sink>(
     sink: &mut S,
 ) -> Result<(), WriteFault>
     requires { solved.now.tree ≡ tree.now }
-    ensures whole { OnOk result (S.taken sink.new ≡ extended (S.taken sink.old) (page.old.items ++ entries_text tree.now prefix.now (told_of solved.now) false tree.now.entries)) }
+    ensures whole { OnOk result (S.taken sink.new ≡ extended (S.taken sink.old) (page.old.items ++ entries_text tree.now prefix.now (solution_view solved.now) false tree.now.entries)) }
     ensures quiet { OnOk result (S.failures sink.new ≡ S.failures sink.old) }
-    ensures beginning { OnErr result (HandsOut (page.old.items ++ entries_text tree.now prefix.now (told_of solved.now) false tree.now.entries) (S.taken sink.old) (S.taken sink.new)) }
-    ensures counted { IfErr result (λ fault. S.failures sink.new ≡ counted_write fault (S.failures sink.old)) }
+    ensures beginning { OnErr result (HandsOut (page.old.items ++ entries_text tree.now prefix.now (solution_view solved.now) false tree.now.entries) (S.taken sink.old) (S.taken sink.new)) }
+    ensures counted { IfErr result (λ fault. S.failures sink.new ≡ failures_after_write fault (S.failures sink.old)) }
     ensures keeps { S.goes_to sink.old sink.new }
 {
     // The entries name symbols of the tree alone: `symbol_count` says so.
@@ -187,8 +191,8 @@ fn put_entries<S: Sink>(
     let layout = tree.layout();
     let entries = layout.entries();
     let mut after_end = false;
-    for (place, entry) in entries.iter().enumerate() {
-        after_end = add_entry(tree, layout, solved, prefix, place, entry, after_end, page)?;
+    for (index, entry) in entries.iter().enumerate() {
+        after_end = add_entry(tree, layout, solved, prefix, index, entry, after_end, page)?;
         put_full(page, sink)?;
     }
     put(page, sink)?;
@@ -218,10 +222,10 @@ fn put_config<S: Sink>(
     sink: &mut S,
 ) -> Result<(), WriteFault>
     requires { solved.now.tree ≡ tree.now }
-    ensures whole { OnOk result (S.taken sink.new ≡ extended (S.taken sink.old) (config_text tree.now prefix.now (told_of solved.now))) }
+    ensures whole { OnOk result (S.taken sink.new ≡ extended (S.taken sink.old) (config_text tree.now prefix.now (solution_view solved.now))) }
     ensures quiet { OnOk result (S.failures sink.new ≡ S.failures sink.old) }
-    ensures beginning { OnErr result (HandsOut (config_text tree.now prefix.now (told_of solved.now)) (S.taken sink.old) (S.taken sink.new)) }
-    ensures counted { IfErr result (λ fault. S.failures sink.new ≡ counted_write fault (S.failures sink.old)) }
+    ensures beginning { OnErr result (HandsOut (config_text tree.now prefix.now (solution_view solved.now)) (S.taken sink.old) (S.taken sink.new)) }
+    ensures counted { IfErr result (λ fault. S.failures sink.new ≡ failures_after_write fault (S.failures sink.old)) }
     ensures keeps { S.goes_to sink.old sink.new }
 {
     let mut page = new_page(alloc)?;
@@ -248,15 +252,15 @@ pub fn write_config<S: Sink>(
     sink: &mut S,
 ) -> Result<(), WriteFault>
     requires { solved.now.tree ≡ tree.now }
-    ensures whole { OnOk result (S.taken sink.new ≡ extended (S.taken sink.old) (config_text tree.now prefix.now (told_of solved.now))) }
+    ensures whole { OnOk result (S.taken sink.new ≡ extended (S.taken sink.old) (config_text tree.now prefix.now (solution_view solved.now))) }
     ensures quiet { OnOk result (S.failures sink.new ≡ S.failures sink.old) }
-    ensures beginning { OnErr result (HandsOut (config_text tree.now prefix.now (told_of solved.now)) (S.taken sink.old) (S.taken sink.new)) }
-    ensures counted { IfErr result (λ fault. S.failures sink.new ≡ counted_write fault (S.failures sink.old)) }
+    ensures beginning { OnErr result (HandsOut (config_text tree.now prefix.now (solution_view solved.now)) (S.taken sink.old) (S.taken sink.new)) }
+    ensures counted { IfErr result (λ fault. S.failures sink.new ≡ failures_after_write fault (S.failures sink.old)) }
     ensures keeps { S.goes_to sink.old sink.new }
-    ensures short { ArePlaces tree.now solved.now.places → HasShortLines (config_text tree.now prefix.now (told_of solved.now)) }
-    ensures settles { ArePlaces tree.now solved.now.places → ConfigGivesBack tree.now prefix.now solved.now.places (value_of solved.now) }
+    ensures short { ArePlaces tree.now solved.now.places → HasShortLines (config_text tree.now prefix.now (solution_view solved.now)) }
+    ensures idempotent { ArePlaces tree.now solved.now.places → ConfigGivesBack tree.now prefix.now solved.now.places (value_of solved.now) }
 {
-    config_settles();
+    config_is_idempotent();
     written_texts_are_short();
     solved.is_solution();
     solved.is_accepted();

@@ -2,13 +2,13 @@
 ghost use Rattle.std.specs.Prelude.{◌≡◌, ◌++◌, OnOk, OnErr, IfOk, flat_map, slice_get, Some};
 ghost use Rattle.std.specs.Option.{option_map};
 ghost use Rattle.kc_user.specs.ValueView.{given_of_value};
-ghost use Rattle.kc_dot.specs.ConfigLine.{said};
+ghost use Rattle.kc_dot.specs.DotLine.{meaning_view};
 ghost use Rattle.kc_dot.specs.Effects as spec;
-ghost use Rattle.kc_dot.specs.EffectView.{AssignsDefined, trouble_of, effect_view};
+ghost use Rattle.kc_dot.specs.EffectView.{AssignsDefined, warning_view, effect_view};
 ghost use Rattle.kc_dot.specs.Sink.{extended, next_failure, BreaksOff};
 
-use crate::line::ConfigLine;
-use crate::parts::put_parts;
+use crate::batch::put_parts;
+use crate::line::DotLine;
 use crate::sink::{Fault, Sink};
 use crate::value::line_value;
 use itoa::Buffer;
@@ -19,7 +19,7 @@ use std::alloc::{AllocError, Global};
 
 /// What a warning tells, with the name that it tells it of.
 #[derive(Clone, Copy, Debug, PartialEq, Eq)]
-pub enum Trouble<'a> {
+pub enum LineWarning<'a> {
     /// No symbol of this name is defined and has a type (K7).
     UnknownSymbol(&'a [u8]),
     /// The symbol may not have the value (K8).
@@ -34,7 +34,7 @@ pub enum Trouble<'a> {
 #[derive(Debug, Drop)]
 pub enum Effect<'a> {
     Silent,
-    Warns(Trouble<'a>),
+    Warns(LineWarning<'a>),
     Assigns(SymId, UserValue),
 }
 
@@ -43,16 +43,16 @@ pub enum Effect<'a> {
 pub fn line_effect<'a>(
     alloc: Global,
     tree: &Tree,
-    line: ConfigLine<'a>,
+    line: DotLine<'a>,
 ) -> Result<Effect<'a>, AllocError>
-    ensures effect { IfOk result (λ effect. effect_view effect ≡ spec.effect_of tree.now (said line.entry)) }
+    ensures effect { IfOk result (λ effect. effect_view effect ≡ spec.effect_of tree.now (meaning_view line.entry)) }
     ensures defined { IfOk result (λ effect. AssignsDefined tree.now (effect_view effect)) }
 {
     match line {
-        ConfigLine::Nothing => Ok(Effect::Silent),
-        ConfigLine::Unset(name) => Ok(unset_effect(tree, name)),
-        ConfigLine::Set(name, text) => set_effect(alloc, tree, name, text),
-        ConfigLine::Malformed => Ok(Effect::Warns(Trouble::MalformedLine)),
+        DotLine::Nothing => Ok(Effect::Silent),
+        DotLine::Unset(name) => Ok(unset_effect(tree, name)),
+        DotLine::Set(name, text) => set_effect(alloc, tree, name, text),
+        DotLine::Malformed => Ok(Effect::Warns(LineWarning::MalformedLine)),
     }
 }
 
@@ -70,9 +70,9 @@ fn unset_effect<'a>(tree: &Tree, name: &'a [u8]) -> Effect<'a>
     ensures { effect_view result ≡ spec.unset_effect tree.now name.now (spec.symbol_named tree.now name.now) }
 {
     match tree.find(name) {
-        None => Effect::Warns(Trouble::UnknownSymbol(name)),
+        None => Effect::Warns(LineWarning::UnknownSymbol(name)),
         Some(id) => match kind_of(tree, id) {
-            Kind::Undefined => Effect::Warns(Trouble::UnknownSymbol(name)),
+            Kind::Undefined => Effect::Warns(LineWarning::UnknownSymbol(name)),
             Kind::Bool | Kind::Tristate => Effect::Assigns(id, UserValue::Tri(Tri::N)),
             Kind::Str | Kind::Int | Kind::Hex => Effect::Silent,
         },
@@ -88,7 +88,7 @@ fn set_effect<'a>(
     ensures { IfOk result (λ effect. effect_view effect ≡ spec.set_effect tree.now name.now text.now (spec.symbol_named tree.now name.now)) }
 {
     match tree.find(name) {
-        None => Ok(Effect::Warns(Trouble::UnknownSymbol(name))),
+        None => Ok(Effect::Warns(LineWarning::UnknownSymbol(name))),
         Some(id) => set_by_kind(alloc, name, id, text, kind_of(tree, id)),
     }
 }
@@ -103,23 +103,23 @@ fn set_by_kind<'a>(
     ensures { IfOk result (λ effect. effect_view effect ≡ spec.set_by_kind name.now id text.now kind) }
 {
     if kind == Kind::Undefined {
-        return Ok(Effect::Warns(Trouble::UnknownSymbol(name)));
+        return Ok(Effect::Warns(LineWarning::UnknownSymbol(name)));
     }
     match line_value(alloc, kind, text)? {
         Some(value) => Ok(Effect::Assigns(id, value)),
-        None => Ok(Effect::Warns(Trouble::NotAllowed(name))),
+        None => Ok(Effect::Warns(LineWarning::NotAllowed(name))),
     }
 }
 
 // What stands before the name that a warning tells, the name, and what stands after it.
-fn words<'a>(trouble: Trouble<'a>) -> (&'a [u8], &'a [u8], &'a [u8])
-    ensures { result.0.now ++ result.1.now ++ result.2.now ≡ spec.trouble_text (trouble_of trouble.entry) }
+fn message<'a>(line_warning: LineWarning<'a>) -> (&'a [u8], &'a [u8], &'a [u8])
+    ensures { result.0.now ++ result.1.now ++ result.2.now ≡ spec.warning_text (warning_view line_warning.entry) }
 {
-    match trouble {
-        Trouble::UnknownSymbol(name) => (b"K7: unknown symbol ", name, b""),
-        Trouble::NotAllowed(name) => (b"K8: value not allowed for ", name, b""),
-        Trouble::MalformedLine => (b"K9: malformed line", b"", b""),
-        Trouble::SetAgain(name) => (b"K10: ", name, b" is set again"),
+    match line_warning {
+        LineWarning::UnknownSymbol(name) => (b"K7: unknown symbol ", name, b""),
+        LineWarning::NotAllowed(name) => (b"K8: value not allowed for ", name, b""),
+        LineWarning::MalformedLine => (b"K9: malformed line", b"", b""),
+        LineWarning::SetAgain(name) => (b"K10: ", name, b" is set again"),
     }
 }
 
@@ -128,18 +128,18 @@ fn words<'a>(trouble: Trouble<'a>) -> (&'a [u8], &'a [u8], &'a [u8])
 pub fn warn<S: Sink>(
     stream: &[u8],
     number: u64,
-    trouble: Trouble<'_>,
+    line_warning: LineWarning<'_>,
     sink: &mut S,
 ) -> Result<(), Fault>
-    ensures whole { OnOk result (S.taken sink.new ≡ extended (S.taken sink.old) (spec.warning_line stream.now number (trouble_of trouble.entry))) }
+    ensures whole { OnOk result (S.taken sink.new ≡ extended (S.taken sink.old) (spec.warning_line stream.now number (warning_view line_warning.entry))) }
     ensures quiet { OnOk result (S.failures sink.new ≡ S.failures sink.old) }
-    ensures broken { OnErr result (BreaksOff (spec.warning_line stream.now number (trouble_of trouble.entry)) (S.taken sink.old) (S.taken sink.new)) }
+    ensures broken { OnErr result (BreaksOff (spec.warning_line stream.now number (warning_view line_warning.entry)) (S.taken sink.old) (S.taken sink.new)) }
     ensures counted { OnErr result (S.failures sink.new ≡ next_failure (S.failures sink.old)) }
     ensures keeps { S.goes_to sink.old sink.new }
 {
     let mut buffer = Buffer::new();
     let digits = buffer.format(number).as_bytes();
-    let (before, name, after) = words(trouble);
+    let (before, name, after) = message(line_warning);
     put_parts(
         &[
             stream,

@@ -3,8 +3,8 @@ ghost use Rattle.std.specs.Prelude.{◌≡◌, ◌<◌, ◌++◌, length, OnOk, 
 ghost use Rattle.kc_dot.specs.Laws.{HasShortLines, MinimalGivesBack, MinimalNeedsEach};
 ghost use Rattle.kc_dot.specs.Sink.{extended, HandsOut};
 ghost use Rattle.kc_dot.specs.Texts.{header_heading, header_text, minimal_text, header_if, minimal_if, symbols_of};
-ghost use Rattle.kc_dot.specs.SolutionTold.{told_of};
-ghost use Rattle.kc_dot.specs.Writing.{counted_write};
+ghost use Rattle.kc_dot.specs.SolvedView.{solution_view};
+ghost use Rattle.kc_dot.specs.Writing.{failures_after_write};
 ghost use Rattle.kc_solve.specs.Solved.{value_of};
 ghost use Rattle.kc_user.specs.Places.{ArePlaces};
 ghost use Rattle.kc_values.specs.Solution.{symbol_count};
@@ -29,7 +29,7 @@ fn add_header_if(
     page: &mut Vec<u8>,
 ) -> Result<(), AllocError>
     requires { id.0 < length tree.now.names }
-    ensures { OnOk result (page.new.items ≡ page.old.items ++ header_if tree.now prefix.now (told_of solved.now) id) }
+    ensures { OnOk result (page.new.items ≡ page.old.items ++ header_if tree.now prefix.now (solution_view solved.now) id) }
 {
     if !solved.written(id) {
         return Ok(());
@@ -47,7 +47,7 @@ fn add_minimal_if(
 ) -> Result<(), AllocError>
     requires named { id.0 < length tree.now.names }
     requires defined { id.0 < symbol_count solved.now.tree }
-    ensures { OnOk result (page.new.items ≡ page.old.items ++ minimal_if tree.now prefix.now (told_of solved.now) id) }
+    ensures { OnOk result (page.new.items ≡ page.old.items ++ minimal_if tree.now prefix.now (solution_view solved.now) id) }
 {
     if !solved.differs(id) {
         return Ok(());
@@ -63,10 +63,10 @@ fn put_header_lines<S: Sink>(
     page: &mut Vec<u8>,
     sink: &mut S,
 ) -> Result<(), WriteFault>
-    ensures whole { OnOk result (S.taken sink.new ≡ extended (S.taken sink.old) (page.old.items ++ flat_map (header_if tree.now prefix.now (told_of solved.now)) (symbols_of tree.now))) }
+    ensures whole { OnOk result (S.taken sink.new ≡ extended (S.taken sink.old) (page.old.items ++ flat_map (header_if tree.now prefix.now (solution_view solved.now)) (symbols_of tree.now))) }
     ensures quiet { OnOk result (S.failures sink.new ≡ S.failures sink.old) }
-    ensures beginning { OnErr result (HandsOut (page.old.items ++ flat_map (header_if tree.now prefix.now (told_of solved.now)) (symbols_of tree.now)) (S.taken sink.old) (S.taken sink.new)) }
-    ensures counted { IfErr result (λ fault. S.failures sink.new ≡ counted_write fault (S.failures sink.old)) }
+    ensures beginning { OnErr result (HandsOut (page.old.items ++ flat_map (header_if tree.now prefix.now (solution_view solved.now)) (symbols_of tree.now)) (S.taken sink.old) (S.taken sink.new)) }
+    ensures counted { IfErr result (λ fault. S.failures sink.new ≡ failures_after_write fault (S.failures sink.old)) }
     ensures keeps { S.goes_to sink.old sink.new }
 {
     for i in 0..tree.symbol_count() {
@@ -100,10 +100,10 @@ fn put_minimal<S: Sink>(
     sink: &mut S,
 ) -> Result<(), WriteFault>
     requires { solved.now.tree ≡ tree.now }
-    ensures whole { OnOk result (S.taken sink.new ≡ extended (S.taken sink.old) (minimal_text tree.now prefix.now (told_of solved.now))) }
+    ensures whole { OnOk result (S.taken sink.new ≡ extended (S.taken sink.old) (minimal_text tree.now prefix.now (solution_view solved.now))) }
     ensures quiet { OnOk result (S.failures sink.new ≡ S.failures sink.old) }
-    ensures beginning { OnErr result (HandsOut (minimal_text tree.now prefix.now (told_of solved.now)) (S.taken sink.old) (S.taken sink.new)) }
-    ensures counted { IfErr result (λ fault. S.failures sink.new ≡ counted_write fault (S.failures sink.old)) }
+    ensures beginning { OnErr result (HandsOut (minimal_text tree.now prefix.now (solution_view solved.now)) (S.taken sink.old) (S.taken sink.new)) }
+    ensures counted { IfErr result (λ fault. S.failures sink.new ≡ failures_after_write fault (S.failures sink.old)) }
     ensures keeps { S.goes_to sink.old sink.new }
 {
     let mut page = new_page(alloc)?;
@@ -126,10 +126,10 @@ pub fn write_header<S: Sink>(
     sink: &mut S,
 ) -> Result<(), WriteFault>
     requires { solved.now.tree ≡ tree.now }
-    ensures whole { OnOk result (S.taken sink.new ≡ extended (S.taken sink.old) (header_text tree.now prefix.now (told_of solved.now))) }
+    ensures whole { OnOk result (S.taken sink.new ≡ extended (S.taken sink.old) (header_text tree.now prefix.now (solution_view solved.now))) }
     ensures quiet { OnOk result (S.failures sink.new ≡ S.failures sink.old) }
-    ensures beginning { OnErr result (HandsOut (header_text tree.now prefix.now (told_of solved.now)) (S.taken sink.old) (S.taken sink.new)) }
-    ensures counted { IfErr result (λ fault. S.failures sink.new ≡ counted_write fault (S.failures sink.old)) }
+    ensures beginning { OnErr result (HandsOut (header_text tree.now prefix.now (solution_view solved.now)) (S.taken sink.old) (S.taken sink.new)) }
+    ensures counted { IfErr result (λ fault. S.failures sink.new ≡ failures_after_write fault (S.failures sink.old)) }
     ensures keeps { S.goes_to sink.old sink.new }
 {
     let mut page = new_page(alloc)?;
@@ -151,12 +151,12 @@ pub fn write_minimal<S: Sink>(
     sink: &mut S,
 ) -> Result<(), WriteFault>
     requires { solved.now.tree ≡ tree.now }
-    ensures whole { OnOk result (S.taken sink.new ≡ extended (S.taken sink.old) (minimal_text tree.now prefix.now (told_of solved.now))) }
+    ensures whole { OnOk result (S.taken sink.new ≡ extended (S.taken sink.old) (minimal_text tree.now prefix.now (solution_view solved.now))) }
     ensures quiet { OnOk result (S.failures sink.new ≡ S.failures sink.old) }
-    ensures beginning { OnErr result (HandsOut (minimal_text tree.now prefix.now (told_of solved.now)) (S.taken sink.old) (S.taken sink.new)) }
-    ensures counted { IfErr result (λ fault. S.failures sink.new ≡ counted_write fault (S.failures sink.old)) }
+    ensures beginning { OnErr result (HandsOut (minimal_text tree.now prefix.now (solution_view solved.now)) (S.taken sink.old) (S.taken sink.new)) }
+    ensures counted { IfErr result (λ fault. S.failures sink.new ≡ failures_after_write fault (S.failures sink.old)) }
     ensures keeps { S.goes_to sink.old sink.new }
-    ensures short { ArePlaces tree.now solved.now.places → HasShortLines (minimal_text tree.now prefix.now (told_of solved.now)) }
+    ensures short { ArePlaces tree.now solved.now.places → HasShortLines (minimal_text tree.now prefix.now (solution_view solved.now)) }
     ensures restores { ArePlaces tree.now solved.now.places → MinimalGivesBack tree.now prefix.now solved.now.places (value_of solved.now) }
     ensures nothing_to_spare { ArePlaces tree.now solved.now.places → MinimalNeedsEach tree.now prefix.now solved.now.places (value_of solved.now) }
 {

@@ -1,13 +1,13 @@
 //! What holds of reading, stated as the contracts of functions that do nothing.
 ghost use Rattle.kc_dot.specs.Calls.{CallsJoin};
-ghost use Rattle.kc_dot.specs.Laws.{AllowedAreAssigned, AssignedAreAllowed, ConfigSettles, MinimalHasNothingToSpare, MinimalRestores, WrittenTextsAreShort};
+ghost use Rattle.kc_dot.specs.Laws.{AllowedAreAssigned, AssignedAreAllowed, ConfigIsIdempotent, MinimalHasNothingToSpare, MinimalRestores, WrittenTextsAreShort};
 ghost use Rattle.kc_dot.specs.RoundTrip.{UnsetLineReadAgain, SetLineReadAgain, StringReadAgain, WrittenLinesAreShort};
 ghost use Rattle.kc_dot.specs.Streams.{ReadingKeepsPlaces, StreamsAreRead};
 
 use kc_user::laws::places_hold_what_is_allowed;
 use kc_values::laws::{
     accepted_have_one_solution, choices_stand_alone, differing_are_allowed, equations_read_needs,
-    minimal_restores, needs_are_defined, settled_where,
+    idempotent_where, minimal_restores, needs_are_defined,
 };
 
 /// Any list of calls of a reader, each answered Ok, is one reading: of the lines of all bytes that were fed, each
@@ -87,12 +87,12 @@ pub fn minimal_gives_back()
 /// where no visible tristate symbol outside a choice stands above both its visibility and its reverse dependency. This
 /// asks that no int or hex value that is written ends in a blank or a carriage return, and that neither the main menu's
 /// text nor that of a menu or comment that is shown is written as a line that reads as an unset line. (Our own.)
-pub fn config_settles()
-    ensures { ConfigSettles }
+pub fn config_is_idempotent()
+    ensures { ConfigIsIdempotent }
 {
     accepted_have_one_solution();
     equations_read_needs();
     needs_are_defined();
-    settled_where();
+    idempotent_where();
     choices_stand_alone();
 }

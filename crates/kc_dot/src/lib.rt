@@ -1,15 +1,15 @@
 //! The `.config` reader and the writers of the three files.
 #![tactic(auto)]
 
+pub mod batch;
 pub mod config;
-mod cursor;
 pub mod effect;
 pub mod fault;
 pub mod header;
 pub mod laws;
 pub mod line;
+mod line_buffer;
 mod page;
-pub mod parts;
 pub mod place_laws;
 pub mod prefix;
 pub mod reader;

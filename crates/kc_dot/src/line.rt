@@ -3,13 +3,13 @@ ghost use Rattle.std.specs.Prelude.{◌≡◌, find, not};
 ghost use Rattle.std.specs.Option.{option_map, option_copied};
 ghost use Rattle.std.specs.List.{list_any};
 ghost use Rattle.kc_text.specs.Lexemes.{is_blank};
-ghost use Rattle.kc_dot.specs.ConfigLine as spec;
+ghost use Rattle.kc_dot.specs.DotLine as spec;
 
 use bstr::ByteSlice;
 
 /// What one line says under a prefix, whatever the tree.
 #[derive(Clone, Copy, Debug, PartialEq, Eq)]
-pub enum ConfigLine<'a> {
+pub enum DotLine<'a> {
     /// Nothing: the line is empty or a comment.
     Nothing,
     /// `# CONFIG_NAME is not set`.
@@ -20,26 +20,26 @@ pub enum ConfigLine<'a> {
     Malformed,
 }
 
-/// What the line says, given without its end: blanks (space and tab) at its end are dropped; then an empty line says
+/// Parses a line, given without its end: blanks (space and tab) at its end are dropped; then an empty line says
 /// nothing; `# CONFIG_NAME is not set` unsets NAME, one byte or more and no blank; another line whose first byte that
 /// is no blank is `#` says nothing; `CONFIG_NAME=value` sets NAME, one byte or more up to the first `=`; any other
 /// line is malformed. The prefix stands in place of `CONFIG_`. (Our own rules in detail.)
-pub fn config_line<'a>(prefix: &[u8], bytes: &'a [u8]) -> ConfigLine<'a>
-    ensures { spec.said result ≡ spec.says prefix.now bytes.now }
+pub fn parse_dot_line<'a>(prefix: &[u8], bytes: &'a [u8]) -> DotLine<'a>
+    ensures { spec.meaning_view result ≡ spec.meaning_of prefix.now bytes.now }
 {
     let text = trimmed(bytes);
     if text.is_empty() {
-        return ConfigLine::Nothing;
+        return DotLine::Nothing;
     }
     if let Some(name) = unset_name(prefix, text) {
-        return ConfigLine::Unset(name);
+        return DotLine::Unset(name);
     }
     if is_comment(text) {
-        return ConfigLine::Nothing;
+        return DotLine::Nothing;
     }
-    match set_parts(prefix, text) {
-        Some((name, value)) => ConfigLine::Set(name, value),
-        None => ConfigLine::Malformed,
+    match name_and_value(prefix, text) {
+        Some((name, value)) => DotLine::Set(name, value),
+        None => DotLine::Malformed,
     }
 }
 
@@ -86,7 +86,7 @@ fn unset_name<'a>(prefix: &[u8], text: &'a [u8]) -> Option<&'a [u8]>
 }
 
 // The first byte that is no blank.
-fn first_solid(text: &[u8]) -> Option<u8>
+fn first_nonblank(text: &[u8]) -> Option<u8>
     ensures { result ≡ find (λ b. not (is_blank b)) text.now }
 {
     text.iter().copied().find(|b| !is_blank(*b))
@@ -96,22 +96,22 @@ fn first_solid(text: &[u8]) -> Option<u8>
 fn is_comment(text: &[u8]) -> bool
     ensures { result ≡ spec.is_comment text.now }
 {
-    match first_solid(text) {
+    match first_nonblank(text) {
         Some(first) => first == b'#',
         None => false,
     }
 }
 
 // The NAME and the value of `CONFIG_NAME=value`.
-fn set_parts<'a>(prefix: &[u8], text: &'a [u8]) -> Option<(&'a [u8], &'a [u8])>
-    ensures { option_map (λ parts. (parts.0.now, parts.1.now)) result ≡ spec.set_parts prefix.now text.now }
+fn name_and_value<'a>(prefix: &[u8], text: &'a [u8]) -> Option<(&'a [u8], &'a [u8])>
+    ensures { option_map (λ parts. (parts.0.now, parts.1.now)) result ≡ spec.name_and_value prefix.now text.now }
 {
-    sides(text.strip_prefix(prefix)?)
+    split_at_equals(text.strip_prefix(prefix)?)
 }
 
 // The bytes up to the first `=` and those after it.
-fn sides(text: &[u8]) -> Option<(&[u8], &[u8])>
-    ensures { option_map (λ parts. (parts.0.now, parts.1.now)) result ≡ spec.sides text.now }
+fn split_at_equals(text: &[u8]) -> Option<(&[u8], &[u8])>
+    ensures { option_map (λ parts. (parts.0.now, parts.1.now)) result ≡ spec.split_at_equals text.now }
 {
     match text.find_byte(b'=') {
         None => None,

@@ -40,8 +40,8 @@ pub trait Sink {
 
 /// Hands out the whole text, in as many writes as the sink wants (our own).
 ///
-/// On `Fault` the sink took a beginning of the text, never the whole, and one failure more is counted. Empty bytes are never handed to
-/// `write`, so an empty text makes no call.
+/// On `Fault` the sink took a beginning of the text, never the whole, and one failure more is counted. Empty bytes are never
+/// handed to `write`, so an empty text makes no call.
 pub fn put<S: Sink>(text: &[u8], sink: &mut S) -> Result<(), Fault>
     ensures whole { OnOk result (S.taken sink.new ≡ extended (S.taken sink.old) text.now) }
     ensures quiet { OnOk result (S.failures sink.new ≡ S.failures sink.old) }

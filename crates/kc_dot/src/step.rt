@@ -3,21 +3,21 @@ ghost use Rattle.std.specs.Prelude.{◌≡◌, ◌<◌, true, [], ◌∷◌, len
 ghost use Rattle.std.specs.Option.{option_map};
 ghost use Rattle.std.specs.Str.Lines.{strip_carriage_return};
 ghost use Rattle.kc_user.specs.ValueView.{given_of_value};
-ghost use Rattle.kc_dot.specs.ConfigLine.{says};
+ghost use Rattle.kc_dot.specs.DotLine.{meaning_of};
 ghost use Rattle.kc_dot.specs.Effects.{effect_of};
-ghost use Rattle.kc_user.specs.Places.{IsUserOf};
-ghost use Rattle.kc_dot.specs.Feeding.{counted_fault};
+ghost use Rattle.kc_user.specs.Places.{ArePlacesOf};
+ghost use Rattle.kc_dot.specs.Feeding.{failures_after};
 ghost use Rattle.kc_dot.specs.LineSteps.{places_by, with_member, FailsIn};
-ghost use Rattle.kc_dot.specs.Reading.{again, trouble_of, warning_words, choice_of, is_yes, places_given};
+ghost use Rattle.kc_dot.specs.Reading.{set_again, effect_warning, warning_line_if, choice_of, is_yes, places_given};
 ghost use Rattle.kc_dot.specs.Sink.{extended, next_failure, BreaksOff};
 
-use crate::effect::{Effect, Trouble, line_effect, warn};
+use crate::effect::{Effect, LineWarning, line_effect, warn};
 use crate::fault::DotFault;
-use crate::line::config_line;
+use crate::line::parse_dot_line;
 use crate::prefix::Prefix;
 use crate::sink::{Fault, Sink};
 use kc_expr::expression::{SymId, Tri};
-use kc_tree::parts::ChoiceId;
+use kc_tree::rows::ChoiceId;
 use kc_tree::tree::Tree;
 use kc_user::user::User;
 use kc_user::value::UserValue;
@@ -25,7 +25,7 @@ use std::alloc::Global;
 
 /// A stream's name, and the tree and prefix that it is read for.
 #[derive(Clone, Copy)]
-pub struct Source<'a> {
+pub struct NamedStream<'a> {
     pub tree: &'a Tree,
     pub prefix: &'a Prefix,
     pub name: &'a [u8],
@@ -69,7 +69,7 @@ fn is_yes(value: &UserValue) -> bool
 
 // Makes the symbol the user's member of its choice.
 fn choose(tree: &Tree, id: SymId, user: &mut User)
-    requires { IsUserOf tree.now user.old }
+    requires { ArePlacesOf tree.now user.old }
     ensures { user.new ≡ record user.old { choices = with_member true (choice_of tree.now id) id user.old.choices } }
 {
     match choice_of(tree, id) {
@@ -81,7 +81,7 @@ fn choose(tree: &Tree, id: SymId, user: &mut User)
 // Gives the symbol the value; a member that is made y becomes the user's member of its choice.
 fn assign(tree: &Tree, id: SymId, value: UserValue, user: &mut User)
     requires defined { id.0 < length tree.now.symbols }
-    requires user { IsUserOf tree.now user.old }
+    requires user { ArePlacesOf tree.now user.old }
     ensures { user.new ≡ places_given tree.now user.old (record { symbol = id; given = given_of_value value } ∷ []) }
 {
     if is_yes(&value) {
@@ -92,27 +92,27 @@ fn assign(tree: &Tree, id: SymId, value: UserValue, user: &mut User)
 
 // Warns where the symbol's place is filled.
 fn warn_again<S: Sink>(
-    source: &Source<'_>,
+    stream: &NamedStream<'_>,
     number: u64,
     id: SymId,
     user: &User,
     sink: &mut S,
 ) -> Result<(), Fault>
-    requires defined { id.0 < length source.now.tree.now.symbols }
-    requires user { IsUserOf source.now.tree.now user.now }
-    ensures whole { OnOk result (S.taken sink.new ≡ extended (S.taken sink.old) (warning_words source.now.name.now number (again source.now.tree.now user.now id))) }
+    requires defined { id.0 < length stream.now.tree.now.symbols }
+    requires user { ArePlacesOf stream.now.tree.now user.now }
+    ensures whole { OnOk result (S.taken sink.new ≡ extended (S.taken sink.old) (warning_line_if stream.now.name.now number (set_again stream.now.tree.now user.now id))) }
     ensures quiet { OnOk result (S.failures sink.new ≡ S.failures sink.old) }
-    ensures broken { OnErr result (BreaksOff (warning_words source.now.name.now number (again source.now.tree.now user.now id)) (S.taken sink.old) (S.taken sink.new)) }
+    ensures broken { OnErr result (BreaksOff (warning_line_if stream.now.name.now number (set_again stream.now.tree.now user.now id)) (S.taken sink.old) (S.taken sink.new)) }
     ensures counted { OnErr result (S.failures sink.new ≡ next_failure (S.failures sink.old)) }
     ensures keeps { S.goes_to sink.old sink.new }
 {
-    if user.get(id).is_none() || id.0 >= source.tree.symbol_count() {
+    if user.get(id).is_none() || id.0 >= stream.tree.symbol_count() {
         return Ok(());
     }
     warn(
-        source.name,
+        stream.name,
         number,
-        Trouble::SetAgain(source.tree.name(id)),
+        LineWarning::SetAgain(stream.tree.name(id)),
         sink,
     )
 }
@@ -121,34 +121,34 @@ fn warn_again<S: Sink>(
 /// are as they were.
 pub fn read_line<S: Sink>(
     alloc: Global,
-    source: &Source<'_>,
+    stream: &NamedStream<'_>,
     number: u64,
     text: &[u8],
     user: &mut User,
     sink: &mut S,
 ) -> Result<(), DotFault>
-    requires { IsUserOf source.now.tree.now user.old }
-    ensures places { OnOk result (user.new ≡ places_by source.now.tree.now user.old (effect_of source.now.tree.now (says source.now.prefix.now text.now))) }
-    ensures warned { OnOk result (S.taken sink.new ≡ extended (S.taken sink.old) (warning_words source.now.name.now number (trouble_of source.now.tree.now user.old (effect_of source.now.tree.now (says source.now.prefix.now text.now))))) }
+    requires { ArePlacesOf stream.now.tree.now user.old }
+    ensures places { OnOk result (user.new ≡ places_by stream.now.tree.now user.old (effect_of stream.now.tree.now (meaning_of stream.now.prefix.now text.now))) }
+    ensures warned { OnOk result (S.taken sink.new ≡ extended (S.taken sink.old) (warning_line_if stream.now.name.now number (effect_warning stream.now.tree.now user.old (effect_of stream.now.tree.now (meaning_of stream.now.prefix.now text.now))))) }
     ensures unchanged { OnErr result (user.new ≡ user.old) }
-    ensures fault { IfErr result (λ fault. FailsIn (warning_words source.now.name.now number (trouble_of source.now.tree.now user.old (effect_of source.now.tree.now (says source.now.prefix.now text.now)))) fault (S.taken sink.old) (S.taken sink.new)) }
+    ensures fault { IfErr result (λ fault. FailsIn (warning_line_if stream.now.name.now number (effect_warning stream.now.tree.now user.old (effect_of stream.now.tree.now (meaning_of stream.now.prefix.now text.now)))) fault (S.taken sink.old) (S.taken sink.new)) }
     ensures quiet { OnOk result (S.failures sink.new ≡ S.failures sink.old) }
-    ensures counted { IfErr result (λ fault. S.failures sink.new ≡ counted_fault fault (S.failures sink.old)) }
+    ensures counted { IfErr result (λ fault. S.failures sink.new ≡ failures_after fault (S.failures sink.old)) }
     ensures keeps { S.goes_to sink.old sink.new }
 {
     match line_effect(
         alloc,
-        source.tree,
-        config_line(source.prefix.as_bytes(), text),
+        stream.tree,
+        parse_dot_line(stream.prefix.as_bytes(), text),
     )? {
         Effect::Silent => Ok(()),
-        Effect::Warns(trouble) => {
-            warn(source.name, number, trouble, sink)?;
+        Effect::Warns(line_warning) => {
+            warn(stream.name, number, line_warning, sink)?;
             Ok(())
         }
         Effect::Assigns(id, value) => {
-            warn_again(source, number, id, user, sink)?;
-            assign(source.tree, id, value, user);
+            warn_again(stream, number, id, user, sink)?;
+            assign(stream.tree, id, value, user);
             Ok(())
         }
     }

@@ -2,10 +2,10 @@
 ghost use Rattle.std.specs.Prelude.{◌≡◌, ◌++◌, OnOk, codes, flat_map};
 ghost use Rattle.kc_text.specs.Escapes.{escape};
 ghost use Rattle.kc_text.specs.Numbers as numbers;
-ghost use Rattle.kc_dot.specs.SolutionTold.{told_of};
+ghost use Rattle.kc_dot.specs.SolvedView.{solution_view};
 ghost use Rattle.kc_dot.specs.SymbolLines.{config_line, header_line, hex_text};
-ghost use Rattle.kc_dot.specs.ValueSeen.{known_by};
-ghost use Rattle.kc_expr.specs.Value.{known_of};
+ghost use Rattle.kc_dot.specs.KnownValue.{value_view};
+ghost use Rattle.kc_expr.specs.Value.{value_by_kind};
 
 use crate::page::add_parts;
 use crate::prefix::Prefix;
@@ -19,26 +19,26 @@ use std::alloc::AllocError;
 #[derive(Clone, Copy, Debug, PartialEq, Eq)]
 pub enum Value<'a> {
     Truth(Tri),
-    Written(Kind, &'a [u8]),
+    TextValue(Kind, &'a [u8]),
 }
 
 // The value of a symbol of this type.
 fn value_by<'a>(kind: Kind, tri: Tri, text: &'a [u8]) -> Value<'a>
-    ensures { known_by result ≡ known_of kind tri text.now }
+    ensures { value_view result ≡ value_by_kind kind tri text.now }
 {
     match kind {
         Kind::Bool => Value::Truth(tri),
         Kind::Tristate => Value::Truth(tri),
-        Kind::Undefined => Value::Written(Kind::Undefined, text),
-        Kind::Str => Value::Written(Kind::Str, text),
-        Kind::Int => Value::Written(Kind::Int, text),
-        Kind::Hex => Value::Written(Kind::Hex, text),
+        Kind::Undefined => Value::TextValue(Kind::Undefined, text),
+        Kind::Str => Value::TextValue(Kind::Str, text),
+        Kind::Int => Value::TextValue(Kind::Int, text),
+        Kind::Hex => Value::TextValue(Kind::Hex, text),
     }
 }
 
 /// The value that the solution gives to a symbol, and to a name that is not defined its own text.
 pub fn symbol_value<'a>(solved: &'a Solved<'_>, id: SymId) -> Value<'a>
-    ensures { known_by result ≡ (told_of solved.now).value id }
+    ensures { value_view result ≡ (solution_view solved.now).value id }
 {
     solved.tells_known();
     value_by(solved.kind(id), solved.tri(id), solved.text(id))
@@ -77,17 +77,17 @@ pub fn add_config_line<'a>(
     value: Value<'a>,
     page: &mut Vec<u8>,
 ) -> Result<(), AllocError>
-    ensures { OnOk result (page.new.items ≡ page.old.items ++ config_line (prefix.now ++ name.now) (known_by value.entry)) }
+    ensures { OnOk result (page.new.items ≡ page.old.items ++ config_line (prefix.now ++ name.now) (value_view value.entry)) }
 {
     let prefix = prefix.as_bytes();
     match value {
         Value::Truth(Tri::N) => add_parts(&[b"# ", prefix, name, b" is not set\n"], page),
         Value::Truth(Tri::M) => add_parts(&[prefix, name, b"=m\n"], page),
         Value::Truth(Tri::Y) => add_parts(&[prefix, name, b"=y\n"], page),
-        Value::Written(Kind::Str, text) => add_string_line(&[prefix, name, b"=\""], text, page),
-        Value::Written(Kind::Int, text) => add_parts(&[prefix, name, b"=", text, b"\n"], page),
-        Value::Written(Kind::Hex, text) => add_parts(&[prefix, name, b"=", text, b"\n"], page),
-        Value::Written(Kind::Undefined | Kind::Bool | Kind::Tristate, _) => Ok(()),
+        Value::TextValue(Kind::Str, text) => add_string_line(&[prefix, name, b"=\""], text, page),
+        Value::TextValue(Kind::Int, text) => add_parts(&[prefix, name, b"=", text, b"\n"], page),
+        Value::TextValue(Kind::Hex, text) => add_parts(&[prefix, name, b"=", text, b"\n"], page),
+        Value::TextValue(Kind::Undefined | Kind::Bool | Kind::Tristate, _) => Ok(()),
     }
 }
 
@@ -98,20 +98,20 @@ pub fn add_header_line<'a>(
     value: Value<'a>,
     page: &mut Vec<u8>,
 ) -> Result<(), AllocError>
-    ensures { OnOk result (page.new.items ≡ page.old.items ++ header_line (prefix.now ++ name.now) (known_by value.entry)) }
+    ensures { OnOk result (page.new.items ≡ page.old.items ++ header_line (prefix.now ++ name.now) (value_view value.entry)) }
 {
     let prefix = prefix.as_bytes();
     match value {
         Value::Truth(Tri::N) => Ok(()),
         Value::Truth(Tri::M) => add_parts(&[b"#define ", prefix, name, b"_MODULE 1\n"], page),
         Value::Truth(Tri::Y) => add_parts(&[b"#define ", prefix, name, b" 1\n"], page),
-        Value::Written(Kind::Str, text) => {
+        Value::TextValue(Kind::Str, text) => {
             add_string_line(&[b"#define ", prefix, name, b" \""], text, page)
         }
-        Value::Written(Kind::Int, text) => {
+        Value::TextValue(Kind::Int, text) => {
             add_parts(&[b"#define ", prefix, name, b" ", text, b"\n"], page)
         }
-        Value::Written(Kind::Hex, text) => add_parts(
+        Value::TextValue(Kind::Hex, text) => add_parts(
             &[
                 b"#define ",
                 prefix,
@@ -123,6 +123,6 @@ pub fn add_header_line<'a>(
             ],
             page,
         ),
-        Value::Written(Kind::Undefined | Kind::Bool | Kind::Tristate, _) => Ok(()),
+        Value::TextValue(Kind::Undefined | Kind::Bool | Kind::Tristate, _) => Ok(()),
     }
 }

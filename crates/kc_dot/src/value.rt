@@ -1,13 +1,13 @@
 //! The value that the text right of a line's `=` gives.
 ghost use Rattle.std.specs.Prelude.{◌≡◌, ◌≤◌, length, take, slice_index, IfOk, IfSome};
 ghost use Rattle.std.specs.Option.{option_map};
-ghost use Rattle.kc_user.specs.Given.{Chosen};
+ghost use Rattle.kc_user.specs.GivenValue.{GivenTruth};
 ghost use Rattle.kc_user.specs.ValueView.{given_of_value};
 ghost use Rattle.kc_dot.specs.LineValue as spec;
 
 use kc_expr::expression::{Kind, Tri};
 use kc_text::{read_hex, read_int, unescape_into};
-use kc_user::value::{LONGEST, UserValue};
+use kc_user::value::{LONGEST_VALUE, UserValue};
 use std::alloc::{AllocError, Global};
 
 /// The value that the text gives to a symbol of this type, or None where it is not allowed: for a bool `y` or `n` as
@@ -17,13 +17,13 @@ use std::alloc::{AllocError, Global};
 pub fn line_value(alloc: Global, kind: Kind, text: &[u8]) -> Result<Option<UserValue>, AllocError>
     ensures { IfOk result (λ found. option_map given_of_value found ≡ spec.line_value kind text.now) }
 {
-    if text.len() > LONGEST {
+    if text.len() > LONGEST_VALUE {
         return Ok(None);
     }
     match kind {
         Kind::Undefined => Ok(None),
-        Kind::Bool => Ok(truth(yes_or_no(first_byte(text)))),
-        Kind::Tristate => Ok(truth(yes_m_or_no(first_byte(text)))),
+        Kind::Bool => Ok(truth_value(yes_or_no(first_byte(text)))),
+        Kind::Tristate => Ok(truth_value(yes_m_or_no(first_byte(text)))),
         Kind::Str => string_value(alloc, text),
         Kind::Int => number_value(alloc, text, read_int(text).is_some()),
         Kind::Hex => number_value(alloc, text, read_hex(text).is_some()),
@@ -59,8 +59,8 @@ fn yes_m_or_no(byte: u8) -> Option<Tri>
     yes_or_no(byte)
 }
 
-fn truth(found: Option<Tri>) -> Option<UserValue>
-    ensures { option_map given_of_value result ≡ option_map Chosen found }
+fn truth_value(found: Option<Tri>) -> Option<UserValue>
+    ensures { option_map given_of_value result ≡ option_map GivenTruth found }
 {
     match found {
         Some(tri) => Some(UserValue::Tri(tri)),
@@ -101,14 +101,14 @@ fn quoted(text: &[u8]) -> Option<&[u8]>
     ensures { option_map (λ raw. raw.now) result ≡ spec.quoted text.now }
 {
     match text {
-        [b'"', body @ ..] => inside(body),
+        [b'"', body @ ..] => until_quote(body),
         _ => None,
     }
 }
 
 // What stands before the first `"` that no `\` takes away.
-fn inside(body: &[u8]) -> Option<&[u8]>
-    ensures { option_map (λ raw. raw.now) result ≡ spec.inside body.now }
+fn until_quote(body: &[u8]) -> Option<&[u8]>
+    ensures { option_map (λ raw. raw.now) result ≡ spec.until_quote body.now }
 {
     let mut at = 0;
     'bytes: while at < body.len() {

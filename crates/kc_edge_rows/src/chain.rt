@@ -1,5 +1,5 @@
 //! A long chain of defaults.
-use crate::runs::{LARGE, Long, is_done, run_long, settles};
+use crate::runs::{LARGE, Long, is_done, is_idempotent, run_long};
 use kc_memory::{MemoryOutputs, files};
 use std::alloc::Global;
 use std::process::Abort;
@@ -48,7 +48,7 @@ fn is_chain(rt: &impl Abort, alloc: Global, tree: &[u8], text: &[u8]) -> Result<
     };
     is_done(rt, alloc, &long, LARGE, text, b"")?;
     has_no_minimal_line(rt, alloc, &long)?;
-    settles(rt, alloc, &long)
+    is_idempotent(rt, alloc, &long)
 }
 
 #[test]

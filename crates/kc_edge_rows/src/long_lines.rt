@@ -1,6 +1,6 @@
 //! Lines of the `.config` at their greatest length.
 
-use crate::runs::{LARGE, Long, Pieces, is_done, is_refused, settles};
+use crate::runs::{LARGE, Long, Pieces, is_done, is_idempotent, is_refused};
 use kc_conf::FileMap;
 use kc_memory::files;
 use std::alloc::Global;
@@ -53,7 +53,7 @@ fn long_line(alloc: Global, length: usize) -> Result<Vec<u8>, Fail> {
 // A line of 65,535 bytes is read, and what is written then stays.
 fn is_read(rt: &impl Abort, alloc: Global, long: &Long<'_, '_>) -> Result<(), Fail> {
     is_done(rt, alloc, long, LARGE, TWO_TEXT, MALFORMED)?;
-    settles(rt, alloc, long)
+    is_idempotent(rt, alloc, long)
 }
 
 #[test]

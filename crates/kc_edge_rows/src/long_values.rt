@@ -1,5 +1,5 @@
 //! Values of the `.config` at their greatest length.
-use crate::runs::{LARGE, Long, is_done, run_long, settles};
+use crate::runs::{LARGE, Long, is_done, is_idempotent, run_long};
 use kc_conf::FileMap;
 use kc_memory::{MemoryOutputs, files};
 use std::alloc::Global;
@@ -56,7 +56,7 @@ fn stays(rt: &impl Abort, alloc: Global, files: &FileMap, line: &[u8]) -> Result
     let long = over(files, line, Some("min.config"));
     is_done(rt, alloc, &long, LARGE, line, b"")?;
     restores(rt, alloc, files, line)?;
-    settles(rt, alloc, &long)
+    is_idempotent(rt, alloc, &long)
 }
 
 #[test]
@@ -71,7 +71,7 @@ fn is_dropped(rt: &impl Abort, alloc: Global, files: &FileMap, line: &[u8]) -> R
     let long = over(files, line, None);
     let notes = b".config:1: warning K8: value not allowed for S\n";
     is_done(rt, alloc, &long, LARGE, EMPTY, notes)?;
-    settles(rt, alloc, &long)
+    is_idempotent(rt, alloc, &long)
 }
 
 #[test]

@@ -1,5 +1,5 @@
 //! Files of a million lines.
-use crate::runs::{LARGE, Long, is_done, is_refused, settles};
+use crate::runs::{LARGE, Long, is_done, is_idempotent, is_refused};
 use kc_conf::FileMap;
 use kc_memory::files;
 use std::alloc::Global;
@@ -27,7 +27,7 @@ fn sourced_twice(alloc: Global, count: usize) -> Result<FileMap, Fail> {
 // The run writes no symbol, and the same again.
 fn writes_none(rt: &impl Abort, alloc: Global, long: &Long<'_, '_>) -> Result<(), Fail> {
     is_done(rt, alloc, long, LARGE, b"", b"")?;
-    settles(rt, alloc, long)
+    is_idempotent(rt, alloc, long)
 }
 
 #[test]

@@ -1,5 +1,5 @@
 //! As many symbols as a tree may have.
-use crate::runs::{LARGE, Long, is_done, is_refused, settles};
+use crate::runs::{LARGE, Long, is_done, is_idempotent, is_refused};
 use kc_conf::FileMap;
 use kc_memory::files;
 use std::alloc::Global;
@@ -41,7 +41,7 @@ fn over<'a>(files: &'a FileMap, room: usize) -> Long<'a, 'static> {
 fn writes_none(rt: &impl Abort, alloc: Global, tree: &[u8], notes: &[u8]) -> Result<(), Fail> {
     let files = files(alloc, "Kconfig", tree, &[])?;
     is_done(rt, alloc, &over(&files, 4_000_000), LARGE, b"", notes)?;
-    settles(rt, alloc, &over(&files, 4_000_000))
+    is_idempotent(rt, alloc, &over(&files, 4_000_000))
 }
 
 #[test]

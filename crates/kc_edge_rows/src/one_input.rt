@@ -1,6 +1,6 @@
 //! Runs over one input.
 use kc_conf::{FileMap, Status};
-use kc_memory::{Asked, MemoryInput, MemoryOutputs, PLAIN, run_once};
+use kc_memory::{MemoryInput, MemoryOutputs, PLAIN, RunRequest, run_once};
 use std::alloc::Global;
 use std::process::Abort;
 use std::test::Fail;
@@ -27,12 +27,12 @@ pub(crate) fn run_with<'x>(
     input: MemoryInput,
     outputs: &mut MemoryOutputs,
 ) -> Result<(Status, u64), Fail> {
-    let asked = Asked {
+    let request = RunRequest {
         header,
         minimal,
         ..PLAIN
     };
-    run_once(alloc, files, &asked, input, outputs)
+    run_once(alloc, files, &request, input, outputs)
 }
 
 /// A run with header, minimal file and rule for make.
@@ -42,11 +42,11 @@ pub(crate) fn run_whole(
     input: MemoryInput,
     outputs: &mut MemoryOutputs,
 ) -> Result<(Status, u64), Fail> {
-    let asked = Asked {
+    let request = RunRequest {
         header: Some("out.h"),
         minimal: Some("min.config"),
         depfile: Some("out.d"),
         ..PLAIN
     };
-    run_once(alloc, files, &asked, input, outputs)
+    run_once(alloc, files, &request, input, outputs)
 }

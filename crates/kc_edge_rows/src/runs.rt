@@ -2,7 +2,7 @@
 ghost use Rattle.std.specs.Prelude.{◌<◌};
 
 use kc_conf::{FileMap, Status};
-use kc_memory::{Asked, MemoryInput, MemoryOutputs, PLAIN, config_text, run_once};
+use kc_memory::{MemoryInput, MemoryOutputs, PLAIN, RunRequest, config_text, run_once};
 use std::alloc::Global;
 use std::process::Abort;
 use std::test::Fail;
@@ -46,13 +46,13 @@ pub(crate) fn run_long(
     pieces: Pieces,
     outputs: &mut MemoryOutputs,
 ) -> Result<(Status, u64), Fail> {
-    let asked = Asked {
+    let request = RunRequest {
         root: long.root,
         minimal: long.minimal,
         ..PLAIN
     };
     let input = MemoryInput::new(long.settings, pieces.first, pieces.later);
-    run_once(alloc, long.files, &asked, input, outputs)
+    run_once(alloc, long.files, &request, input, outputs)
 }
 
 // These notes alone were written, and no output was begun.
@@ -129,7 +129,11 @@ fn is_written_again(
 }
 
 /// The run on the `.config` that the run writes writes it again.
-pub(crate) fn settles(rt: &impl Abort, alloc: Global, long: &Long<'_, '_>) -> Result<(), Fail> {
+pub(crate) fn is_idempotent(
+    rt: &impl Abort,
+    alloc: Global,
+    long: &Long<'_, '_>,
+) -> Result<(), Fail> {
     let mut outputs = MemoryOutputs::new(alloc, long.room)?;
     let (status, _reads) = run_long(alloc, long, LARGE, &mut outputs)?;
     assert_eq!(rt; status, Status::Done);

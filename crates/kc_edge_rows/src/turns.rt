@@ -1,8 +1,8 @@
 //! Each read, each begin and each write fails in turn.
 use crate::one_input::{ROOM, is_so, is_text, run_whole};
 use crate::trees::{Turn, turns};
-use kc_conf::{FileMap, Status, Which};
-use kc_memory::{MemoryInput, MemoryOutputs, Slot, config_text, files, header_text};
+use kc_conf::{FileMap, Output, Status};
+use kc_memory::{MemoryFile, MemoryInput, MemoryOutputs, config_text, files, header_text};
 use std::alloc::Global;
 use std::process::Abort;
 use std::test::Fail;
@@ -61,9 +61,9 @@ fn faultless(
 }
 
 // The output was never called.
-fn is_untouched(rt: &impl Abort, slot: &Slot, name: &str) {
+fn is_untouched(rt: &impl Abort, file: &MemoryFile, name: &str) {
     assert!(rt;
-        !slot.is_begun && slot.bytes.is_empty() && slot.calls == 0,
+        !file.is_begun && file.bytes.is_empty() && file.calls == 0,
         "{}",
         name
     );
@@ -125,53 +125,53 @@ fn each_read_fails_in_turn(rt: HostRuntime) -> Result<(), Fail> {
 }
 
 // How late an output is written: the notes come first.
-fn rank(which: Which) -> u8 {
-    match which {
-        Which::Notes => 0,
-        Which::Config => 1,
-        Which::Header => 2,
-        Which::Minimal => 3,
-        Which::Depfile => 4,
+fn rank(output: Output) -> u8 {
+    match output {
+        Output::Notes => 0,
+        Output::Config => 1,
+        Output::Header => 2,
+        Output::Minimal => 3,
+        Output::Depfile => 4,
     }
 }
 
 // The error line of an output that failed.
-fn line_of(which: Which) -> &'static [u8] {
-    match which {
-        Which::Notes => b"",
-        Which::Config => b"error E19: cannot write .config\n",
-        Which::Header => b"error E19: cannot write out.h\n",
-        Which::Minimal => b"error E19: cannot write min.config\n",
-        Which::Depfile => b"error E19: cannot write out.d\n",
+fn line_of(output: Output) -> &'static [u8] {
+    match output {
+        Output::Notes => b"",
+        Output::Config => b"error E19: cannot write .config\n",
+        Output::Header => b"error E19: cannot write out.h\n",
+        Output::Minimal => b"error E19: cannot write min.config\n",
+        Output::Depfile => b"error E19: cannot write out.d\n",
     }
 }
 
 // Lets one call of one output fail.
-fn strike(outputs: &mut MemoryOutputs, which: Which, fail_at: u64) {
-    match which {
-        Which::Config => outputs.config.fail_at = fail_at,
-        Which::Header => outputs.header.fail_at = fail_at,
-        Which::Minimal => outputs.minimal.fail_at = fail_at,
-        Which::Depfile => outputs.depfile.fail_at = fail_at,
-        Which::Notes => outputs.notes.fail_at = fail_at,
+fn strike(outputs: &mut MemoryOutputs, output: Output, fail_at: u64) {
+    match output {
+        Output::Config => outputs.config.fail_at = fail_at,
+        Output::Header => outputs.header.fail_at = fail_at,
+        Output::Minimal => outputs.minimal.fail_at = fail_at,
+        Output::Depfile => outputs.depfile.fail_at = fail_at,
+        Output::Notes => outputs.notes.fail_at = fail_at,
     }
 }
 
-// One file after a failure of the output `which`: whole before it, a beginning at it, untouched behind it.
+// One file after a failure of this output: whole before it, a beginning at it, untouched behind it.
 fn left_behind(
     rt: &impl Abort,
     struck: &MemoryOutputs,
     whole: &MemoryOutputs,
-    file: Which,
-    which: Which,
+    file: Output,
+    output: Output,
     name: &str,
 ) {
-    let left = struck.slot(file);
-    let text = whole.slot(file).bytes.as_slice();
-    if rank(file) < rank(which) {
+    let left = struck.file(file);
+    let text = whole.file(file).bytes.as_slice();
+    if rank(file) < rank(output) {
         is_text(rt, &left.bytes, text, name);
         is_so(rt, left.is_begun, name);
-    } else if rank(file) == rank(which) {
+    } else if rank(file) == rank(output) {
         is_so(rt, text.starts_with(&left.bytes), name);
         is_so(rt, left.is_begun == (left.calls > 1), name);
     } else {
@@ -179,61 +179,61 @@ fn left_behind(
     }
 }
 
-// The notes after a failure of the output `which`: where they failed a beginning, else whole and with the error line.
+// The notes after a failure of this output: where they failed a beginning, else whole and with the error line.
 fn notes_left(
     rt: &impl Abort,
     alloc: Global,
     struck: &MemoryOutputs,
     turn: &Turn,
-    which: Which,
+    output: Output,
 ) -> Result<(), Fail> {
     let notes = struck.notes.bytes.as_slice();
-    if which == Which::Notes {
+    if output == Output::Notes {
         is_so(rt, turn.notes.starts_with(notes), turn.name);
         return Ok(());
     }
     let mut want = Vec::from_slice(alloc, turn.notes)?;
-    want.extend_from_slice(line_of(which))?;
+    want.extend_from_slice(line_of(output))?;
     is_text(rt, notes, &want, turn.name);
     Ok(())
 }
 
-// The outputs after a failure of this call of the output `which`.
+// The outputs after a failure of this call of this output.
 fn is_struck(
     rt: &impl Abort,
     struck: &MemoryOutputs,
     whole: &MemoryOutputs,
-    which: Which,
+    output: Output,
     fail_at: u64,
     name: &str,
 ) {
-    let slot = struck.slot(which);
-    is_so(rt, slot.calls == fail_at && slot.failures == 1, name);
-    left_behind(rt, struck, whole, Which::Config, which, name);
-    left_behind(rt, struck, whole, Which::Header, which, name);
-    left_behind(rt, struck, whole, Which::Minimal, which, name);
-    left_behind(rt, struck, whole, Which::Depfile, which, name);
+    let file = struck.file(output);
+    is_so(rt, file.calls == fail_at && file.failures == 1, name);
+    left_behind(rt, struck, whole, Output::Config, output, name);
+    left_behind(rt, struck, whole, Output::Header, output, name);
+    left_behind(rt, struck, whole, Output::Minimal, output, name);
+    left_behind(rt, struck, whole, Output::Depfile, output, name);
 }
 
-// The run in which this call of the output `which` fails.
+// The run in which this call of this output fails.
 fn call_fails(
     rt: &impl Abort,
     alloc: Global,
     files: &FileMap,
     turn: &Turn,
     whole: &MemoryOutputs,
-    which: Which,
+    output: Output,
     fail_at: u64,
 ) -> Result<(), Fail> {
     let mut struck = short_outputs(alloc)?;
-    strike(&mut struck, which, fail_at);
+    strike(&mut struck, output, fail_at);
     let input = MemoryInput::new(turn.settings, 6, 6);
     let ended = run_whole(alloc, files, input, &mut struck);
     match ended {
         Ok((status, _reads)) => {
             is_so(rt, status == Status::Faulted, turn.name);
-            is_struck(rt, &struck, whole, which, fail_at, turn.name);
-            let told = notes_left(rt, alloc, &struck, turn, which);
+            is_struck(rt, &struck, whole, output, fail_at, turn.name);
+            let told = notes_left(rt, alloc, &struck, turn, output);
             drop(struck);
             told
         }
@@ -244,53 +244,53 @@ fn call_fails(
     }
 }
 
-// Each call of the output `which` fails in turn. The answer is how many there are.
-fn calls_fail(rt: &impl Abort, alloc: Global, turn: &Turn, which: Which) -> Result<u64, Fail> {
+// Each call of this output fails in turn. The answer is how many there are.
+fn calls_fail(rt: &impl Abort, alloc: Global, turn: &Turn, output: Output) -> Result<u64, Fail> {
     let files = files(alloc, "Kconfig", turn.kconfig, &[])?;
     let (whole, _reads) = faultless(rt, alloc, &files, turn)?;
-    let calls = whole.slot(which).calls;
+    let calls = whole.file(output).calls;
     for before in 0..calls {
         let fail_at = before.saturating_add(1);
-        call_fails(rt, alloc, &files, turn, &whole, which, fail_at)?;
+        call_fails(rt, alloc, &files, turn, &whole, output, fail_at)?;
     }
     Ok(calls)
 }
 
-// Each call of the output `which` fails in turn, in every tree. The answer is how many there are.
-fn output_fails(rt: &impl Abort, alloc: Global, which: Which) -> Result<u64, Fail> {
+// Each call of this output fails in turn, in every tree. The answer is how many there are.
+fn output_fails(rt: &impl Abort, alloc: Global, output: Output) -> Result<u64, Fail> {
     let mut calls = 0u64;
     for turn in turns() {
-        calls = calls.saturating_add(calls_fail(rt, alloc, turn, which)?);
+        calls = calls.saturating_add(calls_fail(rt, alloc, turn, output)?);
     }
     Ok(calls)
 }
 
 #[test]
 fn each_call_of_the_config_fails_in_turn(rt: HostRuntime) -> Result<(), Fail> {
-    assert!(rt; output_fails(&rt, rt.alloc(), Which::Config)? > 16);
+    assert!(rt; output_fails(&rt, rt.alloc(), Output::Config)? > 16);
     Ok(())
 }
 
 #[test]
 fn each_call_of_the_header_fails_in_turn(rt: HostRuntime) -> Result<(), Fail> {
-    assert!(rt; output_fails(&rt, rt.alloc(), Which::Header)? > 8);
+    assert!(rt; output_fails(&rt, rt.alloc(), Output::Header)? > 8);
     Ok(())
 }
 
 #[test]
 fn each_call_of_the_minimal_file_fails_in_turn(rt: HostRuntime) -> Result<(), Fail> {
-    assert!(rt; output_fails(&rt, rt.alloc(), Which::Minimal)? > 4);
+    assert!(rt; output_fails(&rt, rt.alloc(), Output::Minimal)? > 4);
     Ok(())
 }
 
 #[test]
 fn each_call_of_the_depfile_fails_in_turn(rt: HostRuntime) -> Result<(), Fail> {
-    assert!(rt; output_fails(&rt, rt.alloc(), Which::Depfile)? > 4);
+    assert!(rt; output_fails(&rt, rt.alloc(), Output::Depfile)? > 4);
     Ok(())
 }
 
 #[test]
 fn each_write_of_the_notes_fails_in_turn(rt: HostRuntime) -> Result<(), Fail> {
-    assert!(rt; output_fails(&rt, rt.alloc(), Which::Notes)? > 5);
+    assert!(rt; output_fails(&rt, rt.alloc(), Output::Notes)? > 5);
     Ok(())
 }

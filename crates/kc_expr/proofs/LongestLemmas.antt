@@ -3,7 +3,7 @@ use Rattle.std.proofs.Common.{◌≡◌, ℕ, List, [], ◌∷◌, ◌++◌, Opt
 use Rattle.kc_expr.specs.declared.expression.SymId.{SymId}
 use Rattle.kc_expr.specs.Form.{Form}
 use Rattle.kc_expr.specs.Names.{number_of, all_mentioned, Extends}
-use Rattle.kc_expr.specs.Grammar.{Terminal, Disjunction, spell_or, meaning_or, words, Begins, BeginsWithin, NoLonger, LongestFront, HasOneLongestFront}
+use Rattle.kc_expr.specs.Grammar.{Terminal, Disjunction, spell_or, meaning_or, names_in, Begins, BeginsWithin, NoLonger, LongestFront, HasOneLongestFront}
 use Rattle.kc_expr.specs.Parsing.{IsParsed, IsNoExpression, IsTooDeep, IsDetermined}
 use Rattle.kc_expr.proofs.OneTree.{unambiguous}
 
@@ -72,7 +72,8 @@ not_too_deep ts front rest l w r =
 spelled_longest : (condition : Option SymId) (ts rest : List Terminal) (old names : List (List ℕ)) (f : Form) (p : IsParsed condition ts rest old names f) → LongestFront ts (spell_or p.tree) rest
 spelled_longest condition ts rest old names f p = subst (λ l. LongestFront ts l rest) (sym p.derives) p.longest
 
-same_tree : (condition : Option SymId) (ts rest rest' : List Terminal) (old names names' : List (List ℕ)) (f f' : Form) (p : IsParsed condition ts rest old names f) (q : IsParsed condition ts rest' old names' f') → p.tree ≡ q.tree
+same_tree : (condition : Option SymId) (ts rest rest' : List Terminal) (old names names' : List (List ℕ)) (f f' : Form)
+    (p : IsParsed condition ts rest old names f) (q : IsParsed condition ts rest' old names' f') → p.tree ≡ q.tree
 same_tree condition ts rest rest' old names names' f f' p q =
     unambiguous p.tree q.tree (p.derives ∙ (one_longest ts p.front rest q.front rest' p.longest q.longest).0 ∙ sym q.derives)
 
@@ -83,7 +84,7 @@ pub determined : (ts : List Terminal) → IsDetermined ts
 determined ts = record {
   one_answer = λ condition rest rest' old names names' f f' p q.
       let t = same_tree condition ts rest rest' old names names' f f' p q in
-      let n = p.mentions ∙ ap (λ d. all_mentioned old (words d)) t ∙ sym q.mentions in (
+      let n = p.mentions ∙ ap (λ d. all_mentioned old (names_in d)) t ∙ sym q.mentions in (
         (one_longest ts p.front rest q.front rest' p.longest q.longest).1,
         n,
         p.form names (at_once names) ∙ ap (meaning_or condition (number_of names)) t

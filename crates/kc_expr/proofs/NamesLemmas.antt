@@ -12,7 +12,7 @@ use Rattle.kc_expr.specs.declared.name.Name.{Name}
 use Rattle.std.specs.declared.hash.FoldHasher.{FoldHasher}
 use Rattle.std.specs.declared.hash.BuildHasherDefault.{BuildHasherDefault}
 use Rattle.indexmap.specs.IndexSet.{IndexSet}
-use Rattle.kc_expr.specs.Grammar.{Terminal, Close, terminal_words, words_of}
+use Rattle.kc_expr.specs.Grammar.{Terminal, Close, names_in_terminal, names_in_terminals}
 use Rattle.kc_expr.specs.Names.{symbol, same_name, number_of, mention, all_mentioned, Extends, IsNumber, AreDistinct}
 use Rattle.kc_expr.specs.declared.expression.SymId.{SymId}
 
@@ -92,7 +92,8 @@ same_name-refl [] = refl
 same_name-refl (b ∷ w) = let e : (b == b) ≡ true = grind (arith, nat_tests) in rw (e, same_name-refl w)
 
 -- where no two names are the same, the number of the name at a place is the place
-pub number_of-at : (ks : List Name) (i : ℕ) (d : Name) → IsDistinct (λ a b. same_name a.bytes.items b.bytes.items) ks → i < length ks → number_of (map (λ v. v.bytes.items) ks) (get_or ks i d).bytes.items ≡ i
+pub number_of-at : (ks : List Name) (i : ℕ) (d : Name) → IsDistinct (λ a b. same_name a.bytes.items b.bytes.items) ks → i < length ks →
+    number_of (map (λ v. v.bytes.items) ks) (get_or ks i d).bytes.items ≡ i
 unfolding IsDistinct
 number_of-at [] i d u h = absurd (omega arith)
 number_of-at (k ∷ ks) zero d u h = rw (same_name-refl k.bytes.items)
@@ -101,7 +102,8 @@ number_of-at (k ∷ ks) (suc i) d u h =
     let apart : same_name w k.bytes.items ≡ false = same_name-comm w k.bytes.items ∙ All-from_recursion _ ks u.0 i d (omega arith) in
     rw (apart, number_of-at ks i d u.1 (omega arith)) (omega arith)
 
-pub number_of-name : (ks : List Name) (i : ℕ) (v : Name) → IsDistinct (λ a b. same_name a.bytes.items b.bytes.items) ks → Some v ≡ slice_get ks i → number_of (map (λ k. k.bytes.items) ks) v.bytes.items ≡ i
+pub number_of-name : (ks : List Name) (i : ℕ) (v : Name) → IsDistinct (λ a b. same_name a.bytes.items b.bytes.items) ks → Some v ≡ slice_get ks i →
+    number_of (map (λ k. k.bytes.items) ks) v.bytes.items ≡ i
 number_of-name ks i v u e =
     ap (λ k. number_of (map (λ k. k.bytes.items) ks) k.bytes.items) (sym (get_or_from_slice_get ks i v v (sym e)))
     ∙ number_of-at ks i v u (slice_get_within ks i v (sym e))
@@ -111,7 +113,8 @@ number_kept : (names others : List (List ℕ)) (w : List ℕ) → list_any (same
 number_kept [] others w h = absurd (false≢true h)
 number_kept (x ∷ xs) others w h = by (same_name w x) h (number_kept xs others w)
   where
-    by : (b : Bool) → (b || list_any (same_name w) xs) ≡ true → (list_any (same_name w) xs ≡ true → number_of (xs ++ others) w ≡ number_of xs w) → cond (not b) (1 + number_of (xs ++ others) w) 0 ≡ cond (not b) (1 + number_of xs w) 0
+    by : (b : Bool) → (b || list_any (same_name w) xs) ≡ true → (list_any (same_name w) xs ≡ true → number_of (xs ++ others) w ≡ number_of xs w) →
+        cond (not b) (1 + number_of (xs ++ others) w) 0 ≡ cond (not b) (1 + number_of xs w) 0
     by true h rest = refl
     by false h rest = ap (λ n. 1 + n) (rest h)
 
@@ -119,7 +122,8 @@ number_pushed : (names others : List (List ℕ)) (w : List ℕ) → list_any (sa
 number_pushed [] others w h = rw (same_name-refl w)
 number_pushed (x ∷ xs) others w h = by (same_name w x) h (number_pushed xs others w)
   where
-    by : (b : Bool) → (b || list_any (same_name w) xs) ≡ false → (list_any (same_name w) xs ≡ false → number_of (xs ++ (w ∷ others)) w ≡ number_of xs w) → cond (not b) (1 + number_of (xs ++ (w ∷ others)) w) 0 ≡ cond (not b) (1 + number_of xs w) 0
+    by : (b : Bool) → (b || list_any (same_name w) xs) ≡ false → (list_any (same_name w) xs ≡ false → number_of (xs ++ (w ∷ others)) w ≡ number_of xs w) →
+        cond (not b) (1 + number_of (xs ++ (w ∷ others)) w) 0 ≡ cond (not b) (1 + number_of xs w) 0
     by true h rest = refl
     by false h rest = ap (λ n. 1 + n) (rest h)
 
@@ -164,11 +168,11 @@ all_mentioned-append names (v ∷ vs) ws = all_mentioned-append (mention names v
 pub mentioned_on : (old now names vs ws : List (List ℕ)) → now ≡ all_mentioned old vs → names ≡ all_mentioned now ws → names ≡ all_mentioned old (vs ++ ws)
 mentioned_on old now names vs ws e f = f ∙ ap (λ ns. all_mentioned ns ws) e ∙ sym (all_mentioned-append old vs ws)
 
-pub words_of-append : (a b : List Terminal) → words_of (a ++ b) ≡ words_of a ++ words_of b
-words_of-append a b = flat_map-append terminal_words a b
+pub names_in_terminals-append : (a b : List Terminal) → names_in_terminals (a ++ b) ≡ names_in_terminals a ++ names_in_terminals b
+names_in_terminals-append a b = flat_map-append names_in_terminal a b
 
-pub words_of-closed : (a : List Terminal) → words_of (a ++ Close ∷ []) ≡ words_of a
-words_of-closed a = words_of-append a (Close ∷ []) ∙ append-nil (words_of a)
+pub names_in_terminals-closed : (a : List Terminal) → names_in_terminals (a ++ Close ∷ []) ≡ names_in_terminals a
+names_in_terminals-closed a = names_in_terminals-append a (Close ∷ []) ∙ append-nil (names_in_terminals a)
 
 -- names that differ as the keys of a set differ as names
 pub distinct-map : (ks : List Name) → IsDistinct (λ a b. same_name a.bytes.items b.bytes.items) ks → AreDistinct (map (λ v. v.bytes.items) ks)

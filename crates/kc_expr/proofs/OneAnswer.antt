@@ -76,14 +76,17 @@ module _ (c : Connective) (k n : ℕ) (parts : (ts : List Terminal) → length t
   pushed : (ps : Chain c) (q : Part c) (r rest : List Terminal) → r ≡ spell_part q ++ rest → spell ps ++ (Joins c ∷ r) ≡ spell (push ps q) ++ rest
   pushed ps q r rest e = ap (λ l. spell ps ++ (Joins c ∷ l)) e ∙ sym (append_assoc (spell ps) (Joins c ∷ spell_part q) rest) ∙ ap (λ l. l ++ rest) (sym (spell-push ps q))
 
-  after_joins : (ps : Chain c) (r : List Terminal) → levels ps ≤ k → ((q : Chain c) (rest : List Terminal) → length rest ≤ length r → SoFar q rest → ChainOrFault c k (spell q ++ rest)) → PartOrFault c k r → ChainOrFault c k (spell ps ++ (Joins c ∷ r))
+  after_joins : (ps : Chain c) (r : List Terminal) → levels ps ≤ k →
+      ((q : Chain c) (rest : List Terminal) → length rest ≤ length r → SoFar q rest → ChainOrFault c k (spell q ++ rest)) → PartOrFault c k r →
+      ChainOrFault c k (spell ps ++ (Joins c ∷ r))
   after_joins ps r w next (inr x) = inr (x.0, x.1, fails_next x.0 k ps r w x.2)
   after_joins ps r w next (inl q) =
       let len : length r ≡ length (spell_part q.tree) + length q.rest = ap length q.whole ∙ length-append (spell_part q.tree) q.rest in
       subst (λ l. ChainOrFault c k l) (sym (pushed ps q.tree r q.rest q.whole))
       (next (push ps q.tree) q.rest (omega arith) (levels-push k ps q.tree w q.within, λ h. q.stops.0 (sym (lone-push ps q.tree) ∙ h), q.stops.1))
 
-  step_on : (ps : Chain c) (rest : List Terminal) → length rest ≤ n → SoFar ps rest → ((q : Chain c) (r : List Terminal) → suc (length r) ≤ length rest → SoFar q r → ChainOrFault c k (spell q ++ r)) → ChainOrFault c k (spell ps ++ rest)
+  step_on : (ps : Chain c) (rest : List Terminal) → length rest ≤ n → SoFar ps rest →
+      ((q : Chain c) (r : List Terminal) → suc (length r) ≤ length rest → SoFar q r → ChainOrFault c k (spell q ++ r)) → ChainOrFault c k (spell ps ++ rest)
   step_on ps rest le s next = by (starts_joins c rest) refl
     where
       by : (b : Bool) → starts_joins c rest ≡ b → ChainOrFault c k (spell ps ++ rest)

@@ -6,7 +6,7 @@ use Rattle.kc_expr.specs.declared.parse.ExprFault.{ExprFault}
 use Rattle.kc_expr.specs.declared.parse.ExprFault.TheVariants.{Syntax, TooDeep, Memory}
 use Rattle.kc_expr.specs.Grammar.{Atom, Terminal, Plain, Compares, Bang, Joins, Open, Close, Keyword, Chain, Part, Negation, only, joined, negation, conjunction, bang, group, lone, compare, spell, spell_part, spell_not}
 use Rattle.kc_expr.specs.Parsing.{HasOperand}
-use Rattle.kc_expr.specs.Reading.{starts_plain, IsMemory, IsMemoryAt, FailsNot, FailsChain}
+use Rattle.kc_expr.specs.Reading.{starts_plain, IsMemory, IsMemoryAt, FailsNot}
 
 pub operand_after : (front ts : List Terminal) → HasOperand ts → HasOperand (front ++ ts)
 operand_after front ts h = record {
@@ -67,9 +67,6 @@ pub memory_not : (f : ExprFault) (k : ℕ) (ts : List Terminal) → IsMemory f �
 memory_not Syntax k ts m h = absurd m
 memory_not TooDeep k ts m h = absurd m
 memory_not Memory k ts m h = h
-
-pub memory_chain : (c : Connective) (f : ExprFault) (k : ℕ) (ts : List Terminal) → f ≡ Memory → HasOperand ts → FailsChain c f k ts
-memory_chain c f k ts m h = rw m h
 
 pub memory_at : (f : ExprFault) (k : ℕ) (ts : List Terminal) → IsMemoryAt ts f → FailsNot f k ts
 memory_at Syntax k ts m = absurd m

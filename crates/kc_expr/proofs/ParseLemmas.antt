@@ -15,16 +15,17 @@ use Rattle.kc_expr.specs.Form.{Form, forms, form_of, leaf_of, Leaf, Symbol, Sing
 use Rattle.kc_expr.specs.Names.{number_of, all_mentioned, Extends}
 use Rattle.kc_expr.specs.declared.parse.Connective.{Connective}
 use Rattle.kc_expr.specs.declared.parse.Connective.TheVariants.{And, Or}
-use Rattle.kc_expr.specs.Grammar.{Atom, Terminal, Plain, Compares, Bang, Joins, Open, Close, Keyword, Chain, only, negation, conjunction, bang, group, lone, compare, spell, spell_part, spell_not, levels, levels_not, leaf, plain_under, atom_words, words_of, connected, meaning_part, parts, terminals_from}
+use Rattle.kc_expr.specs.Grammar.{Atom, Terminal, Plain, Compares, Bang, Joins, Open, Close, Keyword, Chain, only, negation, conjunction, bang, group, lone, compare, spell, spell_part, spell_not, levels, levels_not, leaf, plain_form, names_in_atom, names_in_terminals, connected, meaning_part, parts, terminals_from}
 use Rattle.kc_expr.specs.Scan.{want, right}
 use Rattle.kc_expr.specs.Reading.{starts_compares, starts_joins, starts_close, starts_plain, starts_bang, starts_open, Refuses, Broken, Deep, Any_start, ParsedNot, ParsedPart, ParsedChain, FailsNot, FailsPart, FailsChain}
 use Rattle.kc_expr.proofs.FormLemmas.{form_of-All}
-use Rattle.kc_expr.proofs.NamesLemmas.{extends_on, mentioned_on, mentioned_extends, words_of-append, words_of-closed}
+use Rattle.kc_expr.proofs.NamesLemmas.{extends_on, mentioned_on, mentioned_extends, names_in_terminals-append, names_in_terminals-closed}
 use Rattle.kc_expr.proofs.PushLemmas.{push, spell-push, levels-push, lone-push, parts-push, meaning-push}
 use Rattle.kc_expr.proofs.ReadingLemmas.{no_operand, no_right, unclosed, deep_bang_now, deep_group_now, fails_bang, fails_group, fails_next}
 
 -- two parts in a `Vec`
-pub form_of_two : (v : Vec Expr Global) (o : Operand) (m : SymId) → v.items ≡ One o ∷ (One (Sym m) ∷ []) → form_of (All v) ≡ Every (MoreForms (Single (leaf_of o)) (MoreForms (Single (Symbol m)) NoForms))
+pub form_of_two : (v : Vec Expr Global) (o : Operand) (m : SymId) → v.items ≡ One o ∷ (One (Sym m) ∷ []) →
+    form_of (All v) ≡ Every (MoreForms (Single (leaf_of o)) (MoreForms (Single (Symbol m)) NoForms))
 form_of_two v o m h = form_of-All v ∙ ap (λ es. Every (forms (map form_of es))) h
 
 refuses_want : (limit cur base : ℕ) (stack : List ℕ) (ts : List Terminal) → starts_plain ts ≡ false → starts_bang ts ≡ false → starts_open ts ≡ false → Refuses limit (want cur base stack) ts
@@ -55,26 +56,32 @@ no_right_side ts rest a r e p k =
     subst (λ l. Broken spell_not levels_not Any_start k l) (sym e) (no_right k a r rest (λ limit base stack. refuses_right limit base stack rest p))
 
 -- an operand that is alone
-pub parsed_lone : (condition : Option SymId) (ts rest : List Terminal) (old names : List (List ℕ)) (a : Atom) (l : Leaf) (f : Form) → ts ≡ Plain a ∷ rest → starts_compares rest ≡ false → names ≡ all_mentioned old (atom_words a) → ((later : List (List ℕ)) → Extends names later → l ≡ leaf (number_of later) a) → f ≡ plain_under condition l → (k : ℕ) → ParsedNot condition k ts rest old names f
+pub parsed_lone : (condition : Option SymId) (ts rest : List Terminal) (old names : List (List ℕ)) (a : Atom) (l : Leaf) (f : Form) → ts ≡ Plain a ∷ rest →
+    starts_compares rest ≡ false → names ≡ all_mentioned old (names_in_atom a) →
+    ((later : List (List ℕ)) → Extends names later → l ≡ leaf (number_of later) a) → f ≡ plain_form condition l → (k : ℕ) →
+    ParsedNot condition k ts rest old names f
 parsed_lone condition ts rest old names a l f e s m is plain k = record {
   tree = lone a;
   whole = e;
-  mentions = m ∙ ap (all_mentioned old) (sym (append-nil (atom_words a)));
+  mentions = m ∙ ap (all_mentioned old) (sym (append-nil (names_in_atom a)));
   within = omega arith;
   stops = λ _. s;
-  form = λ later x. plain ∙ ap (plain_under condition) (is later x);
+  form = λ later x. plain ∙ ap (plain_form condition) (is later x);
 }
 
 -- a relation
-pub parsed_compare : (condition : Option SymId) (ts rest : List Terminal) (old now names : List (List ℕ)) (a b : Atom) (r : Op) (l m : Leaf) → ts ≡ Plain a ∷ (Compares r ∷ (Plain b ∷ rest)) → now ≡ all_mentioned old (atom_words a) → names ≡ all_mentioned now (atom_words b) → ((later : List (List ℕ)) → Extends now later → l ≡ leaf (number_of later) a) → ((later : List (List ℕ)) → Extends names later → m ≡ leaf (number_of later) b) → (k : ℕ) → ParsedNot condition k ts rest old names (Related r l m)
+pub parsed_compare : (condition : Option SymId) (ts rest : List Terminal) (old now names : List (List ℕ)) (a b : Atom) (r : Op) (l m : Leaf) → ts ≡ Plain a ∷
+    (Compares r ∷ (Plain b ∷ rest)) → now ≡ all_mentioned old (names_in_atom a) → names ≡ all_mentioned now (names_in_atom b) →
+    ((later : List (List ℕ)) → Extends now later → l ≡ leaf (number_of later) a) →
+    ((later : List (List ℕ)) → Extends names later → m ≡ leaf (number_of later) b) → (k : ℕ) → ParsedNot condition k ts rest old names (Related r l m)
 parsed_compare condition ts rest old now names a b r l m e first second is js k = record {
   tree = compare r a b;
   whole = e;
-  mentions = mentioned_on old now names (atom_words a) (atom_words b) first second ∙ ap (λ ws. all_mentioned old (atom_words a ++ ws)) (sym (append-nil (atom_words b)));
+  mentions = mentioned_on old now names (names_in_atom a) (names_in_atom b) first second ∙ ap (λ ws. all_mentioned old (names_in_atom a ++ ws)) (sym (append-nil (names_in_atom b)));
   within = omega arith;
   stops = λ h. absurd (false≢true h);
   form = λ later x.
-      let p = is later (extends_on now names later (mentioned_extends now names (atom_words b) second) x) in
+      let p = is later (extends_on now names later (mentioned_extends now names (names_in_atom b) second) x) in
       let q = js later x in
       ap (λ y. Related r y m) p ∙ ap (λ y. Related r (leaf (number_of later) a) y) q;
 }
@@ -88,7 +95,7 @@ pub record Parts (c : Connective) (condition : Option SymId) (k : ℕ) (tokens :
   pub after : at ≤ place
   pub there : place < length tokens
   pub whole : terminals_from tokens at ≡ spell tree ++ (Joins c ∷ terminals_from tokens (place + 1))
-  pub mentions : names ≡ all_mentioned old (words_of (spell tree))
+  pub mentions : names ≡ all_mentioned old (names_in_terminals (spell tree))
   pub within : levels tree ≤ k
   pub forms_are : (later : List (List ℕ)) → Extends names later → map form_of es ≡ parts condition (number_of later) tree
 
@@ -118,7 +125,8 @@ fails_group_at f k ts rest n w h =
     let e : k ≡ suc (k - 1) = omega arith in
     subst (λ l. FailsNot f k l) (sym w) (subst (λ m. FailsNot f m (Open ∷ rest)) (sym e) (fails_group f (k - 1) rest h))
 
-pub parsed_bang : (condition : Option SymId) (k : ℕ) (ts inside rest : List Terminal) (old names : List (List ℕ)) (f g : Form) → k ≢ 0 → ts ≡ Bang ∷ inside → f ≡ g → ParsedNot condition (k - 1) inside rest old names g → ParsedNot condition k ts rest old names (Negated f)
+pub parsed_bang : (condition : Option SymId) (k : ℕ) (ts inside rest : List Terminal) (old names : List (List ℕ)) (f g : Form) → k ≢ 0 → ts ≡ Bang ∷ inside →
+    f ≡ g → ParsedNot condition (k - 1) inside rest old names g → ParsedNot condition k ts rest old names (Negated f)
 parsed_bang condition k ts inside rest old names f g n w e p = record {
   tree = bang p.tree;
   whole = w ∙ ap (λ l. Bang ∷ l) p.whole;
@@ -128,24 +136,27 @@ parsed_bang condition k ts inside rest old names f g n w e p = record {
   form = λ later x. ap Negated (e ∙ p.form later x);
 }
 
-pub unclosed_at : (condition : Option SymId) (k : ℕ) (ts inside rest : List Terminal) (old names : List (List ℕ)) (f : Form) → k ≢ 0 → ts ≡ Open ∷ inside → ParsedChain Or condition (k - 1) inside rest old names f → starts_close rest ≡ false → BrokenNot k ts
+pub unclosed_at : (condition : Option SymId) (k : ℕ) (ts inside rest : List Terminal) (old names : List (List ℕ)) (f : Form) → k ≢ 0 → ts ≡ Open ∷ inside →
+    ParsedChain Or condition (k - 1) inside rest old names f → starts_close rest ≡ false → BrokenNot k ts
 unclosed_at condition k ts inside rest old names f n w p s =
     let e : k ≡ suc (k - 1) = omega arith in
     let all = w ∙ ap (λ l. Open ∷ l) p.whole in
     subst (λ l. BrokenNot k l) (sym all) (subst (λ m. BrokenNot m (Open ∷ (spell p.tree ++ rest))) (sym e) (unclosed (k - 1) p.tree rest p.within p.stops s))
 
-pub parsed_group : (condition : Option SymId) (k : ℕ) (ts inside close rest : List Terminal) (old names : List (List ℕ)) (f : Form) → k ≢ 0 → ts ≡ Open ∷ inside → ParsedChain Or condition (k - 1) inside close old names f → close ≡ Close ∷ rest → ParsedNot condition k ts rest old names f
+pub parsed_group : (condition : Option SymId) (k : ℕ) (ts inside close rest : List Terminal) (old names : List (List ℕ)) (f : Form) → k ≢ 0 → ts ≡ Open ∷
+    inside → ParsedChain Or condition (k - 1) inside close old names f → close ≡ Close ∷ rest → ParsedNot condition k ts rest old names f
 parsed_group condition k ts inside close rest old names f n w p e = record {
   tree = group p.tree;
   whole = w ∙ ap (λ l. Open ∷ l) (p.whole ∙ ap (λ l. spell p.tree ++ l) e ∙ sym (append_assoc (spell p.tree) (Close ∷ []) rest));
-  mentions = p.mentions ∙ ap (all_mentioned old) (sym (words_of-closed (spell p.tree)));
+  mentions = p.mentions ∙ ap (all_mentioned old) (sym (names_in_terminals-closed (spell p.tree)));
   within = let v = p.within in omega arith;
   stops = λ h. absurd (false≢true h);
   form = p.form;
 }
 
 -- a negation or a conjunction as a part
-pub parsed_negation : (condition : Option SymId) (k : ℕ) (ts rest : List Terminal) (old names : List (List ℕ)) (f : Form) → ParsedNot condition k ts rest old names f → ParsedPart And condition k ts rest old names f
+pub parsed_negation : (condition : Option SymId) (k : ℕ) (ts rest : List Terminal) (old names : List (List ℕ)) (f : Form) →
+    ParsedNot condition k ts rest old names f → ParsedPart And condition k ts rest old names f
 parsed_negation condition k ts rest old names f p = record {
   tree = negation p.tree;
   whole = p.whole;
@@ -155,7 +166,8 @@ parsed_negation condition k ts rest old names f p = record {
   form = p.form;
 }
 
-pub parsed_conjunction : (condition : Option SymId) (k : ℕ) (ts rest : List Terminal) (old names : List (List ℕ)) (f : Form) → ParsedChain And condition k ts rest old names f → ParsedPart Or condition k ts rest old names f
+pub parsed_conjunction : (condition : Option SymId) (k : ℕ) (ts rest : List Terminal) (old names : List (List ℕ)) (f : Form) →
+    ParsedChain And condition k ts rest old names f → ParsedPart Or condition k ts rest old names f
 parsed_conjunction condition k ts rest old names f p = record {
   tree = conjunction p.tree;
   whole = p.whole;
@@ -166,7 +178,8 @@ parsed_conjunction condition k ts rest old names f p = record {
 }
 
 -- one part, that no connective joins to another
-pub parsed_only : (c : Connective) (condition : Option SymId) (k : ℕ) (ts rest : List Terminal) (old names : List (List ℕ)) (f : Form) → ParsedPart c condition k ts rest old names f → starts_joins c rest ≡ false → ParsedChain c condition k ts rest old names f
+pub parsed_only : (c : Connective) (condition : Option SymId) (k : ℕ) (ts rest : List Terminal) (old names : List (List ℕ)) (f : Form) →
+    ParsedPart c condition k ts rest old names f → starts_joins c rest ≡ false → ParsedChain c condition k ts rest old names f
 parsed_only c condition k ts rest old names f p s = record {
   tree = only p.tree;
   whole = p.whole;
@@ -182,7 +195,8 @@ map_form_push (x ∷ es) e = ap (λ l. form_of x ∷ l) (map_form_push es e)
 
 module _ (c : Connective) (condition : Option SymId) (k : ℕ) (tokens : List Token) (at place end : ℕ) (old names names' : List (List ℕ)) (es es' : List Expr) (e : Expr) where
   -- the first part, where the connective follows
-  pub parts_one : es' ≡ e ∷ [] → ParsedPart c condition k (terminals_from tokens at) (terminals_from tokens end) old names (form_of e) → at ≤ end → end < length tokens → terminals_from tokens end ≡ Joins c ∷ terminals_from tokens (end + 1) → Parts c condition k tokens at end old names es'
+  pub parts_one : es' ≡ e ∷ [] → ParsedPart c condition k (terminals_from tokens at) (terminals_from tokens end) old names (form_of e) → at ≤ end →
+      end < length tokens → terminals_from tokens end ≡ Joins c ∷ terminals_from tokens (end + 1) → Parts c condition k tokens at end old names es'
   parts_one items p a there is = record {
     tree = only p.tree;
     after = a;
@@ -193,20 +207,31 @@ module _ (c : Connective) (condition : Option SymId) (k : ℕ) (tokens : List To
     forms_are = λ later x. ap (map form_of) items ∙ ap (λ f. f ∷ []) (p.form later x);
   }
 
-  forms_next : (s : Parts c condition k tokens at place old names es) → Extends names names' → es' ≡ es ++ e ∷ [] → (q : ParsedPart c condition k (terminals_from tokens (place + 1)) (terminals_from tokens end) names names' (form_of e)) → (later : List (List ℕ)) → Extends names' later → map form_of es' ≡ parts condition (number_of later) s.tree ++ meaning_part condition (number_of later) q.tree ∷ []
+  forms_next : (s : Parts c condition k tokens at place old names es) → Extends names names' → es' ≡ es ++ e ∷ [] →
+      (q : ParsedPart c condition k (terminals_from tokens (place + 1)) (terminals_from tokens end) names names' (form_of e)) → (later : List (List ℕ)) →
+      Extends names' later → map form_of es' ≡ parts condition (number_of later) s.tree ++ meaning_part condition (number_of later) q.tree ∷ []
   forms_next s ext items q later x =
-      ap (map form_of) items ∙ map_form_push es e ∙ ap (λ fs. fs ++ form_of e ∷ []) (s.forms_are later (extends_on names names' later ext x)) ∙ ap (λ f. parts condition (number_of later) s.tree ++ f ∷ []) (q.form later x)
+      ap (map form_of) items ∙ map_form_push es e ∙ ap (λ fs. fs ++ form_of e ∷ []) (s.forms_are later (extends_on names names' later ext x))
+      ∙ ap (λ f. parts condition (number_of later) s.tree ++ f ∷ []) (q.form later x)
 
-  whole_next : (s : Parts c condition k tokens at place old names es) → (q : ParsedPart c condition k (terminals_from tokens (place + 1)) (terminals_from tokens end) names names' (form_of e)) → terminals_from tokens at ≡ spell (push s.tree q.tree) ++ terminals_from tokens end
-  whole_next s q = s.whole ∙ ap (λ l. spell s.tree ++ (Joins c ∷ l)) q.whole ∙ sym (append_assoc (spell s.tree) (Joins c ∷ spell_part q.tree) (terminals_from tokens end)) ∙ ap (λ l. l ++ terminals_from tokens end) (sym (spell-push s.tree q.tree))
+  whole_next : (s : Parts c condition k tokens at place old names es) →
+      (q : ParsedPart c condition k (terminals_from tokens (place + 1)) (terminals_from tokens end) names names' (form_of e)) →
+      terminals_from tokens at ≡ spell (push s.tree q.tree) ++ terminals_from tokens end
+  whole_next s q = s.whole ∙ ap (λ l. spell s.tree ++ (Joins c ∷ l)) q.whole
+      ∙ sym (append_assoc (spell s.tree) (Joins c ∷ spell_part q.tree) (terminals_from tokens end))
+      ∙ ap (λ l. l ++ terminals_from tokens end) (sym (spell-push s.tree q.tree))
 
-  mentions_next : (s : Parts c condition k tokens at place old names es) → (q : ParsedPart c condition k (terminals_from tokens (place + 1)) (terminals_from tokens end) names names' (form_of e)) → names' ≡ all_mentioned old (words_of (spell (push s.tree q.tree)))
+  mentions_next : (s : Parts c condition k tokens at place old names es) →
+      (q : ParsedPart c condition k (terminals_from tokens (place + 1)) (terminals_from tokens end) names names' (form_of e)) →
+      names' ≡ all_mentioned old (names_in_terminals (spell (push s.tree q.tree)))
   mentions_next s q =
-      mentioned_on old names names' (words_of (spell s.tree)) (words_of (spell_part q.tree)) s.mentions q.mentions
-      ∙ ap (all_mentioned old) (sym (ap words_of (spell-push s.tree q.tree) ∙ words_of-append (spell s.tree) (Joins c ∷ spell_part q.tree)))
+      mentioned_on old names names' (names_in_terminals (spell s.tree)) (names_in_terminals (spell_part q.tree)) s.mentions q.mentions
+      ∙ ap (all_mentioned old) (sym (ap names_in_terminals (spell-push s.tree q.tree) ∙ names_in_terminals-append (spell s.tree) (Joins c ∷ spell_part q.tree)))
 
   -- one more part, where the connective follows again
-  pub parts_next : Parts c condition k tokens at place old names es → Extends names names' → es' ≡ es ++ e ∷ [] → ParsedPart c condition k (terminals_from tokens (place + 1)) (terminals_from tokens end) names names' (form_of e) → place + 1 ≤ end → end < length tokens → terminals_from tokens end ≡ Joins c ∷ terminals_from tokens (end + 1) → Parts c condition k tokens at end old names' es'
+  pub parts_next : Parts c condition k tokens at place old names es → Extends names names' → es' ≡ es ++ e ∷ [] →
+      ParsedPart c condition k (terminals_from tokens (place + 1)) (terminals_from tokens end) names names' (form_of e) → place + 1 ≤ end →
+      end < length tokens → terminals_from tokens end ≡ Joins c ∷ terminals_from tokens (end + 1) → Parts c condition k tokens at end old names' es'
   parts_next s ext items q a there is = record {
     tree = push s.tree q.tree;
     after = let b = s.after in omega arith;
@@ -218,7 +243,9 @@ module _ (c : Connective) (condition : Option SymId) (k : ℕ) (tokens : List To
   }
 
   -- the last part
-  pub parsed_last : (f : Form) → f ≡ connected c (forms (map form_of es')) → Parts c condition k tokens at place old names es → Extends names names' → es' ≡ es ++ e ∷ [] → ParsedPart c condition k (terminals_from tokens (place + 1)) (terminals_from tokens end) names names' (form_of e) → starts_joins c (terminals_from tokens end) ≡ false → ParsedChain c condition k (terminals_from tokens at) (terminals_from tokens end) old names' f
+  pub parsed_last : (f : Form) → f ≡ connected c (forms (map form_of es')) → Parts c condition k tokens at place old names es → Extends names names' →
+      es' ≡ es ++ e ∷ [] → ParsedPart c condition k (terminals_from tokens (place + 1)) (terminals_from tokens end) names names' (form_of e) →
+      starts_joins c (terminals_from tokens end) ≡ false → ParsedChain c condition k (terminals_from tokens at) (terminals_from tokens end) old names' f
   parsed_last f made s ext items q stop = record {
     tree = push s.tree q.tree;
     whole = whole_next s q;
@@ -229,7 +256,9 @@ module _ (c : Connective) (condition : Option SymId) (k : ℕ) (tokens : List To
   }
 
 -- the next part fails
-pub fails_after : (c : Connective) (condition : Option SymId) (k : ℕ) (tokens : List Token) (at place : ℕ) (old names : List (List ℕ)) (es : List Expr) (f : ExprFault) → Parts c condition k tokens at place old names es → FailsPart c f k (terminals_from tokens (place + 1)) → FailsChain c f k (terminals_from tokens at)
+pub fails_after : (c : Connective) (condition : Option SymId) (k : ℕ) (tokens : List Token) (at place : ℕ) (old names : List (List ℕ)) (es : List Expr)
+    (f : ExprFault) → Parts c condition k tokens at place old names es → FailsPart c f k (terminals_from tokens (place + 1)) →
+    FailsChain c f k (terminals_from tokens at)
 fails_after c condition k tokens at place old names es f s h = subst (λ l. FailsChain c f k l) (sym s.whole) (fails_next f k s.tree (terminals_from tokens (place + 1)) s.within h)
 
 -- how far a chain's rule stands above a negation's

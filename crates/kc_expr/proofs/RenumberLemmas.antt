@@ -89,7 +89,8 @@ module _ (names : List (List ℕ)) (ids : List SymId) (new : List (List ℕ)) (r
 
   pub stands : (i : ℕ) (id : SymId) (d : List ℕ) → i < length names → slice_get ids i ≡ Some id → slice_get new id.0 ≡ Some (get_or names i d)
   stands i id d h e =
-      let left : slice_get (map (λ id. slice_get new id.0) ids) i ≡ Some (slice_get new id.0) = slice_get-map (λ (id : SymId). slice_get new id.0) ids i ∙ ap (option_map (λ id. slice_get new id.0)) e in
+      let left : slice_get (map (λ id. slice_get new id.0) ids) i ≡ Some (slice_get new id.0) = slice_get-map (λ (id : SymId). slice_get new id.0) ids i
+      ∙ ap (option_map (λ id. slice_get new id.0)) e in
       let right : slice_get (map Some names) i ≡ Some (Some (get_or names i d)) = slice_get-map Some names i ∙ ap (option_map Some) (slice_get-get_or names i d h) in
       let both : slice_get (map (λ id. slice_get new id.0) ids) i ≡ slice_get (map Some names) i = ap (λ l. slice_get l i) r.there in
       cc
@@ -133,9 +134,10 @@ module _ (names : List (List ℕ)) (ids : List SymId) (new : List (List ℕ)) (r
   -- each number at its place: the names are the new ones
   pub settled : ((k : ℕ) → k < length names → slice_get ids k ≡ Some (symbol k)) → new ≡ names
   settled h =
-      ext_get_or [] new names r.all (λ k below_end. get_or_from_slice_get new k (get_or names k []) [] (stands k (symbol k) [] (omega (arith, r.all, below_end)) (h k (omega (arith, r.all, below_end)))))
+      ext_get_or [] new names r.all (λ k below_end. get_or_from_slice_get new k (get_or names k []) []
+      (stands k (symbol k) [] (omega (arith, r.all, below_end)) (h k (omega (arith, r.all, below_end)))))
 
-  -- What two numbers that are exchanged leave of the places before, and of those that are not settled.
+  -- What two numbers that are exchanged leave of the places before, and of the numbers that are not at their places.
   module _ (i : ℕ) (id : SymId) (now : List SymId) (u : AreDistinct names) (here : slice_get ids i ≡ Some id) (ne : id.0 ≢ i) (e : now ≡ swap ids i id.0) where
     inside : i < length ids
     inside = slice_get_within ids i id here

@@ -16,7 +16,7 @@ use Rattle.kc_text.specs.Escapes.{unescape}
 use Rattle.kc_text.specs.Lexemes.{Lexeme, AWord, AQuoted, AnOp, lexeme}
 use Rattle.kc_text.specs.declared.tokens.Token.{Token}
 use Rattle.kc_expr.specs.Form.{Form, Forms, forms, Leaf, Text, Symbol, Single, Related, Negated, Every, Some_of, NoForms, MoreForms}
-use Rattle.kc_expr.specs.Value.{letter_of}
+use Rattle.kc_expr.specs.Value.{tristate_constant}
 use Rattle.kc_expr.specs.Names.{symbol, same_name}
 
 pub data Atom : Type 0 where
@@ -125,8 +125,8 @@ abbrev pub levels_or : Disjunction → ℕ
 levels_or d = levels d
 
 -- the words n, m and y are constants
-abbrev pub is_letter : List ℕ → Bool
-is_letter w = is_some (letter_of w)
+abbrev pub is_tristate_constant : List ℕ → Bool
+is_tristate_constant w = is_some (tristate_constant w)
 
 abbrev pub m_word : List ℕ
 m_word = codes "m"
@@ -136,13 +136,13 @@ is_m_leaf (Symbol s) = false
 is_m_leaf (Text t) = same_name t m_word
 
 -- a plain m of a condition stands for m && the modules symbol
-abbrev pub plain_under : Option SymId → Leaf → Form
-plain_under None l = Single l
-plain_under (Some s) l = if is_m_leaf l then Every (MoreForms (Single l) (MoreForms (Single (Symbol s)) NoForms)) else Single l
+abbrev pub plain_form : Option SymId → Leaf → Form
+plain_form None l = Single l
+plain_form (Some s) l = if is_m_leaf l then Every (MoreForms (Single l) (MoreForms (Single (Symbol s)) NoForms)) else Single l
 
 -- an operand, where names have these numbers
 abbrev pub leaf : (List ℕ → ℕ) → Atom → Leaf
-leaf number (WordAtom w) = if is_letter w then Text w else Symbol (symbol (number w))
+leaf number (WordAtom w) = if is_tristate_constant w then Text w else Symbol (symbol (number w))
 leaf number (QuotedAtom q) = Text (unescape q)
 
 -- two parts or more, joined
@@ -168,33 +168,33 @@ module _ (condition : Option SymId) (number : List ℕ → ℕ) where
     pub meaning_not : Negation → Form
     meaning_not (bang n) = Negated (meaning_not n)
     meaning_not (group d) = meaning d
-    meaning_not (lone a) = plain_under condition (leaf number a)
+    meaning_not (lone a) = plain_form condition (leaf number a)
     meaning_not (compare o a b) = Related o (leaf number a) (leaf number b)
 
   abbrev pub meaning_or : Disjunction → Form
   meaning_or d = meaning d
 
 -- the names that a token mentions: a word that stands for a symbol
-abbrev pub atom_words : Atom → List (List ℕ)
-atom_words (WordAtom w) = if is_letter w then [] else w ∷ []
-atom_words (QuotedAtom q) = []
+abbrev pub names_in_atom : Atom → List (List ℕ)
+names_in_atom (WordAtom w) = if is_tristate_constant w then [] else w ∷ []
+names_in_atom (QuotedAtom q) = []
 
-abbrev pub terminal_words : Terminal → List (List ℕ)
-terminal_words (Plain a) = atom_words a
-terminal_words (Compares o) = []
-terminal_words Bang = []
-terminal_words (Joins c) = []
-terminal_words Open = []
-terminal_words Close = []
-terminal_words Keyword = []
+abbrev pub names_in_terminal : Terminal → List (List ℕ)
+names_in_terminal (Plain a) = names_in_atom a
+names_in_terminal (Compares o) = []
+names_in_terminal Bang = []
+names_in_terminal (Joins c) = []
+names_in_terminal Open = []
+names_in_terminal Close = []
+names_in_terminal Keyword = []
 
 -- the names that tokens mention, from left to right
-abbrev pub words_of : List Terminal → List (List ℕ)
-words_of = flat_map terminal_words
+abbrev pub names_in_terminals : List Terminal → List (List ℕ)
+names_in_terminals = flat_map names_in_terminal
 
 -- the names that an expression mentions, from left to right
-abbrev pub words : Disjunction → List (List ℕ)
-words d = words_of (spell_or d)
+abbrev pub names_in : Disjunction → List (List ℕ)
+names_in d = names_in_terminals (spell_or d)
 
 -- the tokens begin some expression
 abbrev pub Begins : List Terminal → Type 0

@@ -6,7 +6,7 @@ use Rattle.kc_expr.specs.declared.parse.ExprFault.TheVariants.{Syntax, TooDeep, 
 use Rattle.kc_expr.specs.declared.expression.SymId.{SymId}
 use Rattle.kc_expr.specs.Form.{Form}
 use Rattle.kc_expr.specs.Names.{number_of, all_mentioned, Extends}
-use Rattle.kc_expr.specs.Grammar.{Atom, Terminal, Plain, Disjunction, spell_or, levels_or, meaning_or, words, Begins, BeginsWithin, LongestFront}
+use Rattle.kc_expr.specs.Grammar.{Atom, Terminal, Plain, Disjunction, spell_or, levels_or, meaning_or, names_in, Begins, BeginsWithin, LongestFront}
 
 -- what parsing answers: the one expression of the longest front that begins some expression
 pub record IsParsed (condition : Option SymId) (ts rest : List Terminal) (old names : List (List ℕ)) (f : Form) : Type 0 where
@@ -15,7 +15,7 @@ pub record IsParsed (condition : Option SymId) (ts rest : List Terminal) (old na
   pub tree : Disjunction
   pub derives : spell_or tree ≡ front
   pub within : levels_or tree ≤ most_levels
-  pub mentions : names ≡ all_mentioned old (words tree)
+  pub mentions : names ≡ all_mentioned old (names_in tree)
   pub form : (later : List (List ℕ)) → Extends names later → f ≡ meaning_or condition (number_of later) tree
 
 -- the longest front that begins some expression is none itself, and opens at most `most_levels`
@@ -49,7 +49,8 @@ IsRefused Memory ts = HasOperand ts
 
 -- Parsing has one answer: one expression, one place and one list of names, or one of the refusals.
 pub record IsDetermined (ts : List Terminal) : Type 0 where
-  pub one_answer : (condition : Option SymId) (rest rest' : List Terminal) (old names names' : List (List ℕ)) (f f' : Form) → IsParsed condition ts rest old names f → IsParsed condition ts rest' old names' f' → (rest ≡ rest') × (names ≡ names') × (f ≡ f')
+  pub one_answer : (condition : Option SymId) (rest rest' : List Terminal) (old names names' : List (List ℕ)) (f f' : Form) →
+      IsParsed condition ts rest old names f → IsParsed condition ts rest' old names' f' → (rest ≡ rest') × (names ≡ names') × (f ≡ f')
   pub not_refused : (condition : Option SymId) (rest : List Terminal) (old names : List (List ℕ)) (f : Form) → IsParsed condition ts rest old names f → (IsNoExpression ts → ⊥) × (IsTooDeep ts → ⊥)
   pub one_refusal : IsNoExpression ts → IsTooDeep ts → ⊥
 

@@ -13,7 +13,7 @@ use Rattle.kc_expr.specs.Form.{Form, Leaf, leaf_of}
 use Rattle.kc_expr.specs.Names.{number_of, all_mentioned, Extends}
 use Rattle.kc_expr.specs.declared.parse.Connective.{Connective}
 use Rattle.kc_expr.specs.declared.parse.Connective.TheVariants.{And, Or}
-use Rattle.kc_expr.specs.Grammar.{Terminal, Plain, Compares, Bang, Joins, Open, Close, Keyword, Chain, Part, Negation, spell, spell_part, spell_not, levels, levels_part, levels_not, meaning, meaning_part, meaning_not, terminals_from, terminal_of, Atom, leaf, op_terminal, atom_words, words_of}
+use Rattle.kc_expr.specs.Grammar.{Terminal, Plain, Compares, Bang, Joins, Open, Close, Keyword, Chain, Part, Negation, spell, spell_part, spell_not, levels, levels_part, levels_not, meaning, meaning_part, meaning_not, terminals_from, terminal_of, Atom, leaf, op_terminal, names_in_atom, names_in_terminals}
 use Rattle.kc_expr.specs.Parsing.{HasOperand}
 use Rattle.kc_expr.specs.Scan.{State, want, single, right, done, step, run, lone_in, lone_part, lone_not}
 
@@ -93,7 +93,7 @@ module _ {T : Type 0} (spell : T → List Terminal) (levels : T → ℕ) where
   pub record Parsed (meaning : (List ℕ → ℕ) → T → Form) (Stops : T → List Terminal → Type 0) (k : ℕ) (ts rest : List Terminal) (old names : List (List ℕ)) (f : Form) : Type 0 where
     pub tree : T
     pub whole : ts ≡ spell tree ++ rest
-    pub mentions : names ≡ all_mentioned old (words_of (spell tree))
+    pub mentions : names ≡ all_mentioned old (names_in_terminals (spell tree))
     pub within : levels tree ≤ k
     pub stops : Stops tree rest
     pub form : (later : List (List ℕ)) → Extends names later → f ≡ meaning (number_of later) tree
@@ -155,7 +155,7 @@ starts_plain (_ ∷ ts) = false
 
 pub record ReadsAtom (tokens : List Token) (at : ℕ) (old names : List (List ℕ)) (o : Leaf) : Type 0 where
   pub atom : Atom
-  pub mentions : names ≡ all_mentioned old (atom_words atom)
+  pub mentions : names ≡ all_mentioned old (names_in_atom atom)
   pub there : at < length tokens
   pub next : terminals_from tokens at ≡ Plain atom ∷ terminals_from tokens (at + 1)
   pub leaf_is : (later : List (List ℕ)) → Extends names later → o ≡ leaf (number_of later) atom

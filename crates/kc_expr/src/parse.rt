@@ -4,14 +4,14 @@ ghost use Rattle.std.specs.Prelude.{◌≡◌, ℕ, ◌+◌, ◌≤◌, ◌<◌,
 ghost use Rattle.kc_expr.specs.declared.parse.ExprFault.TheVariants.{Memory};
 ghost use Rattle.kc_expr.specs.Form.{form_of, forms, leaf_of};
 ghost use Rattle.kc_expr.specs.Grammar as spec;
-ghost use Rattle.kc_expr.specs.Grammar.{terminals_from, is_m_leaf, plain_under, IsUnambiguous, Terminal, HasOneLongestFront};
+ghost use Rattle.kc_expr.specs.Grammar.{terminals_from, is_m_leaf, plain_form, IsUnambiguous, Terminal, HasOneLongestFront};
 ghost use Rattle.kc_expr.specs.Parsing.{IsParsed, IsDetermined, IsRefused, OneAnswer};
 ghost use Rattle.kc_expr.specs.Reading.{ParsedNot, ParsedPart, ParsedChain, FailsNot, FailsPart, FailsChain, IsNext, ReadsOperand, ReadsRelation, IsMemory, IsMemoryAt, IsOp, IsJoined, StartsNoOperand};
 ghost use Rattle.kc_expr.specs.Names.{Extends, mention};
 
 use crate::expression::{Expr, Operand, Sides, SymId, Tri};
 use crate::names::Names;
-use crate::values::letter_of;
+use crate::values::tristate_constant;
 use kc_text::{Op, Token, TokenKind, unescape_into};
 use std::alloc::{AllocError, AllocFailed, Global};
 use thiserror::Error;
@@ -260,7 +260,7 @@ fn relation(
 
 // An operand that is alone: a plain m of a condition stands for m && the modules symbol.
 fn plain(alloc: Global, operand: Operand, condition: Option<SymId>) -> Result<Expr, ExprFault>
-    ensures plain { IfOk result (λ e. form_of e ≡ plain_under condition (leaf_of operand)) }
+    ensures plain { IfOk result (λ e. form_of e ≡ plain_form condition (leaf_of operand)) }
     ensures memory { IfErr result IsMemory }
 {
     let Some(modules) = condition else {
@@ -281,14 +281,14 @@ fn is_m(operand: &Operand) -> bool
 {
     match operand {
         Operand::Const(text) => text.as_slice() == b"m".as_slice(),
-        Operand::Letter(Tri::M) => true,
-        Operand::Letter(_) | Operand::Sym(_) => false,
+        Operand::TristateConstant(Tri::M) => true,
+        Operand::TristateConstant(_) | Operand::Sym(_) => false,
     }
 }
 
 // The operand at a place, if there is one.
 #[inline(always)]
-#[tactic(auto, using(crate::proofs::LetterLemmas::letter_text))]
+#[tactic(auto, using(crate::proofs::ConstantLemmas::constant_text))]
 fn operand(
     alloc: Global,
     tokens: &[Token],
@@ -304,8 +304,8 @@ fn operand(
             if word == b"if".as_slice() {
                 return Ok(None);
             }
-            if let Some(letter) = letter_of(word) {
-                return Ok(Some(Operand::Letter(letter)));
+            if let Some(letter) = tristate_constant(word) {
+                return Ok(Some(Operand::TristateConstant(letter)));
             }
             Ok(Some(Operand::Sym(names.id(word)?)))
         }

@@ -7,12 +7,12 @@ use Rattle.std.specs.declared.vec.Vec.{Vec}
 use Rattle.std.specs.declared.alloc.Global.{Global}
 use Rattle.kc_read.specs.Files.{bytes_in}
 use Rattle.kc_load.specs.Faults.{IsLoadFault, IsNext}
-use Rattle.kc_load.specs.Folders.{Told, path_of}
+use Rattle.kc_load.specs.Folders.{FolderFiles, path_of}
 use Rattle.kc_read.specs.Limits.{most_lines}
 use Rattle.kc_read.specs.Expansion.{lines_of}
-use Rattle.kc_load.specs.Loaded.{IsWhole, Loads, Reached, itself}
+use Rattle.kc_load.specs.Loaded.{IsReadWhole, Loads, Reached, itself}
 use Rattle.kc_text.specs.Limits.{last_count}
-use Rattle.kc_load.specs.Steps.{FailsAt, State, Visits, no_text, known, no_file, file, begun}
+use Rattle.kc_load.specs.Steps.{FailsAt, State, Visits, no_text, known, no_file, file, initial_state}
 use Rattle.kc_load.specs.declared.fault.LoadFault.{LoadFault}
 use Rattle.kc_load.specs.declared.fault.LoadFault.TheVariants.{CannotRead, Memory}
 use Rattle.kc_load.proofs.HeldLemmas.{only_element}
@@ -41,7 +41,7 @@ none_waits v e = ap (map (λ (w : Vec ℕ Global). w.items)) (nil_from_length v.
 pub no_element : {X : Type 0} (x : X) → Contains {X = X} [] x → ⊥
 no_element x h = let lt = h.1 in absurd (omega arith)
 
-pub at_start : (told : Told) (dir first : List ℕ) → IsUtf8 first → Ongoing told dir first (begun first)
+pub at_start : (told : FolderFiles) (dir first : List ℕ) → IsUtf8 first → Ongoing told dir first (initial_state first)
 at_start told dir first text = record {
   read = [];
   held = λ name. refl;
@@ -55,7 +55,7 @@ at_start told dir first text = record {
   waiting_are = λ name c t. subst (Reached (bytes_in []) first) (only_element first name c) itself;
 }
 
-module _ (told : Told) (dir first : List ℕ) (s : State) (h : Ongoing told dir first s) where
+module _ (told : FolderFiles) (dir first : List ℕ) (s : State) (h : Ongoing told dir first s) where
   pub at_end : s.waiting ≡ [] → Loads told dir first s.files
   at_end none = record {
     read = h.read;
@@ -64,7 +64,7 @@ module _ (told : Told) (dir first : List ℕ) (s : State) (h : Ongoing told dir 
     are_all = λ within. record { first_is = met first h.first_is; sources_are = λ f bytes e. let m = h.sources_are f bytes e in (m.names, m.sources, λ x among text. met x (m.met x among text)) };
   }
     where
-      met : (x : List ℕ) → IsMet s x → IsWhole told dir h.read x
+      met : (x : List ℕ) → IsMet s x → IsReadWhole told dir h.read x
       met x (inl asked) = h.answers x asked
       met x (inr waits) = absurd (no_element x (subst (λ (l : List (List ℕ)). Contains l x) none waits))
 
@@ -76,7 +76,8 @@ module _ (told : Told) (dir first : List ℕ) (s : State) (h : Ongoing told dir 
     are_all = λ within. absurd (let t = h.total in omega arith);
   }
 
-  pub at_fault : s.lines ≤ most_lines → (failing now : List ℕ → Bool) → now ≡ failing → (rest : List (List ℕ)) (name : List ℕ) → s.waiting ≡ rest ++ name ∷ [] → (fault : LoadFault) → FailsAt now dir (record s { waiting = rest }) name fault →
+  pub at_fault : s.lines ≤ most_lines → (failing now : List ℕ → Bool) → now ≡ failing → (rest : List (List ℕ)) (name : List ℕ) → s.waiting ≡ rest ++ name ∷ [] →
+      (fault : LoadFault) → FailsAt now dir (record s { waiting = rest }) name fault →
       IsLoadFault told failing dir first fault
   at_fault within failing now same rest name last (CannotRead n) f =
       subst (λ (x : List ℕ). IsNext told failing dir first x) (sym f.0) (record {
@@ -93,7 +94,9 @@ module _ (told : Told) (dir first : List ℕ) (s : State) (h : Ongoing told dir 
 abbrev pub still_left : State → ℕ
 still_left s = (most_lines - s.lines) * 18446744073709551616 + length s.waiting
 
-pub falls : (told : Told) (dir : List ℕ) (s : State) (rest : List (List ℕ)) (name : List ℕ) (n : State) → s.waiting ≡ rest ++ name ∷ [] → s.lines ≤ most_lines → n.lines ≤ most_lines → length n.waiting < 18446744073709551616 → Visits told dir name (record s { waiting = rest }) n → still_left n < still_left s
+pub falls : (told : FolderFiles) (dir : List ℕ) (s : State) (rest : List (List ℕ)) (name : List ℕ) (n : State) → s.waiting ≡ rest ++ name ∷ [] →
+    s.lines ≤ most_lines → n.lines ≤ most_lines → length n.waiting < 18446744073709551616 → Visits told dir name (record s { waiting = rest }) n →
+    still_left n < still_left s
 falls told dir s rest name n last within later fits v = by v
   where
     shorter : length s.waiting ≡ length rest + 1
@@ -120,6 +123,8 @@ falls told dir s rest name n last within later fits v = by v
         taken (suc k) e = let l = lines_now in let more = shorter in omega arith
 
 -- the turn of a name, as another state of the folder told it
-pub turned : (told given : Told) (dir first : List ℕ) (s : State) → Ongoing told dir first s → s.lines ≤ most_lines → given ≡ told → (rest : List (List ℕ)) (name : List ℕ) → s.waiting ≡ rest ++ name ∷ [] → (n : State) → Visits given dir name (record s { waiting = rest }) n → Ongoing told dir first n
+pub turned : (told given : FolderFiles) (dir first : List ℕ) (s : State) → Ongoing told dir first s → s.lines ≤ most_lines → given ≡ told →
+    (rest : List (List ℕ)) (name : List ℕ) → s.waiting ≡ rest ++ name ∷ [] → (n : State) → Visits given dir name (record s { waiting = rest }) n →
+    Ongoing told dir first n
 turned told given dir first s h within same rest name last n v =
-    turn told dir first s h rest name last within n (subst (λ (t : Told). Visits t dir name (record s { waiting = rest }) n) same v)
+    turn told dir first s h rest name last within n (subst (λ (t : FolderFiles). Visits t dir name (record s { waiting = rest }) n) same v)

@@ -5,23 +5,23 @@ use Rattle.std.proofs.lemmas.List.Elements.{Contains-append_left, Contains-appen
 use Rattle.std.proofs.lemmas.Str.{IsUtf8-from_is_utf8, is_utf8-from_IsUtf8}
 use Rattle.std.specs.List.{list_any}
 use Rattle.std.specs.Str.{is_utf8}
-use Rattle.kc_text.specs.Lines.{Left, left}
+use Rattle.kc_text.specs.Lines.{UnreadLines, unread_lines}
 use Rattle.kc_expr.specs.Names.{same_name}
 use Rattle.kc_read.specs.declared.refusal.Code.TheVariants as code
-use Rattle.kc_read.specs.Expansion.{Around, Expands, Log, Refused, Rest, bytes_cause, nothing_read, of_file, opening, refused, root_around, sourcing_cause, at_end, unclosed, too_long, no_tokens, blank, bad_line, bad_effect, statement, bad_source, refused_inside, source}
+use Rattle.kc_read.specs.Expansion.{FileContext, Expands, Log, Refused, Rest, bytes_cause, nothing_read, of_file, with_file, refused, root_context, sourcing_cause, at_end, unclosed, too_long, no_tokens, blank, bad_line, over_limit, statement, bad_source, refused_inside, source}
 use Rattle.kc_read.specs.Files.{Files, bytes_in}
 use Rattle.kc_read.specs.Lines.{Cause, cause}
-use Rattle.kc_read.specs.Openings.{asked}
-use Rattle.kc_read.specs.Statements.{Placed, Written}
+use Rattle.kc_read.specs.OpenedFiles.{asked}
+use Rattle.kc_read.specs.Statements.{Located, Named}
 use Rattle.kc_read.proofs.ExpansionThere.{has_one_expansion}
 use Rattle.kc_read.proofs.OneExpansion.{one_expansion_law}
 use Rattle.kc_load.specs.Expanding.{ExpandsAlike, OpensAlike, Suffices, named}
-use Rattle.kc_load.specs.Folders.{Told, path_of}
+use Rattle.kc_load.specs.Folders.{FolderFiles, path_of}
 use Rattle.kc_load.specs.Loaded.{Reached, itself, sourced}
 use Rattle.kc_load.specs.Steps.{State}
 use Rattle.kc_load.proofs.FollowLemmas.{IsClosed, enter, few_lines, follow}
 use Rattle.kc_load.proofs.Ongoing.{Ongoing}
-use Rattle.kc_load.proofs.Walks.{IsMetIn, Walks, first_met}
+use Rattle.kc_load.proofs.Walks.{IsMetIn, Walks, first_is_met}
 
 -- ---- Files that agree on all that is asked for
 
@@ -34,27 +34,29 @@ module _ (files others : Files) where
       ap (λ f. cond (list_any (same_name name) opens) (Some (of_file code.InclusionLoop name)) (cond (nat_le 64 (length opens)) (Some (cause code.TooDeep)) (bytes_cause name n f))) e ∙ h
 
   -- the expansion over the one is one over the other
-  pub over : {a : Around} {l : Left} {own : List (Placed Written)} {log : Log} {r : Result Log Refused} (d : Rest files a l own log r) → ((y : List ℕ) → Contains (asked d) y → others y ≡ files y) → Rest others a l own log r
+  pub over : {a : FileContext} {l : UnreadLines} {own : List (Located Named)} {log : Log} {r : Result Log Refused} (d : Rest files a l own log r) →
+      ((y : List ℕ) → Contains (asked d) y → others y ≡ files y) → Rest others a l own log r
   over (at_end a l own log none closed) h = at_end a l own log none closed
   over (unclosed a l own log line none unmatched) h = unclosed a l own log line none unmatched
   over (too_long a l own log long) h = too_long a l own log long
   over (no_tokens a l m own log ts why next) h = no_tokens a l m own log ts why next
   over (blank a l m own log r next d) h = blank a l m own log r next (over d h)
   over (bad_line a l m own log c n) h = bad_line a l m own log c n
-  over (bad_effect a l m own log s c n f) h = bad_effect a l m own log s c n f
+  over (over_limit a l m own log s c n f) h = over_limit a l m own log s c n f
   over (statement a l m own log s r n plain f d) h = statement a l m own log s r n plain f (over d h)
-  over (bad_source a l m own log name c n f) h = bad_source a l m own log name c n (same_cause a.open_files log.counted name (Some c) (h name (here name [])) f)
+  over (bad_source a l m own log name c n f) h = bad_source a l m own log name c n (same_cause a.open_files log.total_lines name (Some c) (h name (here name [])) f)
   over (refused_inside a l m own log name bytes e n free there d) h =
       let same = h name (here name (asked d)) in
-      refused_inside a l m own log name bytes e n (same_cause a.open_files log.counted name None same free) (same ∙ there) (over d (λ y c. h y (Contains-append_right (name ∷ []) (asked d) y c)))
+      refused_inside a l m own log name bytes e n (same_cause a.open_files log.total_lines name None same free) (same ∙ there) (over d (λ y c. h y (Contains-append_right (name ∷ []) (asked d) y c)))
   over (source a l m own log more name bytes r n free there d g) h =
       let same = h name (here name (asked d ++ asked g)) in
-      source a l m own log more name bytes r n (same_cause a.open_files log.counted name None same free) (same ∙ there)
+      source a l m own log more name bytes r n (same_cause a.open_files log.total_lines name None same free) (same ∙ there)
       (over d (λ y c. h y (Contains-append_right (name ∷ []) (asked d ++ asked g) y (Contains-append_left (asked d) (asked g) y c))))
       (over g (λ y c. h y (Contains-append_right (name ∷ []) (asked d ++ asked g) y (Contains-append_right (asked d) (asked g) y c))))
 
   -- and it opens the same files
-  asked_over : {a : Around} {l : Left} {own : List (Placed Written)} {log : Log} {r : Result Log Refused} (d : Rest files a l own log r) (h : (y : List ℕ) → Contains (asked d) y → others y ≡ files y) → asked (over d h) ≡ asked d
+  asked_over : {a : FileContext} {l : UnreadLines} {own : List (Located Named)} {log : Log} {r : Result Log Refused} (d : Rest files a l own log r)
+      (h : (y : List ℕ) → Contains (asked d) y → others y ≡ files y) → asked (over d h) ≡ asked d
   unfolding over
   asked_over (at_end a l own log none closed) h = refl
   asked_over (unclosed a l own log line none unmatched) h = refl
@@ -62,7 +64,7 @@ module _ (files others : Files) where
   asked_over (no_tokens a l m own log ts why next) h = refl
   asked_over (blank a l m own log r next d) h = asked_over d h
   asked_over (bad_line a l m own log c n) h = refl
-  asked_over (bad_effect a l m own log s c n f) h = refl
+  asked_over (over_limit a l m own log s c n f) h = refl
   asked_over (statement a l m own log s r n plain f d) h = asked_over d h
   asked_over (bad_source a l m own log name c n f) h = refl
   asked_over (refused_inside a l m own log name bytes e n free there d) h = ap (λ (t : List (List ℕ)). name ∷ t) (asked_over d (λ y c. h y (Contains-append_right (name ∷ []) (asked d) y c)))
@@ -74,15 +76,16 @@ module _ (files others : Files) where
 -- ---- From the root file on
 
 abbrev RootGives : Files → List ℕ → Result Log Refused → Type 0
-RootGives files root r = (bytes : List ℕ) × (files root ≡ Some bytes) × Rest files (root_around root) (left bytes 1) [] (opening nothing_read bytes) r
+RootGives files root r = (bytes : List ℕ) × (files root ≡ Some bytes) × Rest files (root_context root) (unread_lines bytes 1) [] (with_file nothing_read bytes) r
 
-module _ (told : List ℕ → Option (List ℕ)) (dir first : List ℕ) (loaded : Files) (w : List (List ℕ)) (m : ℕ) (b : Bool) (text : IsUtf8 first) (walk : Walks (Some told) dir [] 0 (first ∷ []) w m b) (agree : (y : List ℕ) → IsMetIn w y → loaded y ≡ named told dir y) where
+module _ (told : List ℕ → Option (List ℕ)) (dir first : List ℕ) (loaded : Files) (w : List (List ℕ)) (m : ℕ) (b : Bool) (text : IsUtf8 first)
+    (walk : Walks (Some told) dir [] 0 (first ∷ []) w m b) (agree : (y : List ℕ) → IsMetIn w y → loaded y ≡ named told dir y) where
   same_root : loaded first ≡ named told dir first
-  same_root = agree first (first_met (omega arith) walk)
+  same_root = agree first (first_is_met (omega arith) walk)
 
   -- what the root file asks for was loaded
   asked_agree : (bytes : List ℕ) (r : Result Log Refused) → bytes_cause first 0 (named told dir first) ≡ None → named told dir first ≡ Some bytes →
-      (d : Rest (named told dir) (root_around first) (left bytes 1) [] (opening nothing_read bytes) r) → (y : List ℕ) → Contains (asked d) y → loaded y ≡ named told dir y
+      (d : Rest (named told dir) (root_context first) (unread_lines bytes 1) [] (with_file nothing_read bytes) r) → (y : List ℕ) → Contains (asked d) y → loaded y ≡ named told dir y
   asked_agree bytes r free there d y c =
       let few = few_lines first bytes 0 (named told dir first) free there in
       let free : list_any (same_name first) [] ≡ false = refl in
@@ -142,6 +145,6 @@ module _ (told : List ℕ → Option (List ℕ)) (dir first : List ℕ) (s : Sta
     opens_alike told dir first s.files s.asked s.lines b h.text walk asked_are_whole,
   )
 
-pub enough : (told : Told) (dir first : List ℕ) (s : State) → Ongoing told dir first s → (b : Bool) → Walks told dir [] 0 (first ∷ []) s.asked s.lines b → Suffices told dir first s.files
+pub enough : (told : FolderFiles) (dir first : List ℕ) (s : State) → Ongoing told dir first s → (b : Bool) → Walks told dir [] 0 (first ∷ []) s.asked s.lines b → Suffices told dir first s.files
 enough None dir first s h b walk = (s.files, tt, λ r. (λ x. x, λ x. x), λ bytes log there few d. (there, (d, refl)))
 enough (Some told) dir first s h b walk = enough_told told dir first s h b walk

@@ -8,16 +8,16 @@ use Rattle.std.proofs.lemmas.Str.{IsUtf8-from_is_utf8}
 use Rattle.std.specs.List.{list_any}
 use Rattle.std.specs.Str.{is_utf8}
 use Rattle.kc_text.specs.Lexemes.{Lexeme}
-use Rattle.kc_text.specs.Lines.{Left}
+use Rattle.kc_text.specs.Lines.{UnreadLines}
 use Rattle.kc_expr.specs.Names.{same_name, mention}
 use Rattle.kc_expr.proofs.NamesLemmas.{same_name-refl}
 use Rattle.kc_read.specs.declared.refusal.Code.TheVariants as code
-use Rattle.kc_read.specs.Expansion.{Around, Log, Refused, Rest, NextStatement, bytes_cause, is_source, lexemes, of_file, sourcing_cause, at_end, unclosed, too_long, no_tokens, blank, bad_line, bad_effect, statement, bad_source, refused_inside, source, lines_of}
+use Rattle.kc_read.specs.Expansion.{FileContext, Log, Refused, Rest, NextStatement, bytes_cause, is_source, lexemes, of_file, sourcing_cause, at_end, unclosed, too_long, no_tokens, blank, bad_line, over_limit, statement, bad_source, refused_inside, source, lines_of}
 use Rattle.kc_read.specs.Files.{Files}
-use Rattle.kc_read.specs.Lines.{Context, After, Cause, ReadsSource, begins_with, cause, finish, plain_text, text_of}
-use Rattle.kc_read.specs.Openings.{asked}
-use Rattle.kc_read.specs.Sources.{Names}
-use Rattle.kc_read.specs.Statements.{Placed, Written, SourceLine}
+use Rattle.kc_read.specs.Lines.{LineContext, After, Cause, ReadsSource, begins_with, cause, finish, plain_text, text_of}
+use Rattle.kc_read.specs.OpenedFiles.{asked}
+use Rattle.kc_read.specs.Sources.{SourceNames}
+use Rattle.kc_read.specs.Statements.{Located, Named, SourceLine}
 use Rattle.kc_read.proofs.FileLemmas.{same_name_eq}
 use Rattle.kc_read.proofs.OneExpansion.{none_or_some, one_some, source_line}
 use Rattle.kc_read.proofs.SourceLines as lines
@@ -29,21 +29,21 @@ use Rattle.kc_load.specs.Loaded.{AreSources}
 use Rattle.kc_text.specs.Limits.{last_count}
 use Rattle.kc_load.specs.Steps.{was_asked}
 use Rattle.kc_load.proofs.HeldLemmas.{asked_cases, asked_itself, asked_still, only_element}
-use Rattle.kc_load.proofs.Walks.{IsMetIn, Walks, stopped, passed, missing, taken, all_passed, first_met, first_or_later, grows, meets, no_name, split}
+use Rattle.kc_load.proofs.Walks.{IsMetIn, Walks, stopped, passed, missing, taken, all_passed, first_is_met, first_or_later, grows, meets, no_name, split}
 use Rattle.kc_load.proofs.Walks as walks
 
 -- ---- The names behind a line
 
-read_on : {A : Type 0} (o : Result A Cause) (Next : A → Result Written Cause → Type 0) (s : Written) → After o Next (Ok s) → (a : A) × Next a (Ok s)
+read_on : {A : Type 0} (o : Result A Cause) (Next : A → Result Named Cause → Type 0) (s : Named) → After o Next (Ok s) → (a : A) × Next a (Ok s)
 read_on (Ok a) Next s h = (a, h)
 read_on (Err c) Next s h = absurd (let e : Ok s ≡ Err c = h in cc)
 
-ends_as : (s t : Written) (ts : List Lexeme) → Ok s ≡ finish t ts → s ≡ t
+ends_as : (s t : Named) (ts : List Lexeme) → Ok s ≡ finish t ts → s ≡ t
 ends_as s t [] e = cc
 ends_as s t (x ∷ xs) e = absurd cc
 
 -- nothing else than a `source` line
-reads_source : (ts : List Lexeme) (s : Written) → ReadsSource ts (Ok s) → is_source s ≡ true
+reads_source : (ts : List Lexeme) (s : Named) → ReadsSource ts (Ok s) → is_source s ≡ true
 reads_source ts s h =
     let (t, plain) = read_on (text_of ts) (λ t. After (plain_text t) (λ u r. r ≡ finish (SourceLine u) (drop 1 ts))) s h in
     let (u, e) = read_on (plain_text t) (λ u r. r ≡ finish (SourceLine u) (drop 1 ts)) s plain in
@@ -51,14 +51,15 @@ reads_source ts s h =
     ap is_source is
 
 -- behind a statement that is no `source` line the names are those before it
-names_plain : (l m : Left) (c : Context) (s : Written) (ns : List (List ℕ)) → NextStatement l m c (Ok s) → is_source s ≡ false → Names l ns → Names m ns
+names_plain : (l m : UnreadLines) (c : LineContext) (s : Named) (ns : List (List ℕ)) → NextStatement l m c (Ok s) → is_source s ≡ false → SourceNames l ns → SourceNames m ns
 names_plain l m c s ns n plain d = elim (cases_Bool (begins_with (codes "source") (lexemes n.tokens))) [
   | inl b ↦ absurd (both_ways (is_source s) plain (reads_source (drop 1 (lexemes n.tokens)) s (begins_source c (lexemes n.tokens) (Ok s) b n.reads)))
   | inr b ↦ lines.after_other l m ns (n.tokens, n.next, b) d
 ]
 
 -- a `source` line names its file first
-names_source : (l m : Left) (c : Context) (name : List ℕ) (ns : List (List ℕ)) → NextStatement l m c (Ok (SourceLine name)) → Names l ns → (more : List (List ℕ)) × (ns ≡ name ∷ more) × Names m more
+names_source : (l m : UnreadLines) (c : LineContext) (name : List ℕ) (ns : List (List ℕ)) → NextStatement l m c (Ok (SourceLine name)) → SourceNames l ns →
+    (more : List (List ℕ)) × (ns ≡ name ∷ more) × SourceNames m more
 names_source l m c name ns n d =
     let b = source_begins c (lexemes n.tokens) name n.reads in
     lines.after_source l m name ns (n.tokens, n.next, b, begins_source c (lexemes n.tokens) (Ok (SourceLine name)) b n.reads) d
@@ -77,10 +78,13 @@ few_lines name bytes n (Some c) e f =
     by false g h = grind (arith, nat_tests)
 
 -- and it is not open
-may_open : (files : Files) (opens : List (List ℕ)) (n : ℕ) (name bytes : List ℕ) → sourcing_cause files opens n name ≡ None → files name ≡ Some bytes → (list_any (same_name name) opens ≡ false) × (n + lines_of bytes ≤ most_lines)
+may_open : (files : Files) (opens : List (List ℕ)) (n : ℕ) (name bytes : List ℕ) → sourcing_cause files opens n name ≡ None → files name ≡ Some bytes →
+    (list_any (same_name name) opens ≡ false) × (n + lines_of bytes ≤ most_lines)
 may_open files opens n name bytes h there = by (list_any (same_name name) opens) (nat_le 64 (length opens)) refl h
   where
-    by : (open_now full : Bool) → list_any (same_name name) opens ≡ open_now → cond open_now (Some (of_file code.InclusionLoop name)) (cond full (Some (cause code.TooDeep)) (bytes_cause name n (files name))) ≡ None → (list_any (same_name name) opens ≡ false) × (n + lines_of bytes ≤ most_lines)
+    by : (open_now full : Bool) → list_any (same_name name) opens ≡ open_now →
+        cond open_now (Some (of_file code.InclusionLoop name)) (cond full (Some (cause code.TooDeep)) (bytes_cause name n (files name))) ≡ None →
+        (list_any (same_name name) opens ≡ false) × (n + lines_of bytes ≤ most_lines)
     by true full e g = absurd cc
     by false true e g = absurd cc
     by false false e g = (e, few_lines name bytes n (files name) g there)
@@ -143,7 +147,7 @@ module _ (told : List ℕ → Option (List ℕ)) (dir : List ℕ) where
         by false g = shut z c a (not_open z h g) e
 
     -- The walk goes into a file that may be opened, and on behind it.
-    pub record Enters (bytes : List ℕ) (counted : ℕ) (rest w : List (List ℕ)) (m : ℕ) (b : Bool) : Type 0 where
+    pub record Enters (bytes : List ℕ) (total_lines : ℕ) (rest w : List (List ℕ)) (m : ℕ) (b : Bool) : Type 0 where
       pub names : List (List ℕ)
       pub sources : AreSources bytes names
       pub before : List (List ℕ)
@@ -153,14 +157,16 @@ module _ (told : List ℕ → Option (List ℕ)) (dir : List ℕ) where
       pub over : Bool
       pub walk : Walks (Some told) dir before count names after count_after over
       pub closed : IsClosed (opens ++ x ∷ []) before
-      pub fewer : count ≤ counted + lines_of bytes
+      pub fewer : count ≤ total_lines + lines_of bytes
       pub grown : (y : List ℕ) → IsMetIn after y → IsMetIn w y
       pub met : IsMetIn w x
       pub leaves : over ≡ false → IsClosed (opens ++ x ∷ []) after → IsClosed opens after × Walks (Some told) dir after count_after rest w m b
 
     -- a file that was not asked for before
-    entered_new : (bytes : List ℕ) (counted : ℕ) (rest v w names : List (List ℕ)) (n m : ℕ) (b : Bool) → all x ≡ Some bytes → n ≤ counted → IsClosed opens v → was_asked v x ≡ false → AreSources bytes names → Walks (Some told) dir (mention v x) (min (n + lines_of bytes) last_count) (names ++ rest) w m b → Enters bytes counted rest w m b
-    entered_new bytes counted rest v w names n m b there le shut new are d = elim (split d names rest refl) [
+    entered_new : (bytes : List ℕ) (total_lines : ℕ) (rest v w names : List (List ℕ)) (n m : ℕ) (b : Bool) → all x ≡ Some bytes → n ≤ total_lines →
+        IsClosed opens v → was_asked v x ≡ false → AreSources bytes names →
+        Walks (Some told) dir (mention v x) (min (n + lines_of bytes) last_count) (names ++ rest) w m b → Enters bytes total_lines rest w m b
+    entered_new bytes total_lines rest v w names n m b there le shut new are d = elim (split d names rest refl) [
       | inl r ↦ record {
         names = names;
         sources = are;
@@ -193,9 +199,11 @@ module _ (told : List ℕ → Option (List ℕ)) (dir : List ℕ) where
       }
     ]
 
-  pub enter : {opens v rest w : List (List ℕ)} {x : List ℕ} {n m : ℕ} {b : Bool} (bytes : List ℕ) (counted : ℕ) → all x ≡ Some bytes → list_any (same_name x) opens ≡ false → n ≤ counted → counted ≤ most_lines → IsClosed opens v → Walks (Some told) dir v n (x ∷ rest) w m b → Enters opens x bytes counted rest w m b
-  enter bytes counted there free le lim shut (stopped v xs n lt) = absurd (omega arith)
-  enter {opens} bytes counted there free le lim shut (passed v xs w x n m b met d) =
+  pub enter : {opens v rest w : List (List ℕ)} {x : List ℕ} {n m : ℕ} {b : Bool} (bytes : List ℕ) (total_lines : ℕ) → all x ≡ Some bytes →
+      list_any (same_name x) opens ≡ false → n ≤ total_lines → total_lines ≤ most_lines → IsClosed opens v → Walks (Some told) dir v n (x ∷ rest) w m b →
+      Enters opens x bytes total_lines rest w m b
+  enter bytes total_lines there free le lim shut (stopped v xs n lt) = absurd (omega arith)
+  enter {opens} bytes total_lines there free le lim shut (passed v xs w x n m b met d) =
       let now = met (IsUtf8-from_is_utf8 x (is_found x bytes there).0) in
       let own = shut x bytes now free there in
       record {
@@ -213,28 +221,31 @@ module _ (told : List ℕ → Option (List ℕ)) (dir : List ℕ) where
         met = λ t. grows d x now;
         leaves = λ e c. (shut, d);
       }
-  enter bytes counted there free le lim shut (missing v xs w x n m b new none d) =
+  enter bytes total_lines there free le lim shut (missing v xs w x n m b new none d) =
       none_or_some (told (path_of dir x)) bytes none (is_found x bytes there).1
-  enter {opens} bytes counted there free le lim shut (taken v xs w names x c n m b new some are d) =
+  enter {opens} bytes total_lines there free le lim shut (taken v xs w names x c n m b new some are d) =
       let same : c ≡ bytes = one_some (told (path_of dir x)) c bytes some (is_found x bytes there).1 in
-      entered_new opens x bytes counted xs v w names n m b there le shut new (subst (λ k. AreSources k names) same are) (subst (λ k. Walks (Some told) dir (mention v x) (min (n + lines_of k) last_count) (names ++ xs) w m b) same d)
+      entered_new opens x bytes total_lines xs v w names n m b there le shut new (subst (λ k. AreSources k names) same are)
+      (subst (λ k. Walks (Some told) dir (mention v x) (min (n + lines_of k) last_count) (names ++ xs) w m b) same d)
 
   -- ---- The rest of a file
 
   -- where the rest of the file is whole, so was the walk
-  abbrev pub Ends : Around → Result Log Refused → List (List ℕ) → ℕ → Bool → Type 0
-  Ends a (Ok log) w m b = (b ≡ false) × IsClosed a.open_files w × (m ≤ log.counted) × (log.counted ≤ most_lines)
+  abbrev pub Ends : FileContext → Result Log Refused → List (List ℕ) → ℕ → Bool → Type 0
+  Ends a (Ok log) w m b = (b ≡ false) × IsClosed a.open_files w × (m ≤ log.total_lines) × (log.total_lines ≤ most_lines)
   Ends a (Err e) w m b = Unit {0}
 
   -- the walk asked for these names
-  pub record Follows (a : Around) (r : Result Log Refused) (names w : List (List ℕ)) (m : ℕ) (b : Bool) : Type 0 where
+  pub record Follows (a : FileContext) (r : Result Log Refused) (names w : List (List ℕ)) (m : ℕ) (b : Bool) : Type 0 where
     pub asks : (y : List ℕ) → Contains names y → IsMetIn w y
     pub ends : Ends a r w m b
 
-  none_asked : (a : Around) (e : Refused) (w : List (List ℕ)) (m : ℕ) (b : Bool) → Follows a (Err e) [] w m b
+  none_asked : (a : FileContext) (e : Refused) (w : List (List ℕ)) (m : ℕ) (b : Bool) → Follows a (Err e) [] w m b
   none_asked a e w m b = record { asks = λ y c. absurd (no_name y c); ends = tt }
 
-  pub follow : {a : Around} {l : Left} {own : List (Placed Written)} {log : Log} {r : Result Log Refused} (d : Rest all a l own log r) {v w : List (List ℕ)} {n m : ℕ} {b : Bool} (ns : List (List ℕ)) → Names l ns → Walks (Some told) dir v n ns w m b → IsClosed a.open_files v → n ≤ log.counted → log.counted ≤ most_lines → Follows a r (asked d) w m b
+  pub follow : {a : FileContext} {l : UnreadLines} {own : List (Located Named)} {log : Log} {r : Result Log Refused} (d : Rest all a l own log r)
+      {v w : List (List ℕ)} {n m : ℕ} {b : Bool} (ns : List (List ℕ)) → SourceNames l ns → Walks (Some told) dir v n ns w m b → IsClosed a.open_files v →
+      n ≤ log.total_lines → log.total_lines ≤ most_lines → Follows a r (asked d) w m b
   follow (at_end a l own log none closed) ns names walk shut le lim =
       let e = walks.at_end walk (lines.one_list l ns [] names (lines.at_end l none)) (omega arith) in
       record { asks = λ y c. absurd (no_name y c); ends = (e.2, subst (IsClosed a.open_files) e.0 shut, let k = e.1 in omega arith, lim) }
@@ -243,16 +254,16 @@ module _ (told : List ℕ → Option (List ℕ)) (dir : List ℕ) where
   follow (no_tokens a l m own log ts why next) ns names walk shut le lim = none_asked a _ _ _ _
   follow (blank a l m own log r next d) ns names walk shut le lim = follow d ns (lines.after_other l m ns ([], next, refl) names) walk shut le lim
   follow (bad_line a l m own log c n) ns names walk shut le lim = none_asked a _ _ _ _
-  follow (bad_effect a l m own log s c n f) ns names walk shut le lim = none_asked a _ _ _ _
+  follow (over_limit a l m own log s c n f) ns names walk shut le lim = none_asked a _ _ _ _
   follow (statement a l m own log s r n plain f d) ns names walk shut le lim = follow d ns (names_plain l m _ s ns n plain names) walk shut le lim
   follow (bad_source a l l' own log name c next f) {v} {w} {n} {m} {b} ns names walk shut le lim =
       let x = names_source l l' _ name ns next names in
-      let met = first_met (omega arith) (subst (λ zs. Walks (Some told) dir v n zs w m b) x.1 walk) in
+      let met = first_is_met (omega arith) (subst (λ zs. Walks (Some told) dir v n zs w m b) x.1 walk) in
       record { asks = λ y c. subst (IsMetIn w) (only_element name y c) met; ends = tt }
   follow (refused_inside a l l' own log name bytes e next free there d) {v} {w} {n} {m} {b} ns names walk shut le lim =
       let x = names_source l l' _ name ns next names in
-      let may = may_open all a.open_files log.counted name bytes free there in
-      let en = enter bytes log.counted there may.0 le lim shut (subst (λ zs. Walks (Some told) dir v n zs w m b) x.1 walk) in
+      let may = may_open all a.open_files log.total_lines name bytes free there in
+      let en = enter bytes log.total_lines there may.0 le lim shut (subst (λ zs. Walks (Some told) dir v n zs w m b) x.1 walk) in
       let f = follow d en.names en.sources en.walk en.closed en.fewer may.1 in
       record {
         asks = λ y c. elim (first_or_later name (asked d) y c) [
@@ -263,8 +274,8 @@ module _ (told : List ℕ → Option (List ℕ)) (dir : List ℕ) where
       }
   follow (source a l l' own log more name bytes r next free there d g) {v} {w} {n} {m} {b} ns names walk shut le lim =
       let x = names_source l l' _ name ns next names in
-      let may = may_open all a.open_files log.counted name bytes free there in
-      let en = enter bytes log.counted there may.0 le lim shut (subst (λ zs. Walks (Some told) dir v n zs w m b) x.1 walk) in
+      let may = may_open all a.open_files log.total_lines name bytes free there in
+      let en = enter bytes log.total_lines there may.0 le lim shut (subst (λ zs. Walks (Some told) dir v n zs w m b) x.1 walk) in
       let f = follow d en.names en.sources en.walk en.closed en.fewer may.1 in
       let on = en.leaves f.ends.0 f.ends.1 in
       let h = follow g x.0 x.2 on.1 on.0 f.ends.2 f.ends.3 in

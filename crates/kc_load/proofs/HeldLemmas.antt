@@ -14,7 +14,8 @@ cons_cases true bytes c o e = inl (refl, cc)
 cons_cases false bytes c o e = inr (refl, e)
 
 -- what is held with one file more is that file, or was held before
-pub held_cases : (name bytes : List ℕ) (read : List File) (x c : List ℕ) → bytes_in ((name, bytes) ∷ read) x ≡ Some c → ((x ≡ name) × (bytes ≡ c)) ⊎ ((same_name x name ≡ false) × (bytes_in read x ≡ Some c))
+pub held_cases : (name bytes : List ℕ) (read : List File) (x c : List ℕ) → bytes_in ((name, bytes) ∷ read) x ≡ Some c →
+    ((x ≡ name) × (bytes ≡ c)) ⊎ ((same_name x name ≡ false) × (bytes_in read x ≡ Some c))
 held_cases name bytes read x c e =
     elim (cons_cases (same_name x name) bytes c (bytes_in read x) e) [
       | inl here ↦ inl (same_name_eq x name here.0, here.1)

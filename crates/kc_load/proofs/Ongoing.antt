@@ -1,8 +1,8 @@
 -- What holds while files are loaded.
 use Rattle.std.proofs.Common.{◌≡◌, ◌⊎◌, ℕ, List, min, true, Some, Contains, IsUtf8}
 use Rattle.kc_read.specs.Files.{bytes_in}
-use Rattle.kc_load.specs.Folders.{Told}
-use Rattle.kc_load.specs.Loaded.{AreSources, AreRead, File, IsWhole, Reached, line_total}
+use Rattle.kc_load.specs.Folders.{FolderFiles}
+use Rattle.kc_load.specs.Loaded.{AreSources, AreRead, File, IsReadWhole, Reached, line_total}
 use Rattle.kc_text.specs.Limits.{last_count}
 use Rattle.kc_load.specs.Steps.{State, was_asked}
 
@@ -16,7 +16,7 @@ pub record AreMet (s : State) (bytes : List ℕ) : Type 0 where
   pub sources : AreSources bytes names
   pub met : (name : List ℕ) → Contains names name → IsUtf8 name → IsMet s name
 
-pub record Ongoing (told : Told) (dir first : List ℕ) (s : State) : Type 0 where
+pub record Ongoing (told : FolderFiles) (dir first : List ℕ) (s : State) : Type 0 where
   pub read : List File
   pub held : (name : List ℕ) → s.files name ≡ bytes_in read name
   pub are_read : AreRead told dir first read
@@ -24,6 +24,6 @@ pub record Ongoing (told : Told) (dir first : List ℕ) (s : State) : Type 0 whe
   pub text : IsUtf8 first
   pub first_is : IsMet s first
   pub sources_are : (file bytes : List ℕ) → bytes_in read file ≡ Some bytes → AreMet s bytes
-  pub answers : (name : List ℕ) → was_asked s.asked name ≡ true → IsWhole told dir read name
+  pub answers : (name : List ℕ) → was_asked s.asked name ≡ true → IsReadWhole told dir read name
   pub were_asked : (name bytes : List ℕ) → bytes_in read name ≡ Some bytes → was_asked s.asked name ≡ true
   pub waiting_are : (name : List ℕ) → Contains s.waiting name → IsUtf8 name → Reached (bytes_in read) first name

@@ -3,23 +3,23 @@ use Rattle.std.proofs.Common.{◌≡◌, ◌⊎◌, ℕ, ◌≤◌, true, false,
 use Rattle.std.proofs.lemmas.List.Elements.{Contains-append_left, Contains-append_right, Contains-append_cases}
 use Rattle.kc_expr.specs.Names.{same_name, mention}
 use Rattle.kc_read.specs.Files.{bytes_in}
-use Rattle.kc_load.specs.Folders.{Told, AnswersAs, path_of}
+use Rattle.kc_load.specs.Folders.{FolderFiles, AnswersAs, path_of}
 use Rattle.kc_read.specs.Limits.{most_lines}
-use Rattle.kc_load.specs.Loaded.{AreRead, File, IsWhole, Reached, sourced, line_total}
+use Rattle.kc_load.specs.Loaded.{AreRead, File, IsReadWhole, Reached, sourced, line_total}
 use Rattle.kc_text.specs.Limits.{last_count}
-use Rattle.kc_load.specs.Steps.{Asks, IsDue, State, Takes, Visits, no_text, known, no_file, file, was_asked}
+use Rattle.kc_load.specs.Steps.{AddsName, IsDue, State, AddsFile, Visits, no_text, known, no_file, file, was_asked}
 use Rattle.kc_load.proofs.HeldLemmas.{held_cases, held_new, held_old, reached_more, asked_still, asked_itself, asked_cases, apart_asked, only_element}
 use Rattle.kc_load.proofs.ListLemmas.{reversed_in, reversed_out}
 use Rattle.kc_load.proofs.Ongoing.{AreMet, IsMet, Ongoing}
 
-pub absent_if_new : (told : Told) (dir first : List ℕ) (s : State) (h : Ongoing told dir first s) (name : List ℕ) → was_asked s.asked name ≡ false → bytes_in h.read name ≡ None
+pub absent_if_new : (told : FolderFiles) (dir first : List ℕ) (s : State) (h : Ongoing told dir first s) (name : List ℕ) → was_asked s.asked name ≡ false → bytes_in h.read name ≡ None
 absent_if_new told dir first s h name new = by (bytes_in h.read name) refl
   where
     by : (o : Option (List ℕ)) → bytes_in h.read name ≡ o → o ≡ None
     by None e = refl
     by (Some b) e = absurd (let clash : true ≡ false = sym (h.were_asked name b e) ∙ new in cc)
 
-module _ (told : Told) (dir first : List ℕ) (s : State) (h : Ongoing told dir first s) (rest : List (List ℕ)) (name : List ℕ) (last : s.waiting ≡ rest ++ name ∷ []) where
+module _ (told : FolderFiles) (dir first : List ℕ) (s : State) (h : Ongoing told dir first s) (rest : List (List ℕ)) (name : List ℕ) (last : s.waiting ≡ rest ++ name ∷ []) where
   -- the name waited
   waited : Contains s.waiting name
   waited = subst (λ (l : List (List ℕ)). Contains l name) (sym last) (Contains-append_right rest (name ∷ []) name (0, omega arith, refl))
@@ -35,14 +35,17 @@ module _ (told : Told) (dir first : List ℕ) (s : State) (h : Ongoing told dir 
   ]
 
   -- a met name stays met, where this one is asked for if it is text
-  met_still : (n : State) → ((x : List ℕ) → was_asked s.asked x ≡ true → was_asked n.asked x ≡ true) → ((x : List ℕ) → Contains rest x → Contains n.waiting x) → (IsUtf8 name → was_asked n.asked name ≡ true) → (x : List ℕ) → IsUtf8 x → IsMet s x → IsMet n x
+  met_still : (n : State) → ((x : List ℕ) → was_asked s.asked x ≡ true → was_asked n.asked x ≡ true) → ((x : List ℕ) → Contains rest x → Contains n.waiting x) →
+      (IsUtf8 name → was_asked n.asked name ≡ true) → (x : List ℕ) → IsUtf8 x → IsMet s x → IsMet n x
   met_still n asked waits done x text (inl a) = inl (asked x a)
   met_still n asked waits done x text (inr c) = elim (waits_or_is x c) [
     | inl before ↦ inr (waits x before)
     | inr is ↦ inl (subst (λ (y : List ℕ). was_asked n.asked y ≡ true) (sym is) (done (subst IsUtf8 is text)))
   ]
 
-  are_met_still : (n : State) → ((x : List ℕ) → was_asked s.asked x ≡ true → was_asked n.asked x ≡ true) → ((x : List ℕ) → Contains rest x → Contains n.waiting x) → (IsUtf8 name → was_asked n.asked name ≡ true) → (bytes : List ℕ) → AreMet s bytes → AreMet n bytes
+  are_met_still : (n : State) → ((x : List ℕ) → was_asked s.asked x ≡ true → was_asked n.asked x ≡ true) →
+      ((x : List ℕ) → Contains rest x → Contains n.waiting x) → (IsUtf8 name → was_asked n.asked name ≡ true) → (bytes : List ℕ) → AreMet s bytes →
+      AreMet n bytes
   are_met_still n asked waits done bytes m = record {
     names = m.names;
     sources = m.sources;
@@ -74,12 +77,12 @@ module _ (told : Told) (dir first : List ℕ) (s : State) (h : Ongoing told dir 
     reached_now = h.waiting_are name waited due.utf8
 
     -- there is no file of the name
-    missing : (n : State) → AnswersAs told (path_of dir name) None → Asks name (record s { waiting = rest }) n → Ongoing told dir first n
+    missing : (n : State) → AnswersAs told (path_of dir name) None → AddsName name (record s { waiting = rest }) n → Ongoing told dir first n
     missing n answer asks =
         let asked = λ (x : List ℕ) (a : was_asked s.asked x ≡ true). subst (λ (l : List (List ℕ)). was_asked l x ≡ true) (sym asks.asked_are) (asked_still s.asked name due.is_new x a) in
         let waits = λ (x : List ℕ) (c : Contains rest x). subst (λ (l : List (List ℕ)). Contains l x) (sym asks.waiting_is) c in
         let done : was_asked n.asked name ≡ true = subst (λ (l : List (List ℕ)). was_asked l name ≡ true) (sym asks.asked_are) (asked_itself s.asked name due.is_new) in
-        let here : IsWhole told dir h.read name = subst (λ (o : Option (List ℕ)). AnswersAs told (path_of dir name) o) (sym absent) answer in
+        let here : IsReadWhole told dir h.read name = subst (λ (o : Option (List ℕ)). AnswersAs told (path_of dir name) o) (sym absent) answer in
         record {
           read = h.read;
           held = λ x. ap (λ f. f x) asks.files_are ∙ h.held x;
@@ -90,14 +93,15 @@ module _ (told : Told) (dir first : List ℕ) (s : State) (h : Ongoing told dir 
           sources_are = λ f bytes e. are_met_still n asked waits (λ t. done) bytes (h.sources_are f bytes e);
           answers = λ x a. elim (asked_cases s.asked name due.is_new x (subst (λ (l : List (List ℕ)). was_asked l x ≡ true) asks.asked_are a)) [
             | inl before ↦ h.answers x before
-            | inr is ↦ subst (IsWhole told dir h.read) (sym is) here
+            | inr is ↦ subst (IsReadWhole told dir h.read) (sym is) here
           ];
           were_asked = λ x bytes e. asked x (h.were_asked x bytes e);
           waiting_are = λ x c text. h.waiting_are x (waits_still x (subst (λ (l : List (List ℕ)). Contains l x) asks.waiting_is c)) text;
         }
 
     -- the file of the name is read
-    module _ (within : s.lines ≤ most_lines) (n middle : State) (bytes : List ℕ) (answer : AnswersAs told (path_of dir name) (Some bytes)) (asks : Asks name (record s { waiting = rest }) middle) (takes : Takes name bytes middle n) where
+    module _ (within : s.lines ≤ most_lines) (n middle : State) (bytes : List ℕ) (answer : AnswersAs told (path_of dir name) (Some bytes))
+        (asks : AddsName name (record s { waiting = rest }) middle) (takes : AddsFile name bytes middle n) where
       abbrev read_now : List File
       read_now = (name, bytes) ∷ h.read
 
@@ -152,10 +156,10 @@ module _ (told : Told) (dir first : List ℕ) (s : State) (h : Ongoing told dir 
         met = λ x among text. inr (subst (λ (l : List (List ℕ)). Contains l x) (sym waiting_now) (Contains-append_right rest (reverse takes.names) x (reversed_in takes.names x among)));
       }
 
-      whole_here : IsWhole told dir read_now name
+      whole_here : IsReadWhole told dir read_now name
       whole_here = subst (λ (o : Option (List ℕ)). AnswersAs told (path_of dir name) o) (sym (held_new name bytes h.read)) answer
 
-      whole_there : (x : List ℕ) → was_asked s.asked x ≡ true → IsWhole told dir read_now x
+      whole_there : (x : List ℕ) → was_asked s.asked x ≡ true → IsReadWhole told dir read_now x
       whole_there x a = subst (λ (o : Option (List ℕ)). AnswersAs told (path_of dir x) o) (sym (held_old name bytes h.read x (apart_asked s.asked name due.is_new x a))) (h.answers x a)
 
       taken : Ongoing told dir first n
@@ -172,7 +176,7 @@ module _ (told : Told) (dir first : List ℕ) (s : State) (h : Ongoing told dir 
         ];
         answers = λ x a. elim (asked_cases s.asked name due.is_new x (subst (λ (l : List (List ℕ)). was_asked l x ≡ true) asked_now a)) [
           | inl before ↦ whole_there x before
-          | inr is ↦ subst (IsWhole told dir read_now) (sym is) whole_here
+          | inr is ↦ subst (IsReadWhole told dir read_now) (sym is) whole_here
         ];
         were_asked = λ x c e. elim (held_cases name bytes h.read x c e) [
           | inl here ↦ subst (λ (y : List ℕ). was_asked n.asked y ≡ true) (sym here.0) done

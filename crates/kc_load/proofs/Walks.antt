@@ -4,12 +4,12 @@ use Rattle.std.proofs.lemmas.Bool.{true≢false}
 use Rattle.std.proofs.lemmas.List.{reverse-append, reverse-reverse}
 use Rattle.std.proofs.lemmas.List.Elements.{Contains-append_right, Contains-append_cases}
 use Rattle.kc_expr.specs.Names.{mention}
-use Rattle.kc_load.specs.Folders.{Told, AnswersAs, path_of}
+use Rattle.kc_load.specs.Folders.{FolderFiles, AnswersAs, path_of}
 use Rattle.kc_read.specs.Limits.{most_lines}
 use Rattle.kc_read.specs.Expansion.{lines_of}
 use Rattle.kc_load.specs.Loaded.{AreSources}
 use Rattle.kc_text.specs.Limits.{last_count}
-use Rattle.kc_load.specs.Steps.{State, Visits, no_text, known, no_file, file, begun, was_asked}
+use Rattle.kc_load.specs.Steps.{State, Visits, no_text, known, no_file, file, initial_state, was_asked}
 use Rattle.kc_load.proofs.HeldLemmas.{asked_still, asked_itself, only_element}
 
 -- the name was asked for, if it is text
@@ -18,12 +18,14 @@ IsMetIn asked name = IsUtf8 name → was_asked asked name ≡ true
 
 -- From the names that were asked for and the lines counted, through these names and what their files source: then these
 -- names were asked for and these lines counted, and whether the walk was stopped, over the limit.
-pub data Walks (told : Told) (dir : List ℕ) : List (List ℕ) → ℕ → List (List ℕ) → List (List ℕ) → ℕ → Bool → Type 0 where
+pub data Walks (told : FolderFiles) (dir : List ℕ) : List (List ℕ) → ℕ → List (List ℕ) → List (List ℕ) → ℕ → Bool → Type 0 where
   ended : (v : List (List ℕ)) (n : ℕ) → Walks told dir v n [] v n false
   stopped : (v xs : List (List ℕ)) (n : ℕ) → most_lines < n → Walks told dir v n xs v n true
   passed : (v xs w : List (List ℕ)) (x : List ℕ) (n m : ℕ) (b : Bool) → IsMetIn v x → Walks told dir v n xs w m b → Walks told dir v n (x ∷ xs) w m b
-  missing : (v xs w : List (List ℕ)) (x : List ℕ) (n m : ℕ) (b : Bool) → was_asked v x ≡ false → AnswersAs told (path_of dir x) None → Walks told dir (mention v x) n xs w m b → Walks told dir v n (x ∷ xs) w m b
-  taken : (v xs w names : List (List ℕ)) (x bytes : List ℕ) (n m : ℕ) (b : Bool) → was_asked v x ≡ false → AnswersAs told (path_of dir x) (Some bytes) → AreSources bytes names → Walks told dir (mention v x) (min (n + lines_of bytes) last_count) (names ++ xs) w m b → Walks told dir v n (x ∷ xs) w m b
+  missing : (v xs w : List (List ℕ)) (x : List ℕ) (n m : ℕ) (b : Bool) → was_asked v x ≡ false → AnswersAs told (path_of dir x) None →
+      Walks told dir (mention v x) n xs w m b → Walks told dir v n (x ∷ xs) w m b
+  taken : (v xs w names : List (List ℕ)) (x bytes : List ℕ) (n m : ℕ) (b : Bool) → was_asked v x ≡ false → AnswersAs told (path_of dir x) (Some bytes) →
+      AreSources bytes names → Walks told dir (mention v x) (min (n + lines_of bytes) last_count) (names ++ xs) w m b → Walks told dir v n (x ∷ xs) w m b
 
 pub no_name : (y : List ℕ) → Contains {X = List ℕ} [] y → ⊥
 no_name y h = let lt = h.1 in absurd (omega arith)
@@ -37,7 +39,7 @@ first_or_later x xs y h = elim (Contains-append_cases (x ∷ []) xs y h) [
 -- ---- What was asked for
 
 -- what was asked for before still is
-pub grows : {told : Told} {dir : List ℕ} {v xs w : List (List ℕ)} {n m : ℕ} {b : Bool} (d : Walks told dir v n xs w m b) (y : List ℕ) → was_asked v y ≡ true → was_asked w y ≡ true
+pub grows : {told : FolderFiles} {dir : List ℕ} {v xs w : List (List ℕ)} {n m : ℕ} {b : Bool} (d : Walks told dir v n xs w m b) (y : List ℕ) → was_asked v y ≡ true → was_asked w y ≡ true
 grows (ended v n) y h = h
 grows (stopped v xs n lt) y h = h
 grows (passed v xs w x n m b met d) y h = grows d y h
@@ -45,7 +47,7 @@ grows (missing v xs w x n m b new none d) y h = grows d y (asked_still v x new y
 grows (taken v xs w names x bytes n m b new some are d) y h = grows d y (asked_still v x new y h)
 
 -- a walk that was not stopped asked for all its names
-pub meets : {told : Told} {dir : List ℕ} {v xs w : List (List ℕ)} {n m : ℕ} {b : Bool} (d : Walks told dir v n xs w m b) → b ≡ false → (y : List ℕ) → Contains xs y → IsMetIn w y
+pub meets : {told : FolderFiles} {dir : List ℕ} {v xs w : List (List ℕ)} {n m : ℕ} {b : Bool} (d : Walks told dir v n xs w m b) → b ≡ false → (y : List ℕ) → Contains xs y → IsMetIn w y
 meets (ended v n) e y h = absurd (no_name y h)
 meets (stopped v xs n lt) e y h = absurd (true≢false e)
 meets (passed v xs w x n m b met d) e y h = elim (first_or_later x xs y h) [
@@ -62,20 +64,20 @@ meets (taken v xs w names x bytes n m b new some are d) e y h = elim (first_or_l
 ]
 
 -- a walk within the limit asked for its first name
-pub first_met : {told : Told} {dir : List ℕ} {v xs w : List (List ℕ)} {x : List ℕ} {n m : ℕ} {b : Bool} → n ≤ most_lines → Walks told dir v n (x ∷ xs) w m b → IsMetIn w x
-first_met le (stopped v xs n lt) = absurd (omega arith)
-first_met le (passed v xs w x n m b met d) = λ t. grows d x (met t)
-first_met le (missing v xs w x n m b new none d) = λ t. grows d x (asked_itself v x new)
-first_met le (taken v xs w names x bytes n m b new some are d) = λ t. grows d x (asked_itself v x new)
+pub first_is_met : {told : FolderFiles} {dir : List ℕ} {v xs w : List (List ℕ)} {x : List ℕ} {n m : ℕ} {b : Bool} → n ≤ most_lines → Walks told dir v n (x ∷ xs) w m b → IsMetIn w x
+first_is_met le (stopped v xs n lt) = absurd (omega arith)
+first_is_met le (passed v xs w x n m b met d) = λ t. grows d x (met t)
+first_is_met le (missing v xs w x n m b new none d) = λ t. grows d x (asked_itself v x new)
+first_is_met le (taken v xs w names x bytes n m b new some are d) = λ t. grows d x (asked_itself v x new)
 
 -- names that were all asked for are passed by
-pub all_passed : (told : Told) (dir : List ℕ) (v : List (List ℕ)) (n : ℕ) (xs : List (List ℕ)) → ((y : List ℕ) → Contains xs y → IsMetIn v y) → Walks told dir v n xs v n false
+pub all_passed : (told : FolderFiles) (dir : List ℕ) (v : List (List ℕ)) (n : ℕ) (xs : List (List ℕ)) → ((y : List ℕ) → Contains xs y → IsMetIn v y) → Walks told dir v n xs v n false
 all_passed told dir v n [] h = ended v n
 all_passed told dir v n (x ∷ xs) h =
     passed v xs v x n n false (h x (0, omega arith, refl)) (all_passed told dir v n xs (λ y c. h y (Contains-append_right (x ∷ []) xs y c)))
 
 -- without names nothing changes
-pub at_end : {told : Told} {dir : List ℕ} {v xs w : List (List ℕ)} {n m : ℕ} {b : Bool} → Walks told dir v n xs w m b → xs ≡ [] → n ≤ most_lines → (v ≡ w) × (m ≡ n) × (b ≡ false)
+pub at_end : {told : FolderFiles} {dir : List ℕ} {v xs w : List (List ℕ)} {n m : ℕ} {b : Bool} → Walks told dir v n xs w m b → xs ≡ [] → n ≤ most_lines → (v ≡ w) × (m ≡ n) × (b ≡ false)
 at_end (ended v n) e le = (refl, refl, refl)
 at_end (stopped v xs n lt) e le = absurd (omega arith)
 at_end (passed v xs w x n m b met d) e le = absurd cc
@@ -85,11 +87,12 @@ at_end (taken v xs w names x bytes n m b new some are d) e le = absurd cc
 -- ---- A walk through two lists of names
 
 -- a walk through the one list and then through the other, or one that was stopped in the first
-abbrev pub Splits : Told → List ℕ → List (List ℕ) → ℕ → List (List ℕ) → List (List ℕ) → List (List ℕ) → ℕ → Bool → Type 0
+abbrev pub Splits : FolderFiles → List ℕ → List (List ℕ) → ℕ → List (List ℕ) → List (List ℕ) → List (List ℕ) → ℕ → Bool → Type 0
 Splits told dir v n xs ys w m b =
     ((u : List (List ℕ)) × (k : ℕ) × Walks told dir v n xs u k false × Walks told dir u k ys w m b) ⊎ ((b ≡ true) × Walks told dir v n xs w m true)
 
-pub split : {told : Told} {dir : List ℕ} {v zs w : List (List ℕ)} {n m : ℕ} {b : Bool} (d : Walks told dir v n zs w m b) (xs ys : List (List ℕ)) → zs ≡ xs ++ ys → Splits told dir v n xs ys w m b
+pub split : {told : FolderFiles} {dir : List ℕ} {v zs w : List (List ℕ)} {n m : ℕ} {b : Bool} (d : Walks told dir v n zs w m b) (xs ys : List (List ℕ)) →
+    zs ≡ xs ++ ys → Splits told dir v n xs ys w m b
 split {told} {dir} {v} {zs} {w} {n} {m} {b} d [] ys e = inl (v, n, ended v n, subst (λ l. Walks told dir v n l w m b) e d)
 split (ended v n) (x ∷ xs) ys e = absurd cc
 split (stopped v zs n lt) (x ∷ xs) ys e = inr (refl, stopped v (x ∷ xs) n lt)
@@ -118,44 +121,55 @@ split {told} {dir} (taken v zs w names z bytes n m b new some are d) (x ∷ xs) 
 -- ---- The walk of the loading
 
 -- whatever walk goes on from here goes on from the first name
-abbrev pub IsOnWay : Told → List ℕ → List ℕ → State → Type 0
+abbrev pub IsOnWay : FolderFiles → List ℕ → List ℕ → State → Type 0
 IsOnWay told dir first s = (w : List (List ℕ)) (m : ℕ) (b : Bool) → Walks told dir s.asked s.lines (reverse s.waiting) w m b → Walks told dir [] 0 (first ∷ []) w m b
 
-pub walk_begins : (told : Told) (dir first : List ℕ) → IsOnWay told dir first (begun first)
+pub walk_begins : (told : FolderFiles) (dir first : List ℕ) → IsOnWay told dir first (initial_state first)
 walk_begins told dir first w m b d = d
 
-moved : (told : Told) (dir : List ℕ) (v v' xs xs' w : List (List ℕ)) (n n' m : ℕ) (b : Bool) → v ≡ v' → n ≡ n' → xs ≡ xs' → Walks told dir v n xs w m b → Walks told dir v' n' xs' w m b
+moved : (told : FolderFiles) (dir : List ℕ) (v v' xs xs' w : List (List ℕ)) (n n' m : ℕ) (b : Bool) → v ≡ v' → n ≡ n' → xs ≡ xs' → Walks told dir v n xs w m b → Walks told dir v' n' xs' w m b
 moved told dir v v' xs xs' w n n' m b e f g d =
     subst (λ l. Walks told dir v' n' l w m b) g (subst (λ k. Walks told dir v' k xs w m b) f (subst (λ u. Walks told dir u n xs w m b) e d))
 
 -- the turn of one name is one step of the walk
-pub walk_goes_on : (told : Told) (dir first : List ℕ) (s : State) (rest : List (List ℕ)) (name : List ℕ) → s.waiting ≡ rest ++ name ∷ [] → IsOnWay told dir first s → (n : State) → Visits told dir name (record s { waiting = rest }) n → IsOnWay told dir first n
+pub walk_goes_on : (told : FolderFiles) (dir first : List ℕ) (s : State) (rest : List (List ℕ)) (name : List ℕ) → s.waiting ≡ rest ++ name ∷ [] →
+    IsOnWay told dir first s → (n : State) → Visits told dir name (record s { waiting = rest }) n → IsOnWay told dir first n
 walk_goes_on told dir first s rest name last on n v w m b d =
     on w m b (subst (λ l. Walks told dir s.asked s.lines l w m b) (sym (ap reverse last ∙ reverse-append rest (name ∷ []))) (step v))
   where
     step : Visits told dir name (record s { waiting = rest }) n → Walks told dir s.asked s.lines (name ∷ reverse rest) w m b
     step (no_text not_text same) =
-        passed s.asked (reverse rest) w name s.lines m b (λ t. absurd (not_text t)) (moved told dir n.asked s.asked (reverse n.waiting) (reverse rest) w n.lines s.lines m b (ap (λ k. k.asked) same) (ap (λ k. k.lines) same) (ap (λ k. reverse k.waiting) same) d)
+        passed s.asked (reverse rest) w name s.lines m b (λ t. absurd (not_text t))
+        (moved told dir n.asked s.asked (reverse n.waiting) (reverse rest) w n.lines s.lines m b (ap (λ k. k.asked) same) (ap (λ k. k.lines) same)
+        (ap (λ k. reverse k.waiting) same) d)
     step (known a same) =
-        passed s.asked (reverse rest) w name s.lines m b (λ t. a) (moved told dir n.asked s.asked (reverse n.waiting) (reverse rest) w n.lines s.lines m b (ap (λ k. k.asked) same) (ap (λ k. k.lines) same) (ap (λ k. reverse k.waiting) same) d)
+        passed s.asked (reverse rest) w name s.lines m b (λ t. a)
+        (moved told dir n.asked s.asked (reverse n.waiting) (reverse rest) w n.lines s.lines m b (ap (λ k. k.asked) same) (ap (λ k. k.lines) same)
+        (ap (λ k. reverse k.waiting) same) d)
     step (no_file due answer asks) =
-        missing s.asked (reverse rest) w name s.lines m b due.is_new answer (moved told dir n.asked (mention s.asked name) (reverse n.waiting) (reverse rest) w n.lines s.lines m b asks.asked_are asks.lines_are (ap reverse asks.waiting_is) d)
+        missing s.asked (reverse rest) w name s.lines m b due.is_new answer
+        (moved told dir n.asked (mention s.asked name) (reverse n.waiting) (reverse rest) w n.lines s.lines m b asks.asked_are asks.lines_are
+        (ap reverse asks.waiting_is) d)
     step (file middle bytes due answer asks takes) =
-        taken s.asked (reverse rest) w takes.names name bytes s.lines m b due.is_new answer takes.sources (moved told dir n.asked (mention s.asked name) (reverse n.waiting) (takes.names ++ reverse rest) w n.lines (min (s.lines + lines_of bytes) last_count) m b
+        taken s.asked (reverse rest) w takes.names name bytes s.lines m b due.is_new answer takes.sources
+        (moved told dir n.asked (mention s.asked name) (reverse n.waiting) (takes.names ++ reverse rest) w n.lines
+        (min (s.lines + lines_of bytes) last_count) m b
         (takes.asked_are ∙ asks.asked_are)
         (takes.lines_are ∙ ap (λ k. min (k + lines_of bytes) last_count) asks.lines_are)
         (ap reverse (takes.waiting_is ∙ ap (λ l. l ++ reverse takes.names) asks.waiting_is) ∙ reverse-append rest (reverse takes.names) ∙ ap (λ l. l ++ reverse rest) (reverse-reverse takes.names))
         d)
 
 -- the same, as another state of the folder told it
-pub walk_turned : (told given : Told) (dir first : List ℕ) (s : State) → IsOnWay told dir first s → given ≡ told → (rest : List (List ℕ)) (name : List ℕ) → s.waiting ≡ rest ++ name ∷ [] → (n : State) → Visits given dir name (record s { waiting = rest }) n → IsOnWay told dir first n
+pub walk_turned : (told given : FolderFiles) (dir first : List ℕ) (s : State) → IsOnWay told dir first s → given ≡ told →
+    (rest : List (List ℕ)) (name : List ℕ) → s.waiting ≡ rest ++ name ∷ [] → (n : State) → Visits given dir name (record s { waiting = rest }) n →
+    IsOnWay told dir first n
 walk_turned told given dir first s on same rest name last n v =
-    walk_goes_on told dir first s rest name last on n (subst (λ (t : Told). Visits t dir name (record s { waiting = rest }) n) same v)
+    walk_goes_on told dir first s rest name last on n (subst (λ (t : FolderFiles). Visits t dir name (record s { waiting = rest }) n) same v)
 
 -- where no name waits, the walk is at its end
-pub ended_walk : (told : Told) (dir first : List ℕ) (s : State) → IsOnWay told dir first s → s.waiting ≡ [] → Walks told dir [] 0 (first ∷ []) s.asked s.lines false
+pub ended_walk : (told : FolderFiles) (dir first : List ℕ) (s : State) → IsOnWay told dir first s → s.waiting ≡ [] → Walks told dir [] 0 (first ∷ []) s.asked s.lines false
 ended_walk told dir first s on none = on s.asked s.lines false (subst (λ l. Walks told dir s.asked s.lines (reverse l) s.asked s.lines false) (sym none) (ended s.asked s.lines))
 
 -- over the limit it is stopped
-pub over_walk : (told : Told) (dir first : List ℕ) (s : State) → IsOnWay told dir first s → most_lines < s.lines → Walks told dir [] 0 (first ∷ []) s.asked s.lines true
+pub over_walk : (told : FolderFiles) (dir first : List ℕ) (s : State) → IsOnWay told dir first s → most_lines < s.lines → Walks told dir [] 0 (first ∷ []) s.asked s.lines true
 over_walk told dir first s on more = on s.asked s.lines true (stopped s.asked (reverse s.waiting) s.lines more)

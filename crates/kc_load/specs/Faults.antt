@@ -2,7 +2,7 @@
 use Rattle.std.specs.Prelude.{◌≡◌, ℕ, ◌≤◌, Bool, true, List, None}
 use Rattle.kc_read.specs.Files.{bytes_in}
 use Rattle.kc_text.specs.Limits.{one_more}
-use Rattle.kc_load.specs.Folders.{Told, path_of}
+use Rattle.kc_load.specs.Folders.{FolderFiles, path_of}
 use Rattle.kc_read.specs.Limits.{most_lines}
 use Rattle.kc_load.specs.Loaded.{AreRead, File, Reached, line_total}
 use Rattle.kc_load.specs.declared.fault.LoadFault.{LoadFault}
@@ -10,7 +10,7 @@ use Rattle.kc_load.specs.declared.fault.LoadFault.TheVariants.{CannotRead, Memor
 
 -- a file that could not be read: its name is the next one that is reached by what was read before, and the device may fail at
 -- its path
-pub record IsNext (told : Told) (failing : List ℕ → Bool) (dir first name : List ℕ) : Type 0 where
+pub record IsNext (told : FolderFiles) (failing : List ℕ → Bool) (dir first name : List ℕ) : Type 0 where
   pub read : List File
   pub are_read : AreRead told dir first read
   pub within : line_total read ≤ most_lines
@@ -18,11 +18,11 @@ pub record IsNext (told : Told) (failing : List ℕ → Bool) (dir first name : 
   pub absent : bytes_in read name ≡ None
   pub may_fail : failing (path_of dir name) ≡ true
 
-abbrev pub IsLoadFault : Told → (List ℕ → Bool) → List ℕ → List ℕ → LoadFault → Type 0
+abbrev pub IsLoadFault : FolderFiles → (List ℕ → Bool) → List ℕ → List ℕ → LoadFault → Type 0
 IsLoadFault told failing dir first (CannotRead name) = IsNext told failing dir first name.items
 IsLoadFault told failing dir first Memory = Unit {0}
 
--- the device's failure is counted, being out of memory is not
-abbrev pub counted_load : LoadFault → ℕ → ℕ
-counted_load (CannotRead name) n = one_more n
-counted_load Memory n = n
+-- the count of failures after this fault: the device's is counted, being out of memory is not
+abbrev pub load_failures_after : LoadFault → ℕ → ℕ
+load_failures_after (CannotRead name) n = one_more n
+load_failures_after Memory n = n

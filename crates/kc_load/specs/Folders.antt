@@ -1,16 +1,16 @@
 -- Trusted: What a folder tells of its files.
-use Rattle.std.specs.Prelude.{◌≡◌, ℕ, ◌+◌, ◌-◌, ◌^◌, ◌++◌, ◌∷◌, List, [], Bool, true, false, ◌==◌, min, Option, Some, None, if◌then◌else◌}
+use Rattle.std.specs.Prelude.{◌≡◌, ℕ, ◌+◌, ◌++◌, ◌∷◌, List, [], Bool, true, false, ◌==◌, Option, Some, None, if◌then◌else◌}
 use Rattle.kc_text.specs.Bytes.{byte}
 use Rattle.kc_text.specs.Limits.{one_more}
 use Rattle.kc_load.specs.declared.folder.FolderFault.{FolderFault}
 use Rattle.kc_load.specs.declared.folder.FolderFault.TheVariants.{Device, Memory}
 
 -- each path's bytes, where there is a file, or nothing told
-abbrev pub Told : Type 0
-Told = Option (List ℕ → Option (List ℕ))
+abbrev pub FolderFiles : Type 0
+FolderFiles = Option (List ℕ → Option (List ℕ))
 
 -- what was found at a path is what the folder tells, if it tells
-abbrev pub AnswersAs : Told → List ℕ → Option (List ℕ) → Type 0
+abbrev pub AnswersAs : FolderFiles → List ℕ → Option (List ℕ) → Type 0
 AnswersAs None path found = Unit {0}
 AnswersAs (Some files) path found = files path ≡ found
 
@@ -19,10 +19,10 @@ abbrev pub FailsWhere : (List ℕ → Bool) → List ℕ → FolderFault → Typ
 FailsWhere failing path Device = failing path ≡ true
 FailsWhere failing path Memory = Unit {0}
 
--- a failure of the device is counted, being out of memory is not
-abbrev pub counted : FolderFault → ℕ → ℕ
-counted Device n = one_more n
-counted Memory n = n
+-- the count of failures after this fault: the device's is counted, being out of memory is not
+abbrev pub failures_after : FolderFault → ℕ → ℕ
+failures_after Device n = one_more n
+failures_after Memory n = n
 
 abbrev pub begins_with_slash : List ℕ → Bool
 begins_with_slash [] = false

@@ -1,11 +1,11 @@
 -- For proofs: How far the loading is, and the turn of one name.
-use Rattle.std.specs.Prelude.{◌≡◌, ◌+◌, ◌-◌, ◌^◌, ℕ, List, [], ◌∷◌, ◌++◌, map, reverse, min, Bool, true, false, None, Some}
+use Rattle.std.specs.Prelude.{◌≡◌, ◌+◌, ℕ, List, [], ◌∷◌, ◌++◌, map, reverse, min, Bool, true, false, None, Some}
 use Rattle.std.specs.List.{list_any}
 use Rattle.std.specs.Str.{IsUtf8}
 use Rattle.kc_text.specs.Limits.{last_count}
 use Rattle.kc_expr.specs.Names.{same_name, mention}
 use Rattle.kc_read.specs.Files.{Files, Puts, bytes_in}
-use Rattle.kc_load.specs.Folders.{Told, AnswersAs, path_of}
+use Rattle.kc_load.specs.Folders.{FolderFiles, AnswersAs, path_of}
 use Rattle.kc_read.specs.Expansion.{lines_of}
 use Rattle.kc_load.specs.Loaded.{AreSources}
 use Rattle.kc_load.specs.declared.fault.LoadFault.{LoadFault}
@@ -22,14 +22,14 @@ pub record State : Type 0 where
 abbrev pub state_of : Loading → State
 state_of l = record { files = bytes_in l.files; asked = l.asked; waiting = map (λ n. n.items) l.waiting.items; lines = l.lines }
 
-abbrev pub begun : List ℕ → State
-begun first = record { files = bytes_in []; asked = []; waiting = first ∷ []; lines = 0 }
+abbrev pub initial_state : List ℕ → State
+initial_state first = record { files = bytes_in []; asked = []; waiting = first ∷ []; lines = 0 }
 
 abbrev pub was_asked : List (List ℕ) → List ℕ → Bool
 was_asked asked name = list_any (same_name name) asked
 
 -- the names that the file sources wait, the first one last
-pub record Lists (file : List ℕ) (old new : State) : Type 0 where
+pub record PushesSources (file : List ℕ) (old new : State) : Type 0 where
   pub names : List (List ℕ)
   pub sources : AreSources file names
   pub waiting_is : new.waiting ≡ old.waiting ++ reverse names
@@ -37,8 +37,8 @@ pub record Lists (file : List ℕ) (old new : State) : Type 0 where
   pub asked_are : new.asked ≡ old.asked
   pub lines_are : new.lines ≡ old.lines
 
--- the file of the name has these bytes
-pub record Takes (name bytes : List ℕ) (old new : State) : Type 0 where
+-- the file of the name is added: its bytes, its lines, and the names that it sources
+pub record AddsFile (name bytes : List ℕ) (old new : State) : Type 0 where
   pub names : List (List ℕ)
   pub sources : AreSources bytes names
   pub waiting_is : new.waiting ≡ old.waiting ++ reverse names
@@ -46,8 +46,8 @@ pub record Takes (name bytes : List ℕ) (old new : State) : Type 0 where
   pub asked_are : new.asked ≡ old.asked
   pub lines_are : new.lines ≡ min (old.lines + lines_of bytes) last_count
 
--- all stays but the names that were asked for
-pub record Asks (name : List ℕ) (old new : State) : Type 0 where
+-- all stays but the names that were asked for, to which this one is added
+pub record AddsName (name : List ℕ) (old new : State) : Type 0 where
   pub files_are : new.files ≡ old.files
   pub waiting_is : new.waiting ≡ old.waiting
   pub asked_are : new.asked ≡ mention old.asked name
@@ -59,11 +59,11 @@ pub record IsDue (s : State) (name : List ℕ) : Type 0 where
   pub is_new : was_asked s.asked name ≡ false
 
 -- The turn of a name.
-pub data Visits (told : Told) (dir name : List ℕ) (old new : State) : Type 0 where
+pub data Visits (told : FolderFiles) (dir name : List ℕ) (old new : State) : Type 0 where
   no_text : (IsUtf8 name → ⊥) → new ≡ old → Visits told dir name old new
   known : was_asked old.asked name ≡ true → new ≡ old → Visits told dir name old new
-  no_file : IsDue old name → AnswersAs told (path_of dir name) None → Asks name old new → Visits told dir name old new
-  file : (middle : State) (bytes : List ℕ) → IsDue old name → AnswersAs told (path_of dir name) (Some bytes) → Asks name old middle → Takes name bytes middle new → Visits told dir name old new
+  no_file : IsDue old name → AnswersAs told (path_of dir name) None → AddsName name old new → Visits told dir name old new
+  file : (middle : State) (bytes : List ℕ) → IsDue old name → AnswersAs told (path_of dir name) (Some bytes) → AddsName name old middle → AddsFile name bytes middle new → Visits told dir name old new
 
 -- the device fails at a name that is due, and may fail at its path
 abbrev pub FailsAt : (List ℕ → Bool) → List ℕ → State → List ℕ → LoadFault → Type 0

@@ -1,7 +1,7 @@
 //! A folder: files by their paths.
 
 ghost use Rattle.std.specs.Prelude.{◌≡◌, ℕ, List, Bool, IfOk, IfErr, OnOk, option_map};
-ghost use Rattle.kc_load.specs.Folders.{AnswersAs, FailsWhere, Told, counted};
+ghost use Rattle.kc_load.specs.Folders.{AnswersAs, FailsWhere, FolderFiles, failures_after};
 ghost use Rattle.kc_load.specs.declared.folder.FolderFault.TheVariants.{Memory};
 
 use std::alloc::AllocError;
@@ -26,7 +26,7 @@ impl From<AllocError> for FolderFault {
 /// Files by their paths. A read changes none of them, and no file is written.
 pub trait Folder {
     /// The files by their paths, or nothing told, as of a folder on a disk.
-    ghost files: { Self → Told };
+    ghost files: { Self → FolderFiles };
     /// The paths at which the device may fail: one that tells nothing, as a disk, may fail at any.
     ghost failing: { Self → List ℕ → Bool };
 
@@ -40,5 +40,5 @@ pub trait Folder {
         ensures stays { files self.new ≡ files self.old }
         ensures failing_stays { failing self.new ≡ failing self.old }
         ensures quiet { OnOk result (failures self.new ≡ failures self.old) }
-        ensures counted { IfErr result (λ fault. failures self.new ≡ counted fault (failures self.old)) };
+        ensures failures_after { IfErr result (λ fault. failures self.new ≡ failures_after fault (failures self.old)) };
 }

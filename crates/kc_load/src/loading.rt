@@ -1,12 +1,12 @@
 //! The loading of files, name by name.
 
 ghost use Rattle.std.specs.Prelude.{◌≡◌, ◌+◌, IfOk, IfErr, OnOk, min, nat_lt, option_map};
-ghost use Rattle.kc_load.specs.Folders.{AnswersAs, FailsWhere, counted, path_of};
-ghost use Rattle.kc_load.specs.Faults.{counted_load};
+ghost use Rattle.kc_load.specs.Folders.{AnswersAs, FailsWhere, failures_after, path_of};
+ghost use Rattle.kc_load.specs.Faults.{load_failures_after};
 ghost use Rattle.kc_read.specs.Limits.{most_lines};
 ghost use Rattle.kc_read.specs.Expansion.{lines_of};
 ghost use Rattle.kc_text.specs.Limits.{last_count};
-ghost use Rattle.kc_load.specs.Steps.{FailsAt, Lists, Takes, Visits, begun, state_of, was_asked};
+ghost use Rattle.kc_load.specs.Steps.{FailsAt, PushesSources, AddsFile, Visits, initial_state, state_of, was_asked};
 
 use crate::fault::LoadFault;
 use crate::folder::{Folder, FolderFault};
@@ -38,24 +38,24 @@ pub(crate) struct Loading {
 fn read_named<F: Folder>(
     alloc: Global,
     folder: &mut F,
-    root: &str,
+    dir: &str,
     name: &str,
 ) -> Result<Option<Vec<u8>>, FolderFault>
-    ensures answer { IfOk result (λ found. AnswersAs (F.files folder.old) (path_of root.now name.now) (option_map (λ b. b.items) found)) }
-    ensures fault { IfErr result (FailsWhere (F.failing folder.old) (path_of root.now name.now)) }
+    ensures answer { IfOk result (λ found. AnswersAs (F.files folder.old) (path_of dir.now name.now) (option_map (λ b. b.items) found)) }
+    ensures fault { IfErr result (FailsWhere (F.failing folder.old) (path_of dir.now name.now)) }
     ensures stays { F.files folder.new ≡ F.files folder.old }
     ensures failing_stays { F.failing folder.new ≡ F.failing folder.old }
     ensures quiet { OnOk result (F.failures folder.new ≡ F.failures folder.old) }
-    ensures counted { IfErr result (λ fault. F.failures folder.new ≡ counted fault (F.failures folder.old)) }
+    ensures failures_after { IfErr result (λ fault. F.failures folder.new ≡ failures_after fault (F.failures folder.old)) }
 {
-    let path = path_of(alloc, root, name)?;
+    let path = path_of(alloc, dir, name)?;
     folder.read(path.as_str())
 }
 
 impl Loading {
     // The first name waits.
     pub(crate) fn new(alloc: Global, first: &str) -> Result<Loading, AllocError>
-        ensures { IfOk result (λ loading. state_of loading ≡ begun first.now) }
+        ensures { IfOk result (λ loading. state_of loading ≡ initial_state first.now) }
     {
         let mut waiting = Vec::new(alloc);
         waiting.push(Vec::from_slice(alloc, first.as_bytes())?)?;
@@ -91,7 +91,7 @@ impl Loading {
 
     // The names that the file sources wait, the first one last.
     fn push_sources(&mut self, file: &[u8]) -> Result<(), AllocError>
-        ensures { OnOk result (Lists file.now (state_of self.old) (state_of self.new)) }
+        ensures { OnOk result (PushesSources file.now (state_of self.old) (state_of self.new)) }
     {
         let mut names = sources_of(self.alloc, file)?;
         names.reverse();
@@ -99,9 +99,9 @@ impl Loading {
         Ok(())
     }
 
-    // The file of the name is read: it has these bytes.
+    // Adds the file of the name: its bytes, its lines, and the names that it sources.
     fn take(&mut self, name: Vec<u8>, bytes: Vec<u8>) -> Result<(), AllocError>
-        ensures { OnOk result (Takes name.items bytes.items (state_of self.old) (state_of self.new)) }
+        ensures { OnOk result (AddsFile name.items bytes.items (state_of self.old) (state_of self.new)) }
     {
         let lines = self.lines_with(&bytes);
         self.push_sources(&bytes)?;
@@ -114,15 +114,15 @@ impl Loading {
     pub(crate) fn visit<F: Folder>(
         &mut self,
         folder: &mut F,
-        root: &str,
+        dir: &str,
         name: Vec<u8>,
     ) -> Result<(), LoadFault>
-        ensures ok { OnOk result (Visits (F.files folder.old) root.now name.items (state_of self.old) (state_of self.new)) }
-        ensures err { IfErr result (FailsAt (F.failing folder.old) root.now (state_of self.old) name.items) }
+        ensures ok { OnOk result (Visits (F.files folder.old) dir.now name.items (state_of self.old) (state_of self.new)) }
+        ensures err { IfErr result (FailsAt (F.failing folder.old) dir.now (state_of self.old) name.items) }
         ensures stays { F.files folder.new ≡ F.files folder.old }
         ensures failing_stays { F.failing folder.new ≡ F.failing folder.old }
         ensures quiet { OnOk result (F.failures folder.new ≡ F.failures folder.old) }
-        ensures counted { IfErr result (λ fault. F.failures folder.new ≡ counted_load fault (F.failures folder.old)) }
+        ensures failures_after { IfErr result (λ fault. F.failures folder.new ≡ load_failures_after fault (F.failures folder.old)) }
     {
         let Ok(text) = str::from_utf8(&name) else {
             return Ok(());
@@ -131,7 +131,7 @@ impl Loading {
             return Ok(());
         }
         self.asked.id(&name)?;
-        match read_named(self.alloc, folder, root, text) {
+        match read_named(self.alloc, folder, dir, text) {
             Ok(Some(bytes)) => Ok(self.take(name, bytes)?),
             Ok(None) => Ok(()),
             Err(FolderFault::Device) => Err(LoadFault::CannotRead(name)),

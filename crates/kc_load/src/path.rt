@@ -16,11 +16,11 @@ fn begins_with_slash(name: &str) -> bool
 }
 
 // DIR/NAME, or the name itself where it begins with `/`.
-pub(crate) fn path_of(alloc: Global, root: &str, name: &str) -> Result<String, AllocError>
-    ensures { IfOk result (λ path. string_bytes path ≡ path_of root.now name.now) }
+pub(crate) fn path_of(alloc: Global, dir: &str, name: &str) -> Result<String, AllocError>
+    ensures { IfOk result (λ path. string_bytes path ≡ path_of dir.now name.now) }
 {
     if begins_with_slash(name) {
         return String::from_str(alloc, name);
     }
-    format!(in alloc; "{root}/{name}")
+    format!(in alloc; "{dir}/{name}")
 }

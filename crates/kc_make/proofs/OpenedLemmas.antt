@@ -1,31 +1,33 @@
 -- The files that an accepted expansion opens are one list.
 use Rattle.std.proofs.Common.{◌≡◌, ℕ, List, [], ◌∷◌, Option, Some, None, MatchOption, Result, Ok, Err, refl, sym, ap, ◌∙◌, subst}
-use Rattle.kc_text.specs.Lines.{left}
+use Rattle.kc_text.specs.Lines.{unread_lines}
 use Rattle.kc_expr.specs.Names.{all_mentioned}
 use Rattle.kc_read.specs.Existing.{HasOneExpansion}
-use Rattle.kc_read.specs.Expansion.{Expands, Log, OneExpansion, Refused, Rest, bytes_cause, nothing_read, opening, refused, root_around}
+use Rattle.kc_read.specs.Expansion.{Expands, Log, OneExpansion, Refused, Rest, bytes_cause, nothing_read, with_file, refused, root_context}
 use Rattle.kc_read.specs.Files.{Files}
 use Rattle.kc_read.specs.Lines.{Cause}
-use Rattle.kc_read.specs.Openings.{asked}
-use Rattle.kc_read.proofs.OpeningLemmas.{has_one_list_of_names}
+use Rattle.kc_read.specs.OpenedFiles.{asked}
+use Rattle.kc_read.proofs.OpenedFileLemmas.{has_one_list_of_names}
 use Rattle.kc_make.specs.Opened.{AreOpened, OpenedAreOne, OpenedAreThere}
 use Rattle.kc_make.proofs.Trees.{Trees, one_sources, one_tree, tree_of}
 
 -- an expansion of the root file that is accepted
 abbrev Accepts : Files → List ℕ → List ℕ → Log → Type 0
-Accepts files root bytes log = Rest files (root_around root) (left bytes 1) [] (opening nothing_read bytes) (Ok log)
+Accepts files root bytes log = Rest files (root_context root) (unread_lines bytes 1) [] (with_file nothing_read bytes) (Ok log)
 
 -- two of them open the same
-asked_one : (files : Files) (root bytes others : List ℕ) (log more : Log) → files root ≡ Some bytes → files root ≡ Some others → (d : Accepts files root bytes log) (e : Accepts files root others more) → asked d ≡ asked e
+asked_one : (files : Files) (root bytes others : List ℕ) (log more : Log) → files root ≡ Some bytes → files root ≡ Some others →
+    (d : Accepts files root bytes log) (e : Accepts files root others more) → asked d ≡ asked e
 asked_one files root bytes others log more there too d e =
-    let (names, is_list, one) = has_one_list_of_names (left bytes 1) in
-    let (listed, are_list, only) = has_one_list_of_names (left others 1) in
+    let (names, is_list, one) = has_one_list_of_names (unread_lines bytes 1) in
+    let (listed, are_list, only) = has_one_list_of_names (unread_lines others 1) in
     let same : names ≡ listed = one_sources files root bytes others names listed there too is_list are_list in
     let second : Trees files listed (asked e) = tree_of e more refl listed are_list in
     one_tree files names (asked d) (asked e) (tree_of d log refl names is_list) (subst (λ (l : List (List ℕ)). Trees files l (asked e)) (sym same) second)
 
 -- an accepted list has its expansion
-expansion_of : (files : Files) (root : List ℕ) (log : Log) → Expands files root (Ok log) → (bytes : List ℕ) × (files root ≡ Some bytes) × (bytes_cause root 0 (Some bytes) ≡ None) × Accepts files root bytes log
+expansion_of : (files : Files) (root : List ℕ) (log : Log) → Expands files root (Ok log) → (bytes : List ℕ) × (files root ≡ Some bytes)
+    × (bytes_cause root 0 (Some bytes) ≡ None) × Accepts files root bytes log
 expansion_of files root log expands = by (bytes_cause root 0 (files root)) refl expands
   where
     by : (o : Option Cause) → bytes_cause root 0 (files root) ≡ o →

@@ -1,16 +1,16 @@
 -- The files that names open, each with those that it sources; those of an accepted expansion.
-use Rattle.std.proofs.Common.{◌≡◌, ◌⊎◌, ℕ, Bool, true, false, List, [], ◌∷◌, ◌++◌, codes, drop, Some, Result, Ok, Err, inl, inr, refl, sym, ap, ◌∙◌, subst, append-nil}
+use Rattle.std.proofs.Common.{◌≡◌, ℕ, Bool, true, false, List, [], ◌∷◌, ◌++◌, codes, drop, Some, Result, Ok, Err, inl, inr, refl, sym, ap, ◌∙◌, subst, append-nil}
 use Rattle.std.proofs.lemmas.Bool.{cases_Bool}
-use Rattle.kc_text.specs.Lines.{Left, left}
-use Rattle.kc_text.specs.Tokens.{Piece}
+use Rattle.kc_text.specs.Lines.{UnreadLines, unread_lines}
+use Rattle.kc_text.specs.Tokens.{TokenView}
 use Rattle.kc_read.specs.Expansion as exp
-use Rattle.kc_read.specs.Expansion.{Around, Log, Refused, Rest, NextStatement, context_of, is_source, lexemes}
+use Rattle.kc_read.specs.Expansion.{FileContext, Log, Refused, Rest, NextStatement, context_of, is_source, lexemes}
 use Rattle.kc_read.specs.Files.{Files}
-use Rattle.kc_read.specs.Lines.{ReadsSource, begins_with}
-use Rattle.kc_read.specs.Openings.{asked}
-use Rattle.kc_read.specs.Sources.{Names, IsOther}
-use Rattle.kc_read.specs.Statements.{Placed, Written, SourceLine}
-use Rattle.kc_read.proofs.OpeningLemmas.{has_one_list_of_names, reads_source}
+use Rattle.kc_read.specs.Lines.{begins_with}
+use Rattle.kc_read.specs.OpenedFiles.{asked}
+use Rattle.kc_read.specs.Sources.{SourceNames, IsOther}
+use Rattle.kc_read.specs.Statements.{Located, Named, SourceLine}
+use Rattle.kc_read.proofs.OpenedFileLemmas.{has_one_list_of_names, reads_source}
 use Rattle.kc_read.proofs.SourceLines.{after_other, after_source, at_end, one_list}
 use Rattle.kc_read.proofs.SourceWord.{source_begins, begins_source}
 use Rattle.kc_make.proofs.InLemmas.{IsIn, in_none, in_left, in_right, in_cases, in_first_cases}
@@ -18,13 +18,15 @@ use Rattle.kc_make.proofs.InLemmas.{IsIn, in_none, in_left, in_right, in_cases, 
 -- What the names open: each its file and what that one's names open, and then what the names behind it open.
 pub data Trees (files : Files) : List (List ℕ) → List (List ℕ) → Type 0 where
   leaf : Trees files [] []
-  node : (name bytes : List ℕ) (names rest inner after : List (List ℕ)) → files name ≡ Some bytes → Names (left bytes 1) names → Trees files names inner → Trees files rest after → Trees files (name ∷ rest) (name ∷ (inner ++ after))
+  node : (name bytes : List ℕ) (names rest inner after : List (List ℕ)) → files name ≡ Some bytes → SourceNames (unread_lines bytes 1) names →
+      Trees files names inner → Trees files rest after → Trees files (name ∷ rest) (name ∷ (inner ++ after))
 
 -- a file has one list of names
-pub one_sources : (files : Files) (name a b : List ℕ) (ns ms : List (List ℕ)) → files name ≡ Some a → files name ≡ Some b → Names (left a 1) ns → Names (left b 1) ms → ns ≡ ms
+pub one_sources : (files : Files) (name a b : List ℕ) (ns ms : List (List ℕ)) → files name ≡ Some a → files name ≡ Some b → SourceNames (unread_lines a 1) ns →
+    SourceNames (unread_lines b 1) ms → ns ≡ ms
 one_sources files name a b ns ms e f n m =
     let same : b ≡ a = let g : Some b ≡ Some a = sym f ∙ e in cc in
-    one_list (left a 1) ns ms n (subst (λ (t : List ℕ). Names (left t 1) ms) same m)
+    one_list (unread_lines a 1) ns ms n (subst (λ (t : List ℕ). SourceNames (unread_lines t 1) ms) same m)
 
 -- names open one list
 pub one_tree : (files : Files) (names a b : List (List ℕ)) → Trees files names a → Trees files names b → a ≡ b
@@ -59,14 +61,14 @@ below files names a (node name bytes ns rest inner after e n t u) x h =
 
 -- ---- An accepted expansion opens the tree of its root
 
-abbrev begins : List Piece → Bool
+abbrev begins : List TokenView → Bool
 begins ts = begins_with (codes "source") (lexemes ts)
 
 clash : {B : Type 0} (e : Refused) (log : Log) → Err e ≡ Ok log → B
 clash e log h = absurd cc
 
 -- a statement that is no `source` line names no file
-other : (l m : Left) (a : Around) (own : List (Placed Written)) (log : Log) (s : Written) (n : NextStatement l m (context_of a own log) (Ok s)) → is_source s ≡ false → IsOther l m
+other : (l m : UnreadLines) (a : FileContext) (own : List (Located Named)) (log : Log) (s : Named) (n : NextStatement l m (context_of a own log) (Ok s)) → is_source s ≡ false → IsOther l m
 other l m a own log s n plain = elim (cases_Bool (begins n.tokens)) [
   | inl b ↦
       let reads = begins_source (context_of a own log) (lexemes n.tokens) (Ok s) b n.reads in
@@ -76,7 +78,8 @@ other l m a own log s n plain = elim (cases_Bool (begins n.tokens)) [
   | inr b ↦ (n.tokens, n.next, b)
 ]
 
-pub tree_of : {files : Files} {a : Around} {l : Left} {own : List (Placed Written)} {log : Log} {r : Result Log Refused} (d : Rest files a l own log r) (done : Log) → r ≡ Ok done → (names : List (List ℕ)) → Names l names → Trees files names (asked d)
+pub tree_of : {files : Files} {a : FileContext} {l : UnreadLines} {own : List (Located Named)} {log : Log} {r : Result Log Refused}
+    (d : Rest files a l own log r) (done : Log) → r ≡ Ok done → (names : List (List ℕ)) → SourceNames l names → Trees files names (asked d)
 tree_of {files} (exp.at_end a l own log none closed) done ok names ns =
     subst (λ (k : List (List ℕ)). Trees files k []) (sym (one_list l names [] ns (at_end l none))) leaf
 tree_of (exp.unclosed a l own log line none unmatched) done ok names ns = clash _ done ok
@@ -84,13 +87,13 @@ tree_of (exp.too_long a l own log long) done ok names ns = clash _ done ok
 tree_of (exp.no_tokens a l m own log ts why next) done ok names ns = clash _ done ok
 tree_of (exp.blank a l m own log r next d) done ok names ns = tree_of d done ok names (after_other l m names ([], next, refl) ns)
 tree_of (exp.bad_line a l m own log c n) done ok names ns = clash _ done ok
-tree_of (exp.bad_effect a l m own log s c n f) done ok names ns = clash _ done ok
+tree_of (exp.over_limit a l m own log s c n f) done ok names ns = clash _ done ok
 tree_of (exp.statement a l m own log s r n plain f d) done ok names ns = tree_of d done ok names (after_other l m names (other l m a own log s n plain) ns)
 tree_of (exp.bad_source a l m own log k c n f) done ok names ns = clash _ done ok
 tree_of (exp.refused_inside a l m own log k bytes c n free there d) done ok names ns = clash _ done ok
 tree_of {files} (exp.source a l m own log more k bytes r n free there d f) done ok names ns =
     let b = source_begins (context_of a own log) (lexemes n.tokens) k n.reads in
     let (after, is, ms) = after_source l m k names (n.tokens, n.next, b, begins_source (context_of a own log) (lexemes n.tokens) (Ok (SourceLine k)) b n.reads) ns in
-    let (inner, is_list, one) = has_one_list_of_names (left bytes 1) in
+    let (inner, is_list, one) = has_one_list_of_names (unread_lines bytes 1) in
     subst (λ (x : List (List ℕ)). Trees files x (k ∷ (asked d ++ asked f))) (sym is)
     (node k bytes inner after (asked d) (asked f) there is_list (tree_of d more refl inner is_list) (tree_of f done ok after ms))

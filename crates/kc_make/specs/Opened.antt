@@ -1,10 +1,10 @@
 -- Trusted: The files that a tree was made of.
 use Rattle.std.specs.Prelude.{◌≡◌, ℕ, List, [], ◌∷◌, ◌++◌, None, Some, Ok, map}
-use Rattle.kc_text.specs.Lines.{left}
+use Rattle.kc_text.specs.Lines.{unread_lines}
 use Rattle.kc_expr.specs.Names.{all_mentioned}
-use Rattle.kc_read.specs.Expansion.{Expands, Log, Rest, bytes_cause, root_around, opening, nothing_read}
+use Rattle.kc_read.specs.Expansion.{Expands, Log, Rest, bytes_cause, root_context, with_file, nothing_read}
 use Rattle.kc_read.specs.Files.{Files}
-use Rattle.kc_read.specs.Openings.{asked}
+use Rattle.kc_read.specs.OpenedFiles.{asked}
 use Rattle.kc_load.specs.Folders.{path_of}
 
 -- Where the expansion of the root file is accepted, these are the files that it opens, each once, in the order of their
@@ -12,7 +12,7 @@ use Rattle.kc_load.specs.Folders.{path_of}
 abbrev pub AreOpened : Files → List ℕ → List (List ℕ) → Type 0
 AreOpened files root names =
     (bytes : List ℕ) (log : Log) → files root ≡ Some bytes → bytes_cause root 0 (Some bytes) ≡ None →
-    (d : Rest files (root_around root) (left bytes 1) [] (opening nothing_read bytes) (Ok log)) →
+    (d : Rest files (root_context root) (unread_lines bytes 1) [] (with_file nothing_read bytes) (Ok log)) →
     names ≡ all_mentioned [] (root ∷ asked d)
 
 -- there are such files
@@ -24,7 +24,7 @@ abbrev pub OpenedAreOne : Type 0
 OpenedAreOne =
     (files : Files) (root : List ℕ) (log : Log) (opened others : List (List ℕ)) → Expands files root (Ok log) → AreOpened files root opened → AreOpened files root others → opened ≡ others
 
--- What is made from the files that a tree opens and from fragments is made of these, each once: the files by their paths, as
--- they were read, and then the fragments.
-abbrev pub made_of : List ℕ → List (List ℕ) → List (List ℕ) → List (List ℕ)
-made_of dir opened fragments = all_mentioned [] (map (path_of dir) opened ++ fragments)
+-- The prerequisites of what is made from the files that a tree opens and from fragments, each once: the files by their paths,
+-- as they were read, and then the fragments.
+abbrev pub prerequisites_of : List ℕ → List (List ℕ) → List (List ℕ) → List (List ℕ)
+prerequisites_of dir opened fragments = all_mentioned [] (map (path_of dir) opened ++ fragments)

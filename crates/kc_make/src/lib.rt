@@ -8,5 +8,5 @@ mod rule;
 mod walk;
 
 pub use opened::opened_files;
-pub use paths::made_of;
+pub use paths::prerequisites_of;
 pub use rule::add_rule;

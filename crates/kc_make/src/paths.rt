@@ -3,7 +3,7 @@
 ghost use Rattle.std.specs.Prelude.{◌≡◌, List, ℕ, map, string_bytes, IfOk, OnOk};
 ghost use Rattle.kc_expr.specs.Names.{all_mentioned};
 ghost use Rattle.kc_load.specs.Folders.{begins_with_slash, path_of};
-ghost use Rattle.kc_make.specs.Opened.{AreOpened, made_of};
+ghost use Rattle.kc_make.specs.Opened.{AreOpened, prerequisites_of};
 ghost use Rattle.kc_read.specs.Files.{bytes_in};
 
 use crate::opened::opened_files;
@@ -56,12 +56,12 @@ fn add_fragments(fragments: &[String], names: &mut Names) -> Result<(), AllocErr
     Ok(())
 }
 
-/// What is made from the files that the root file opens and from the fragments is made of these, each once: the files in
-/// the order of their first opening, each by the path at which it was read (`DIR/NAME`, or the name itself where it begins
-/// with `/`), and then the fragments by their names (our own).
+/// The prerequisites of what is made from the files that the root file opens and from the fragments, each once: the files
+/// in the order of their first opening, each by the path at which it was read (`DIR/NAME`, or the name itself where it
+/// begins with `/`), and then the fragments by their names (our own).
 ///
 /// For a tree that is refused, the files that its `source` lines reach. Its only error is to be out of memory.
-pub fn made_of(
+pub fn prerequisites_of(
     alloc: Global,
     files: &FileMap,
     dir: &str,
@@ -69,7 +69,7 @@ pub fn made_of(
     fragments: &[String],
 ) -> Result<Names, AllocError>
     ensures { IfOk result (λ names. (opened : List (List ℕ)) × AreOpened (bytes_in files.now) root.now opened
-        × (names ≡ made_of dir.now opened (map string_bytes fragments.now))) }
+        × (names ≡ prerequisites_of dir.now opened (map string_bytes fragments.now))) }
 {
     let opened = opened_files(alloc, files, root)?;
     let mut names = Names::new(alloc);

@@ -1,27 +1,27 @@
 //! The text of a rule for make.
 
 ghost use Rattle.std.specs.Prelude.{◌≡◌, ◌++◌, OnOk, flat_map};
-ghost use Rattle.kc_make.specs.Rules.{empty_rule, escaped, escaped_byte, is_mark, is_marked, prerequisite, rule_text};
+ghost use Rattle.kc_make.specs.Rules.{empty_rule, escaped, escaped_byte, is_special, needs_backslash, prerequisite, rule_text};
 
 use kc_expr::expression::SymId;
 use kc_expr::names::Names;
 use std::alloc::AllocError;
 
 // Whether make reads this byte as more than a part of a name, if no `\` stands before it.
-fn is_mark(byte: u8) -> bool
-    ensures { result ≡ is_mark byte }
+fn is_special(byte: u8) -> bool
+    ensures { result ≡ is_special byte }
 {
     matches!(byte, b' ' | b'\t' | b'#' | b':')
 }
 
 // Whether a `\` is written before the first of these bytes.
-fn is_marked(bytes: &[u8]) -> bool
-    ensures { result ≡ is_marked bytes.now }
+fn needs_backslash(bytes: &[u8]) -> bool
+    ensures { result ≡ needs_backslash bytes.now }
 {
     let mut rest = bytes;
     'along: while let [byte, behind @ ..] = rest {
         if *byte != b'\\' {
-            return is_mark(*byte);
+            return is_special(*byte);
         }
         rest = behind;
     }
@@ -29,10 +29,10 @@ fn is_marked(bytes: &[u8]) -> bool
 }
 
 // Adds one byte of a name.
-fn add_byte(byte: u8, marked: bool, text: &mut Vec<u8>) -> Result<(), AllocError>
-    ensures { OnOk result (text.new.items ≡ text.old.items ++ escaped_byte marked byte) }
+fn add_byte(byte: u8, with_backslash: bool, text: &mut Vec<u8>) -> Result<(), AllocError>
+    ensures { OnOk result (text.new.items ≡ text.old.items ++ escaped_byte with_backslash byte) }
 {
-    if marked {
+    if with_backslash {
         text.push(b'\\')?;
     }
     if byte == b'$' {
@@ -48,13 +48,13 @@ fn add_escaped(name: &[u8], text: &mut Vec<u8>) -> Result<(), AllocError>
 {
     let mut rest = name;
     'along: while let [byte, behind @ ..] = rest {
-        add_byte(*byte, is_marked(rest), text)?;
+        add_byte(*byte, needs_backslash(rest), text)?;
         rest = behind;
     }
     Ok(())
 }
 
-// Adds the files that the rule names, each on a line of its own.
+// Adds the prerequisites, each on a line of its own.
 fn add_prerequisites(files: &Names, text: &mut Vec<u8>) -> Result<(), AllocError>
     ensures { OnOk result (text.new.items ≡ text.old.items ++ flat_map prerequisite files.now) }
 {

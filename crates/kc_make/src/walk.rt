@@ -2,7 +2,7 @@
 
 ghost use Rattle.std.specs.Prelude.{◌≡◌, IfOk, OnOk};
 ghost use Rattle.kc_read.specs.Files.{bytes_in};
-ghost use Rattle.kc_make.specs.Steps.{Lists, Visits, begun, state_of, was_opened};
+ghost use Rattle.kc_make.specs.Steps.{PushesSources, Visits, initial_state, state_of, was_opened};
 
 use kc_expr::names::Names;
 use kc_read::{FileMap, sources_of};
@@ -21,7 +21,7 @@ pub(crate) struct Walk {
 impl Walk {
     // The root waits.
     pub(crate) fn new(alloc: Global, root: &[u8]) -> Result<Walk, AllocError>
-        ensures { IfOk result (λ walk. state_of walk ≡ begun root.now) }
+        ensures { IfOk result (λ walk. state_of walk ≡ initial_state root.now) }
     {
         let mut waiting = Vec::new(alloc);
         waiting.push(Vec::from_slice(alloc, root)?)?;
@@ -41,7 +41,7 @@ impl Walk {
 
     // The names that the file sources wait, the first one last.
     fn push_sources(&mut self, file: &[u8]) -> Result<(), AllocError>
-        ensures { OnOk result (Lists file.now (state_of self.old) (state_of self.new)) }
+        ensures { OnOk result (PushesSources file.now (state_of self.old) (state_of self.new)) }
     {
         let mut names = sources_of(self.alloc, file)?;
         names.reverse();

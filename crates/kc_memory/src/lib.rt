@@ -5,5 +5,5 @@
 mod memory;
 mod trial;
 
-pub use memory::{MemoryInput, MemoryOutputs, Slot};
-pub use trial::{Asked, PLAIN, config_text, files, header_text, run_asked, run_once};
+pub use memory::{MemoryFile, MemoryInput, MemoryOutputs};
+pub use trial::{PLAIN, RunRequest, config_text, files, header_text, run_once, run_request};

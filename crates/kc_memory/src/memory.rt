@@ -1,9 +1,9 @@
 //! Devices in memory, which give and take pieces, and fail at a call of choice.
 ghost use Rattle.std.specs.Prelude.{◌≡◌, ◌<◌, ◌≤◌, ◌+◌, ◌-◌, ◌++◌, length, drop, take, Some, OnOk, OnErr, IfOk, Option, List, [], ℕ};
-ghost use Rattle.kc_conf.specs.Places.{at, grown, begun, ended, failed};
+ghost use Rattle.kc_conf.specs.OutputStates.{at, grown, begun, ended, failed};
 ghost use Rattle.kc_dot.specs.Sink.{next_failure};
 
-use kc_conf::{Input, Outputs, Which};
+use kc_conf::{Input, Output, Outputs};
 use kc_dot::Fault;
 use std::alloc::{AllocError, Global};
 
@@ -72,7 +72,7 @@ impl<'a> Input for MemoryInput<'a> {
 
 /// One output over memory (our own).
 #[derive(Drop)]
-pub struct Slot {
+pub struct MemoryFile {
     /// Whether it was begun.
     pub is_begun: bool,
     /// Whether it was ended since then.
@@ -91,14 +91,14 @@ pub struct Slot {
     pub room: usize,
 }
 
-impl Slot {
-    ghost use Rattle.kc_memory.specs.Slot.{IsNew, place_of};
+impl MemoryFile {
+    ghost use Rattle.kc_memory.specs.MemoryFile.{IsNew, state_of};
 
     /// An output with nothing in it, and room for so many bytes. `AllocError` where there is no memory for them.
-    pub fn new(alloc: Global, reserved: usize) -> Result<Slot, AllocError>
+    pub fn new(alloc: Global, reserved: usize) -> Result<MemoryFile, AllocError>
         ensures { IfOk result (IsNew reserved) }
     {
-        Ok(Slot {
+        Ok(MemoryFile {
             is_begun: false,
             is_ended: false,
             bytes: Vec::with_capacity(alloc, reserved)?,
@@ -111,8 +111,8 @@ impl Slot {
     }
 
     fn begin(&mut self) -> Result<(), Fault>
-        ensures ok { OnOk result (place_of self.new ≡ begun (place_of self.old)) }
-        ensures err { OnErr result (place_of self.new ≡ failed (place_of self.old)) }
+        ensures ok { OnOk result (state_of self.new ≡ begun (state_of self.old)) }
+        ensures err { OnErr result (state_of self.new ≡ failed (state_of self.old)) }
     {
         self.calls = self.calls.saturating_add(1);
         if self.calls == self.fail_at {
@@ -126,8 +126,8 @@ impl Slot {
     }
 
     fn end(&mut self) -> Result<(), Fault>
-        ensures ok { OnOk result (place_of self.new ≡ ended (place_of self.old)) }
-        ensures err { OnErr result (place_of self.new ≡ failed (place_of self.old)) }
+        ensures ok { OnOk result (state_of self.new ≡ ended (state_of self.old)) }
+        ensures err { OnErr result (state_of self.new ≡ failed (state_of self.old)) }
     {
         self.calls = self.calls.saturating_add(1);
         if self.calls == self.fail_at {
@@ -142,8 +142,8 @@ impl Slot {
         requires { 0 < length bytes.now }
         ensures some { IfOk result (λ count. 0 < count) }
         ensures within { IfOk result (λ count. count ≤ length bytes.now) }
-        ensures ok { IfOk result (λ count. place_of self.new ≡ grown (place_of self.old) (take count bytes.now)) }
-        ensures err { OnErr result (place_of self.new ≡ failed (place_of self.old)) }
+        ensures ok { IfOk result (λ count. state_of self.new ≡ grown (state_of self.old) (take count bytes.now)) }
+        ensures err { OnErr result (state_of self.new ≡ failed (state_of self.old)) }
     {
         self.calls = self.calls.saturating_add(1);
         let room = self.room.saturating_sub(self.bytes.len());
@@ -166,79 +166,79 @@ impl Slot {
 #[derive(Drop)]
 pub struct MemoryOutputs {
     /// The full `.config`.
-    pub config: Slot,
+    pub config: MemoryFile,
     /// The header.
-    pub header: Slot,
+    pub header: MemoryFile,
     /// The minimal file.
-    pub minimal: Slot,
+    pub minimal: MemoryFile,
     /// The rule for make.
-    pub depfile: Slot,
-    /// The diagnostics.
-    pub notes: Slot,
+    pub depfile: MemoryFile,
+    /// The notes.
+    pub notes: MemoryFile,
 }
 
 impl MemoryOutputs {
-    ghost use Rattle.kc_memory.specs.Slot.{AreNew, place_of, places_of};
+    ghost use Rattle.kc_memory.specs.MemoryFile.{AreNew, state_of, states_of};
 
     /// Five outputs with nothing in them, each with room for so many bytes. `AllocError` where there is no memory.
     pub fn new(alloc: Global, room: usize) -> Result<MemoryOutputs, AllocError>
         ensures { IfOk result (AreNew room) }
     {
         Ok(MemoryOutputs {
-            config: Slot::new(alloc, room)?,
-            header: Slot::new(alloc, room)?,
-            minimal: Slot::new(alloc, room)?,
-            depfile: Slot::new(alloc, room)?,
-            notes: Slot::new(alloc, room)?,
+            config: MemoryFile::new(alloc, room)?,
+            header: MemoryFile::new(alloc, room)?,
+            minimal: MemoryFile::new(alloc, room)?,
+            depfile: MemoryFile::new(alloc, room)?,
+            notes: MemoryFile::new(alloc, room)?,
         })
     }
 
-    /// One of the outputs.
-    pub fn slot(&self, which: Which) -> &Slot
-        ensures { place_of result.now ≡ at (places_of self.now) which }
+    /// The file of one of the outputs.
+    pub fn file(&self, output: Output) -> &MemoryFile
+        ensures { state_of result.now ≡ at (states_of self.now) output }
     {
-        match which {
-            Which::Config => &self.config,
-            Which::Header => &self.header,
-            Which::Minimal => &self.minimal,
-            Which::Depfile => &self.depfile,
-            Which::Notes => &self.notes,
+        match output {
+            Output::Config => &self.config,
+            Output::Header => &self.header,
+            Output::Minimal => &self.minimal,
+            Output::Depfile => &self.depfile,
+            Output::Notes => &self.notes,
         }
     }
 }
 
 impl Outputs for MemoryOutputs {
-    ghost use Rattle.kc_memory.specs.Slot.{places_of};
+    ghost use Rattle.kc_memory.specs.MemoryFile.{states_of};
 
-    ghost seen = { places_of };
+    ghost states = { states_of };
 
-    fn begin(&mut self, which: Which) -> Result<(), Fault> {
-        match which {
-            Which::Config => self.config.begin(),
-            Which::Header => self.header.begin(),
-            Which::Minimal => self.minimal.begin(),
-            Which::Depfile => self.depfile.begin(),
-            Which::Notes => self.notes.begin(),
+    fn begin(&mut self, output: Output) -> Result<(), Fault> {
+        match output {
+            Output::Config => self.config.begin(),
+            Output::Header => self.header.begin(),
+            Output::Minimal => self.minimal.begin(),
+            Output::Depfile => self.depfile.begin(),
+            Output::Notes => self.notes.begin(),
         }
     }
 
-    fn write(&mut self, which: Which, bytes: &[u8]) -> Result<usize, Fault> {
-        match which {
-            Which::Config => self.config.write(bytes),
-            Which::Header => self.header.write(bytes),
-            Which::Minimal => self.minimal.write(bytes),
-            Which::Depfile => self.depfile.write(bytes),
-            Which::Notes => self.notes.write(bytes),
+    fn write(&mut self, output: Output, bytes: &[u8]) -> Result<usize, Fault> {
+        match output {
+            Output::Config => self.config.write(bytes),
+            Output::Header => self.header.write(bytes),
+            Output::Minimal => self.minimal.write(bytes),
+            Output::Depfile => self.depfile.write(bytes),
+            Output::Notes => self.notes.write(bytes),
         }
     }
 
-    fn end(&mut self, which: Which) -> Result<(), Fault> {
-        match which {
-            Which::Config => self.config.end(),
-            Which::Header => self.header.end(),
-            Which::Minimal => self.minimal.end(),
-            Which::Depfile => self.depfile.end(),
-            Which::Notes => self.notes.end(),
+    fn end(&mut self, output: Output) -> Result<(), Fault> {
+        match output {
+            Output::Config => self.config.end(),
+            Output::Header => self.header.end(),
+            Output::Minimal => self.minimal.end(),
+            Output::Depfile => self.depfile.end(),
+            Output::Notes => self.notes.end(),
         }
     }
 }

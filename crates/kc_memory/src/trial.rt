@@ -29,7 +29,7 @@ pub fn files(
 
 /// What is asked of a run that reads and writes `.config`.
 #[derive(Clone, Copy)]
-pub struct Asked<'a> {
+pub struct RunRequest<'a> {
     /// The name of the root file.
     pub root: &'a str,
     /// What stands before each name.
@@ -48,9 +48,9 @@ pub struct Asked<'a> {
     pub warn_lost: bool,
 }
 
-/// The root file `Kconfig`, the prefix `CONFIG_`, no fragment, neither header, minimal file nor rule for make, warnings pass, and lost
-/// values are not told.
-pub const PLAIN: Asked<'static> = Asked {
+/// The root file `Kconfig`, the prefix `CONFIG_`, no fragment, neither header, minimal file nor rule for make, warnings pass,
+/// and lost values are not warned of.
+pub const PLAIN: RunRequest<'static> = RunRequest {
     root: "Kconfig",
     prefix: b"CONFIG_",
     fragments: &[],
@@ -68,28 +68,28 @@ fn copy_of(alloc: Global, name: Option<&str>) -> Result<Option<String>, AllocErr
     }
 }
 
-// The options that ask for this. `Fail` where the prefix is none or there is no memory.
-fn options(alloc: Global, asked: &Asked<'_>) -> Result<Options, Fail> {
-    let Some(prefix) = Prefix::new(alloc, asked.prefix)? else {
+// The options of this request. `Fail` where the prefix is none or there is no memory.
+fn options(alloc: Global, request: &RunRequest<'_>) -> Result<Options, Fail> {
+    let Some(prefix) = Prefix::new(alloc, request.prefix)? else {
         return Err(Fail::from("that is no prefix"));
     };
     let mut names = Vec::new(alloc);
-    for (name, _) in asked.fragments {
+    for (name, _) in request.fragments {
         names.push(String::from_str(alloc, name)?)?;
     }
     Ok(Options {
         root: String::from_str(alloc, ".")?,
         config: String::from_str(alloc, ".config")?,
         out: String::from_str(alloc, ".config")?,
-        kconfig: String::from_str(alloc, asked.root)?,
-        header: copy_of(alloc, asked.header)?,
-        minimal: copy_of(alloc, asked.minimal)?,
-        depfile: copy_of(alloc, asked.depfile)?,
+        kconfig: String::from_str(alloc, request.root)?,
+        header: copy_of(alloc, request.header)?,
+        minimal: copy_of(alloc, request.minimal)?,
+        depfile: copy_of(alloc, request.depfile)?,
         fragments: names,
         prefix,
         must_exist: false,
-        strict: asked.strict,
-        warn_lost: asked.warn_lost,
+        strict: request.strict,
+        warn_lost: request.warn_lost,
         replace: false,
     })
 }
@@ -108,16 +108,16 @@ fn run_over(
     Ok(run(alloc, files, options, inputs, outputs))
 }
 
-/// A run that is asked for this, over these inputs, one for the `.config` and one for each fragment. `Fail` where there are
-/// more or fewer, the prefix is none, or there is no memory for the options.
-pub fn run_asked(
+/// The run of this request over these inputs, one for the `.config` and one for each fragment. `Fail` where there are more or
+/// fewer, the prefix is none, or there is no memory for the options.
+pub fn run_request(
     alloc: Global,
     files: &FileMap,
-    asked: &Asked<'_>,
+    request: &RunRequest<'_>,
     inputs: &mut Vec<MemoryInput>,
     outputs: &mut MemoryOutputs,
 ) -> Result<Status, Fail> {
-    let options = options(alloc, asked)?;
+    let options = options(alloc, request)?;
     run_over(alloc, files, &options, inputs, outputs)
 }
 
@@ -125,12 +125,12 @@ pub fn run_asked(
 pub fn run_once(
     alloc: Global,
     files: &FileMap,
-    asked: &Asked<'_>,
+    request: &RunRequest<'_>,
     input: MemoryInput,
     outputs: &mut MemoryOutputs,
 ) -> Result<(Status, u64), Fail> {
     let mut inputs = vec![in alloc; input]?;
-    let status = run_asked(alloc, files, asked, &mut inputs, outputs)?;
+    let status = run_request(alloc, files, request, &mut inputs, outputs)?;
     let mut reads = 0;
     for input in &inputs {
         reads = input.calls;

@@ -1,13 +1,13 @@
 -- Needs that are alike, and orders of graphs.
-use Rattle.std.proofs.Common.{◌≡◌, ℕ, ◌<◌, ◌≤◌, ◌+◌, Bool, true, false, List, [], ◌∷◌, length, get_or, zero, suc, sym, ◌∙◌, ap, refl, inl, inr, arith, take, filter, All, subst, ◌⊎◌}
+use Rattle.std.proofs.Common.{◌≡◌, ℕ, ◌<◌, ◌≤◌, Bool, true, false, List, [], ◌∷◌, length, get_or, zero, suc, sym, ◌∙◌, ap, refl, inl, inr, arith, take, filter, All, subst}
 use Rattle.std.specs.List.{Contains, list_any, flat_map, slice_index}
-use Rattle.std.proofs.lemmas.Bool.{cases_Bool, cases_lt, true≢false}
+use Rattle.std.proofs.lemmas.Bool.{cases_Bool, cases_lt}
 use Rattle.std.proofs.lemmas.List.{get_or_default, get_or-take, length-take-le}
-use Rattle.std.proofs.lemmas.List.Elements.{All-contains, All-cons, All-tail, Contains-get_or, Contains-append_left, Contains-append_right, Contains-append_cases}
+use Rattle.std.proofs.lemmas.List.Elements.{All-contains, Contains-get_or, Contains-append_right, Contains-append_cases}
 use Rattle.std.proofs.lemmas.List.Folds.{list_any_at, Any-from_list_any}
 use Rattle.kc_order.specs.Graph.{Nodes, IsGraph, groups_of, needs_of, stands_for}
-use Rattle.kc_order.specs.Loop.{IsFirstStuck, IsLeast, IsNext, IsNamedLoop}
-use Rattle.kc_order.specs.Needs.{AreAlike, AreWithin, IsAccepted, NeedsBelow, needs_in, stuck_after}
+use Rattle.kc_order.specs.Loop.{IsFirstUnordered, IsLeast, IsNext, IsNamedLoop}
+use Rattle.kc_order.specs.Needs.{AreAlike, AreWithin, IsAccepted, needs_in, unordered_after}
 use Rattle.kc_order.specs.Order.{Orders}
 use Rattle.kc_order.proofs.Groups.{contains_flat, group_stands, needs_count, needs_within, one_is, stands_symbol}
 use Rattle.kc_order.proofs.Walks.{kept_from}
@@ -19,28 +19,28 @@ any_in p q xs ys more same e =
     let c = more a.1 (a.0, a.2, a.3) in
     list_any_at q ys c.0 0 c.1 (ap q (get_or_default ys c.0 0 a.1 c.1 ∙ c.2) ∙ same a.1 a.4)
 
-stuck_onward : (needs other : List (List ℕ)) → AreAlike needs other → (k s : ℕ) → stuck_after (needs_in needs) k s ≡ true → stuck_after (needs_in other) k s ≡ true
-stuck_onward needs other alike zero s e = refl
-stuck_onward needs other alike (suc k) s e =
-    any_in (stuck_after (needs_in needs) k) (stuck_after (needs_in other) k) (needs_in needs s) (needs_in other s) (alike.onward s) (stuck_onward needs other alike k) e
+unordered_onward : (needs other : List (List ℕ)) → AreAlike needs other → (k s : ℕ) → unordered_after (needs_in needs) k s ≡ true → unordered_after (needs_in other) k s ≡ true
+unordered_onward needs other alike zero s e = refl
+unordered_onward needs other alike (suc k) s e =
+    any_in (unordered_after (needs_in needs) k) (unordered_after (needs_in other) k) (needs_in needs s) (needs_in other s) (alike.onward s) (unordered_onward needs other alike k) e
 
 pub turned : (needs other : List (List ℕ)) → AreAlike needs other → AreAlike other needs
 turned needs other alike = record { count = sym alike.count; onward = alike.back; back = alike.onward }
 
--- the same symbols are stuck after each round
-pub stuck_same : (needs other : List (List ℕ)) → AreAlike needs other → (k s : ℕ) → stuck_after (needs_in needs) k s ≡ stuck_after (needs_in other) k s
-stuck_same needs other alike k s =
-    elim (cases_Bool (stuck_after (needs_in needs) k s)) [
-      | inl stuck ↦ stuck ∙ sym (stuck_onward needs other alike k s stuck)
-      | inr free ↦ elim (cases_Bool (stuck_after (needs_in other) k s)) [
-        | inl stuck ↦ stuck_onward other needs (turned needs other alike) k s stuck ∙ sym stuck
+-- the same symbols are unordered after each round
+pub unordered_same : (needs other : List (List ℕ)) → AreAlike needs other → (k s : ℕ) → unordered_after (needs_in needs) k s ≡ unordered_after (needs_in other) k s
+unordered_same needs other alike k s =
+    elim (cases_Bool (unordered_after (needs_in needs) k s)) [
+      | inl unordered ↦ unordered ∙ sym (unordered_onward needs other alike k s unordered)
+      | inr free ↦ elim (cases_Bool (unordered_after (needs_in other) k s)) [
+        | inl unordered ↦ unordered_onward other needs (turned needs other alike) k s unordered ∙ sym unordered
         | inr both ↦ free ∙ sym both
       ]
     ]
 
 pub accepted_alike : (needs other : List (List ℕ)) → AreAlike needs other → IsAccepted needs → IsAccepted other
 accepted_alike needs other alike is s l =
-    subst (λ n. stuck_after (needs_in other) n s ≡ false) alike.count (sym (stuck_same needs other alike (length needs) s) ∙ is s (omega (arith, l, alike.count)))
+    subst (λ n. unordered_after (needs_in other) n s ≡ false) alike.count (sym (unordered_same needs other alike (length needs) s) ∙ is s (omega (arith, l, alike.count)))
 
 -- what passes is kept
 kept_in : (p : ℕ → Bool) (xs : List ℕ) (t : ℕ) → Contains xs t → p t ≡ true → Contains (filter p xs) t
@@ -72,15 +72,15 @@ least_alike p q xs ys t same onward back least =
 
 next_alike : (needs other : List (List ℕ)) → AreAlike needs other → (s t : ℕ) → IsNext (length needs) (needs_in needs) s t → IsNext (length other) (needs_in other) s t
 next_alike needs other alike s t next =
-    subst (λ n. IsLeast (filter (stuck_after (needs_in other) n) (needs_in other s)) t) alike.count
-    (least_alike (stuck_after (needs_in needs) (length needs)) (stuck_after (needs_in other) (length needs)) (needs_in needs s) (needs_in other s) t
-    (stuck_same needs other alike (length needs)) (alike.onward s) (alike.back s) next)
+    subst (λ n. IsLeast (filter (unordered_after (needs_in other) n) (needs_in other s)) t) alike.count
+    (least_alike (unordered_after (needs_in needs) (length needs)) (unordered_after (needs_in other) (length needs)) (needs_in needs s) (needs_in other s) t
+    (unordered_same needs other alike (length needs)) (alike.onward s) (alike.back s) next)
 
-first_alike : (needs other : List (List ℕ)) → AreAlike needs other → (t : ℕ) → IsFirstStuck (length needs) (needs_in needs) t → IsFirstStuck (length other) (needs_in other) t
+first_alike : (needs other : List (List ℕ)) → AreAlike needs other → (t : ℕ) → IsFirstUnordered (length needs) (needs_in needs) t → IsFirstUnordered (length other) (needs_in other) t
 first_alike needs other alike t first = record {
   below = omega (arith, first.below, alike.count);
-  stuck = subst (λ n. stuck_after (needs_in other) n t ≡ true) alike.count (sym (stuck_same needs other alike (length needs) t) ∙ first.stuck);
-  none_before = λ u b. subst (λ n. stuck_after (needs_in other) n u ≡ false) alike.count (sym (stuck_same needs other alike (length needs) u) ∙ first.none_before u b);
+  unordered = subst (λ n. unordered_after (needs_in other) n t ≡ true) alike.count (sym (unordered_same needs other alike (length needs) t) ∙ first.unordered);
+  none_before = λ u b. subst (λ n. unordered_after (needs_in other) n u ≡ false) alike.count (sym (unordered_same needs other alike (length needs) u) ∙ first.none_before u b);
 }
 
 pub loop_alike : (needs other : List (List ℕ)) (loop : List ℕ) → AreAlike needs other → IsNamedLoop (length needs) (needs_in needs) loop → IsNamedLoop (length other) (needs_in other) loop

@@ -1,4 +1,4 @@
--- What an order gives: nothing is stuck, and a table filled along it solves.
+-- What an order gives: nothing is unordered, and a table filled along it solves.
 use Rattle.std.proofs.Common.{◌≡◌, ℕ, ◌<◌, ◌≤◌, ◌+◌, ◌≢◌, false, List, length, get_or, zero, suc, sym, ◌∙◌, ap, inl, inr, arith, take, eqb, subst}
 use Rattle.std.specs.List.{Contains}
 use Rattle.std.proofs.lemmas.Bool.{cases_lt, eqb-true, eqb-false}
@@ -7,7 +7,7 @@ use Rattle.std.proofs.lemmas.List.Elements.{Contains-get_or}
 use Rattle.std.proofs.lemmas.List.Folds.{list_any_none, Any-from_list_any}
 use Rattle.std.proofs.lemmas.Map.Keys.{apart_from_distinct}
 use Rattle.std.proofs.lemmas.Map.Steps.{length-le_from_distinct_below}
-use Rattle.kc_order.specs.Needs.{stuck_after, NothingStuck}
+use Rattle.kc_order.specs.Needs.{unordered_after, NothingUnordered}
 use Rattle.kc_order.specs.Order.{IsOrderOf}
 use Rattle.kc_order.specs.Solution.{Solves, ReadsNeeds, IsUpdate}
 
@@ -23,13 +23,13 @@ IsFilled order rhs i V = (j : ℕ) → j < i → j < length order → V (get_or 
 
 module _ (n : ℕ) (needs : ℕ → List ℕ) (order : List ℕ) (is : IsOrderOf n needs order) where
   -- the first k symbols of an order are free after k rounds
-  pub free_after : (k j : ℕ) → j < k → j < length order → stuck_after needs k (get_or order j 0) ≡ false
+  pub free_after : (k j : ℕ) → j < k → j < length order → unordered_after needs k (get_or order j 0) ≡ false
   free_after zero j l b = absurd (omega arith)
   free_after (suc k) j l b =
-      list_any_none (stuck_after needs k) (needs (get_or order j 0)) (λ m d lt.
+      list_any_none (unordered_after needs k) (needs (get_or order j 0)) (λ m d lt.
       let t = get_or (needs (get_or order j 0)) m d in
       let w = in_front order j t b (is.needs_first j t b (Contains-get_or (needs (get_or order j 0)) m d lt)) in
-      subst (λ x. stuck_after needs k x ≡ false) w.2 (free_after k w.0 (omega (arith, w.1)) (omega (arith, w.1))))
+      subst (λ x. unordered_after needs k x ≡ false) w.2 (free_after k w.0 (omega (arith, w.1)) (omega (arith, w.1))))
 
   order_short : length order ≤ n
   order_short = length-le_from_distinct_below order n is.apart (λ q t.
@@ -37,10 +37,10 @@ module _ (n : ℕ) (needs : ℕ → List ℕ) (order : List ℕ) (is : IsOrderOf
       let there : Contains order a.1 = (a.0, a.2, a.3) in
       is.all_below q (subst (Contains order) (sym (eqb-true q a.1 a.4)) there))
 
-  pub nothing_stuck : NothingStuck n needs
-  nothing_stuck s l =
+  pub nothing_unordered : NothingUnordered n needs
+  nothing_unordered s l =
       let c = is.all_there s l in
-      subst (λ x. stuck_after needs n x ≡ false) (get_or_default order c.0 0 s c.1 ∙ c.2) (free_after n c.0 (omega (arith, c.1, order_short)) c.1)
+      subst (λ x. unordered_after needs n x ≡ false) (get_or_default order c.0 0 s c.1 ∙ c.2) (free_after n c.0 (omega (arith, c.1, order_short)) c.1)
 
   -- two places hold two symbols
   differ : (i j : ℕ) → i < j → j < length order → get_or order i 0 ≢ get_or order j 0
@@ -86,13 +86,3 @@ module _ (n : ℕ) (needs : ℕ → List ℕ) (order : List ℕ) (is : IsOrderOf
 -- a symbol of an order is one of the first n
 pub symbol_below : (n : ℕ) (needs : ℕ → List ℕ) (order : List ℕ) → IsOrderOf n needs order → (i : ℕ) → i < length order → get_or order i 0 < n
 symbol_below n needs order is i l = is.all_below (get_or order i 0) (Contains-get_or order i 0 l)
-
--- what was computed once from the needs of a symbol that stands before i stays right when the value of the i-th symbol is written:
--- for a selection that all members of a choice share, kept from the first member's turn on
-pub stays_right : {A B : Type 0} (n : ℕ) (needs : ℕ → List ℕ) (order : List ℕ) → IsOrderOf n needs order → (read : (ℕ → A) → B) (i j : ℕ) →
-    ((V W : ℕ → A) → ((t : ℕ) → Contains (needs (get_or order j 0)) t → V t ≡ W t) → read V ≡ read W) → (V W : ℕ → A) (x : A) → j ≤ i → i < length order →
-    IsUpdate V W (get_or order i 0) x → read W ≡ read V
-stays_right n needs order is read i j reads V W x l b u =
-    reads W V (λ t c.
-    let w = in_front order j t (omega arith) (is.needs_first j t (omega arith) c) in
-    u.others t (λ e. differ n needs order is w.0 i (omega (arith, w.1)) b (w.2 ∙ e)))

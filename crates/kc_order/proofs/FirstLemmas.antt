@@ -1,11 +1,11 @@
--- The first stuck symbol among several.
-use Rattle.std.proofs.Common.{◌≡◌, ℕ, ◌<◌, ◌≤◌, Bool, true, false, cond, List, [], ◌∷◌, ◌++◌, length, get_or, sym, ◌∙◌, ap, refl, inl, inr, arith, Option, Some, None, leb, filter, All, subst, map, take, ◌+◌}
+-- The first unordered symbol among several.
+use Rattle.std.proofs.Common.{◌≡◌, ℕ, ◌<◌, ◌≤◌, Bool, cond, List, [], ◌∷◌, ◌++◌, length, get_or, sym, ◌∙◌, ap, refl, inl, inr, arith, Option, Some, None, leb, filter, All, subst, take, ◌+◌}
 use Rattle.std.specs.List.{Contains, flat_map}
 use Rattle.std.proofs.lemmas.Bool.{cases_lt, cases_Bool, le-leb, lt-leb}
 use Rattle.std.proofs.lemmas.Grind.{flat_map-append}
 use Rattle.std.proofs.lemmas.List.{take_more}
-use Rattle.std.proofs.lemmas.List.Elements.{All-cons, All-nil, All-tail, Contains-append_left, Contains-append_right}
-use Rattle.kc_order.specs.Firsts.{lesser_of, least_in}
+use Rattle.std.proofs.lemmas.List.Elements.{All-cons, All-tail, Contains-append_right}
+use Rattle.kc_order.specs.FirstUnordered.{lesser_of, least_in}
 use Rattle.kc_order.specs.Loop.{IsLeast}
 
 lesser_left : (s t : ℕ) → s ≤ t → lesser_of (Some s) (Some t) ≡ Some s

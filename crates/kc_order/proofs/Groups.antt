@@ -1,13 +1,13 @@
--- What groups stand for, and which symbols are stuck through them.
-use Rattle.std.proofs.Common.{◌≡◌, ℕ, ◌<◌, ◌≤◌, ◌+◌, ◌-◌, Bool, true, false, cond, List, [], ◌∷◌, ◌++◌, length, get_or, zero, suc, sym, ◌∙◌, ap, refl, inl, inr, arith, ltb, take, drop, map, subst, All, ◌⊎◌, length-drop}
-use Rattle.std.specs.List.{Contains, flat_map, list_any}
+-- What groups stand for, and which symbols are unordered through them.
+use Rattle.std.proofs.Common.{◌≡◌, ℕ, ◌<◌, ◌≤◌, ◌+◌, ◌-◌, true, false, cond, List, [], ◌∷◌, ◌++◌, length, get_or, zero, suc, sym, ◌∙◌, ap, refl, inl, inr, arith, ltb, take, drop, map, subst, All, length-drop}
+use Rattle.std.specs.List.{Contains, flat_map}
 use Rattle.std.proofs.lemmas.Bool.{cases_lt, cases_Bool, lt-ltb, le-ltb, true≢false}
-use Rattle.std.proofs.lemmas.List.{get_or_append_left, get_or_push, length_push, length-append, get_or_default, get_or-map, get_or-take, get_or-drop, length-take-le, length-map}
+use Rattle.std.proofs.lemmas.List.{get_or_append_left, get_or_push, length_push, get_or_default, get_or-map, get_or-take, get_or-drop, length-take-le, length-map}
 use Rattle.std.proofs.lemmas.List.Elements.{All-tail, Contains-get_or, Contains-append_left, Contains-append_right, Contains-append_cases}
 use Rattle.std.proofs.lemmas.List.Folds.{list_any_at, Any-from_list_any}
-use Rattle.kc_order.specs.Needs.{NeedsBelow, needs_in, stuck_after}
+use Rattle.kc_order.specs.Needs.{NeedsBelow, needs_in, unordered_after}
 use Rattle.kc_order.specs.Graph.{Nodes, IsGraph, stands_for, groups_from, groups_of, needs_of}
-use Rattle.kc_order.proofs.Stays.{stays_stuck}
+use Rattle.kc_order.proofs.Stays.{stays_unordered}
 
 -- a graph by its parts, and what its symbols need
 abbrev pub graph : ℕ → List (List ℕ) → Nodes
@@ -166,86 +166,83 @@ module _ (g : Nodes) (is : IsGraph g) where
       let w = contains_flat (stands_for g.symbols (groups_of g)) (needs_in g.rows s) t (subst (λ xs. Contains xs t) (needs_stand s l) c) in
       stands_below w.0 t (is.within s w.0 (omega (arith, l, is.symbols_there)) w.1) w.2
 
-  -- a node that is stuck among nodes
-  abbrev IsStuckNode : ℕ → Type 0
-  IsStuckNode t = stuck_after (needs_in g.rows) (length g.rows) t ≡ true
-
-  next_node : (t : ℕ) → t < length g.rows → stuck_after (needs_in g.rows) (length g.rows) t ≡ true →
-      (u : ℕ) × Contains (needs_in g.rows t) u × (stuck_after (needs_in g.rows) (length g.rows) u ≡ true)
+  next_node : (t : ℕ) → t < length g.rows → unordered_after (needs_in g.rows) (length g.rows) t ≡ true →
+      (u : ℕ) × Contains (needs_in g.rows t) u × (unordered_after (needs_in g.rows) (length g.rows) u ≡ true)
   next_node t b e =
-      let a = Any-from_list_any (stuck_after (needs_in g.rows) (length g.rows)) (needs_in g.rows t) (stays_stuck (length g.rows) (needs_in g.rows) is.within t b e) in
+      let a = Any-from_list_any (unordered_after (needs_in g.rows) (length g.rows)) (needs_in g.rows t) (stays_unordered (length g.rows) (needs_in g.rows) is.within t b e) in
       (a.1, (a.0, a.2, a.3), a.4)
 
-  -- a stuck node stands for a symbol that is stuck among nodes
-  stuck_symbol_to : (bound t : ℕ) → t < bound → t < length g.rows → stuck_after (needs_in g.rows) (length g.rows) t ≡ true →
-      (v : ℕ) × Contains (stands_for g.symbols (groups_of g) t) v × (v < g.symbols) × (stuck_after (needs_in g.rows) (length g.rows) v ≡ true)
-  stuck_symbol_to zero t l b e = absurd (omega arith)
-  stuck_symbol_to (suc bound) t l b e =
+  -- an unordered node stands for a symbol that is unordered among nodes
+  unordered_symbol_to : (bound t : ℕ) → t < bound → t < length g.rows → unordered_after (needs_in g.rows) (length g.rows) t ≡ true →
+      (v : ℕ) × Contains (stands_for g.symbols (groups_of g) t) v × (v < g.symbols) × (unordered_after (needs_in g.rows) (length g.rows) v ≡ true)
+  unordered_symbol_to zero t l b e = absurd (omega arith)
+  unordered_symbol_to (suc bound) t l b e =
       elim (cases_lt t g.symbols) [
         | inl symbol ↦ (t, subst (λ xs. Contains xs t) (sym (stands_symbol g.symbols (groups_of g) t symbol)) (0, omega arith, refl), symbol, e)
         | inr group ↦
             let u = next_node t b e in
             let before = is.goes_down t u.0 group b u.1 in
-            let v = stuck_symbol_to bound u.0 (omega (arith, before)) (omega (arith, before)) u.2 in
+            let v = unordered_symbol_to bound u.0 (omega (arith, before)) (omega (arith, before)) u.2 in
             let there = flat_contains (stands_for g.symbols (groups_of g)) (needs_in g.rows t) u.0 v.0 u.1 v.1 in
             (v.0, subst (λ xs. Contains xs v.0) (sym (group_stands t group b)) there, v.2, v.3)
       ]
 
-  -- where no symbol is stuck among nodes, no node is
-  pub none_stuck : ((s : ℕ) → s < g.symbols → stuck_after (needs_in g.rows) (length g.rows) s ≡ false) → (t : ℕ) → t < length g.rows → stuck_after (needs_in g.rows) (length g.rows) t ≡ false
-  none_stuck free t b =
-      elim (cases_Bool (stuck_after (needs_in g.rows) (length g.rows) t)) [
-        | inl stuck ↦
-            let v = stuck_symbol_to (suc t) t (omega arith) b stuck in
+  -- where no symbol is unordered among nodes, no node is
+  pub none_unordered : ((s : ℕ) → s < g.symbols → unordered_after (needs_in g.rows) (length g.rows) s ≡ false) → (t : ℕ) → t < length g.rows →
+      unordered_after (needs_in g.rows) (length g.rows) t ≡ false
+  none_unordered free t b =
+      elim (cases_Bool (unordered_after (needs_in g.rows) (length g.rows) t)) [
+        | inl unordered ↦
+            let v = unordered_symbol_to (suc t) t (omega arith) b unordered in
             absurd (true≢false (sym v.3 ∙ free v.0 v.2))
         | inr free ↦ free
       ]
 
-  -- a symbol that is stuck among nodes is stuck on its needs
-  stuck_down : (k s : ℕ) → s < g.symbols → stuck_after (needs_in g.rows) (length g.rows) s ≡ true → stuck_after (needs_in (needs_of g)) k s ≡ true
-  stuck_down zero s l e = refl
-  stuck_down (suc k) s l e =
+  -- a symbol that is unordered among nodes is unordered by its needs
+  unordered_down : (k s : ℕ) → s < g.symbols → unordered_after (needs_in g.rows) (length g.rows) s ≡ true → unordered_after (needs_in (needs_of g)) k s ≡ true
+  unordered_down zero s l e = refl
+  unordered_down (suc k) s l e =
       let in_rows : s < length g.rows = omega (arith, l, is.symbols_there) in
       let u = next_node s in_rows e in
       let u_below = is.within s u.0 in_rows u.1 in
-      let v = stuck_symbol_to (suc u.0) u.0 (omega arith) u_below u.2 in
+      let v = unordered_symbol_to (suc u.0) u.0 (omega arith) u_below u.2 in
       let need : Contains (needs_in (needs_of g) s) v.0 =
       subst (λ xs. Contains xs v.0) (sym (needs_stand s l)) (flat_contains (stands_for g.symbols (groups_of g)) (needs_in g.rows s) u.0 v.0 u.1 v.1) in
-      list_any_at (stuck_after (needs_in (needs_of g)) k) (needs_in (needs_of g) s) need.0 0 need.1
-      (ap (stuck_after (needs_in (needs_of g)) k) (get_or_default (needs_in (needs_of g) s) need.0 0 v.0 need.1 ∙ need.2) ∙ stuck_down k v.0 v.2 v.3)
+      list_any_at (unordered_after (needs_in (needs_of g)) k) (needs_in (needs_of g) s) need.0 0 need.1
+      (ap (unordered_after (needs_in (needs_of g)) k) (get_or_default (needs_in (needs_of g) s) need.0 0 v.0 need.1 ∙ need.2) ∙ unordered_down k v.0 v.2 v.3)
 
-  any_of : (k t w : ℕ) → Contains (needs_in g.rows t) w → stuck_after (needs_in g.rows) k w ≡ true → stuck_after (needs_in g.rows) (suc k) t ≡ true
+  any_of : (k t w : ℕ) → Contains (needs_in g.rows t) w → unordered_after (needs_in g.rows) k w ≡ true → unordered_after (needs_in g.rows) (suc k) t ≡ true
   any_of k t w c e =
-      list_any_at (stuck_after (needs_in g.rows) k) (needs_in g.rows t) c.0 0 c.1
-      (ap (stuck_after (needs_in g.rows) k) (get_or_default (needs_in g.rows t) c.0 0 w c.1 ∙ c.2) ∙ e)
+      list_any_at (unordered_after (needs_in g.rows) k) (needs_in g.rows t) c.0 0 c.1
+      (ap (unordered_after (needs_in g.rows) k) (get_or_default (needs_in g.rows t) c.0 0 w c.1 ∙ c.2) ∙ e)
 
-  -- a node that stands for a symbol that is stuck on its needs is stuck among nodes
-  stuck_up : (k t v : ℕ) → t < length g.rows → Contains (stands_for g.symbols (groups_of g) t) v → stuck_after (needs_in (needs_of g)) g.symbols v ≡ true →
-      stuck_after (needs_in g.rows) k t ≡ true
-  stuck_up zero t v b c e = refl
-  stuck_up (suc k) t v b c e =
+  -- a node that stands for a symbol that is unordered by its needs is unordered among nodes
+  unordered_up : (k t v : ℕ) → t < length g.rows → Contains (stands_for g.symbols (groups_of g) t) v → unordered_after (needs_in (needs_of g)) g.symbols v ≡ true →
+      unordered_after (needs_in g.rows) k t ≡ true
+  unordered_up zero t v b c e = refl
+  unordered_up (suc k) t v b c e =
       elim (cases_lt t g.symbols) [
         | inl symbol ↦
             let same = one_is t v (subst (λ xs. Contains xs v) (stands_symbol g.symbols (groups_of g) t symbol) c) in
-            let e' : stuck_after (needs_in (needs_of g)) g.symbols t ≡ true = ap (stuck_after (needs_in (needs_of g)) g.symbols) same ∙ e in
-            let a = Any-from_list_any (stuck_after (needs_in (needs_of g)) g.symbols) (needs_in (needs_of g) t) (stays_stuck g.symbols (needs_in (needs_of g)) needs_within t symbol e') in
+            let e' : unordered_after (needs_in (needs_of g)) g.symbols t ≡ true = ap (unordered_after (needs_in (needs_of g)) g.symbols) same ∙ e in
+            let a = Any-from_list_any (unordered_after (needs_in (needs_of g)) g.symbols) (needs_in (needs_of g) t) (stays_unordered g.symbols (needs_in (needs_of g)) needs_within t symbol e') in
             let need : Contains (needs_in (needs_of g) t) a.1 = (a.0, a.2, a.3) in
             let w = contains_flat (stands_for g.symbols (groups_of g)) (needs_in g.rows t) a.1 (subst (λ xs. Contains xs a.1) (needs_stand t symbol) need) in
-            any_of k t w.0 w.1 (stuck_up k w.0 a.1 (is.within t w.0 b w.1) w.2 a.4)
+            any_of k t w.0 w.1 (unordered_up k w.0 a.1 (is.within t w.0 b w.1) w.2 a.4)
         | inr group ↦
             let w = contains_flat (stands_for g.symbols (groups_of g)) (needs_in g.rows t) v (subst (λ xs. Contains xs v) (group_stands t group b) c) in
-            any_of k t w.0 w.1 (stuck_up k w.0 v (is.within t w.0 b w.1) w.2 e)
+            any_of k t w.0 w.1 (unordered_up k w.0 v (is.within t w.0 b w.1) w.2 e)
       ]
 
-  -- a symbol is stuck among nodes exactly where it is stuck on what it needs
-  pub stuck_alike : (s : ℕ) → s < g.symbols → stuck_after (needs_in g.rows) (length g.rows) s ≡ stuck_after (needs_in (needs_of g)) g.symbols s
-  stuck_alike s l =
-      elim (cases_Bool (stuck_after (needs_in g.rows) (length g.rows) s)) [
-        | inl stuck ↦ stuck ∙ sym (stuck_down g.symbols s l stuck)
-        | inr free ↦ elim (cases_Bool (stuck_after (needs_in (needs_of g)) g.symbols s)) [
+  -- a symbol is unordered among nodes exactly where it is unordered by what it needs
+  pub unordered_alike : (s : ℕ) → s < g.symbols → unordered_after (needs_in g.rows) (length g.rows) s ≡ unordered_after (needs_in (needs_of g)) g.symbols s
+  unordered_alike s l =
+      elim (cases_Bool (unordered_after (needs_in g.rows) (length g.rows) s)) [
+        | inl unordered ↦ unordered ∙ sym (unordered_down g.symbols s l unordered)
+        | inr free ↦ elim (cases_Bool (unordered_after (needs_in (needs_of g)) g.symbols s)) [
           | inl other ↦
               let there : Contains (stands_for g.symbols (groups_of g) s) s = subst (λ xs. Contains xs s) (sym (stands_symbol g.symbols (groups_of g) s l)) (0, omega arith, refl) in
-              stuck_up (length g.rows) s s (omega (arith, l, is.symbols_there)) there other ∙ sym other
+              unordered_up (length g.rows) s s (omega (arith, l, is.symbols_there)) there other ∙ sym other
           | inr both ↦ free ∙ sym both
         ]
       ]

@@ -7,8 +7,8 @@ use Rattle.std.proofs.Math.Seq.{drop-append_seam}
 use Rattle.std.proofs.lemmas.List.Elements.{All-contains}
 use Rattle.std.proofs.lemmas.Map.Keys.{apart_from_distinct}
 use Rattle.std.specs.List.{IsDistinct}
-use Rattle.kc_order.specs.Needs.{stuck_after}
-use Rattle.kc_order.specs.Loop.{IsLeast, IsFirstStuck, IsNext, IsStuckWalk, IsNamedLoop}
+use Rattle.kc_order.specs.Needs.{unordered_after}
+use Rattle.kc_order.specs.Loop.{IsLeast, IsFirstUnordered, IsNext, IsUnorderedWalk, IsNamedLoop}
 
 least_is_one : (xs : List ℕ) (t u : ℕ) → IsLeast xs t → IsLeast xs u → t ≡ u
 least_is_one xs t u a b =
@@ -16,18 +16,18 @@ least_is_one xs t u a b =
     let ge : u ≤ t = All-contains (λ v. u ≤ v) xs t b.1 a.0 in
     omega arith
 
-first_is_one : (n : ℕ) (needs : ℕ → List ℕ) (t u : ℕ) → IsFirstStuck n needs t → IsFirstStuck n needs u → t ≡ u
+first_is_one : (n : ℕ) (needs : ℕ → List ℕ) (t u : ℕ) → IsFirstUnordered n needs t → IsFirstUnordered n needs u → t ≡ u
 first_is_one n needs t u a b =
     elim (cases_lt t u) [
-      | inl less ↦ absurd (both_ways (stuck_after needs n t) (b.none_before t less) a.stuck)
+      | inl less ↦ absurd (both_ways (unordered_after needs n t) (b.none_before t less) a.unordered)
       | inr more ↦ elim (cases_lt u t) [
-        | inl less ↦ absurd (both_ways (stuck_after needs n u) (a.none_before u less) b.stuck)
+        | inl less ↦ absurd (both_ways (unordered_after needs n u) (a.none_before u less) b.unordered)
         | inr same ↦ omega arith
       ]
     ]
 
 -- two walks go the same way as far as both go
-same_steps : (n : ℕ) (needs : ℕ → List ℕ) (walk other : List ℕ) → IsStuckWalk n needs walk → IsStuckWalk n needs other → (k : ℕ) → k < length walk → k < length other →
+same_steps : (n : ℕ) (needs : ℕ → List ℕ) (walk other : List ℕ) → IsUnorderedWalk n needs walk → IsUnorderedWalk n needs other → (k : ℕ) → k < length walk → k < length other →
     get_or walk k 0 ≡ get_or other k 0
 same_steps n needs walk other a b zero l m = first_is_one n needs (get_or walk 0 0) (get_or other 0 0) a.begins b.begins
 same_steps n needs walk other a b (suc k) l m =
@@ -65,7 +65,7 @@ same_place xs apart i j l m e =
     ]
 
 module _ (n : ℕ) (needs : ℕ → List ℕ) (loop other : List ℕ) (a : IsNamedLoop n needs loop) (b : IsNamedLoop n needs other) where
-  -- the way to the loop's end, and back to its first symbol
+  -- the walk to the loop's end, and back to its first symbol
   abbrev one : List ℕ
   one = a.lead ++ loop
 
@@ -78,7 +78,7 @@ module _ (n : ℕ) (needs : ℕ → List ℕ) (loop other : List ℕ) (a : IsNam
   alike_in : (k : ℕ) → k < length one → k < length two → get_or one k 0 ≡ get_or two k 0
   alike_in k l m = sym (get_or_append_left one (take 1 loop) 0 k l) ∙ alike k (omega arith) (omega arith) ∙ get_or_append_left two (take 1 other) 0 k m
 
-  -- one way does not end before the other
+  -- one walk does not end before the other
   pub not_shorter : length one < length two → ⊥
   not_shorter less =
       let lead : length a.lead < length one = omega (arith, length-append a.lead loop, a.some) in

@@ -1,40 +1,40 @@
 -- One round over all symbols, one equation after another.
 use Rattle.std.proofs.Common.{◌≡◌, ℕ, ◌<◌, ◌+◌, false, List, zero, suc, sym, ◌∙◌, ap, inl, inr, arith, ◌≤◌, subst}
 use Rattle.std.proofs.lemmas.Bool.{true≢false, cases_Bool, both_ways, cases_eq}
-use Rattle.kc_order.specs.Needs.{NeedsBelow, stuck_after, NothingStuck}
+use Rattle.kc_order.specs.Needs.{NeedsBelow, unordered_after, NothingUnordered}
 use Rattle.kc_order.specs.Solution.{Solves, ReadsNeeds, IsUpdate, IsRound}
-use Rattle.kc_order.proofs.Stays.{was_stuck}
+use Rattle.kc_order.proofs.Stays.{was_unordered}
 use Rattle.kc_order.proofs.Unique.{fails_each}
 
--- what is not stuck stays so
-pub stays_free : (needs : ℕ → List ℕ) (k s : ℕ) → stuck_after needs k s ≡ false → stuck_after needs (suc k) s ≡ false
+-- what is not unordered stays so
+pub stays_free : (needs : ℕ → List ℕ) (k s : ℕ) → unordered_after needs k s ≡ false → unordered_after needs (suc k) s ≡ false
 stays_free needs k s e =
-    elim (cases_Bool (stuck_after needs (suc k) s)) [
-      | inl t ↦ absurd (both_ways (stuck_after needs k s) e (was_stuck needs k s t))
+    elim (cases_Bool (unordered_after needs (suc k) s)) [
+      | inl t ↦ absurd (both_ways (unordered_after needs k s) e (was_unordered needs k s t))
       | inr f ↦ f
     ]
 
--- the equations of the symbols that are not stuck after k rounds hold
-abbrev pub SolvesUnstuck : {A : Type 0} → ℕ → (ℕ → List ℕ) → (ℕ → (ℕ → A) → A) → ℕ → (ℕ → A) → Type 0
-SolvesUnstuck n needs rhs k V = (s : ℕ) → s < n → stuck_after needs k s ≡ false → V s ≡ rhs s V
+-- the equations of the symbols that are not unordered after k rounds hold
+abbrev pub SolvesOrdered : {A : Type 0} → ℕ → (ℕ → List ℕ) → (ℕ → (ℕ → A) → A) → ℕ → (ℕ → A) → Type 0
+SolvesOrdered n needs rhs k V = (s : ℕ) → s < n → unordered_after needs k s ≡ false → V s ≡ rhs s V
 
--- the first i equations hold where their symbols are not stuck after one more round
+-- the first i equations hold where their symbols are not unordered after one more round
 pub record HoldsUpTo {A : Type 0} (n : ℕ) (needs : ℕ → List ℕ) (rhs : ℕ → (ℕ → A) → A) (k i : ℕ) (V : ℕ → A) : Type 0 where
-  pub before : SolvesUnstuck n needs rhs k V
-  pub now : (s : ℕ) → s < i → s < n → stuck_after needs (suc k) s ≡ false → V s ≡ rhs s V
+  pub before : SolvesOrdered n needs rhs k V
+  pub now : (s : ℕ) → s < i → s < n → unordered_after needs (suc k) s ≡ false → V s ≡ rhs s V
 
 module _ {A : Type 0} (n : ℕ) (needs : ℕ → List ℕ) (rhs : ℕ → (ℕ → A) → A) (below : NeedsBelow n needs) (reads : ReadsNeeds needs rhs) where
-  -- the update of i changes nothing that is not stuck
-  unchanged : (k i : ℕ) (V W : ℕ → A) → SolvesUnstuck n needs rhs k V → IsUpdate V W i (rhs i V) → (t : ℕ) → t < n → stuck_after needs k t ≡ false → W t ≡ V t
+  -- the update of i changes nothing that is not unordered
+  unchanged : (k i : ℕ) (V W : ℕ → A) → SolvesOrdered n needs rhs k V → IsUpdate V W i (rhs i V) → (t : ℕ) → t < n → unordered_after needs k t ≡ false → W t ≡ V t
   unchanged k i V W h u t l e =
       elim (cases_eq t i) [
         | inl same ↦ ap W same ∙ u.here ∙ sym (ap (λ s. rhs s V) same) ∙ sym (h t l e)
         | inr other ↦ u.others t other
       ]
 
-  same_rhs : (k i : ℕ) (V W : ℕ → A) → SolvesUnstuck n needs rhs k V → IsUpdate V W i (rhs i V) → (s : ℕ) → s < n → stuck_after needs (suc k) s ≡ false → rhs s W ≡ rhs s V
+  same_rhs : (k i : ℕ) (V W : ℕ → A) → SolvesOrdered n needs rhs k V → IsUpdate V W i (rhs i V) → (s : ℕ) → s < n → unordered_after needs (suc k) s ≡ false → rhs s W ≡ rhs s V
   same_rhs k i V W h u s l e =
-      reads s W V (λ t c. unchanged k i V W h u t (below s t l c) (fails_each (stuck_after needs k) (needs s) t e c))
+      reads s W V (λ t c. unchanged k i V W h u t (below s t l c) (fails_each (unordered_after needs k) (needs s) t e c))
 
   pub one_more : (k i : ℕ) (V W : ℕ → A) → HoldsUpTo n needs rhs k i V → IsUpdate V W i (rhs i V) → HoldsUpTo n needs rhs k (i + 1) W
   one_more k i V W h u = record {
@@ -46,35 +46,35 @@ module _ {A : Type 0} (n : ℕ) (needs : ℕ → List ℕ) (rhs : ℕ → (ℕ �
         ];
   }
 
-  pub starts : (k : ℕ) (V : ℕ → A) → SolvesUnstuck n needs rhs k V → HoldsUpTo n needs rhs k 0 V
+  pub starts : (k : ℕ) (V : ℕ → A) → SolvesOrdered n needs rhs k V → HoldsUpTo n needs rhs k 0 V
   starts k V h = record { before = h; now = λ s up. absurd (omega arith) }
 
-  pub ends : (k : ℕ) (V : ℕ → A) → HoldsUpTo n needs rhs k n V → SolvesUnstuck n needs rhs (suc k) V
+  pub ends : (k : ℕ) (V : ℕ → A) → HoldsUpTo n needs rhs k n V → SolvesOrdered n needs rhs (suc k) V
   ends k V h s l e = h.now s l l e
 
 -- after one more round the equations hold of the symbols that it frees
 module _ {A : Type 0} (n : ℕ) (needs : ℕ → List ℕ) (rhs : ℕ → (ℕ → A) → A) (below : NeedsBelow n needs) (reads : ReadsNeeds needs rhs) where
-  as_far : (k : ℕ) (before after : ℕ → A) → SolvesUnstuck n needs rhs k before → (round : IsRound n rhs before after) → (i : ℕ) → i ≤ n → HoldsUpTo n needs rhs k i (round.left i)
-  as_far k before after h round zero l = starts n needs rhs below reads k (round.left 0) (subst (SolvesUnstuck n needs rhs k) (sym round.begins) h)
+  as_far : (k : ℕ) (before after : ℕ → A) → SolvesOrdered n needs rhs k before → (round : IsRound n rhs before after) → (i : ℕ) → i ≤ n → HoldsUpTo n needs rhs k i (round.left i)
+  as_far k before after h round zero l = starts n needs rhs below reads k (round.left 0) (subst (SolvesOrdered n needs rhs k) (sym round.begins) h)
   as_far k before after h round (suc i) l =
       let e : i + 1 ≡ suc i = omega arith in
       subst (λ j. HoldsUpTo n needs rhs k j (round.left j)) e
       (one_more n needs rhs below reads k i (round.left i) (round.left (i + 1)) (as_far k before after h round i (omega arith)) (round.computes i (omega arith)))
 
-  pub round_solves : (k : ℕ) (before after : ℕ → A) → SolvesUnstuck n needs rhs k before → IsRound n rhs before after → SolvesUnstuck n needs rhs (suc k) after
+  pub round_solves : (k : ℕ) (before after : ℕ → A) → SolvesOrdered n needs rhs k before → IsRound n rhs before after → SolvesOrdered n needs rhs (suc k) after
   round_solves k before after h round =
-      subst (SolvesUnstuck n needs rhs (suc k)) round.ends (ends n needs rhs below reads k (round.left n) (as_far k before after h round n (omega arith)))
+      subst (SolvesOrdered n needs rhs (suc k)) round.ends (ends n needs rhs below reads k (round.left n) (as_far k before after h round n (omega arith)))
 
-  after_rounds : (values : ℕ → ℕ → A) → ((k : ℕ) → k < n → IsRound n rhs (values k) (values (k + 1))) → (k : ℕ) → k ≤ n → SolvesUnstuck n needs rhs k (values k)
+  after_rounds : (values : ℕ → ℕ → A) → ((k : ℕ) → k < n → IsRound n rhs (values k) (values (k + 1))) → (k : ℕ) → k ≤ n → SolvesOrdered n needs rhs k (values k)
   after_rounds values rounds zero l = λ s b e. absurd (true≢false e)
   after_rounds values rounds (suc k) l =
       let e : k + 1 ≡ suc k = omega arith in
       let round = subst (λ j. IsRound n rhs (values k) (values j)) e (rounds k (omega arith)) in
       round_solves k (values k) (values (suc k)) (after_rounds values rounds k (omega arith)) round
 
-  pub rounds_solve : NothingStuck n needs → (values : ℕ → ℕ → A) → ((k : ℕ) → k < n → IsRound n rhs (values k) (values (k + 1))) → Solves n rhs (values n)
+  pub rounds_solve : NothingUnordered n needs → (values : ℕ → ℕ → A) → ((k : ℕ) → k < n → IsRound n rhs (values k) (values (k + 1))) → Solves n rhs (values n)
   rounds_solve free values rounds s l = after_rounds values rounds n (omega arith) s l (free s l)
 
--- where no symbol is stuck, all equations hold after as many rounds as there are symbols
-pub all_hold : {A : Type 0} (n k : ℕ) (needs : ℕ → List ℕ) (rhs : ℕ → (ℕ → A) → A) (V : ℕ → A) → k ≡ n → NothingStuck n needs → SolvesUnstuck n needs rhs k V → Solves n rhs V
+-- where no symbol is unordered, all equations hold after as many rounds as there are symbols
+pub all_hold : {A : Type 0} (n k : ℕ) (needs : ℕ → List ℕ) (rhs : ℕ → (ℕ → A) → A) (V : ℕ → A) → k ≡ n → NothingUnordered n needs → SolvesOrdered n needs rhs k V → Solves n rhs V
 all_hold n k needs rhs V e free h s l = h s l (rw e (free s l))

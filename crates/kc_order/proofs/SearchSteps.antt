@@ -10,19 +10,19 @@ use Rattle.std.proofs.lemmas.List.Elements.{Contains-push, Contains-push_cases, 
 use Rattle.std.proofs.lemmas.List.Folds.{list_any_none, list_any_at, Any-from_list_any}
 use Rattle.std.proofs.lemmas.Map.Keys.{IsDistinct-push, apart_from_distinct, IsDistinct-from_apart}
 use Rattle.kc_order.specs.declared.search.Mark.{Mark}
-use Rattle.kc_order.specs.declared.search.Mark.TheVariants.{New, Open, Done, Stuck}
+use Rattle.kc_order.specs.declared.search.Mark.TheVariants.{New, Open, Done, Unordered}
 use Rattle.std.proofs.Common.{All, map, sum, sum_by}
-use Rattle.std.proofs.lemmas.List.{length-set, length-map, get_or-map}
+use Rattle.std.proofs.lemmas.List.{length-set}
 use Rattle.std.proofs.lemmas.List.Sums.{sum_by-set}
-use Rattle.kc_order.specs.Needs.{NeedsBelow, needs_in, stuck_after}
-use Rattle.kc_order.specs.Loop.{IsFirstStuck}
+use Rattle.kc_order.specs.Needs.{NeedsBelow, needs_in, unordered_after}
+use Rattle.kc_order.specs.Loop.{IsFirstUnordered}
 use Rattle.kc_order.specs.Rows.{RowsBelow}
-use Rattle.kc_order.specs.Firsts.{AreStuck}
+use Rattle.kc_order.specs.FirstUnordered.{TellsUnordered}
 use Rattle.kc_order.specs.Order.{IsOrderOf}
 use Rattle.kc_order.specs.declared.search.Search.{Search}
-use Rattle.kc_order.specs.Search.{IsSearch, IsSound, IsOver, Opens, Closes, GivesUp, KeepsMet, weight, work, mark_of, is_stuck}
+use Rattle.kc_order.specs.Search.{IsSearch, IsSound, IsFinished, Opens, Closes, GivesUp, KeepsMet, weight, work, mark_of, is_unordered}
 use Rattle.kc_order.proofs.Held.{needs_below}
-use Rattle.kc_order.proofs.Stays.{stays_stuck}
+use Rattle.kc_order.proofs.Stays.{stays_unordered}
 use Rattle.kc_order.specs.Solution.{IsUpdate}
 
 -- a list with no symbol twice, and one that is not on it
@@ -54,14 +54,14 @@ done≢new m a b = cc
 open≢done : (m : Mark) → m ≡ Open → m ≡ Done → ⊥
 open≢done m a b = cc
 
-stuck≢new : (m : Mark) → m ≡ Stuck → m ≡ New → ⊥
-stuck≢new m a b = cc
+unordered≢new : (m : Mark) → m ≡ Unordered → m ≡ New → ⊥
+unordered≢new m a b = cc
 
-stuck≢open : (m : Mark) → m ≡ Stuck → m ≡ Open → ⊥
-stuck≢open m a b = cc
+unordered≢open : (m : Mark) → m ≡ Unordered → m ≡ Open → ⊥
+unordered≢open m a b = cc
 
-stuck≢done : (m : Mark) → m ≡ Stuck → m ≡ Done → ⊥
-stuck≢done m a b = cc
+unordered≢done : (m : Mark) → m ≡ Unordered → m ≡ Done → ⊥
+unordered≢done m a b = cc
 
 true≢false : (b : Bool) → b ≡ true → b ≡ false → ⊥
 true≢false b t f = cc
@@ -112,31 +112,31 @@ module _ (n : ℕ) (needs : ℕ → List ℕ) where
             ];
         order_apart = h.order_apart;
         needs_first = h.needs_first;
-        settled = λ t b e.
+        done_ordered = λ t b e.
             elim (cases_eq t s) [
               | inl same ↦ absurd (open≢done (mark' t) (ap mark' same ∙ u.here) e)
-              | inr other ↦ h.settled t b (sym (u.others t other) ∙ e)
+              | inr other ↦ h.done_ordered t b (sym (u.others t other) ∙ e)
             ];
-        stuck_is = λ t k b e.
+        unordered_is = λ t k b e.
             elim (cases_eq t s) [
-              | inl same ↦ absurd (stuck≢open (mark' t) e (ap mark' same ∙ u.here))
-              | inr other ↦ h.stuck_is t k b (sym (u.others t other) ∙ e)
+              | inl same ↦ absurd (unordered≢open (mark' t) e (ap mark' same ∙ u.here))
+              | inr other ↦ h.unordered_is t k b (sym (u.others t other) ∙ e)
             ];
         left_le = h.left_le;
         passed = λ t v b c. let d = h.passed t v b c in others v (done≢new (mark v) d) ∙ d;
       }
 
-  -- a symbol whose needs are all done is not stuck
-  now_settled : NeedsBelow n needs → (mark : ℕ → Mark) (left : ℕ → ℕ) (path order : List ℕ) (s : ℕ) → IsSearch n needs mark left path order → s < n → left s ≡ 0 → stuck_after needs n s ≡ false
+  -- a symbol whose needs are all done is not unordered
+  now_settled : NeedsBelow n needs → (mark : ℕ → Mark) (left : ℕ → ℕ) (path order : List ℕ) (s : ℕ) → IsSearch n needs mark left path order → s < n → left s ≡ 0 → unordered_after needs n s ≡ false
   now_settled below mark left path order s h l none =
-      elim (cases_Bool (stuck_after needs n s)) [
-        | inl stuck ↦
-            let a = Any-from_list_any (stuck_after needs n) (needs s) (stays_stuck n needs below s l stuck) in
+      elim (cases_Bool (unordered_after needs n s)) [
+        | inl unordered ↦
+            let a = Any-from_list_any (unordered_after needs n) (needs s) (stays_unordered n needs below s l unordered) in
             let t = a.1 in
             let need : Contains (needs s) t = (a.0, a.2, a.3) in
             let done = h.passed s t l (subst (λ j. Contains (drop j (needs s)) t) (sym none) need) in
-            let need_stuck : stuck_after needs n t ≡ true = a.4 in
-            absurd (true≢false (stuck_after needs n t) need_stuck (h.settled t (below s t l need) done))
+            let need_unordered : unordered_after needs n t ≡ true = a.4 in
+            absurd (true≢false (unordered_after needs n t) need_unordered (h.done_ordered t (below s t l need) done))
         | inr free ↦ free
       ]
 
@@ -183,23 +183,23 @@ module _ (n : ℕ) (needs : ℕ → List ℕ) where
                   rw (take_at order (s ∷ []) k k_is)
                   (h.done_is t (below s t there.0 need) (h.passed s t there.0 (subst (λ j. Contains (drop j (needs s)) t) (sym none) need)))
             ];
-        settled = λ t b e.
+        done_ordered = λ t b e.
             elim (cases_eq t s) [
-              | inl same ↦ ap (stuck_after needs n) same ∙ now_settled below mark left (path ++ s ∷ []) order s h there.0 none
-              | inr other ↦ h.settled t b (sym (u.others t other) ∙ e)
+              | inl same ↦ ap (unordered_after needs n) same ∙ now_settled below mark left (path ++ s ∷ []) order s h there.0 none
+              | inr other ↦ h.done_ordered t b (sym (u.others t other) ∙ e)
             ];
-        stuck_is = λ t k b e.
+        unordered_is = λ t k b e.
             elim (cases_eq t s) [
-              | inl same ↦ absurd (stuck≢done (mark' t) e (ap mark' same ∙ u.here))
-              | inr other ↦ h.stuck_is t k b (sym (u.others t other) ∙ e)
+              | inl same ↦ absurd (unordered≢done (mark' t) e (ap mark' same ∙ u.here))
+              | inr other ↦ h.unordered_is t k b (sym (u.others t other) ∙ e)
             ];
         left_le = h.left_le;
         passed = λ t v b c. done_stays v (h.passed t v b c);
       }
 
-  pub given_up : (mark mark' : ℕ → Mark) (left : ℕ → ℕ) (path order : List ℕ) (s : ℕ) → IsSearch n needs mark left (path ++ s ∷ []) order → ((k : ℕ) → stuck_after needs k s ≡ true) →
-      IsUpdate mark mark' s Stuck → IsSearch n needs mark' left path order
-  given_up mark mark' left path order s h stuck u =
+  pub given_up : (mark mark' : ℕ → Mark) (left : ℕ → ℕ) (path order : List ℕ) (s : ℕ) → IsSearch n needs mark left (path ++ s ∷ []) order → ((k : ℕ) → unordered_after needs k s ≡ true) →
+      IsUpdate mark mark' s Unordered → IsSearch n needs mark' left path order
+  given_up mark mark' left path order s h unordered u =
       let there = h.path_is s (Contains-push path s) in
       let done_stays : (t : ℕ) → mark t ≡ Done → mark' t ≡ Done = λ t d. u.others t (λ e. open≢done (mark s) there.1 (sym (ap mark e) ∙ d)) ∙ d in
       record {
@@ -208,7 +208,7 @@ module _ (n : ℕ) (needs : ℕ → List ℕ) where
             (old.0, u.others t (λ e. last_apart path s h.path_apart (subst (Contains path) e c)) ∙ old.1);
         open_is = λ t b e.
             elim (cases_eq t s) [
-              | inl same ↦ absurd (stuck≢open (mark' t) (ap mark' same ∙ u.here) e)
+              | inl same ↦ absurd (unordered≢open (mark' t) (ap mark' same ∙ u.here) e)
               | inr other ↦ elim (Contains-push_cases path s t (h.open_is t b (sym (u.others t other) ∙ e))) [
                 | inl p ↦ p
                 | inr same ↦ absurd (other (sym same))
@@ -221,20 +221,20 @@ module _ (n : ℕ) (needs : ℕ → List ℕ) where
         order_is = λ t c. let d = h.order_is t c in (d.0, done_stays t d.1);
         done_is = λ t b e.
             elim (cases_eq t s) [
-              | inl same ↦ absurd (stuck≢done (mark' t) (ap mark' same ∙ u.here) e)
+              | inl same ↦ absurd (unordered≢done (mark' t) (ap mark' same ∙ u.here) e)
               | inr other ↦ h.done_is t b (sym (u.others t other) ∙ e)
             ];
         order_apart = h.order_apart;
         needs_first = h.needs_first;
-        settled = λ t b e.
+        done_ordered = λ t b e.
             elim (cases_eq t s) [
-              | inl same ↦ absurd (stuck≢done (mark' t) (ap mark' same ∙ u.here) e)
-              | inr other ↦ h.settled t b (sym (u.others t other) ∙ e)
+              | inl same ↦ absurd (unordered≢done (mark' t) (ap mark' same ∙ u.here) e)
+              | inr other ↦ h.done_ordered t b (sym (u.others t other) ∙ e)
             ];
-        stuck_is = λ t k b e.
+        unordered_is = λ t k b e.
             elim (cases_eq t s) [
-              | inl same ↦ ap (stuck_after needs k) same ∙ stuck k
-              | inr other ↦ h.stuck_is t k b (sym (u.others t other) ∙ e)
+              | inl same ↦ ap (unordered_after needs k) same ∙ unordered k
+              | inr other ↦ h.unordered_is t k b (sym (u.others t other) ∙ e)
             ];
         left_le = h.left_le;
         passed = λ t v b c. done_stays v (h.passed t v b c);
@@ -251,8 +251,8 @@ module _ (n : ℕ) (needs : ℕ → List ℕ) where
     done_is = h.done_is;
     order_apart = h.order_apart;
     needs_first = h.needs_first;
-    settled = h.settled;
-    stuck_is = h.stuck_is;
+    done_ordered = h.done_ordered;
+    unordered_is = h.unordered_is;
     left_le = λ t b.
         elim (u t b) [
           | inl same ↦ omega (arith, h.left_le s l, same.1, ap length same.0)
@@ -271,16 +271,16 @@ module _ (n : ℕ) (needs : ℕ → List ℕ) where
         ];
   }
 
-  -- symbols that each need one of them are stuck for ever
-  pub ring_stuck : (ring : List ℕ) → ((s : ℕ) → Contains ring s → (t : ℕ) × Contains (needs s) t × Contains ring t) → (k s : ℕ) → Contains ring s → stuck_after needs k s ≡ true
-  ring_stuck ring goes zero s c = refl
-  ring_stuck ring goes (suc k) s c =
+  -- symbols that each need one of them stay unordered
+  pub ring_unordered : (ring : List ℕ) → ((s : ℕ) → Contains ring s → (t : ℕ) × Contains (needs s) t × Contains ring t) → (k s : ℕ) → Contains ring s → unordered_after needs k s ≡ true
+  ring_unordered ring goes zero s c = refl
+  ring_unordered ring goes (suc k) s c =
       let g = goes s c in
-      list_any_at (stuck_after needs k) (needs s) g.1.0 g.0 g.1.1 (rw g.1.2 (ring_stuck ring goes k g.0 g.2))
+      list_any_at (unordered_after needs k) (needs s) g.1.0 g.0 g.1.1 (rw g.1.2 (ring_unordered ring goes k g.0 g.2))
 
-  -- the last open symbol is stuck where it needs an open one
+  -- the last open symbol is unordered where it needs an open one
   pub found : (mark : ℕ → Mark) (left : ℕ → ℕ) (path order : List ℕ) (s t : ℕ) → IsSearch n needs mark left (path ++ s ∷ []) order → Contains (needs s) t → t < n → mark t ≡ Open →
-      (k : ℕ) → stuck_after needs k s ≡ true
+      (k : ℕ) → unordered_after needs k s ≡ true
   found mark left path order s t h c b e =
       let ring = path ++ s ∷ [] in
       let goes : (r : ℕ) → Contains (path ++ s ∷ []) r → (v : ℕ) × Contains (needs r) v × Contains (path ++ s ∷ []) v = λ r d.
@@ -292,13 +292,13 @@ module _ (n : ℕ) (needs : ℕ → List ℕ) where
         )
         | inr last ↦ (t, subst (λ x. Contains (needs x) t) (sym (get_or_push path s r d.0 (omega (arith, length_push path s))) ∙ d.2) c, h.open_is t b e)
       ] in
-      λ k. ring_stuck (path ++ s ∷ []) goes k s (Contains-push path s)
+      λ k. ring_unordered (path ++ s ∷ []) goes k s (Contains-push path s)
 
   -- and where it needs one that is given up
-  pub needs_stuck : (mark : ℕ → Mark) (left : ℕ → ℕ) (path order : List ℕ) (s t : ℕ) → IsSearch n needs mark left path order → Contains (needs s) t → t < n → mark t ≡ Stuck → (k : ℕ) →
-      stuck_after needs k s ≡ true
-  needs_stuck mark left path order s t h c b e zero = refl
-  needs_stuck mark left path order s t h c b e (suc k) = list_any_at (stuck_after needs k) (needs s) c.0 t c.1 (ap (stuck_after needs k) c.2 ∙ h.stuck_is t k b e)
+  pub needs_unordered : (mark : ℕ → Mark) (left : ℕ → ℕ) (path order : List ℕ) (s t : ℕ) → IsSearch n needs mark left path order → Contains (needs s) t → t < n → mark t ≡ Unordered → (k : ℕ) →
+      unordered_after needs k s ≡ true
+  needs_unordered mark left path order s t h c b e zero = refl
+  needs_unordered mark left path order s t h c b e (suc k) = list_any_at (unordered_after needs k) (needs s) c.0 t c.1 (ap (unordered_after needs k) c.2 ∙ h.unordered_is t k b e)
 
 -- a write into a list of marks or counts
 pub list_set : {A : Type 0} (d : A) (xs : List A) (i : ℕ) (x : A) → i < length xs → IsUpdate (λ s. get_or xs s d) (λ s. get_or (set xs i x) s d) i x
@@ -323,55 +323,55 @@ starts n needs mark left new all = record {
   done_is = λ s b e. absurd (done≢new (mark s) e (new s b));
   order_apart = tt;
   needs_first = λ k t b c. absurd (omega arith);
-  settled = λ s b e. absurd (done≢new (mark s) e (new s b));
-  stuck_is = λ s k b e. absurd (stuck≢new (mark s) e (new s b));
+  done_ordered = λ s b e. absurd (done≢new (mark s) e (new s b));
+  unordered_is = λ s k b e. absurd (unordered≢new (mark s) e (new s b));
   left_le = λ s b. omega (arith, all s b);
   passed = λ s t b c. absurd (omega (arith, c.1, length-drop (left s) (needs s), all s b));
 }
 
--- a symbol that was met and is not open is done where it is not stuck
-is_settled : (m : Mark) → m ≢ New → m ≢ Open → is_stuck m ≡ false → m ≡ Done
-is_settled New a b e = absurd (a refl)
-is_settled Open a b e = absurd (b refl)
-is_settled Done a b e = refl
-is_settled Stuck a b e = cc
+-- a symbol that was met and is not open is done where it is not unordered
+met_is_done : (m : Mark) → m ≢ New → m ≢ Open → is_unordered m ≡ false → m ≡ Done
+met_is_done New a b e = absurd (a refl)
+met_is_done Open a b e = absurd (b refl)
+met_is_done Done a b e = refl
+met_is_done Unordered a b e = cc
 
-is_given_up : (m : Mark) → is_stuck m ≡ true → m ≡ Stuck
+is_given_up : (m : Mark) → is_unordered m ≡ true → m ≡ Unordered
 is_given_up New e = cc
 is_given_up Open e = cc
 is_given_up Done e = cc
-is_given_up Stuck e = refl
+is_given_up Unordered e = refl
 
 -- after the last step
-module _ (rows : List (List ℕ)) (search : Search) (over : IsOver rows search) where
-  -- a symbol is marked as stuck exactly where it is
-  pub stuck_iff : (s : ℕ) → s < length rows → is_stuck (get_or search.marks.items s New) ≡ stuck_after (needs_in rows) (length rows) s
-  stuck_iff s b =
+module _ (rows : List (List ℕ)) (search : Search) (over : IsFinished rows search) where
+  -- a symbol is marked as unordered exactly where it is
+  pub unordered_iff : (s : ℕ) → s < length rows → is_unordered (get_or search.marks.items s New) ≡ unordered_after (needs_in rows) (length rows) s
+  unordered_iff s b =
       let keeps = over.sound.keeps in
       let closed_now : mark_of search s ≢ Open = λ e. omega (arith, over.idle, (keeps.open_is s b e).1) in
-      elim (cases_Bool (is_stuck (get_or search.marks.items s New))) [
-        | inl given ↦ given ∙ sym (keeps.stuck_is s (length rows) b (is_given_up (get_or search.marks.items s New) given))
-        | inr free ↦ free ∙ sym (keeps.settled s b (is_settled (get_or search.marks.items s New) (over.met s b) closed_now free))
+      elim (cases_Bool (is_unordered (get_or search.marks.items s New))) [
+        | inl given ↦ given ∙ sym (keeps.unordered_is s (length rows) b (is_given_up (get_or search.marks.items s New) given))
+        | inr free ↦ free ∙ sym (keeps.done_ordered s b (met_is_done (get_or search.marks.items s New) (over.met s b) closed_now free))
       ]
 
-  pub marks_are : AreStuck rows search.marks.items
-  marks_are = record { count = over.sound.marks_len; each = stuck_iff }
+  pub marks_are : TellsUnordered rows search.marks.items
+  marks_are = record { count = over.sound.marks_len; each = unordered_iff }
 
-  pub first_is : (i : ℕ) → i < length search.marks.items → is_stuck (get_or search.marks.items i New) ≡ true → ((k : ℕ) → k < i → is_stuck (get_or search.marks.items k New) ≡ false) →
-      IsFirstStuck (length rows) (needs_in rows) i
+  pub first_is : (i : ℕ) → i < length search.marks.items → is_unordered (get_or search.marks.items i New) ≡ true → ((k : ℕ) → k < i → is_unordered (get_or search.marks.items k New) ≡ false) →
+      IsFirstUnordered (length rows) (needs_in rows) i
   first_is i l given before = record {
     below = omega (arith, l, over.sound.marks_len);
-    stuck = sym (stuck_iff i (omega (arith, l, over.sound.marks_len))) ∙ given;
-    none_before = λ u b. sym (stuck_iff u (omega (arith, b, l, over.sound.marks_len))) ∙ before u b;
+    unordered = sym (unordered_iff i (omega (arith, l, over.sound.marks_len))) ∙ given;
+    none_before = λ u b. sym (unordered_iff u (omega (arith, b, l, over.sound.marks_len))) ∙ before u b;
   }
 
-  -- where none is stuck, all are in order
-  pub finishes : All (λ m. is_stuck m ≡ false) search.marks.items → IsOrderOf (length rows) (needs_in rows) search.order.items
+  -- where none is unordered, all are in order
+  pub finishes : All (λ m. is_unordered m ≡ false) search.marks.items → IsOrderOf (length rows) (needs_in rows) search.order.items
   finishes free =
       let keeps = over.sound.keeps in
       record {
         all_there = λ s b.
-            keeps.done_is s b (is_settled (mark_of search s) (over.met s b) (λ e. omega (arith, over.idle, (keeps.open_is s b e).1)) (free s New (omega (arith, b, over.sound.marks_len))));
+            keeps.done_is s b (met_is_done (mark_of search s) (over.met s b) (λ e. omega (arith, over.idle, (keeps.open_is s b e).1)) (free s New (omega (arith, b, over.sound.marks_len))));
         all_below = λ s c. (keeps.order_is s c).0;
         apart = keeps.order_apart;
         needs_first = keeps.needs_first;
@@ -438,20 +438,20 @@ module _ (rows : List (List ℕ)) (before after : Search) (s : ℕ) (sound : IsS
       let less = sum_by-set weight before.marks.items s Done New (omega (arith, sound.marks_len)) in
       omega (arith, less, was, ap (sum_by weight) o.marks, ap sum o.left)
 
-  -- the last open symbol, which is stuck, is given up
-  pub gives_up_sound : s < length rows → ((k : ℕ) → stuck_after (needs_in rows) k s ≡ true) → GivesUp before after s → IsSound rows after
-  gives_up_sound below stuck o =
+  -- the last open symbol, which is unordered, is given up
+  pub gives_up_sound : s < length rows → ((k : ℕ) → unordered_after (needs_in rows) k s ≡ true) → GivesUp before after s → IsSound rows after
+  gives_up_sound below unordered o =
       let split = subst (λ p. IsSearch (length rows) (needs_in rows) (λ t. get_or before.marks.items t New)
       (λ t. get_or before.left.items t 0) p before.order.items) o.path sound.keeps in
       record {
-        marks_len = ap length o.marks ∙ length-set before.marks.items s Stuck ∙ sound.marks_len;
+        marks_len = ap length o.marks ∙ length-set before.marks.items s Unordered ∙ sound.marks_len;
         left_len = ap length o.left ∙ sound.left_len;
-        keeps = rw (o.marks, o.left, o.order) (given_up _ (needs_in rows) _ _ _ after.path.items before.order.items s split stuck
-            (list_set New before.marks.items s Stuck (omega (arith, sound.marks_len))));
+        keeps = rw (o.marks, o.left, o.order) (given_up _ (needs_in rows) _ _ _ after.path.items before.order.items s split unordered
+            (list_set New before.marks.items s Unordered (omega (arith, sound.marks_len))));
       }
 
   pub gives_up_less : s < length rows → GivesUp before after s → work after < work before
   gives_up_less below o =
       let was = ap weight (sound.keeps.path_is s (subst (λ p. Contains p s) (sym o.path) (Contains-push after.path.items s))).1 in
-      let less = sum_by-set weight before.marks.items s Stuck New (omega (arith, sound.marks_len)) in
+      let less = sum_by-set weight before.marks.items s Unordered New (omega (arith, sound.marks_len)) in
       omega (arith, less, was, ap (sum_by weight) o.marks, ap sum o.left)

@@ -1,4 +1,4 @@
--- What is stuck after as many rounds as there are symbols stays stuck.
+-- What is unordered after as many rounds as there are symbols stays unordered.
 use Rattle.std.proofs.Common.{◌≡◌, ℕ, ◌<◌, ◌≤◌, ◌+◌, Bool, true, cond, List, [], ◌∷◌, get_or, zero, suc, sym, ◌∙◌, ap, refl, inl, inr, arith, All, ◌⊎◌, subst, zero-add}
 use Rattle.std.specs.List.{list_any, count_by, range_with_len}
 use Rattle.std.proofs.lemmas.Bool.{cases_Bool}
@@ -6,7 +6,7 @@ use Rattle.std.proofs.lemmas.List.Elements.{All-cons, All-tail, Contains-get_or}
 use Rattle.std.proofs.lemmas.List.Folds.{list_any_at, Any-from_list_any}
 use Rattle.std.proofs.lemmas.List.FromFn.{length-range_with_len, get_or-range_with_len}
 use Rattle.std.proofs.lemmas.List.Sums.{sum_by-cons, count_by-le-length, get_or-le-sum_by, sum_by-le-sum_by}
-use Rattle.kc_order.specs.Needs.{NeedsBelow, stuck_after}
+use Rattle.kc_order.specs.Needs.{NeedsBelow, unordered_after}
 
 -- tests that agree on each element find the same
 list_any_agree : {X : Type 0} (p q : X → Bool) (xs : List X) → All (λ x. p x ≡ q x) xs → list_any p xs ≡ list_any q xs
@@ -22,18 +22,18 @@ list_any_narrow p q h xs e =
     let a = Any-from_list_any q xs e in
     list_any_at p xs a.0 a.1 a.2 (h (get_or xs a.0 a.1) (rw a.3 a.4))
 
--- what is stuck after one more round was stuck before
-pub was_stuck : (needs : ℕ → List ℕ) (k s : ℕ) → stuck_after needs (suc k) s ≡ true → stuck_after needs k s ≡ true
-was_stuck needs zero s e = refl
-was_stuck needs (suc k) s e = list_any_narrow (stuck_after needs k) (stuck_after needs (suc k)) (was_stuck needs k) (needs s) e
+-- what is unordered after one more round was unordered before
+pub was_unordered : (needs : ℕ → List ℕ) (k s : ℕ) → unordered_after needs (suc k) s ≡ true → unordered_after needs k s ≡ true
+was_unordered needs zero s e = refl
+was_unordered needs (suc k) s e = list_any_narrow (unordered_after needs k) (unordered_after needs (suc k)) (was_unordered needs k) (needs s) e
 
 -- no symbol is taken away in the round after k
-abbrev Settled : ℕ → (ℕ → List ℕ) → ℕ → Type 0
-Settled n needs k = (s : ℕ) → s < n → stuck_after needs k s ≡ stuck_after needs (suc k) s
+abbrev IsFixpoint : ℕ → (ℕ → List ℕ) → ℕ → Type 0
+IsFixpoint n needs k = (s : ℕ) → s < n → unordered_after needs k s ≡ unordered_after needs (suc k) s
 
-settled_next : (n : ℕ) (needs : ℕ → List ℕ) (k : ℕ) → NeedsBelow n needs → Settled n needs k → Settled n needs (suc k)
+settled_next : (n : ℕ) (needs : ℕ → List ℕ) (k : ℕ) → NeedsBelow n needs → IsFixpoint n needs k → IsFixpoint n needs (suc k)
 settled_next n needs k below h s l =
-    list_any_agree (stuck_after needs k) (stuck_after needs (suc k)) (needs s)
+    list_any_agree (unordered_after needs k) (unordered_after needs (suc k)) (needs s)
     (λ j d lt. h (get_or (needs s) j d) (below s (get_or (needs s) j d) l (Contains-get_or (needs s) j d lt)))
 
 abbrev one_if : Bool → ℕ
@@ -71,26 +71,26 @@ fewer p q h (x ∷ xs) =
     ]
 
 -- either nothing more is taken away, or each round took one away
-settled_or_fewer : (n : ℕ) (needs : ℕ → List ℕ) → NeedsBelow n needs → (k : ℕ) → Settled n needs k ⊎ (count_by (stuck_after needs k) (range_with_len 0 n) + k ≤ n)
-settled_or_fewer n needs below zero = inr (omega (arith, count_by-le-length (stuck_after needs zero) (range_with_len 0 n), length-range_with_len 0 n))
+settled_or_fewer : (n : ℕ) (needs : ℕ → List ℕ) → NeedsBelow n needs → (k : ℕ) → IsFixpoint n needs k ⊎ (count_by (unordered_after needs k) (range_with_len 0 n) + k ≤ n)
+settled_or_fewer n needs below zero = inr (omega (arith, count_by-le-length (unordered_after needs zero) (range_with_len 0 n), length-range_with_len 0 n))
 settled_or_fewer n needs below (suc k) =
     elim (settled_or_fewer n needs below k) [
       | inl done ↦ inl (settled_next n needs k below done)
-      | inr few ↦ elim (fewer (stuck_after needs k) (stuck_after needs (suc k)) (was_stuck needs k) (range_with_len 0 n)) [
+      | inr few ↦ elim (fewer (unordered_after needs k) (unordered_after needs (suc k)) (was_unordered needs k) (range_with_len 0 n)) [
         | inl same ↦ inl (settled_next n needs k below
-            (λ s l. subst (λ x. stuck_after needs k x ≡ stuck_after needs (suc k) x) (get_or-range_with_len 0 n s 0 l ∙ zero-add s) (same s 0 (omega (arith, length-range_with_len 0 n)))))
+            (λ s l. subst (λ x. unordered_after needs k x ≡ unordered_after needs (suc k) x) (get_or-range_with_len 0 n s 0 l ∙ zero-add s) (same s 0 (omega (arith, length-range_with_len 0 n)))))
         | inr less ↦ inr (omega arith)
       ]
     ]
 
--- what is stuck needs something stuck
-pub stays_stuck : (n : ℕ) (needs : ℕ → List ℕ) → NeedsBelow n needs → (s : ℕ) → s < n → stuck_after needs n s ≡ true → list_any (stuck_after needs n) (needs s) ≡ true
-stays_stuck n needs below s l e =
+-- what is unordered needs something unordered
+pub stays_unordered : (n : ℕ) (needs : ℕ → List ℕ) → NeedsBelow n needs → (s : ℕ) → s < n → unordered_after needs n s ≡ true → list_any (unordered_after needs n) (needs s) ≡ true
+stays_unordered n needs below s l e =
     elim (settled_or_fewer n needs below n) [
       | inl done ↦ sym (done s l) ∙ e
       | inr none ↦
-          let at = get_or-le-sum_by (λ x. cond (stuck_after needs n x) 1 0) (range_with_len 0 n) s 0 (omega (arith, length-range_with_len 0 n)) in
+          let at = get_or-le-sum_by (λ x. cond (unordered_after needs n x) 1 0) (range_with_len 0 n) s 0 (omega (arith, length-range_with_len 0 n)) in
           let is : get_or (range_with_len 0 n) s 0 ≡ s = get_or-range_with_len 0 n s 0 l ∙ zero-add s in
-          let one = ap (λ (x : ℕ). one_if (stuck_after needs n x)) is ∙ ap one_if e in
+          let one = ap (λ (x : ℕ). one_if (unordered_after needs n x)) is ∙ ap one_if e in
           absurd (omega arith)
     ]

@@ -1,9 +1,9 @@
--- Two solutions agree at each symbol that is not stuck.
+-- Two solutions agree at each symbol that is not unordered.
 use Rattle.std.proofs.Common.{◌≡◌, ℕ, ◌<◌, Bool, false, List, zero, suc, sym, ◌∙◌, inl, inr}
 use Rattle.std.specs.List.{Contains, list_any}
 use Rattle.std.proofs.lemmas.Bool.{true≢false, cases_Bool, both_ways}
 use Rattle.std.proofs.lemmas.List.Folds.{list_any_at}
-use Rattle.kc_order.specs.Needs.{NeedsBelow, stuck_after, NothingStuck}
+use Rattle.kc_order.specs.Needs.{NeedsBelow, unordered_after, NothingUnordered}
 use Rattle.kc_order.specs.Solution.{Solves, IsOnlySolution, ReadsNeeds}
 
 -- what no element passes, an element fails
@@ -14,12 +14,13 @@ fails_each p xs x e c =
       | inr f ↦ f
     ]
 
--- two solutions agree at each symbol that is not stuck after k rounds
+-- two solutions agree at each symbol that is not unordered after k rounds
 pub agree_after : {A : Type 0} (n : ℕ) (needs : ℕ → List ℕ) (rhs : ℕ → (ℕ → A) → A) → NeedsBelow n needs → ReadsNeeds needs rhs → (V W : ℕ → A) → Solves n rhs V → Solves n rhs W →
-    (k s : ℕ) → s < n → stuck_after needs k s ≡ false → V s ≡ W s
+    (k s : ℕ) → s < n → unordered_after needs k s ≡ false → V s ≡ W s
 agree_after n needs rhs below reads V W v w zero s h e = absurd (true≢false e)
 agree_after n needs rhs below reads V W v w (suc k) s h e =
-    v s h ∙ reads s V W (λ t i. agree_after n needs rhs below reads V W v w k t (below s t h i) (fails_each (stuck_after needs k) (needs s) t e i)) ∙ sym (w s h)
+    v s h ∙ reads s V W (λ t i. agree_after n needs rhs below reads V W v w k t (below s t h i) (fails_each (unordered_after needs k) (needs s) t e i)) ∙ sym (w s h)
 
-pub only : {A : Type 0} (n : ℕ) (needs : ℕ → List ℕ) (rhs : ℕ → (ℕ → A) → A) → NeedsBelow n needs → ReadsNeeds needs rhs → NothingStuck n needs → (V : ℕ → A) → Solves n rhs V → IsOnlySolution n rhs V
+pub only : {A : Type 0} (n : ℕ) (needs : ℕ → List ℕ) (rhs : ℕ → (ℕ → A) → A) → NeedsBelow n needs → ReadsNeeds needs rhs → NothingUnordered n needs →
+    (V : ℕ → A) → Solves n rhs V → IsOnlySolution n rhs V
 only n needs rhs below reads free V v W w s h = agree_after n needs rhs below reads W V w v n s h (free s h)

@@ -1,4 +1,4 @@
--- The walk along stuck symbols.
+-- The walk along unordered symbols.
 use Rattle.std.proofs.Common.{false, replicate, ◌||◌, get_or-set_same, get_or-set_other, ◌≡◌, ℕ, ◌<◌, ◌≤◌, ◌+◌, Bool, true, false, List, [], ◌∷◌}
 use Rattle.std.proofs.Common.{◌++◌, length, get_or, sym, ◌∙◌, ap, refl, inl, inr, arith, All, take, drop, eqb, filter, ◌≢◌, subst}
 use Rattle.std.specs.Cmp.{nat_eq_equiv}
@@ -12,10 +12,10 @@ use Rattle.std.proofs.lemmas.List.{length-replicate, get_or-replicate, length-se
 use Rattle.std.specs.List.{Contains, list_any, IsDistinct}
 use Rattle.std.proofs.lemmas.Bool.{eqb-false, cases_eq, cases_Bool, ne_eqb, eqb-true, cases_lt}
 use Rattle.std.proofs.lemmas.List.Elements.{All-tail, Contains-get_or, All-contains, All-filter, filter_passes, All-contains_itself, All-push, Contains-push}
-use Rattle.kc_order.specs.Needs.{NeedsBelow, stuck_after}
+use Rattle.kc_order.specs.Needs.{NeedsBelow, unordered_after}
 use Rattle.kc_order.specs.Rows.{AreMarks}
-use Rattle.kc_order.specs.Loop.{IsFirstStuck, IsNext, IsStuckWalk, IsNamedLoop}
-use Rattle.kc_order.proofs.Stays.{stays_stuck}
+use Rattle.kc_order.specs.Loop.{IsFirstUnordered, IsNext, IsUnorderedWalk, IsNamedLoop}
+use Rattle.kc_order.proofs.Stays.{stays_unordered}
 
 -- tests that agree on each element keep the same
 pub filter_agree_on : {X : Type 0} (p q : X → Bool) (xs : List X) → All (λ x. p x ≡ q x) xs → filter p xs ≡ filter q xs
@@ -39,37 +39,29 @@ keeps_some p (x ∷ xs) e h =
       | inr f ↦ keeps_some p xs (rw f at e) (rw f at h)
     ]
 
--- the marked symbols of a row are the stuck needs
-pub marked_needs : (n k : ℕ) (needs : ℕ → List ℕ) (marks : List Bool) (row : List ℕ) (s : ℕ) → NeedsBelow n needs → AreMarks n (stuck_after needs k) marks → row ≡ needs s → s < n →
-    filter (λ t. get_or marks t false) row ≡ filter (stuck_after needs k) (needs s)
-marked_needs n k needs marks row s below m e l =
-    ap (filter (λ t. get_or marks t false)) e ∙
-    filter_agree_on (λ t. get_or marks t false) (stuck_after needs k) (needs s)
-    (λ j d lt. m.each (get_or (needs s) j d) (below s (get_or (needs s) j d) l (Contains-get_or (needs s) j d lt)))
+-- an unordered symbol has a next one
+pub next_is_there : (n : ℕ) (needs : ℕ → List ℕ) (s : ℕ) → NeedsBelow n needs → s < n → unordered_after needs n s ≡ true → length (filter (unordered_after needs n) (needs s)) ≡ 0 → ⊥
+next_is_there n needs s below l e = keeps_some (unordered_after needs n) (needs s) (stays_unordered n needs below s l e)
 
--- a stuck symbol has a next one
-pub next_is_there : (n : ℕ) (needs : ℕ → List ℕ) (s : ℕ) → NeedsBelow n needs → s < n → stuck_after needs n s ≡ true → length (filter (stuck_after needs n) (needs s)) ≡ 0 → ⊥
-next_is_there n needs s below l e = keeps_some (stuck_after needs n) (needs s) (stays_stuck n needs below s l e)
-
--- the next symbol is a stuck symbol
-pub next_is_stuck : (n : ℕ) (needs : ℕ → List ℕ) (s t : ℕ) → NeedsBelow n needs → s < n → IsNext n needs s t → (t < n) × (stuck_after needs n t ≡ true)
-next_is_stuck n needs s t below l next =
-    let from = kept_from (stuck_after needs n) (needs s) t next.0 in
+-- the next symbol is an unordered symbol
+pub next_is_unordered : (n : ℕ) (needs : ℕ → List ℕ) (s t : ℕ) → NeedsBelow n needs → s < n → IsNext n needs s t → (t < n) × (unordered_after needs n t ≡ true)
+next_is_unordered n needs s t below l next =
+    let from = kept_from (unordered_after needs n) (needs s) t next.0 in
     (below s t l from.0, from.1)
 
 -- a walk that has no symbol twice, and the symbol that comes next
 pub record IsOnTheWay (n : ℕ) (needs : ℕ → List ℕ) (walk : List ℕ) (at : ℕ) : Type 0 where
   pub below : at < n
-  pub is_stuck : stuck_after needs n at ≡ true
-  pub walks : IsStuckWalk n needs (walk ++ at ∷ [])
+  pub is_unordered : unordered_after needs n at ≡ true
+  pub walks : IsUnorderedWalk n needs (walk ++ at ∷ [])
   pub apart : IsDistinct eqb walk
   pub all_below : All (λ t. t < n) walk
 
-pub sets_out : (n : ℕ) (needs : ℕ → List ℕ) (first : ℕ) → IsFirstStuck n needs first → IsOnTheWay n needs [] first
+pub sets_out : (n : ℕ) (needs : ℕ → List ℕ) (first : ℕ) → IsFirstUnordered n needs first → IsOnTheWay n needs [] first
 unfolding IsDistinct
 sets_out n needs first h = record {
   below = h.below;
-  is_stuck = h.stuck;
+  is_unordered = h.unordered;
   walks = record { begins = h; goes_on = λ k l. absurd (omega arith) };
   apart = tt;
   all_below = λ k d l. absurd (omega arith);
@@ -82,10 +74,10 @@ next_at n needs xs k a b p q h = subst (λ x. IsNext n needs x (get_or xs (k + 1
 pub goes_further : (n : ℕ) (needs : ℕ → List ℕ) (walk : List ℕ) (at next : ℕ) → NeedsBelow n needs → IsOnTheWay n needs walk at → All (λ s. s ≢ at) walk → IsNext n needs at next →
     IsOnTheWay n needs (walk ++ at ∷ []) next
 goes_further n needs walk at next below h new e =
-    let to = next_is_stuck n needs at next below h.below e in
+    let to = next_is_unordered n needs at next below h.below e in
     record {
       below = to.0;
-      is_stuck = to.1;
+      is_unordered = to.1;
       walks = record {
         begins = let l : 0 < length (walk ++ at ∷ []) = omega (arith, length_push walk at) in rw (get_or_append_left (walk ++ at ∷ []) (next ∷ []) 0 0 l) h.walks.begins;
         goes_on = λ k l.

@@ -2,26 +2,26 @@
 use Rattle.std.specs.Prelude.{All, ◌≡◌, ◌⊎◌, ℕ, ◌<◌, ◌+◌, ◌-◌, ◌++◌, take, List, length, slice_index, Option, Bool}
 use Rattle.std.specs.List.{Contains, flat_map}
 use Rattle.kc_order.specs.Graph.{Nodes, IsGraph, groups_of, needs_of, stands_for}
-use Rattle.kc_order.specs.Needs.{needs_in, AreAlike, AreWithin, IsAccepted, SomeStuck}
-use Rattle.kc_order.specs.Loop.{IsNamedLoop, IsWay}
+use Rattle.kc_order.specs.Needs.{needs_in, AreAlike, AreWithin, IsAccepted, SomeUnordered}
+use Rattle.kc_order.specs.Loop.{IsNamedLoop, IsPath}
 use Rattle.kc_order.specs.Order.{Orders}
 use Rattle.kc_order.specs.Solution.{Solves, IsOnlySolution, ReadsNeeds, HasOneSolution, IsUpdate, IsRound}
-use Rattle.kc_order.specs.Minimal.{under, Restores, NothingCanGo, KeepsWhatDiffers}
+use Rattle.kc_order.specs.Minimal.{equations_under, Restores, NothingCanGo, KeepsWhatDiffers}
 
 -- needs that have an order are accepted
 abbrev pub OrderedAreAccepted : Type 0
 OrderedAreAccepted = (needs : List (List ℕ)) (symbols : List ℕ) → Orders needs symbols → IsAccepted needs
 
--- where a way along needs comes back to the symbol at which it began, some symbol is stuck
-abbrev pub AWayRoundIsStuck : Type 0
-AWayRoundIsStuck =
+-- where a path along needs comes back to the symbol at which it began, as a cycle, some symbol is unordered
+abbrev pub CyclesAreUnordered : Type 0
+CyclesAreUnordered =
     (needs : List (List ℕ)) (way : List ℕ) → 1 < length way → slice_index way 0 < length needs →
-    IsWay (needs_in needs) way → slice_index way (length way - 1) ≡ slice_index way 0 → SomeStuck (length needs) (needs_in needs)
+    IsPath (needs_in needs) way → slice_index way (length way - 1) ≡ slice_index way 0 → SomeUnordered (length needs) (needs_in needs)
 
 -- each symbol of a loop that is named needs the next, and the last the first
 abbrev pub NamedLoopGoesRound : Type 0
 NamedLoopGoesRound =
-    (needs : List (List ℕ)) (loop : List ℕ) → IsNamedLoop (length needs) (needs_in needs) loop → IsWay (needs_in needs) (loop ++ take 1 loop)
+    (needs : List (List ℕ)) (loop : List ℕ) → IsNamedLoop (length needs) (needs_in needs) loop → IsPath (needs_in needs) (loop ++ take 1 loop)
 
 -- and is a symbol
 abbrev pub NamedLoopIsWithin : Type 0
@@ -34,14 +34,14 @@ OneNamedLoop =
     (needs : List (List ℕ)) (loop other : List ℕ) →
     IsNamedLoop (length needs) (needs_in needs) loop → IsNamedLoop (length needs) (needs_in needs) other → loop ≡ other
 
--- needs are accepted, or some symbol is stuck
-abbrev pub AcceptedOrStuck : Type 0
-AcceptedOrStuck = (needs : List (List ℕ)) → IsAccepted needs ⊎ SomeStuck (length needs) (needs_in needs)
+-- needs are accepted, or some symbol is unordered
+abbrev pub AcceptedOrUnordered : Type 0
+AcceptedOrUnordered = (needs : List (List ℕ)) → IsAccepted needs ⊎ SomeUnordered (length needs) (needs_in needs)
 
--- where some symbol is stuck, a loop is named
-abbrev pub StuckHaveALoop : Type 0
-StuckHaveALoop =
-    (needs : List (List ℕ)) → AreWithin needs → SomeStuck (length needs) (needs_in needs) →
+-- where some symbol is unordered, a loop is named
+abbrev pub UnorderedHaveALoop : Type 0
+UnorderedHaveALoop =
+    (needs : List (List ℕ)) → AreWithin needs → SomeUnordered (length needs) (needs_in needs) →
     (loop : List ℕ) × IsNamedLoop (length needs) (needs_in needs) loop
 
 -- what is accepted, and which loop is named, is the same of needs that are alike
@@ -63,7 +63,7 @@ SymbolsStandFirst =
     (g : Nodes) (nodes : List ℕ) → IsGraph g → Orders g.rows nodes →
     (k v : ℕ) → k < length nodes → Contains (flat_map (stands_for g.symbols (groups_of g)) (needs_in g.rows (slice_index nodes k))) v → Contains (take k nodes) v
 
--- equations that read only what is needed have one solution, where no symbol is stuck
+-- equations that read only what is needed have one solution, where no symbol is unordered
 abbrev pub AcceptedHaveOneSolution : Type 0 → Type 0
 AcceptedHaveOneSolution A =
     (needs : List (List ℕ)) (rhs : ℕ → (ℕ → A) → A) → AreWithin needs → IsAccepted needs → ReadsNeeds (needs_in needs) rhs →
@@ -76,8 +76,8 @@ SolutionsAgree A =
     (V : ℕ → A) → Solves (length needs) rhs V → IsOnlySolution (length needs) rhs V
 
 -- each equation computed once, along an order, whatever the values before: the equations hold
-abbrev pub FillingSolves : Type 0 → Type 0
-FillingSolves A =
+abbrev pub ComputingSolves : Type 0 → Type 0
+ComputingSolves A =
     (needs : List (List ℕ)) (symbols : List ℕ) (rhs : ℕ → (ℕ → A) → A) → Orders needs symbols → ReadsNeeds (needs_in needs) rhs →
     (filled : ℕ → ℕ → A) →
     ((i : ℕ) → i < length symbols → IsUpdate (filled i) (filled (i + 1)) (slice_index symbols i) (rhs (slice_index symbols i) (filled i))) →
@@ -94,12 +94,12 @@ RoundsSolve A =
 abbrev pub MinimalRestores : Type 0 → Type 0 → Type 0 → Type 0
 MinimalRestores A Place G =
     (needs : List (List ℕ)) (place : ℕ → Place) (rhs : ℕ → Option G → (ℕ → A) → A) (lines : Place → Option G) (V : ℕ → A) (keep : Place → Bool) →
-    AreWithin needs → IsAccepted needs → ((given : Place → Option G) → ReadsNeeds (needs_in needs) (under place rhs given)) →
+    AreWithin needs → IsAccepted needs → ((given : Place → Option G) → ReadsNeeds (needs_in needs) (equations_under place rhs given)) →
     KeepsWhatDiffers (length needs) place rhs lines V keep → Restores (length needs) place rhs lines V keep
 
 -- and none of them can go
 abbrev pub MinimalHasNothingToSpare : Type 0 → Type 0 → Type 0 → Type 0
 MinimalHasNothingToSpare A Place G =
     (needs : List (List ℕ)) (place : ℕ → Place) (rhs : ℕ → Option G → (ℕ → A) → A) (lines : Place → Option G) (V : ℕ → A) (keep : Place → Bool) →
-    AreWithin needs → ((given : Place → Option G) → ReadsNeeds (needs_in needs) (under place rhs given)) →
+    AreWithin needs → ((given : Place → Option G) → ReadsNeeds (needs_in needs) (equations_under place rhs given)) →
     KeepsWhatDiffers (length needs) place rhs lines V keep → NothingCanGo (length needs) place rhs lines V keep

@@ -3,7 +3,7 @@ pub mod Graph
 pub mod Rows
 pub mod Solution
 pub mod Loop
-pub mod Firsts
+pub mod FirstUnordered
 pub mod Order
 pub mod Reason
 pub mod Search

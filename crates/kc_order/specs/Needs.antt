@@ -1,4 +1,5 @@
--- Trusted: Which symbols a symbol needs, and which are stuck on their own needs. Symbols are numbers from 0 on.
+-- Trusted: Which symbols a symbol needs, and which are unordered: no order reaches them.
+-- Symbols are numbers from 0 on.
 use Rattle.std.specs.Prelude.{◌≡◌, ℕ, ◌<◌, Bool, true, false, List, [], length, zero, suc, slice_index_or}
 use Rattle.std.specs.List.{Contains, list_any}
 
@@ -14,22 +15,22 @@ NeedsBelow n needs = (s t : ℕ) → s < n → Contains (needs s) t → t < n
 abbrev pub AreWithin : List (List ℕ) → Type 0
 AreWithin needs = NeedsBelow (length needs) (needs_in needs)
 
--- before the first round every symbol is stuck, and after one more round those that need a symbol stuck before
-abbrev pub stuck_after : (ℕ → List ℕ) → ℕ → ℕ → Bool
-stuck_after needs zero s = true
-stuck_after needs (suc k) s = list_any (stuck_after needs k) (needs s)
+-- before the first round every symbol is unordered, and after one more round those that need a symbol unordered before
+abbrev pub unordered_after : (ℕ → List ℕ) → ℕ → ℕ → Bool
+unordered_after needs zero s = true
+unordered_after needs (suc k) s = list_any (unordered_after needs k) (needs s)
 
--- none of the first n symbols is stuck after n rounds
-abbrev pub NothingStuck : ℕ → (ℕ → List ℕ) → Type 0
-NothingStuck n needs = (s : ℕ) → s < n → stuck_after needs n s ≡ false
+-- none of the first n symbols is unordered after n rounds
+abbrev pub NothingUnordered : ℕ → (ℕ → List ℕ) → Type 0
+NothingUnordered n needs = (s : ℕ) → s < n → unordered_after needs n s ≡ false
 
--- one of the first n symbols is stuck after n rounds
-abbrev pub SomeStuck : ℕ → (ℕ → List ℕ) → Type 0
-SomeStuck n needs = (s : ℕ) × (s < n) × (stuck_after needs n s ≡ true)
+-- one of the first n symbols is unordered after n rounds
+abbrev pub SomeUnordered : ℕ → (ℕ → List ℕ) → Type 0
+SomeUnordered n needs = (s : ℕ) × (s < n) × (unordered_after needs n s ≡ true)
 
--- after as many rounds as there are symbols no symbol is stuck
+-- after as many rounds as there are symbols no symbol is unordered
 abbrev pub IsAccepted : List (List ℕ) → Type 0
-IsAccepted needs = NothingStuck (length needs) (needs_in needs)
+IsAccepted needs = NothingUnordered (length needs) (needs_in needs)
 
 -- the same symbols are needed, in whatever order and however often
 pub record AreAlike (needs other : List (List ℕ)) : Type 0 where

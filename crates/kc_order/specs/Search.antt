@@ -2,12 +2,13 @@
 use Rattle.std.specs.Prelude.{◌≡◌, ◌≢◌, ℕ, ◌<◌, ◌≤◌, ◌+◌, Bool, true, false, List, length, slice_index, slice_index_or, nat_eq, drop, sum, sum_by, slice_set, ◌++◌, ◌∷◌, []}
 use Rattle.std.specs.List.{Contains, IsDistinct}
 use Rattle.kc_order.specs.declared.search.Mark.{Mark}
-use Rattle.kc_order.specs.declared.search.Mark.TheVariants.{New, Open, Done, Stuck}
+use Rattle.kc_order.specs.declared.search.Mark.TheVariants.{New, Open, Done, Unordered}
 use Rattle.kc_order.specs.declared.search.Search.{Search}
-use Rattle.kc_order.specs.Needs.{needs_in, stuck_after}
+use Rattle.kc_order.specs.Needs.{needs_in, unordered_after}
 use Rattle.kc_order.specs.Order.{NeedsFirst}
 
--- the open symbols are a path along needs, the done ones are in order, what is given up is stuck for ever, and of each symbol the needs past its first `left` are done
+-- the open symbols are a path along needs, the done ones are in order, what is given up is unordered after any number of
+-- rounds, and of each symbol the needs past its first `left` are done
 pub record IsSearch (n : ℕ) (needs : ℕ → List ℕ) (mark : ℕ → Mark) (left : ℕ → ℕ) (path order : List ℕ) : Type 0 where
   pub path_is : (s : ℕ) → Contains path s → (s < n) × (mark s ≡ Open)
   pub open_is : (s : ℕ) → s < n → mark s ≡ Open → Contains path s
@@ -17,8 +18,8 @@ pub record IsSearch (n : ℕ) (needs : ℕ → List ℕ) (mark : ℕ → Mark) (
   pub done_is : (s : ℕ) → s < n → mark s ≡ Done → Contains order s
   pub order_apart : IsDistinct nat_eq order
   pub needs_first : NeedsFirst needs order
-  pub settled : (s : ℕ) → s < n → mark s ≡ Done → stuck_after needs n s ≡ false
-  pub stuck_is : (s k : ℕ) → s < n → mark s ≡ Stuck → stuck_after needs k s ≡ true
+  pub done_ordered : (s : ℕ) → s < n → mark s ≡ Done → unordered_after needs n s ≡ false
+  pub unordered_is : (s k : ℕ) → s < n → mark s ≡ Unordered → unordered_after needs k s ≡ true
   pub left_le : (s : ℕ) → s < n → left s ≤ length (needs s)
   pub passed : (s t : ℕ) → s < n → Contains (drop (left s) (needs s)) t → mark t ≡ Done
 
@@ -53,7 +54,7 @@ pub record Closes (before after : Search) (s : ℕ) : Type 0 where
 
 -- s, which was at the end of the path, is given up
 pub record GivesUp (before after : Search) (s : ℕ) : Type 0 where
-  pub marks : after.marks.items ≡ slice_set before.marks.items s Stuck
+  pub marks : after.marks.items ≡ slice_set before.marks.items s Unordered
   pub left : after.left.items ≡ before.left.items
   pub path : before.path.items ≡ after.path.items ++ s ∷ []
   pub order : after.order.items ≡ before.order.items
@@ -63,7 +64,7 @@ abbrev pub weight : Mark → ℕ
 weight New = 2
 weight Open = 1
 weight Done = 0
-weight Stuck = 0
+weight Unordered = 0
 
 -- the steps still to be made
 abbrev pub work : Search → ℕ
@@ -73,15 +74,15 @@ work search = sum_by weight search.marks.items + sum search.left.items
 abbrev pub KeepsMet : Search → Search → Type 0
 KeepsMet before after = (s : ℕ) → (slice_index_or before.marks.items s New ≡ New → ⊥) → slice_index_or after.marks.items s New ≡ New → ⊥
 
--- a symbol with this mark is stuck
-abbrev pub is_stuck : Mark → Bool
-is_stuck New = false
-is_stuck Open = false
-is_stuck Done = false
-is_stuck Stuck = true
+-- a symbol with this mark is unordered
+abbrev pub is_unordered : Mark → Bool
+is_unordered New = false
+is_unordered Open = false
+is_unordered Done = false
+is_unordered Unordered = true
 
 -- a search that has met each symbol, and has none open
-pub record IsOver (rows : List (List ℕ)) (search : Search) : Type 0 where
+pub record IsFinished (rows : List (List ℕ)) (search : Search) : Type 0 where
   pub sound : IsSound rows search
   pub idle : length search.path.items ≡ 0
   pub met : (s : ℕ) → s < length rows → mark_of search s ≢ New

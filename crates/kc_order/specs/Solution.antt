@@ -1,4 +1,5 @@
--- Trusted: Valuations that satisfy one equation for each symbol. An equation gives a value of its symbol, read off the values of all symbols.
+-- Trusted: Valuations that satisfy one equation for each symbol.
+-- An equation gives a value of its symbol, read off the values of all symbols.
 use Rattle.std.specs.Prelude.{◌≡◌, ℕ, ◌<◌, ◌+◌, ◌≢◌, List}
 use Rattle.std.specs.List.{Contains}
 

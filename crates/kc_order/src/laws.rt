@@ -1,15 +1,15 @@
 //! What follows of needs, and of equations over them, whatever a value is.
 
-ghost use Rattle.kc_order.specs.Laws.{AlikeAreAccepted, AlikeHaveTheLoop, GraphNeedsAreWithin, SymbolsStandFirst, OrderedAreAccepted, AWayRoundIsStuck, NamedLoopGoesRound, NamedLoopIsWithin, OneNamedLoop, StuckHaveALoop, AcceptedOrStuck, AcceptedHaveOneSolution, SolutionsAgree, FillingSolves, RoundsSolve, MinimalRestores, MinimalHasNothingToSpare};
+ghost use Rattle.kc_order.specs.Laws.{AlikeAreAccepted, AlikeHaveTheLoop, GraphNeedsAreWithin, SymbolsStandFirst, OrderedAreAccepted, CyclesAreUnordered, NamedLoopGoesRound, NamedLoopIsWithin, OneNamedLoop, UnorderedHaveALoop, AcceptedOrUnordered, AcceptedHaveOneSolution, SolutionsAgree, ComputingSolves, RoundsSolve, MinimalRestores, MinimalHasNothingToSpare};
 
 /// Needs that have an order are accepted.
 pub fn ordered_are_accepted()
     ensures { OrderedAreAccepted }
 {}
 
-/// Where a way along needs comes back to where it began, some symbol is stuck.
-pub fn a_way_round_is_stuck()
-    ensures { AWayRoundIsStuck }
+/// Where a path along needs comes back to where it began, as a cycle, some symbol is unordered.
+pub fn cycles_are_unordered()
+    ensures { CyclesAreUnordered }
 {}
 
 /// Each symbol of a loop that is named needs the next, and the last the first.
@@ -27,10 +27,10 @@ pub fn one_named_loop()
     ensures { OneNamedLoop }
 {}
 
-/// Needs are accepted, or some symbol is stuck, and where one is a loop is named.
-pub fn stuck_have_a_loop()
-    ensures either { AcceptedOrStuck }
-    ensures named { StuckHaveALoop }
+/// Needs are accepted, or some symbol is unordered, and where one is a loop is named.
+pub fn unordered_have_a_loop()
+    ensures either { AcceptedOrUnordered }
+    ensures named { UnorderedHaveALoop }
 {}
 
 /// What is accepted, and which loop is named, is the same of needs that are alike: it does not count in which order a symbol
@@ -46,7 +46,7 @@ pub fn groups_stand_for_symbols()
     ensures first { SymbolsStandFirst }
 {}
 
-/// Equations that read only what is needed have one solution where no symbol is stuck.
+/// Equations that read only what is needed have one solution where no symbol is unordered.
 pub fn accepted_have_one_solution<A>()
     ensures { AcceptedHaveOneSolution A }
 {}
@@ -58,7 +58,7 @@ pub fn solutions_agree<A>()
 
 /// A table filled along an order, each place written once, solves the equations.
 pub fn filling_solves<A>()
-    ensures { FillingSolves A }
+    ensures { ComputingSolves A }
 {}
 
 /// As many rounds as there are symbols, each of which computes every equation anew, solve the equations.

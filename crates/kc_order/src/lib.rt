@@ -1,4 +1,5 @@
-//! Which symbols need which: an order for them, the loop that is named where there is none, and what holds of equations over them.
+//! Which symbols need which: an order for them, the loop that is named where there is none, and what holds of equations over
+//! them.
 #![tactic(auto)]
 
 mod graph;
@@ -10,9 +11,9 @@ mod search;
 
 pub use graph::Graph;
 pub use laws::{
-    a_way_round_is_stuck, accepted_have_one_solution, alike_needs, filling_solves,
+    accepted_have_one_solution, alike_needs, cycles_are_unordered, filling_solves,
     groups_stand_for_symbols, minimal_has_nothing_to_spare, minimal_restores,
     named_loop_goes_round, named_loop_is_within, one_named_loop, ordered_are_accepted,
-    rounds_solve, solutions_agree, stuck_have_a_loop,
+    rounds_solve, solutions_agree, unordered_have_a_loop,
 };
 pub use order::{NoOrder, Order, order_of};

@@ -1,14 +1,14 @@
-//! The loop that is named where some symbol is stuck.
+//! The loop that is named where some symbol is unordered.
 
 ghost use Rattle.std.specs.Prelude.{◌≡◌, ℕ, List, ◌<◌, ◌≤◌, ◌+◌, ◌≢◌, length, replicate, slice_index, slice_index_or, All, IfOk, MatchOption, false, true};
 ghost use Rattle.std.specs.List.{flat_map};
-ghost use Rattle.kc_order.specs.Firsts.{lesser_of, least_in, marked, AreFirsts, AreStuck};
+ghost use Rattle.kc_order.specs.FirstUnordered.{lesser_of, least_in, marked_unordered, AreFirstByGroup, TellsUnordered};
 ghost use Rattle.kc_order.specs.Graph.{IsGraph, stands_for, groups_of, needs_of};
-ghost use Rattle.kc_order.specs.Loop.{IsFirstStuck, IsNext, IsNamedLoop};
-ghost use Rattle.kc_order.specs.Needs.{needs_in, stuck_after};
+ghost use Rattle.kc_order.specs.Loop.{IsFirstUnordered, IsNext, IsNamedLoop};
+ghost use Rattle.kc_order.specs.Needs.{needs_in, unordered_after};
 
 use crate::rows::Rows;
-use crate::search::{Mark, is_stuck};
+use crate::search::{Mark, is_unordered};
 use std::alloc::{AllocError, Global};
 
 // The lesser of two symbols, if there are any.
@@ -22,35 +22,45 @@ fn lesser(a: Option<u32>, b: Option<u32>) -> Option<u32>
     }
 }
 
-// The first stuck symbol that a node stands for: a symbol for itself, a group for what it needs.
-fn stuck_at(node: u32, symbols: usize, marks: &[Mark], firsts: &[Option<u32>]) -> Option<u32>
-    requires there { node < symbols + length firsts.now }
+// The first unordered symbol that a node stands for: a symbol for itself, a group for what it needs.
+fn unordered_at(
+    node: u32,
+    symbols: usize,
+    marks: &[Mark],
+    first_by_group: &[Option<u32>],
+) -> Option<u32>
+    requires there { node < symbols + length first_by_group.now }
     requires symbols { symbols ≤ length marks.now }
-    ensures { (groups : List (List ℕ)) → AreFirsts marks.now groups firsts.now → result ≡ least_in (marked marks.now) (stands_for symbols groups node) }
+    ensures { (groups : List (List ℕ)) → AreFirstByGroup marks.now groups first_by_group.now → result ≡ least_in (marked_unordered marks.now) (stands_for symbols groups node) }
 {
     let place = node as usize;
     if place < symbols {
-        is_stuck(marks[place]).then_some(node)
+        is_unordered(marks[place]).then_some(node)
     } else {
-        firsts[place - symbols]
+        first_by_group[place - symbols]
     }
 }
 
-// The first stuck symbol that a row leads to, itself or through groups.
-fn first_in_row(row: &[u32], symbols: usize, marks: &[Mark], firsts: &[Option<u32>]) -> Option<u32>
-    requires there { All (λ t. t < symbols + length firsts.now) row.now }
+// The first unordered symbol that a row leads to, itself or through groups.
+fn first_in_row(
+    row: &[u32],
+    symbols: usize,
+    marks: &[Mark],
+    first_by_group: &[Option<u32>],
+) -> Option<u32>
+    requires there { All (λ t. t < symbols + length first_by_group.now) row.now }
     requires symbols { symbols ≤ length marks.now }
-    ensures { (groups : List (List ℕ)) → AreFirsts marks.now groups firsts.now → result ≡ least_in (marked marks.now) (flat_map (stands_for symbols groups) row.now) }
+    ensures { (groups : List (List ℕ)) → AreFirstByGroup marks.now groups first_by_group.now → result ≡ least_in (marked_unordered marks.now) (flat_map (stands_for symbols groups) row.now) }
 {
     let mut first = None;
     for node in row {
-        first = lesser(first, stuck_at(*node, symbols, marks, firsts));
+        first = lesser(first, unordered_at(*node, symbols, marks, first_by_group));
     }
     first
 }
 
-// The first stuck symbol that each group leads to.
-fn firsts_of_groups(
+// The first unordered symbol that each group leads to.
+fn find_first_by_group(
     alloc: Global,
     rows: &Rows,
     symbols: usize,
@@ -58,34 +68,34 @@ fn firsts_of_groups(
 ) -> Result<Vec<Option<u32>>, AllocError>
     requires graph { IsGraph (record { symbols = symbols; rows = rows.now }) }
     requires marks { length marks.now ≡ length rows.now }
-    ensures { IfOk result (λ v. AreFirsts marks.now (groups_of (record { symbols = symbols; rows = rows.now })) v.items) }
+    ensures { IfOk result (λ v. AreFirstByGroup marks.now (groups_of (record { symbols = symbols; rows = rows.now })) v.items) }
 {
-    let mut firsts = Vec::with_capacity(alloc, rows.count() - symbols)?;
+    let mut first_by_group = Vec::with_capacity(alloc, rows.count() - symbols)?;
     for group in symbols..rows.count() {
-        let first = first_in_row(rows.row(group), symbols, marks, &firsts);
-        firsts.push(first)?;
+        let first = first_in_row(rows.row(group), symbols, marks, &first_by_group);
+        first_by_group.push(first)?;
     }
-    Ok(firsts)
+    Ok(first_by_group)
 }
 
-// The first stuck symbol that a stuck symbol needs.
-fn next_stuck(
+// The first unordered symbol that an unordered symbol needs.
+fn next_unordered(
     rows: &Rows,
     symbols: usize,
     marks: &[Mark],
-    firsts: &[Option<u32>],
+    first_by_group: &[Option<u32>],
     symbol: u32,
 ) -> u32
     requires graph { IsGraph (record { symbols = symbols; rows = rows.now }) }
-    requires marks { AreStuck rows.now marks.now }
-    requires firsts { AreFirsts marks.now (groups_of (record { symbols = symbols; rows = rows.now })) firsts.now }
+    requires marks { TellsUnordered rows.now marks.now }
+    requires first_by_group { AreFirstByGroup marks.now (groups_of (record { symbols = symbols; rows = rows.now })) first_by_group.now }
     requires symbol { symbol < symbols }
-    requires is_stuck { stuck_after (needs_in (needs_of (record { symbols = symbols; rows = rows.now }))) symbols symbol ≡ true }
+    requires is_unordered { unordered_after (needs_in (needs_of (record { symbols = symbols; rows = rows.now }))) symbols symbol ≡ true }
     ensures next { IsNext symbols (needs_in (needs_of (record { symbols = symbols; rows = rows.now }))) symbol result }
     ensures below { result < symbols }
-    ensures is_stuck { stuck_after (needs_in (needs_of (record { symbols = symbols; rows = rows.now }))) symbols result ≡ true }
+    ensures is_unordered { unordered_after (needs_in (needs_of (record { symbols = symbols; rows = rows.now }))) symbols result ≡ true }
 {
-    match first_in_row(rows.row(symbol as usize), symbols, marks, firsts) {
+    match first_in_row(rows.row(symbol as usize), symbols, marks, first_by_group) {
         Some(next) => next,
         None => unreachable!(),
     }
@@ -106,7 +116,7 @@ fn no_marks(alloc: Global, count: usize) -> Result<Vec<bool>, AllocError>
     Ok(marks)
 }
 
-/// The loop that the walk along stuck symbols comes to.
+/// The loop that the walk along unordered symbols comes to.
 pub fn named_loop(
     alloc: Global,
     rows: &Rows,
@@ -115,18 +125,18 @@ pub fn named_loop(
     first: u32,
 ) -> Result<Vec<u32>, AllocError>
     requires graph { IsGraph (record { symbols = symbols; rows = rows.now }) }
-    requires marks { AreStuck rows.now marks.now }
-    requires first { IsFirstStuck symbols (needs_in (needs_of (record { symbols = symbols; rows = rows.now }))) first }
+    requires marks { TellsUnordered rows.now marks.now }
+    requires first { IsFirstUnordered symbols (needs_in (needs_of (record { symbols = symbols; rows = rows.now }))) first }
     ensures { IfOk result (λ v. IsNamedLoop symbols (needs_in (needs_of (record { symbols = symbols; rows = rows.now }))) v.items) }
 {
-    let firsts = firsts_of_groups(alloc, rows, symbols, marks)?;
+    let first_by_group = find_first_by_group(alloc, rows, symbols, marks)?;
     let mut met = no_marks(alloc, symbols)?;
     let mut walk = Vec::new(alloc);
     let mut at = first;
     while !met[at as usize] {
         met[at as usize] = true;
         walk.push(at)?;
-        at = next_stuck(rows, symbols, marks, &firsts, at);
+        at = next_unordered(rows, symbols, marks, &first_by_group, at);
     }
     match place_of(&walk, at) {
         None => unreachable!(),

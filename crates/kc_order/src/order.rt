@@ -8,14 +8,14 @@ ghost use Rattle.kc_order.specs.Reason.{IsReason};
 
 use crate::graph::Graph;
 use crate::named_loop::named_loop;
-use crate::search::{Search, first_stuck, search_all};
+use crate::search::{Search, first_unordered, search_all};
 use std::alloc::{AllocError, Global};
 use std::marker::Model;
 
 /// Why there is no order.
 #[derive(Debug, Drop)]
 pub enum NoOrder {
-    /// Some symbol is stuck. These are the symbols of the loop that is named, each needing the next and the last the first.
+    /// Some symbol is unordered. These are the symbols of the loop that is named, each needing the next and the last the first.
     Loop(Vec<u32>),
     /// No memory was to be had.
     Memory,
@@ -67,7 +67,7 @@ fn order_or_loop(alloc: Global, graph: &Graph) -> Result<Vec<u32>, NoOrder>
     ensures refused { IfErr result (IsReason (needs_of graph.now)) }
 {
     let Search { marks, order, .. } = search_all(alloc, &graph.rows)?;
-    match first_stuck(&marks[..graph.symbols]) {
+    match first_unordered(&marks[..graph.symbols]) {
         None => Ok(order),
         Some(first) => {
             let found = named_loop(alloc, &graph.rows, graph.symbols, &marks, first as u32)?;
@@ -76,12 +76,13 @@ fn order_or_loop(alloc: Global, graph: &Graph) -> Result<Vec<u32>, NoOrder>
     }
 }
 
-/// An order for this graph, where no symbol is stuck. The time is linear in the rows as they are held, also where there is none.
+/// An order for this graph, where no symbol is unordered. The time is linear in the rows as they are held, also where there is
+/// none.
 ///
-/// Answers `Loop` exactly where some symbol is stuck, and `Memory` only when it is out of memory; then nothing is left of the graph.
-/// Which symbols are stuck, and which loop is named, is our own rule, over what symbols need, be it through groups: a walk from the
-/// first stuck symbol always on to the first stuck symbol that the last one needs, and of it the part from the symbol that it meets
-/// twice.
+/// Answers `Loop` exactly where some symbol is unordered, and `Memory` only when it is out of memory; then nothing is left of
+/// the graph. Which symbols are unordered, and which loop is named, is our own rule, over what symbols need, be it through
+/// groups: a walk from the first unordered symbol always on to the first unordered symbol that the last one needs, and of it
+/// the part from the symbol that it meets twice.
 pub fn order_of(alloc: Global, graph: Graph) -> Result<Order, NoOrder>
     requires graph { IsGraph graph }
     requires few { length graph.rows < 2 ^ 32 }

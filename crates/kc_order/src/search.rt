@@ -1,8 +1,8 @@
-//! A depth-first search for an order, with a stack of its own. It goes on past what is stuck, so that it finds all of it.
+//! A depth-first search for an order, with a stack of its own. It goes on past what is unordered, so that it finds all of it.
 
 ghost use Rattle.std.specs.Prelude.{◌≡◌, ℕ, ◌<◌, length, IfOk, MatchOption, OnOk, All, slice_index_or, take, vec_len, replicate, map, ◌≢◌, ◌^◌, ◌++◌, ◌∷◌, [], ◌-◌, true, false};
 ghost use Rattle.kc_order.specs.Rows.{RowsBelow};
-ghost use Rattle.kc_order.specs.Search.{IsSound, IsOver, KeepsMet, Opens, Closes, GivesUp, work, mark_of, is_stuck};
+ghost use Rattle.kc_order.specs.Search.{IsSound, IsFinished, KeepsMet, Opens, Closes, GivesUp, work, mark_of, is_unordered};
 
 use crate::rows::Rows;
 use std::alloc::{AllocError, Global};
@@ -16,8 +16,8 @@ pub enum Mark {
     Open,
     /// All of its needs are done.
     Done,
-    /// It is stuck.
-    Stuck,
+    /// It is unordered.
+    Unordered,
 }
 
 /// The search so far.
@@ -55,18 +55,18 @@ fn close(search: &mut Search, node: u32) -> Result<(), AllocError>
     Ok(())
 }
 
-// Gives up the last open node, which is stuck.
+// Gives up the last open node, which is unordered.
 fn give_up(search: &mut Search, node: u32)
     requires there { node < length search.old.marks.items }
     requires last { search.old.path.items ≡ take (vec_len search.old.path - 1) search.old.path.items ++ node ∷ [] }
     ensures { GivesUp search.old search.new node }
 {
     search.path.pop();
-    search.marks[node as usize] = Mark::Stuck;
+    search.marks[node as usize] = Mark::Unordered;
 }
 
-// Looks at one more need of the last open node, or closes that node. It is stuck where that need is open itself, so that the
-// path comes back to it, or stuck.
+// Looks at one more need of the last open node, or closes that node. It is unordered where that need is open itself, so that the
+// path comes back to it, or unordered.
 fn advance(rows: &Rows, search: &mut Search, top: u32) -> Result<(), AllocError>
     requires rows_below { RowsBelow (length rows.now) rows.now }
     requires sound { IsSound rows.now search.old }
@@ -86,7 +86,7 @@ fn advance(rows: &Rows, search: &mut Search, top: u32) -> Result<(), AllocError>
         Mark::Done => search.left[top as usize] = left - 1,
         Mark::New => open(search, need)?,
         Mark::Open => give_up(search, top),
-        Mark::Stuck => give_up(search, top),
+        Mark::Unordered => give_up(search, top),
     }
     Ok(())
 }
@@ -133,11 +133,11 @@ fn need_counts(alloc: Global, rows: &Rows) -> Result<Vec<usize>, AllocError>
     Ok(counts)
 }
 
-/// A search over all nodes: which are stuck, and an order of the others.
+/// A search over all nodes: which are unordered, and an order of the others.
 pub fn search_all(alloc: Global, rows: &Rows) -> Result<Search, AllocError>
     requires rows_below { RowsBelow (length rows.now) rows.now }
     requires few { length rows.now < 2 ^ 32 }
-    ensures { IfOk result (IsOver rows.now) }
+    ensures { IfOk result (IsFinished rows.now) }
 {
     let count = rows.count();
     let mut search = Search {
@@ -152,16 +152,16 @@ pub fn search_all(alloc: Global, rows: &Rows) -> Result<Search, AllocError>
     Ok(search)
 }
 
-/// Whether a node is stuck.
-pub fn is_stuck(mark: Mark) -> bool
-    ensures { result ≡ is_stuck mark }
+/// Whether a node is unordered.
+pub fn is_unordered(mark: Mark) -> bool
+    ensures { result ≡ is_unordered mark }
 {
-    matches!(mark, Mark::Stuck)
+    matches!(mark, Mark::Unordered)
 }
 
-/// The first of these nodes that is stuck.
-pub fn first_stuck(marks: &[Mark]) -> Option<usize>
-    ensures { MatchOption result (All (λ m. is_stuck m ≡ false) marks.now) (λ i. (i < length marks.now) × (is_stuck (slice_index_or marks.now i Mark.New) ≡ true) × ((k : ℕ) → k < i → is_stuck (slice_index_or marks.now k Mark.New) ≡ false)) }
+/// The first of these nodes that is unordered.
+pub fn first_unordered(marks: &[Mark]) -> Option<usize>
+    ensures { MatchOption result (All (λ m. is_unordered m ≡ false) marks.now) (λ i. (i < length marks.now) × (is_unordered (slice_index_or marks.now i Mark.New) ≡ true) × ((k : ℕ) → k < i → is_unordered (slice_index_or marks.now k Mark.New) ≡ false)) }
 {
-    marks.iter().position(|mark| is_stuck(*mark))
+    marks.iter().position(|mark| is_unordered(*mark))
 }

@@ -4,11 +4,11 @@ use Rattle.std.specs.List.{filter_map}
 use Rattle.std.proofs.lemmas.Bool.Decides.{nat_tests}
 use Rattle.std.proofs.lemmas.List.Elements.{filter_map-append}
 use Rattle.kc_read.specs.declared.statement.Block.{Block}
-use Rattle.kc_read.specs.declared.statement.Opener.{Opener}
+use Rattle.kc_read.specs.declared.statement.OpenBlock.{OpenBlock}
 use Rattle.kc_read.specs.Blocks.{Bracket, Opens, Closes, NoBracket, bracket, bracket_at, opened, closes_outer, depth_after, stays_open, is_open, open_places, open_blocks, last_of, numbers}
 use Rattle.kc_read.specs.Expansion.{statements, IsUnclosed}
-use Rattle.kc_read.specs.Progress.{opener_of, open_openers, openers_after}
-use Rattle.kc_read.specs.Statements.{Written, Placed}
+use Rattle.kc_read.specs.Progress.{open_block_of, located_blocks, open_blocks_after}
+use Rattle.kc_read.specs.Statements.{Named, Located}
 use Rattle.kc_read.proofs.ListLemmas.{last_of-append, last_of-map, but_last, but_last-take, but_last-append, filter-map, filter_map-map, map-filter_map, numbers_front}
 
 -- how many closers close what was opened before
@@ -17,11 +17,12 @@ unmatched_with (Opens b) u = u - 1
 unmatched_with Closes u = suc u
 unmatched_with NoBracket u = u
 
-abbrev unmatched : List Written → ℕ
+abbrev unmatched : List Named → ℕ
 unmatched [] = 0
 unmatched (s ∷ ss) = unmatched_with (bracket s) (unmatched ss)
 
-stays_with : (b : Bracket) (d : ℕ) (ss : List Written) → ((e : ℕ) → stays_open e ss ≡ nat_le (unmatched ss) e) → cond (closes_outer d b) false (stays_open (depth_after d b) ss) ≡ nat_le (unmatched_with b (unmatched ss)) d
+stays_with : (b : Bracket) (d : ℕ) (ss : List Named) → ((e : ℕ) → stays_open e ss ≡ nat_le (unmatched ss) e) →
+    cond (closes_outer d b) false (stays_open (depth_after d b) ss) ≡ nat_le (unmatched_with b (unmatched ss)) d
 stays_with (Opens b) zero ss h = let e = h 1 in rw e (grind (arith, nat_tests))
 stays_with (Opens b) (suc d) ss h = let e = h (suc (suc d)) in rw e (grind (arith, nat_tests))
 stays_with Closes zero ss h = grind (arith, nat_tests)
@@ -29,7 +30,7 @@ stays_with Closes (suc d) ss h = let e = h (suc d - 1) in rw e (grind (arith, na
 stays_with NoBracket zero ss h = h zero
 stays_with NoBracket (suc d) ss h = h (suc d)
 
-stays_unmatched : (ss : List Written) (d : ℕ) → stays_open d ss ≡ nat_le (unmatched ss) d
+stays_unmatched : (ss : List Named) (d : ℕ) → stays_open d ss ≡ nat_le (unmatched ss) d
 stays_unmatched [] d = grind (arith, nat_tests)
 stays_unmatched (s ∷ ss) d = stays_with (bracket s) d ss (stays_unmatched ss)
 
@@ -40,14 +41,14 @@ here (Opens b) make (suc u) = []
 here Closes make u = []
 here NoBracket make u = []
 
-abbrev opener : ℕ → Block → Opener
+abbrev opener : ℕ → Block → OpenBlock
 opener n b = record { block = b; line = n }
 
-abbrev pub opens : List (Placed Written) → List Opener
+abbrev pub opens : List (Located Named) → List OpenBlock
 opens [] = []
 opens (l ∷ ls) = here (bracket l.statement) (opener l.line) (unmatched (statements ls)) ++ opens ls
 
-head_place : (b : Bracket) (ss : List Written) → cond (is_some (opened b) && stays_open 0 ss) (zero ∷ []) [] ≡ here b (λ b. zero) (unmatched ss)
+head_place : (b : Bracket) (ss : List Named) → cond (is_some (opened b) && stays_open 0 ss) (zero ∷ []) [] ≡ here b (λ b. zero) (unmatched ss)
 head_place (Opens b) ss = ap (λ t. cond t (zero ∷ []) []) (stays_unmatched ss 0) ∙ by (unmatched ss)
   where
     by : (u : ℕ) → cond (nat_le u 0) (zero ∷ []) [] ≡ here (Opens b) (λ b. zero) u
@@ -60,46 +61,47 @@ head_first : {A : Type 0} (t : Bool) (x : A) (xs : List A) → cond t (x ∷ xs)
 head_first true x xs = refl
 head_first false x xs = refl
 
-places_front : (s : Written) (ss : List Written) → open_places (s ∷ ss) ≡ here (bracket s) (λ b. zero) (unmatched ss) ++ map suc (open_places ss)
+places_front : (s : Named) (ss : List Named) → open_places (s ∷ ss) ≡ here (bracket s) (λ b. zero) (unmatched ss) ++ map suc (open_places ss)
 places_front s ss =
     ap (filter (is_open (s ∷ ss))) (numbers_front (length ss))
     ∙ ap (λ xs. cond (is_open (s ∷ ss) zero) (zero ∷ xs) xs) (filter-map (is_open (s ∷ ss)) suc (numbers (length ss)))
     ∙ head_first (is_open (s ∷ ss) zero) zero (map suc (open_places ss))
     ∙ ap (λ xs. xs ++ map suc (open_places ss)) (head_place (bracket s) ss)
 
-openers_front : (l : Placed Written) (ls : List (Placed Written)) → open_openers (l ∷ ls) ≡ here (bracket l.statement) (opener l.line) (unmatched (statements ls)) ++ open_openers ls
+openers_front : (l : Located Named) (ls : List (Located Named)) → located_blocks (l ∷ ls) ≡ here (bracket l.statement) (opener l.line) (unmatched (statements ls)) ++ located_blocks ls
 openers_front l ls =
-    ap (filter_map (λ j. opener_of (slice_get (l ∷ ls) j))) (places_front l.statement (statements ls))
-    ∙ filter_map-append (λ j. opener_of (slice_get (l ∷ ls) j)) (here (bracket l.statement) (λ b. zero) (unmatched (statements ls))) (map suc (open_places (statements ls)))
-    ∙ ap (λ xs. filter_map (λ j. opener_of (slice_get (l ∷ ls) j)) (here (bracket l.statement) (λ b. zero) (unmatched (statements ls))) ++ xs) (filter_map-map (λ j. opener_of (slice_get (l ∷ ls) j)) suc (open_places (statements ls)))
-    ∙ ap (λ xs. xs ++ open_openers ls) (by (bracket l.statement) (unmatched (statements ls)) refl)
+    ap (filter_map (λ j. open_block_of (slice_get (l ∷ ls) j))) (places_front l.statement (statements ls))
+    ∙ filter_map-append (λ j. open_block_of (slice_get (l ∷ ls) j)) (here (bracket l.statement) (λ b. zero) (unmatched (statements ls))) (map suc (open_places (statements ls)))
+    ∙ ap (λ xs. filter_map (λ j. open_block_of (slice_get (l ∷ ls) j)) (here (bracket l.statement) (λ b. zero) (unmatched (statements ls))) ++ xs)
+    (filter_map-map (λ j. open_block_of (slice_get (l ∷ ls) j)) suc (open_places (statements ls)))
+    ∙ ap (λ xs. xs ++ located_blocks ls) (by (bracket l.statement) (unmatched (statements ls)) refl)
   where
-    by : (b : Bracket) (u : ℕ) → bracket l.statement ≡ b → filter_map (λ j. opener_of (slice_get (l ∷ ls) j)) (here b (λ b. zero) u) ≡ here b (opener l.line) u
+    by : (b : Bracket) (u : ℕ) → bracket l.statement ≡ b → filter_map (λ j. open_block_of (slice_get (l ∷ ls) j)) (here b (λ b. zero) u) ≡ here b (opener l.line) u
     by (Opens b) zero e = rw e refl
     by (Opens b) (suc u) e = refl
     by Closes u e = refl
     by NoBracket u e = refl
 
-pub openers-opens : (ls : List (Placed Written)) → open_openers ls ≡ opens ls
+pub openers-opens : (ls : List (Located Named)) → located_blocks ls ≡ opens ls
 openers-opens [] = refl
 openers-opens (l ∷ ls) = openers_front l ls ∙ ap (λ xs. here (bracket l.statement) (opener l.line) (unmatched (statements ls)) ++ xs) (openers-opens ls)
 
 -- One more line at the end.
-abbrev more_unmatched : List Opener → ℕ → ℕ
+abbrev more_unmatched : List OpenBlock → ℕ → ℕ
 more_unmatched [] u = suc u
 more_unmatched (o ∷ os) u = u
 
-abbrev unmatched_after : Bracket → List Opener → ℕ → ℕ
+abbrev unmatched_after : Bracket → List OpenBlock → ℕ → ℕ
 unmatched_after (Opens b) os u = u
 unmatched_after Closes os u = more_unmatched os u
 unmatched_after NoBracket os u = u
 
-abbrev opens_after : Bracket → ℕ → List Opener → List Opener
+abbrev opens_after : Bracket → ℕ → List OpenBlock → List OpenBlock
 opens_after (Opens b) n os = os ++ opener n b ∷ []
 opens_after Closes n os = but_last os
 opens_after NoBracket n os = os
 
-unmatched_step : (b : Bracket) (n : ℕ) (e : Bracket) (os : List Opener) (u : ℕ) → unmatched_with b (unmatched_after e os u) ≡ unmatched_after e (here b (opener n) u ++ os) (unmatched_with b u)
+unmatched_step : (b : Bracket) (n : ℕ) (e : Bracket) (os : List OpenBlock) (u : ℕ) → unmatched_with b (unmatched_after e os u) ≡ unmatched_after e (here b (opener n) u ++ os) (unmatched_with b u)
 unmatched_step b n (Opens x) os u = refl
 unmatched_step b n NoBracket os u = refl
 unmatched_step (Opens x) n Closes [] zero = refl
@@ -111,7 +113,7 @@ unmatched_step Closes n Closes (o ∷ os) u = refl
 unmatched_step NoBracket n Closes [] u = refl
 unmatched_step NoBracket n Closes (o ∷ os) u = refl
 
-opens_step : (b : Bracket) (n : ℕ) (e : Bracket) (m : ℕ) (os : List Opener) (u : ℕ) → here b (opener n) (unmatched_after e os u) ++ opens_after e m os ≡ opens_after e m (here b (opener n) u ++ os)
+opens_step : (b : Bracket) (n : ℕ) (e : Bracket) (m : ℕ) (os : List OpenBlock) (u : ℕ) → here b (opener n) (unmatched_after e os u) ++ opens_after e m os ≡ opens_after e m (here b (opener n) u ++ os)
 opens_step b n (Opens x) m os u = sym (append_assoc (here b (opener n) u) os (opener m x ∷ []))
 opens_step b n NoBracket m os u = refl
 opens_step b n Closes m (o ∷ os) u = sym (but_last-append (here b (opener n) u) o os)
@@ -125,7 +127,7 @@ unmatched_last (Opens b) = refl
 unmatched_last Closes = refl
 unmatched_last NoBracket = refl
 
-unmatched_push : (ls : List (Placed Written)) (l : Placed Written) → unmatched (statements (ls ++ l ∷ [])) ≡ unmatched_after (bracket l.statement) (opens ls) (unmatched (statements ls))
+unmatched_push : (ls : List (Located Named)) (l : Located Named) → unmatched (statements (ls ++ l ∷ [])) ≡ unmatched_after (bracket l.statement) (opens ls) (unmatched (statements ls))
 unmatched_push [] l = unmatched_last (bracket l.statement)
 unmatched_push (k ∷ ls) l =
     ap (unmatched_with (bracket k.statement)) (unmatched_push ls l)
@@ -136,26 +138,26 @@ opens_last (Opens b) m = refl
 opens_last Closes m = refl
 opens_last NoBracket m = refl
 
-opens_push : (ls : List (Placed Written)) (l : Placed Written) → opens (ls ++ l ∷ []) ≡ opens_after (bracket l.statement) l.line (opens ls)
+opens_push : (ls : List (Located Named)) (l : Located Named) → opens (ls ++ l ∷ []) ≡ opens_after (bracket l.statement) l.line (opens ls)
 opens_push [] l = opens_last (bracket l.statement) l.line
 opens_push (k ∷ ls) l =
     ap (λ u. here (bracket k.statement) (opener k.line) u ++ opens (ls ++ l ∷ [])) (unmatched_push ls l)
     ∙ ap (λ os. here (bracket k.statement) (opener k.line) (unmatched_after (bracket l.statement) (opens ls) (unmatched (statements ls))) ++ os) (opens_push ls l)
     ∙ opens_step (bracket k.statement) k.line (bracket l.statement) l.line (opens ls) (unmatched (statements ls))
 
-after_same : (e : Bracket) (n : ℕ) (os : List Opener) → opens_after e n os ≡ openers_after e n os
+after_same : (e : Bracket) (n : ℕ) (os : List OpenBlock) → opens_after e n os ≡ open_blocks_after e n os
 after_same (Opens b) n os = refl
 after_same Closes n os = sym (but_last-take os)
 after_same NoBracket n os = refl
 
-pub openers_push : (ls : List (Placed Written)) (l : Placed Written) → open_openers (ls ++ l ∷ []) ≡ openers_after (bracket l.statement) l.line (open_openers ls)
+pub openers_push : (ls : List (Located Named)) (l : Located Named) → located_blocks (ls ++ l ∷ []) ≡ open_blocks_after (bracket l.statement) l.line (located_blocks ls)
 openers_push ls l =
     openers-opens (ls ++ l ∷ []) ∙ opens_push ls l
     ∙ after_same (bracket l.statement) l.line (opens ls)
-    ∙ ap (openers_after (bracket l.statement) l.line) (sym (openers-opens ls))
+    ∙ ap (open_blocks_after (bracket l.statement) l.line) (sym (openers-opens ls))
 
 -- the open blocks are those of the openers
-same_bracket : (ls : List (Placed Written)) (j : ℕ) → option_map (λ o. o.block) (opener_of (slice_get ls j)) ≡ opened (bracket_at (statements ls) j)
+same_bracket : (ls : List (Located Named)) (j : ℕ) → option_map (λ o. o.block) (open_block_of (slice_get ls j)) ≡ opened (bracket_at (statements ls) j)
 same_bracket [] j = refl
 same_bracket (l ∷ ls) zero = by (opened (bracket l.statement))
   where
@@ -164,8 +166,8 @@ same_bracket (l ∷ ls) zero = by (opened (bracket l.statement))
     by (Some b) = refl
 same_bracket (l ∷ ls) (suc j) = same_bracket ls j
 
-pub blocks_of_openers : (ls : List (Placed Written)) → map (λ o. o.block) (open_openers ls) ≡ open_blocks (statements ls)
-blocks_of_openers ls = map-filter_map (λ o. o.block) (λ j. opener_of (slice_get ls j)) (λ j. opened (bracket_at (statements ls) j)) (same_bracket ls) (open_places (statements ls))
+pub blocks_of_openers : (ls : List (Located Named)) → map (λ o. o.block) (located_blocks ls) ≡ open_blocks (statements ls)
+blocks_of_openers ls = map-filter_map (λ o. o.block) (λ j. open_block_of (slice_get ls j)) (λ j. opened (bracket_at (statements ls) j)) (same_bracket ls) (open_places (statements ls))
 
 -- the innermost open block
 here_both : (b : Bracket) (n u : ℕ) → here b (opener n) u ≡ [] → here b (λ b. zero) u ≡ []
@@ -182,7 +184,7 @@ second_nil : {A : Type 0} (xs ys : List A) → xs ++ ys ≡ [] → ys ≡ []
 second_nil [] ys e = e
 second_nil (x ∷ xs) ys e = absurd cc
 
-pub no_places : (ls : List (Placed Written)) → opens ls ≡ [] → open_places (statements ls) ≡ []
+pub no_places : (ls : List (Located Named)) → opens ls ≡ [] → open_places (statements ls) ≡ []
 no_places [] e = refl
 no_places (l ∷ ls) e =
     let b = bracket l.statement in
@@ -191,7 +193,8 @@ no_places (l ∷ ls) e =
     let t : open_places (statements ls) ≡ [] = no_places ls (second_nil (here b (opener l.line) u) (opens ls) e) in
     places_front l.statement (statements ls) ∙ rw (h, t) refl
 
-unclosed_here : (b : Bracket) (u : ℕ) (l : Placed Written) (ls : List (Placed Written)) (o : Opener) → bracket l.statement ≡ b → unmatched (statements ls) ≡ u → opens ls ≡ [] → last_of (here b (opener l.line) u ++ opens ls) ≡ Some o → IsUnclosed (l ∷ ls) o.line
+unclosed_here : (b : Bracket) (u : ℕ) (l : Located Named) (ls : List (Located Named)) (o : OpenBlock) → bracket l.statement ≡ b →
+    unmatched (statements ls) ≡ u → opens ls ≡ [] → last_of (here b (opener l.line) u ++ opens ls) ≡ Some o → IsUnclosed (l ∷ ls) o.line
 unclosed_here (Opens b) zero l ls o e f none last =
     let h : last_of (opener l.line b ∷ []) ≡ Some o = rw none at last in
     record {
@@ -211,7 +214,7 @@ last_tail [] y ys = refl
 last_tail (x ∷ []) y ys = refl
 last_tail (x ∷ z ∷ zs) y ys = last_tail (z ∷ zs) y ys
 
-unclosed_later : (l : Placed Written) (ls : List (Placed Written)) (line : ℕ) → IsUnclosed ls line → IsUnclosed (l ∷ ls) line
+unclosed_later : (l : Located Named) (ls : List (Located Named)) (line : ℕ) → IsUnclosed ls line → IsUnclosed (l ∷ ls) line
 unclosed_later l ls line r = record {
   before = l ∷ r.before;
   opener = r.opener;
@@ -219,19 +222,21 @@ unclosed_later l ls line r = record {
   split = ap (λ xs. l ∷ xs) r.split;
   innermost_is =
       ap last_of (places_front l.statement (statements ls))
-      ∙ last_of-append (here (bracket l.statement) (λ b. zero) (unmatched (statements ls))) (map suc (open_places (statements ls))) (suc (length r.before)) (last_of-map suc (open_places (statements ls)) ∙ ap (option_map suc) r.innermost_is);
+      ∙ last_of-append (here (bracket l.statement) (λ b. zero) (unmatched (statements ls))) (map suc (open_places (statements ls))) (suc (length r.before))
+      (last_of-map suc (open_places (statements ls)) ∙ ap (option_map suc) r.innermost_is);
   line_is = r.line_is;
 }
 
-unclosed_at : (ls : List (Placed Written)) (o : Opener) → last_of (opens ls) ≡ Some o → IsUnclosed ls o.line
+unclosed_at : (ls : List (Located Named)) (o : OpenBlock) → last_of (opens ls) ≡ Some o → IsUnclosed ls o.line
 unclosed_at [] o e = absurd cc
 unclosed_at (l ∷ ls) o e = by (opens ls) refl (unclosed_at ls o)
   where
-    by : (os : List Opener) → opens ls ≡ os → (last_of (opens ls) ≡ Some o → IsUnclosed ls o.line) → IsUnclosed (l ∷ ls) o.line
+    by : (os : List OpenBlock) → opens ls ≡ os → (last_of (opens ls) ≡ Some o → IsUnclosed ls o.line) → IsUnclosed (l ∷ ls) o.line
     by [] f later = unclosed_here (bracket l.statement) (unmatched (statements ls)) l ls o refl refl f e
     by (x ∷ xs) f later =
-        let h : last_of (x ∷ xs) ≡ Some o = sym (last_tail (here (bracket l.statement) (opener l.line) (unmatched (statements ls))) x xs) ∙ ap (λ os. last_of (here (bracket l.statement) (opener l.line) (unmatched (statements ls)) ++ os)) (sym f) ∙ e in
+        let h : last_of (x ∷ xs) ≡ Some o = sym (last_tail (here (bracket l.statement) (opener l.line) (unmatched (statements ls))) x xs)
+        ∙ ap (λ os. last_of (here (bracket l.statement) (opener l.line) (unmatched (statements ls)) ++ os)) (sym f) ∙ e in
         unclosed_later l ls o.line (later (ap last_of f ∙ h))
 
-pub unclosed : (ls : List (Placed Written)) (o : Opener) → last_of (open_openers ls) ≡ Some o → IsUnclosed ls o.line
+pub unclosed : (ls : List (Located Named)) (o : OpenBlock) → last_of (located_blocks ls) ≡ Some o → IsUnclosed ls o.line
 unclosed ls o e = unclosed_at ls o (ap last_of (sym (openers-opens ls)) ∙ e)

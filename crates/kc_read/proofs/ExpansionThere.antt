@@ -5,33 +5,33 @@ use Rattle.std.proofs.lemmas.Bool.Decides.{nat_tests}
 use Rattle.std.proofs.lemmas.List.{length-append}
 use Rattle.std.specs.List.{list_any}
 use Rattle.kc_text.specs.declared.faults.TextFault.{TextFault}
-use Rattle.kc_text.specs.Lines.{Left, TakesLine, left, Next, Ended, Taken, TooLong, GoesOn}
-use Rattle.kc_text.specs.Tokens.{Piece}
+use Rattle.kc_text.specs.Lines.{UnreadLines, TakesLine, unread_lines, Next, Ended, Taken, TooLong, IsNextLine}
+use Rattle.kc_text.specs.Tokens.{TokenView}
 use Rattle.kc_text.proofs.Joins.{one_next_line_law}
 use Rattle.kc_text.proofs.There.{one_cutting_law}
 use Rattle.kc_expr.specs.Names.{same_name}
 use Rattle.kc_read.specs.declared.refusal.Code.TheVariants as code
-use Rattle.kc_read.specs.declared.statement.Opener.{Opener}
+use Rattle.kc_read.specs.declared.statement.OpenBlock.{OpenBlock}
 use Rattle.kc_read.specs.Blocks.{last_of}
 use Rattle.kc_read.specs.Existing.{HasOneExpansion}
-use Rattle.kc_read.specs.Expansion.{Around, Log, Refused, Rest, NextLine, NextStatement, refused, bytes_cause, context_of, effect_cause, inside, is_help, is_source, lexemes, logged, nothing_read, opening, root_around, source_cause, sourcing_cause, text_cause, with_line, without_help, at_end, unclosed, too_long, no_tokens, blank, bad_line, bad_effect, statement, bad_source, refused_inside, source}
+use Rattle.kc_read.specs.Expansion.{FileContext, Log, Refused, Rest, NextLine, NextStatement, refused, bytes_cause, context_of, limit_cause, inside, is_help, is_source, lexemes, logged, nothing_read, with_file, root_context, source_cause, sourcing_cause, text_cause, with_line, without_help, at_end, unclosed, too_long, no_tokens, blank, bad_line, over_limit, statement, bad_source, refused_inside, source}
 use Rattle.kc_read.specs.Files.{Files}
 use Rattle.kc_read.specs.Lines.{Cause, cause}
-use Rattle.kc_read.specs.Progress.{open_openers}
-use Rattle.kc_read.specs.Statements.{Placed, Written, SourceLine, ConfigLine, IfLine, EndIfLine, CommentLine, MenuLine, EndMenuLine, ChoiceLine, EndChoiceLine, MainMenuLine, TypeLine, PromptLine, DefaultLine, DefLine, DependsLine, VisibleLine, SelectLine, ImplyLine, RangeLine, HelpLine, ModulesLine, IgnoredLine}
+use Rattle.kc_read.specs.Progress.{located_blocks}
+use Rattle.kc_read.specs.Statements.{Located, Named, SourceLine, ConfigLine, IfLine, EndIfLine, CommentLine, MenuLine, EndMenuLine, ChoiceLine, EndChoiceLine, MainMenuLine, TypeLine, PromptLine, DefaultLine, DefLine, DependsLine, VisibleLine, SelectLine, ImplyLine, RangeLine, HelpLine, ModulesLine, IgnoredLine}
 use Rattle.kc_read.proofs.BlockLemmas as blocks
 use Rattle.kc_read.proofs.LineThere.{line_there}
 use Rattle.kc_read.proofs.OneExpansion.{one_expansion_law}
 use Rattle.kc_read.proofs.RestLemmas.{next_less}
 
-abbrev RestThere : Files → Around → Left → List (Placed Written) → Log → Type 0
+abbrev RestThere : Files → FileContext → UnreadLines → List (Located Named) → Log → Type 0
 RestThere files a l own log = (r : Result Log Refused) × Rest files a l own log r
 
-last_there : (o : Opener) (os : List Opener) → (p : Opener) × (last_of (o ∷ os) ≡ Some p)
+last_there : (o : OpenBlock) (os : List OpenBlock) → (p : OpenBlock) × (last_of (o ∷ os) ≡ Some p)
 last_there o [] = (o, refl)
 last_there o (q ∷ os) = last_there q os
 
-source_named : (s : Written) → is_source s ≡ true → (name : List ℕ) × (s ≡ SourceLine name)
+source_named : (s : Named) → is_source s ≡ true → (name : List ℕ) × (s ≡ SourceLine name)
 source_named (SourceLine t) h = (t, refl)
 source_named (ConfigLine n) h = absurd (false≢true h)
 source_named (IfLine e) h = absurd (false≢true h)
@@ -64,49 +64,57 @@ record MayOpen (files : Files) (names : List (List ℕ)) (name : List ℕ) : Typ
 may_open : (files : Files) (names : List (List ℕ)) (n : ℕ) (name : List ℕ) → sourcing_cause files names n name ≡ None → MayOpen files names name
 may_open files names n name h = by (list_any (same_name name) names) (nat_le 64 (length names)) (files name) refl refl h
   where
-    by : (open_now full : Bool) (o : Option (List ℕ)) → nat_le 64 (length names) ≡ full → files name ≡ o → cond open_now (Some (record { code = code.InclusionLoop; detail = name })) (cond full (Some (cause code.TooDeep)) (bytes_cause name n o)) ≡ None → MayOpen files names name
+    by : (open_now full : Bool) (o : Option (List ℕ)) → nat_le 64 (length names) ≡ full → files name ≡ o →
+        cond open_now (Some (record { code = code.InclusionLoop; detail = name })) (cond full (Some (cause code.TooDeep)) (bytes_cause name n o)) ≡ None →
+        MayOpen files names name
     by true full o e f g = absurd cc
     by false true o e f g = absurd cc
     by false false None e f g = absurd cc
     by false false (Some bytes) e f g = record { bytes = bytes; there = f; fewer = grind (arith, nat_tests) }
 
-module _ (files : Files) (a : Around) (deeper : (own : List (Placed Written)) (log : Log) (name bytes : List ℕ) → length a.open_files < 64 → RestThere files (inside a own name) (left bytes 1) [] (opening log bytes)) where
-  module _ (l : Left) (own : List (Placed Written)) (log : Log) (on : (m : Left) (own' : List (Placed Written)) (log' : Log) → length m.lines < length l.lines → RestThere files a m own' log') where
-    end_there : l.lines ≡ [] → (os : List Opener) → open_openers own ≡ os → RestThere files a l own log
+module _ (files : Files) (a : FileContext) (deeper : (own : List (Located Named)) (log : Log) (name bytes : List ℕ) → length a.open_files < 64 →
+    RestThere files (inside a own name) (unread_lines bytes 1) [] (with_file log bytes)) where
+  module _ (l : UnreadLines) (own : List (Located Named)) (log : Log)
+      (on : (m : UnreadLines) (own' : List (Located Named)) (log' : Log) → length m.lines < length l.lines → RestThere files a m own' log') where
+    end_there : l.lines ≡ [] → (os : List OpenBlock) → located_blocks own ≡ os → RestThere files a l own log
     end_there none [] e = (Ok log, at_end a l own log none (sym (blocks.blocks_of_openers own) ∙ ap (map (λ o. o.block)) e))
     end_there none (o ∷ os) e =
         let x = last_there o os in
         (Err (refused (cause code.Block) a.file x.0.line), unclosed a l own log x.0.line none (blocks.unclosed own x.0 (ap last_of e ∙ x.1)))
 
-    plain_there : (m : Left) (s : Written) → NextStatement l m (context_of a own log) (Ok s) → is_source s ≡ false → length m.lines < length l.lines → (o : Option Cause) → effect_cause a own log s ≡ o → RestThere files a l own log
-    plain_there m s n plain less (Some c) e = (Err (refused c a.file l.number), bad_effect a l m own log s c n e)
+    plain_there : (m : UnreadLines) (s : Named) → NextStatement l m (context_of a own log) (Ok s) → is_source s ≡ false → length m.lines < length l.lines →
+        (o : Option Cause) → limit_cause a own log s ≡ o → RestThere files a l own log
+    plain_there m s n plain less (Some c) e = (Err (refused c a.file l.number), over_limit a l m own log s c n e)
     plain_there m s n plain less None e =
         let x = on m (with_line own a l.number s) (logged log a l.number s) less in
         (x.0, statement a l m own log s x.0 n plain e x.1)
 
-    opened_there : (m : Left) (name bytes : List ℕ) → NextStatement l m (context_of a own log) (Ok (SourceLine name)) → length m.lines < length l.lines → source_cause files a log.counted name ≡ None → files name ≡ Some bytes → RestThere files (inside a own name) (left bytes 1) [] (opening log bytes) → RestThere files a l own log
+    opened_there : (m : UnreadLines) (name bytes : List ℕ) → NextStatement l m (context_of a own log) (Ok (SourceLine name)) → length m.lines < length l.lines →
+        source_cause files a log.total_lines name ≡ None → files name ≡ Some bytes →
+        RestThere files (inside a own name) (unread_lines bytes 1) [] (with_file log bytes) → RestThere files a l own log
     opened_there m name bytes n less free there (Err e, d) = (Err e, refused_inside a l m own log name bytes e n free there d)
     opened_there m name bytes n less free there (Ok more, d) =
         let x = on m (with_line own a l.number (SourceLine name)) more less in
         (x.0, source a l m own log more name bytes x.0 n free there d x.1)
 
-    source_there : (m : Left) (name : List ℕ) → NextStatement l m (context_of a own log) (Ok (SourceLine name)) → length m.lines < length l.lines → (o : Option Cause) → source_cause files a log.counted name ≡ o → RestThere files a l own log
+    source_there : (m : UnreadLines) (name : List ℕ) → NextStatement l m (context_of a own log) (Ok (SourceLine name)) → length m.lines < length l.lines →
+        (o : Option Cause) → source_cause files a log.total_lines name ≡ o → RestThere files a l own log
     source_there m name n less (Some c) e = (Err (refused c a.file l.number), bad_source a l m own log name c n e)
     source_there m name n less None e =
-        let x = may_open files a.open_files log.counted name e in
+        let x = may_open files a.open_files log.total_lines name e in
         opened_there m name x.bytes n less e x.there (deeper own log name x.bytes x.fewer)
 
-    said_there : (m : Left) (s : Result Written Cause) → NextStatement l m (context_of a own log) s → length m.lines < length l.lines → RestThere files a l own log
+    said_there : (m : UnreadLines) (s : Result Named Cause) → NextStatement l m (context_of a own log) s → length m.lines < length l.lines → RestThere files a l own log
     said_there m (Err c) n less = (Err (refused c a.file l.number), bad_line a l m own log c n)
     said_there m (Ok s) n less = by (is_source s) refl
       where
         by : (b : Bool) → is_source s ≡ b → RestThere files a l own log
-        by false e = plain_there m s n e less (effect_cause a own log s) refl
+        by false e = plain_there m s n e less (limit_cause a own log s) refl
         by true e =
             let x = source_named s e in
-            source_there m x.0 (subst (λ y. NextStatement l m (context_of a own log) (Ok y)) x.1 n) less (source_cause files a log.counted x.0) refl
+            source_there m x.0 (subst (λ y. NextStatement l m (context_of a own log) (Ok y)) x.1 n) less (source_cause files a log.total_lines x.0) refl
 
-    cut_there : (m : Left) (ts : List Piece) (out : Option TextFault) → NextLine l m ts out → RestThere files a l own log
+    cut_there : (m : UnreadLines) (ts : List TokenView) (out : Option TextFault) → NextLine l m ts out → RestThere files a l own log
     cut_there m ts (Some why) n = (Err (refused (text_cause why) a.file l.number), no_tokens a l m own log ts why n)
     cut_there m [] None n =
         let x = on m own log (next_less l m [] None n) in
@@ -115,33 +123,36 @@ module _ (files : Files) (a : Around) (deeper : (own : List (Placed Written)) (l
         let s = line_there (context_of a own log) (lexemes (t ∷ ts)) in
         said_there m s.0 (record { tokens = t ∷ ts; some = λ e. absurd cc; next = n; reads = s.1 }) (next_less l m (t ∷ ts) None n)
 
-    taken_there : (m : Left) (text : List ℕ) → TakesLine l m text → RestThere files a l own log
+    taken_there : (m : UnreadLines) (text : List ℕ) → TakesLine l m text → RestThere files a l own log
     taken_there m text taken =
         let c = one_cutting_law text in
         cut_there (cond (is_help (lexemes c.0)) (without_help m) m) c.0 c.1.0 (record { middle = m; text = text; taken = taken; cut = c.1.1; left_after = refl })
 
-    next_there : (next : Next) → GoesOn l next → RestThere files a l own log
-    next_there Ended g = end_there g (open_openers own) refl
+    next_there : (next : Next) → IsNextLine l next → RestThere files a l own log
+    next_there Ended g = end_there g (located_blocks own) refl
     next_there (Taken m text) g = taken_there m text g
     next_there TooLong g = (Err (refused (cause code.LineTooLong) a.file l.number), too_long a l own log g)
 
     turn_there : RestThere files a l own log
     turn_there = let next = one_next_line_law l in next_there next.0 next.1
 
-  lines_there : (fuel : ℕ) (l : Left) (own : List (Placed Written)) (log : Log) → length l.lines ≤ fuel → RestThere files a l own log
+  lines_there : (fuel : ℕ) (l : UnreadLines) (own : List (Located Named)) (log : Log) → length l.lines ≤ fuel → RestThere files a l own log
   lines_there zero l own log le = turn_there l own log (λ m own' log' less. absurd (omega arith))
   lines_there (suc fuel) l own log le = turn_there l own log (λ m own' log' less. lines_there fuel m own' log' (omega arith))
 
-file_there : (files : Files) (depth : ℕ) (a : Around) → 64 - length a.open_files ≤ depth → (l : Left) (own : List (Placed Written)) (log : Log) → RestThere files a l own log
+file_there : (files : Files) (depth : ℕ) (a : FileContext) → 64 - length a.open_files ≤ depth → (l : UnreadLines) (own : List (Located Named)) (log : Log) → RestThere files a l own log
 file_there files zero a few l own log = lines_there files a (λ own' log' name bytes lt. absurd (omega arith)) (length l.lines) l own log (omega arith)
 file_there files (suc depth) a few l own log =
-    lines_there files a (λ own' log' name bytes lt. file_there files depth (inside a own' name) (omega (arith, length-append a.open_files (name ∷ []))) (left bytes 1) [] (opening log' bytes)) (length l.lines) l own log (omega arith)
+    lines_there files a (λ own' log' name bytes lt. file_there files depth (inside a own' name) (omega (arith, length-append a.open_files (name ∷ [])))
+    (unread_lines bytes 1) [] (with_file log' bytes)) (length l.lines) l own log (omega arith)
 
-root_there : (files : Files) (root : List ℕ) (o : Option (List ℕ)) (c : Option Cause) → files root ≡ o → bytes_cause root 0 o ≡ c → (r : Result Log Refused) × MatchOption c ((bytes : List ℕ) × (files root ≡ Some bytes) × Rest files (root_around root) (left bytes 1) [] (opening nothing_read bytes) r) (λ w. r ≡ Err (refused w root 0))
+root_there : (files : Files) (root : List ℕ) (o : Option (List ℕ)) (c : Option Cause) → files root ≡ o → bytes_cause root 0 o ≡ c → (r : Result Log Refused)
+    × MatchOption c ((bytes : List ℕ) × (files root ≡ Some bytes) × Rest files (root_context root) (unread_lines bytes 1) [] (with_file nothing_read bytes) r)
+    (λ w. r ≡ Err (refused w root 0))
 root_there files root o (Some w) e f = (Err (refused w root 0), refl)
 root_there files root None None e f = absurd cc
 root_there files root (Some bytes) None e f =
-    let x = file_there files 64 (root_around root) (omega arith) (left bytes 1) [] (opening nothing_read bytes) in
+    let x = file_there files 64 (root_context root) (omega arith) (unread_lines bytes 1) [] (with_file nothing_read bytes) in
     (x.0, (bytes, e, x.1))
 
 pub has_one_expansion : HasOneExpansion

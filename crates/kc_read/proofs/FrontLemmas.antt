@@ -37,7 +37,9 @@ lexemes_later tokens at end h =
     ∙ ap (map (λ t. lexeme t.kind)) (sym (drop_twice at (end - at) tokens))
     ∙ sym (drop-map (λ t. lexeme t.kind) (end - at) (drop at tokens))
 
-pub is_front : (condition : Option SymId) (old names : List (List ℕ)) (tokens : List Token) (at end : ℕ) (e : Form) → at ≤ end → IsParsed condition (terminals_from tokens at) (terminals_from tokens end) old names e → IsFront condition old names (lexemes_from tokens at) (lexemes_from tokens end) e
+pub is_front : (condition : Option SymId) (old names : List (List ℕ)) (tokens : List Token) (at end : ℕ) (e : Form) → at ≤ end →
+    IsParsed condition (terminals_from tokens at) (terminals_from tokens end) old names e →
+    IsFront condition old names (lexemes_from tokens at) (lexemes_from tokens end) e
 is_front condition old names tokens at end e h p = record {
   tree = p.tree;
   starts = record {
@@ -50,7 +52,8 @@ is_front condition old names tokens at end e h p = record {
   form = p.form;
 }
 
-pub is_expression_fault : (tokens : List Token) (at : ℕ) (e : ExprFault) (f : Fault) → f.code ≡ code_of e → f.detail.now ≡ [] → IsRefused e (terminals_from tokens at) → IsFault f (ExpressionFault (lexemes_from tokens at))
+pub is_expression_fault : (tokens : List Token) (at : ℕ) (e : ExprFault) (f : Fault) → f.code ≡ code_of e → f.detail.now ≡ [] →
+    IsRefused e (terminals_from tokens at) → IsFault f (ExpressionFault (lexemes_from tokens at))
 is_expression_fault tokens at expr.Syntax f c d r n = inl (rw (terminals-lexemes_from tokens at) r, λ i. record { code = c i; detail = d i })
 is_expression_fault tokens at expr.TooDeep f c d r n = inr (rw (terminals-lexemes_from tokens at) r, λ i. record { code = c i; detail = d i })
 is_expression_fault tokens at expr.Memory f c d r n = absurd (n c)

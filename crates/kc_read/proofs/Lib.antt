@@ -9,7 +9,7 @@ pub mod ModulesLemmas
 pub mod NameLemmas
 pub mod OneExpansion
 pub mod OneLine
-pub mod OpeningLemmas
+pub mod OpenedFileLemmas
 pub mod PartLemmas
 pub mod ReplacedLemmas
 pub mod RestLemmas

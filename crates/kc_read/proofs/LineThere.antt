@@ -8,8 +8,8 @@ use Rattle.kc_text.specs.Lexemes.{Lexeme}
 use Rattle.kc_read.specs.declared.refusal.Code.TheVariants as code
 use Rattle.kc_read.specs.declared.statement.Keyword.{Keyword}
 use Rattle.kc_read.specs.declared.statement.Keyword.TheVariants as key
-use Rattle.kc_read.specs.Statements.{Written, Asked, IfLine, EndIfLine, CommentLine, SourceLine, MenuLine, EndMenuLine, EndChoiceLine, MainMenuLine, TypeLine, PromptLine, DefaultLine, DefLine, DependsLine, VisibleLine, SelectLine, ImplyLine, RangeLine, HelpLine, ModulesLine}
-use Rattle.kc_read.specs.Lines.{Context, Cause, cause, syntax_cause, StartsExpression, ExpressionFault, front, IsWhole, WholeFault, ReadsWhole, begins_with, IsCondition, ConditionFault, ReadsCondition, After, text_of, word_of, target_of, operand_of, finish, ReadsTextLine, plain_text, ReadsSource, good_name, ReadsConfig, choice_line, ReadsAsked, ReadsType, ReadsValue, expected, ReadsTarget, ReadsRange, option_line, left_out, ReadsRest, in_place, known, place_cause, keyword_of, ReadsPlaced, ReadsLine, OneStatement}
+use Rattle.kc_read.specs.Statements.{Named, InputPrompt, IfLine, EndIfLine, CommentLine, SourceLine, MenuLine, EndMenuLine, EndChoiceLine, MainMenuLine, TypeLine, PromptLine, DefaultLine, DefLine, DependsLine, VisibleLine, SelectLine, ImplyLine, RangeLine, HelpLine, ModulesLine}
+use Rattle.kc_read.specs.Lines.{LineContext, Cause, cause, syntax_cause, StartsExpression, ExpressionFault, front, IsWhole, WholeFault, ReadsWhole, begins_with, IsCondition, ConditionFault, ReadsCondition, After, text_of, word_of, target_of, operand_of, finish, ReadsTextLine, plain_text, ReadsSource, good_name, ReadsConfig, choice_line, ReadsPrompt, ReadsType, ReadsValue, expected, ReadsTarget, ReadsRange, option_line, left_out, ReadsRest, in_place, known, placement_cause, keyword_of, ReadsPlaced, ReadsLine, OneStatement}
 use Rattle.kc_read.proofs.OneLine.{one_line}
 
 -- ---- Expressions and conditions
@@ -82,21 +82,21 @@ after : {A B : Type 0} (o : Result A Cause) (Next : A → Result B Cause → Typ
 after (Ok a) Next h = h a
 after (Err c) Next h = (Err c, refl)
 
-whole_line : (make : Disjunction → Written) (ts : List Lexeme) → IsThere (ReadsWhole make ts)
+whole_line : (make : Disjunction → Named) (ts : List Lexeme) → IsThere (ReadsWhole make ts)
 whole_line make ts = by (whole_there ts)
   where
     by : Whole ts → IsThere (ReadsWhole make ts)
     by (inl x) = (Ok (make x.0), (x.0, x.1, refl))
     by (inr x) = (Err x.0, x.1)
 
-condition_line : (make : Option Disjunction → Written) (ts : List Lexeme) → IsThere (ReadsCondition make ts)
+condition_line : (make : Option Disjunction → Named) (ts : List Lexeme) → IsThere (ReadsCondition make ts)
 condition_line make ts = by (condition_there ts)
   where
     by : Condition ts → IsThere (ReadsCondition make ts)
     by (inl x) = (Ok (make x.0), (x.0, x.1, refl))
     by (inr x) = (Err x.0, x.1)
 
-value_line : (make : Disjunction → Option Disjunction → Written) (ts : List Lexeme) → IsThere (ReadsValue make ts)
+value_line : (make : Disjunction → Option Disjunction → Named) (ts : List Lexeme) → IsThere (ReadsValue make ts)
 value_line make ts = by (expression_there ts)
   where
     more : (d : Disjunction) (rest : List Lexeme) → StartsExpression ts (front d rest) → Condition rest → IsThere (ReadsValue make ts)
@@ -107,7 +107,7 @@ value_line make ts = by (expression_there ts)
     by (inl x) = more x.0 x.1.0 x.1.1 (condition_there x.1.0)
     by (inr x) = (Err x.0, inl x.1)
 
-text_line : (make : List ℕ → Written) (ts : List Lexeme) → IsThere (ReadsTextLine make ts)
+text_line : (make : List ℕ → Named) (ts : List Lexeme) → IsThere (ReadsTextLine make ts)
 text_line make ts = after (text_of ts) (λ t r. r ≡ finish (make t) (drop 1 ts)) (λ t. there_it_is (finish (make t) (drop 1 ts)))
 
 pub source_line : (ts : List Lexeme) → IsThere (ReadsSource ts)
@@ -118,21 +118,21 @@ config_line : (ts : List Lexeme) → IsThere (ReadsConfig ts)
 config_line ts = after (word_of ts) (λ w. After (finish w (drop 1 ts)) (λ v r. r ≡ good_name v))
     (λ w. after (finish w (drop 1 ts)) (λ v r. r ≡ good_name v) (λ v. there_it_is (good_name v)))
 
-asked_line : (make : Asked Disjunction → Written) (ts : List Lexeme) → IsThere (ReadsAsked make ts)
+asked_line : (make : InputPrompt Disjunction → Named) (ts : List Lexeme) → IsThere (ReadsPrompt make ts)
 asked_line make ts = after (text_of ts) (λ t. ReadsCondition (λ w. make (record { text = t; when = w })) (drop 1 ts)) (λ t. condition_line (λ w. make (record { text = t; when = w })) (drop 1 ts))
 
 type_line : (k : Kind) (ts : List Lexeme) → IsThere (ReadsType k ts)
 type_line k [] = (Ok (TypeLine k None), inl (refl, refl))
 type_line k (t ∷ us) = let r = asked_line (λ p. TypeLine k (Some p)) (t ∷ us) in (r.0, inr ((t, us, refl), r.1))
 
-target_line : (make : List ℕ → Option Disjunction → Written) (ts : List Lexeme) → IsThere (ReadsTarget make ts)
+target_line : (make : List ℕ → Option Disjunction → Named) (ts : List Lexeme) → IsThere (ReadsTarget make ts)
 target_line make ts = after (target_of ts) (λ t. ReadsCondition (make t) (drop 1 ts)) (λ t. condition_line (make t) (drop 1 ts))
 
 range_line : (ts : List Lexeme) → IsThere (ReadsRange ts)
 range_line ts = after (operand_of ts) (λ a. After (operand_of (drop 1 ts)) (λ b. ReadsCondition (RangeLine a b) (drop 2 ts)))
     (λ a. after (operand_of (drop 1 ts)) (λ b. ReadsCondition (RangeLine a b) (drop 2 ts)) (λ b. condition_line (RangeLine a b) (drop 2 ts)))
 
-expected_line : (make : Disjunction → Written) (w : List ℕ) (ts : List Lexeme) → IsThere (After (expected w ts) (ReadsWhole make))
+expected_line : (make : Disjunction → Named) (w : List ℕ) (ts : List Lexeme) → IsThere (After (expected w ts) (ReadsWhole make))
 expected_line make w ts = after (expected w ts) (ReadsWhole make) (whole_line make)
 
 rest_there : (w : List ℕ) (k : Keyword) (ts : List Lexeme) → IsThere (ReadsRest w k ts)
@@ -160,10 +160,10 @@ rest_there w key.Modules ts = there_it_is (finish ModulesLine ts)
 rest_there w key.«Option» ts = there_it_is (option_line ts)
 rest_there w key.LeftOut ts = there_it_is (Err (left_out w))
 
-placed_there : (c : Context) (w : List ℕ) (ts : List Lexeme) (k : Keyword) → IsThere (ReadsPlaced c w ts k)
-placed_there c w ts k = after (in_place k (place_cause c w ts k)) (λ j. ReadsRest w j ts) (λ j. rest_there w j ts)
+placed_there : (c : LineContext) (w : List ℕ) (ts : List Lexeme) (k : Keyword) → IsThere (ReadsPlaced c w ts k)
+placed_there c w ts k = after (in_place k (placement_cause c w ts k)) (λ j. ReadsRest w j ts) (λ j. rest_there w j ts)
 
-pub line_there : (c : Context) (ts : List Lexeme) → (r : Result Written Cause) × ReadsLine c ts r
+pub line_there : (c : LineContext) (ts : List Lexeme) → (r : Result Named Cause) × ReadsLine c ts r
 line_there c ts = after (word_of ts) (λ w. After (known (keyword_of w)) (ReadsPlaced c w (drop 1 ts)))
     (λ w. after (known (keyword_of w)) (ReadsPlaced c w (drop 1 ts)) (placed_there c w (drop 1 ts)))
 

@@ -54,7 +54,8 @@ pub filter-map : {A B : Type 0} (p : B → Bool) (f : A → B) (xs : List A) →
 filter-map p f [] = refl
 filter-map p f (x ∷ xs) = by (p (f x)) (filter-map p f xs)
   where
-    by : (b : Bool) → filter p (map f xs) ≡ map f (filter (λ x. p (f x)) xs) → cond b (f x ∷ filter p (map f xs)) (filter p (map f xs)) ≡ map f (cond b (x ∷ filter (λ x. p (f x)) xs) (filter (λ x. p (f x)) xs))
+    by : (b : Bool) → filter p (map f xs) ≡ map f (filter (λ x. p (f x)) xs) →
+        cond b (f x ∷ filter p (map f xs)) (filter p (map f xs)) ≡ map f (cond b (x ∷ filter (λ x. p (f x)) xs) (filter (λ x. p (f x)) xs))
     by true h = ap (λ l. f x ∷ l) h
     by false h = h
 

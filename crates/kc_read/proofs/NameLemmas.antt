@@ -10,9 +10,9 @@ use Rattle.kc_expr.specs.Names.{IsNumber, same_name, number_of, symbol, mention,
 use Rattle.std.proofs.lemmas.Bool.Decides.{nat_tests}
 use Rattle.kc_read.specs.declared.refusal.Code.TheVariants as code
 use Rattle.kc_read.specs.Lines.{cause}
-use Rattle.kc_expr.specs.Order.{has_place, place_of, placed}
+use Rattle.kc_expr.specs.Order.{has_rank, rank_of, ranked}
 use Rattle.kc_expr.proofs.NamesLemmas.{extends_on, same_name-refl}
-use Rattle.kc_expr.proofs.OrderLemmas.{next_place, place-some}
+use Rattle.kc_expr.proofs.OrderLemmas.{next_rank, rank-some}
 use Rattle.kc_read.specs.Expansion.{names_match}
 use Rattle.kc_read.specs.Progress.{defined_after, defining_cause, ids_match, naming_cause, order_after, placing_cause}
 use Rattle.kc_read.specs.Expanded.{AreNumbers, IsNamed}
@@ -26,7 +26,8 @@ pub known_at : (names : List (List ℕ)) (w : List ℕ) → list_any (same_name 
 known_at [] w h = absurd cc
 known_at (x ∷ xs) w h = by (same_name w x) refl h (known_at xs w)
   where
-    by : (b : Bool) → same_name w x ≡ b → (b || list_any (same_name w) xs) ≡ true → (list_any (same_name w) xs ≡ true → slice_get xs (number_of xs w) ≡ Some w) → slice_get (x ∷ xs) (cond (not b) (1 + number_of xs w) 0) ≡ Some w
+    by : (b : Bool) → same_name w x ≡ b → (b || list_any (same_name w) xs) ≡ true →
+        (list_any (same_name w) xs ≡ true → slice_get xs (number_of xs w) ≡ Some w) → slice_get (x ∷ xs) (cond (not b) (1 + number_of xs w) 0) ≡ Some w
     by true e h rest = ap Some (sym (same_name_eq w x e))
     by false e h rest = let one : 1 + number_of xs w ≡ suc (number_of xs w) = omega arith in rw one (rest h)
 
@@ -102,32 +103,34 @@ pub named_if : (names : List (List ℕ)) (b : Bool) (i : Option SymId) (m : Opti
 named_if names true i m x = x
 named_if names false i m x = tt
 
-pub is_named : (names : List (List ℕ)) (i : Option SymId) (m : Option (List ℕ)) → ((later : List (List ℕ)) → Extends names later → i ≡ option_map (λ n. symbol (number_of later n)) m) → IsNamed names i m
+pub is_named : (names : List (List ℕ)) (i : Option SymId) (m : Option (List ℕ)) →
+    ((later : List (List ℕ)) → Extends names later → i ≡ option_map (λ n. symbol (number_of later n)) m) → IsNamed names i m
 is_named names None None h = tt
 is_named names None (Some m) h = absurd (let e = h names (extends_none names) in cc)
 is_named names (Some i) None h = absurd (let e = h names (extends_none names) in cc)
 is_named names (Some i) (Some m) h = λ later x. let e = h later x in cc
 
 -- The numbers of names, one after another, and those of one more.
-same_place : (names : List (List ℕ)) (ids : List SymId) (ns : List (List ℕ)) (w : List ℕ) (id : SymId) → AreNumbers names ids ns → IsNumber names w id → has_place ids id ≡ list_any (same_name w) ns
+same_place : (names : List (List ℕ)) (ids : List SymId) (ns : List (List ℕ)) (w : List ℕ) (id : SymId) → AreNumbers names ids ns → IsNumber names w id → has_rank ids id ≡ list_any (same_name w) ns
 same_place names [] [] w id h k = refl
 same_place names [] (n ∷ ns) w id h k = absurd (let e = h names (extends_none names) in cc)
 same_place names (s ∷ ids) [] w id h k = absurd (let e = h names (extends_none names) in cc)
 same_place names (s ∷ ids) (n ∷ ns) w id h k =
     let one : (id.0 == s.0) ≡ same_name w n = ids_same names w n id s k (λ later x. let e = h later x in cc) in
-    let rest : has_place ids id ≡ list_any (same_name w) ns = same_place names ids ns w id (λ later x. let e = h later x in cc) k in
+    let rest : has_rank ids id ≡ list_any (same_name w) ns = same_place names ids ns w id (λ later x. let e = h later x in cc) k in
     λ j. one j || rest j
 
-pub place_is : (names : List (List ℕ)) (ids : List SymId) (ns : List (List ℕ)) (w : List ℕ) (id : SymId) → AreNumbers names ids ns → IsNumber names w id → place_of ids id ≡ number_of ns w
+pub place_is : (names : List (List ℕ)) (ids : List SymId) (ns : List (List ℕ)) (w : List ℕ) (id : SymId) → AreNumbers names ids ns → IsNumber names w id → rank_of ids id ≡ number_of ns w
 place_is names [] [] w id h k = refl
 place_is names [] (n ∷ ns) w id h k = absurd (let e = h names (extends_none names) in cc)
 place_is names (s ∷ ids) [] w id h k = absurd (let e = h names (extends_none names) in cc)
 place_is names (s ∷ ids) (n ∷ ns) w id h k =
     let one : (id.0 == s.0) ≡ same_name w n = ids_same names w n id s k (λ later x. let e = h later x in cc) in
-    let rest : place_of ids id ≡ number_of ns w = place_is names ids ns w id (λ later x. let e = h later x in cc) k in
+    let rest : rank_of ids id ≡ number_of ns w = place_is names ids ns w id (λ later x. let e = h later x in cc) k in
     λ j. cond (not (one j)) (1 + rest j) 0
 
-pub numbers_placed : (known names : List (List ℕ)) (ids : List SymId) (ns : List (List ℕ)) (w : List ℕ) (id : SymId) → Extends known names → AreNumbers known ids ns → IsNumber names w id → AreNumbers names (placed ids id) (mention ns w)
+pub numbers_placed : (known names : List (List ℕ)) (ids : List SymId) (ns : List (List ℕ)) (w : List ℕ) (id : SymId) → Extends known names →
+    AreNumbers known ids ns → IsNumber names w id → AreNumbers names (ranked ids id) (mention ns w)
 numbers_placed known names ids ns w id e h k later x =
     ap (λ b. cond b ids (ids ++ id ∷ [])) (same_place names ids ns w id (λ l y. h l (extends_on known names l e y)) k)
     ∙ by (list_any (same_name w) ns)
@@ -141,7 +144,8 @@ numbers_placed known names ids ns w id e h k later x =
         let here : id ≡ symbol (number_of later w) = k later x in
         (λ j. base j ++ here j ∷ []) ∙ sym (map-append (λ n. symbol (number_of later n)) ns (w ∷ []))
 
-pub numbers_after : (known names : List (List ℕ)) (ids : List SymId) (ns : List (List ℕ)) (o : Option SymId) (m : Option (List ℕ)) → Extends known names → AreNumbers known ids ns → IsNamed names o m → AreNumbers names (order_after ids o) (defined_after ns m)
+pub numbers_after : (known names : List (List ℕ)) (ids : List SymId) (ns : List (List ℕ)) (o : Option SymId) (m : Option (List ℕ)) → Extends known names →
+    AreNumbers known ids ns → IsNamed names o m → AreNumbers names (order_after ids o) (defined_after ns m)
 numbers_after known names ids ns None None e h k = λ later x. h later (extends_on known names later e x)
 numbers_after known names ids ns None (Some n) e h k = absurd k
 numbers_after known names ids ns (Some id) None e h k = absurd k
@@ -150,48 +154,50 @@ numbers_after known names ids ns (Some id) (Some n) e h k = numbers_placed known
 as_many : (names : List (List ℕ)) (ids : List SymId) (ns : List (List ℕ)) → AreNumbers names ids ns → length ids ≡ length ns
 as_many names ids ns h = ap length (h names (extends_none names)) ∙ length-map ns (λ n. symbol (number_of names n))
 
-pub defining_same : (known names : List (List ℕ)) (ids : List SymId) (ns : List (List ℕ)) (o : Option SymId) (m : Option (List ℕ)) → Extends known names → AreNumbers known ids ns → IsNamed names o m → defining_cause ids o ≡ naming_cause ns m
+pub defining_same : (known names : List (List ℕ)) (ids : List SymId) (ns : List (List ℕ)) (o : Option SymId) (m : Option (List ℕ)) → Extends known names →
+    AreNumbers known ids ns → IsNamed names o m → defining_cause ids o ≡ naming_cause ns m
 defining_same known names ids ns None None e h k = refl
 defining_same known names ids ns None (Some n) e h k = absurd k
 defining_same known names ids ns (Some id) None e h k = absurd k
 defining_same known names ids ns (Some id) (Some n) e h k =
-    ap (λ (l : ℕ). cond (nat_lt 65535 l) (Some (cause code.TooManySymbols)) None) (as_many names (placed ids id) (mention ns n) (numbers_placed known names ids ns n id e h k))
+    ap (λ (l : ℕ). cond (nat_lt 65535 l) (Some (cause code.TooManySymbols)) None) (as_many names (ranked ids id) (mention ns n) (numbers_placed known names ids ns n id e h k))
 
--- How many symbols have a place once one more is placed.
-placed_by : (ids : List SymId) (id : SymId) → ((placed ids id ≡ ids) × (place_of ids id < length ids)) ⊎ ((length (placed ids id) ≡ length ids + 1) × (place_of ids id ≡ length ids))
-placed_by ids id = by (has_place ids id) refl
+-- How many symbols have a rank once one more gets one.
+placed_by : (ids : List SymId) (id : SymId) → ((ranked ids id ≡ ids) × (rank_of ids id < length ids)) ⊎ ((length (ranked ids id) ≡ length ids + 1) × (rank_of ids id ≡ length ids))
+placed_by ids id = by (has_rank ids id) refl
   where
-    by : (b : Bool) → has_place ids id ≡ b → ((cond b ids (ids ++ id ∷ []) ≡ ids) × (place_of ids id < length ids)) ⊎ ((length (cond b ids (ids ++ id ∷ [])) ≡ length ids + 1) × (place_of ids id ≡ length ids))
-    by true e = inl (refl, place-some (λ s. id.0 == s.0) ids e)
-    by false e = inr (omega (arith, length-append ids (id ∷ [])), sym (next_place ids id e))
+    by : (b : Bool) → has_rank ids id ≡ b → ((cond b ids (ids ++ id ∷ []) ≡ ids) × (rank_of ids id < length ids)) ⊎
+        ((length (cond b ids (ids ++ id ∷ [])) ≡ length ids + 1) × (rank_of ids id ≡ length ids))
+    by true e = inl (refl, rank-some (λ s. id.0 == s.0) ids e)
+    by false e = inr (omega (arith, length-append ids (id ∷ [])), sym (next_rank ids id e))
 
-count_past : (ids : List SymId) (id : SymId) → 65535 ≤ place_of ids id → 65535 < length (placed ids id)
+count_past : (ids : List SymId) (id : SymId) → 65535 ≤ rank_of ids id → 65535 < length (ranked ids id)
 count_past ids id h = elim (placed_by ids id) [
   | inl k ↦ rw k.0 (omega (arith, k.1))
   | inr k ↦ omega (arith, k.0, k.1)
 ]
 
-count_within : (ids : List SymId) (id : SymId) → place_of ids id < 65535 → length ids ≤ 65535 → length (placed ids id) ≤ 65535
+count_within : (ids : List SymId) (id : SymId) → rank_of ids id < 65535 → length ids ≤ 65535 → length (ranked ids id) ≤ 65535
 count_within ids id h l = elim (placed_by ids id) [
   | inl k ↦ rw k.0 l
   | inr k ↦ omega (arith, k.0, k.1)
 ]
 
-pub too_many : (ids : List SymId) (id place : SymId) → place ≡ symbol (place_of ids id) → 65535 ≤ place.0 → placing_cause ids id ≡ Some (cause code.TooManySymbols)
-too_many ids id place e h =
-    let n : 65535 ≤ place_of ids id = omega (arith, ap (λ s. s.0) e) in
-    let past : 65535 < length (placed ids id) = count_past ids id n in
-    let t : nat_lt 65535 (length (placed ids id)) ≡ true = grind (arith, nat_tests) in
+pub too_many : (ids : List SymId) (id rank : SymId) → rank ≡ symbol (rank_of ids id) → 65535 ≤ rank.0 → placing_cause ids id ≡ Some (cause code.TooManySymbols)
+too_many ids id rank e h =
+    let n : 65535 ≤ rank_of ids id = omega (arith, ap (λ s. s.0) e) in
+    let past : 65535 < length (ranked ids id) = count_past ids id n in
+    let t : nat_lt 65535 (length (ranked ids id)) ≡ true = grind (arith, nat_tests) in
     rw t refl
 
-pub not_too_many : (ids : List SymId) (id place : SymId) → place ≡ symbol (place_of ids id) → place.0 < 65535 → length ids ≤ 65535 → placing_cause ids id ≡ None
-not_too_many ids id place e h l =
-    let n : place_of ids id < 65535 = omega (arith, ap (λ s. s.0) e) in
-    let within : length (placed ids id) ≤ 65535 = count_within ids id n l in
-    let t : nat_lt 65535 (length (placed ids id)) ≡ false = grind (arith, nat_tests) in
+pub not_too_many : (ids : List SymId) (id rank : SymId) → rank ≡ symbol (rank_of ids id) → rank.0 < 65535 → length ids ≤ 65535 → placing_cause ids id ≡ None
+not_too_many ids id rank e h l =
+    let n : rank_of ids id < 65535 = omega (arith, ap (λ s. s.0) e) in
+    let within : length (ranked ids id) ≤ 65535 = count_within ids id n l in
+    let t : nat_lt 65535 (length (ranked ids id)) ≡ false = grind (arith, nat_tests) in
     rw t refl
 
-pub still_within : (ids now : List SymId) (id place : SymId) → place ≡ symbol (place_of ids id) → now ≡ placed ids id → place.0 < 65535 → length ids ≤ 65535 → length now ≤ 65535
-still_within ids now id place e f h l =
-    let n : place_of ids id < 65535 = omega (arith, ap (λ s. s.0) e) in
+pub still_within : (ids now : List SymId) (id rank : SymId) → rank ≡ symbol (rank_of ids id) → now ≡ ranked ids id → rank.0 < 65535 → length ids ≤ 65535 → length now ≤ 65535
+still_within ids now id rank e f h l =
+    let n : rank_of ids id < 65535 = omega (arith, ap (λ s. s.0) e) in
     rw f (count_within ids id n l)

@@ -1,18 +1,18 @@
 -- A root file has one expansion.
 use Rattle.std.proofs.Common.{◌≡◌, ◌≢◌, ◌⊎◌, inl, inr, ℕ, true, false, cond, List, [], ◌∷◌, ◌++◌, length, map, slice_get, Option, Some, None, MatchOption, Result, Ok, Err, refl, sym, ap, ◌∙◌, subst, arith}
 use Rattle.kc_text.specs.declared.faults.TextFault.{TextFault}
-use Rattle.kc_text.specs.Lines.{Left, IsTooLong, left}
-use Rattle.kc_text.specs.Tokens.{Piece, IsCut}
+use Rattle.kc_text.specs.Lines.{UnreadLines, IsTooLong, unread_lines}
+use Rattle.kc_text.specs.Tokens.{TokenView, IsCut}
 use Rattle.kc_text.proofs.Joins.{takes_one, takes_less, taken_is_short, too_long_some}
 use Rattle.kc_text.proofs.Once.{same_cutting}
 use Rattle.kc_read.specs.declared.refusal.Code.TheVariants as code
 use Rattle.kc_read.specs.Blocks.{last_of, open_blocks}
-use Rattle.kc_read.specs.Expansion.{Around, Log, Refused, Rest, IsUnclosed, NextLine, NextStatement, OneExpansion, refused, bytes_cause, context_of, effect_cause, innermost, inside, is_help, is_source, lexemes, logged, nothing_read, opening, root_around, source_cause, statements, text_cause, with_line, without_help, at_end, unclosed, too_long, no_tokens, blank, bad_line, bad_effect, statement, bad_source, refused_inside, source}
+use Rattle.kc_read.specs.Expansion.{FileContext, Log, Refused, Rest, IsUnclosed, NextLine, NextStatement, OneExpansion, refused, bytes_cause, context_of, limit_cause, innermost, inside, is_help, is_source, lexemes, logged, nothing_read, with_file, root_context, source_cause, statements, text_cause, with_line, without_help, at_end, unclosed, too_long, no_tokens, blank, bad_line, over_limit, statement, bad_source, refused_inside, source}
 use Rattle.kc_read.specs.Files.{Files}
 use Rattle.kc_read.specs.Lines.{Cause, cause, ReadsLine}
-use Rattle.kc_read.specs.Statements.{Placed, Written, SourceLine}
+use Rattle.kc_read.specs.Statements.{Located, Named, SourceLine}
 use Rattle.kc_read.proofs.BlockLemmas.{blocks_of_openers, openers-opens, no_places, opens}
-use Rattle.kc_read.specs.Progress.{open_openers}
+use Rattle.kc_read.specs.Progress.{located_blocks}
 use Rattle.kc_read.proofs.OneLine.{one_line}
 
 -- ---- The next line
@@ -20,27 +20,27 @@ use Rattle.kc_read.proofs.OneLine.{one_line}
 pub data Turn : Type 0 where
   Ends : Turn
   Long : Turn
-  Line : Left → List Piece → Option TextFault → Turn
+  Line : UnreadLines → List TokenView → Option TextFault → Turn
 
 -- how the rest of a file goes on
-abbrev pub IsTurn : Left → Turn → Type 0
+abbrev pub IsTurn : UnreadLines → Turn → Type 0
 IsTurn l Ends = l.lines ≡ []
 IsTurn l Long = IsTooLong l
 IsTurn l (Line m ts out) = NextLine l m ts out
 
-pub one_next : (l m n : Left) (ts us : List Piece) (out other : Option TextFault) → NextLine l m ts out → NextLine l n us other → (m ≡ n) × (ts ≡ us) × (out ≡ other)
+pub one_next : (l m n : UnreadLines) (ts us : List TokenView) (out other : Option TextFault) → NextLine l m ts out → NextLine l n us other → (m ≡ n) × (ts ≡ us) × (out ≡ other)
 one_next l m n ts us out other a b =
     let (middle, text) = takes_one l a.middle b.middle a.text b.text a.taken b.taken in
     let (tokens, fault) = same_cutting b.text ts us out other (subst (λ t. IsCut t ts out) text a.cut) b.cut in
     (a.left_after ∙ ap (λ t. cond (is_help (lexemes t)) (without_help a.middle) a.middle) tokens ∙ ap (λ k. cond (is_help (lexemes us)) (without_help k) k) middle ∙ sym b.left_after, tokens, fault)
 
-ended_or_next : (l m : Left) (ts : List Piece) (out : Option TextFault) → l.lines ≡ [] → NextLine l m ts out → ⊥
+ended_or_next : (l m : UnreadLines) (ts : List TokenView) (out : Option TextFault) → l.lines ≡ [] → NextLine l m ts out → ⊥
 ended_or_next l m ts out e n = let less = takes_less l n.middle n.text n.taken in omega (arith, less, ap length e)
 
-ended_or_long : (l : Left) → l.lines ≡ [] → IsTooLong l → ⊥
+ended_or_long : (l : UnreadLines) → l.lines ≡ [] → IsTooLong l → ⊥
 ended_or_long l e t = let some = too_long_some l t in omega (arith, some, ap length e)
 
-pub one_turn : (l : Left) (t u : Turn) → IsTurn l t → IsTurn l u → t ≡ u
+pub one_turn : (l : UnreadLines) (t u : Turn) → IsTurn l t → IsTurn l u → t ≡ u
 one_turn l Ends Ends a b = refl
 one_turn l Ends Long a b = absurd (ended_or_long l a b)
 one_turn l Ends (Line m ts out) a b = absurd (ended_or_next l m ts out a b)
@@ -55,9 +55,9 @@ one_turn l (Line m ts out) (Line n us other) a b =
 -- ---- The blocks of a file
 
 -- where none is open, none is the innermost
-closed_or_not : (own : List (Placed Written)) (line : ℕ) → open_blocks (statements own) ≡ [] → IsUnclosed own line → ⊥
+closed_or_not : (own : List (Located Named)) (line : ℕ) → open_blocks (statements own) ≡ [] → IsUnclosed own line → ⊥
 closed_or_not own line e u =
-    let none : opens own ≡ [] = sym (openers-opens own) ∙ nothing (λ o. o.block) (open_openers own) (blocks_of_openers own ∙ e) in
+    let none : opens own ≡ [] = sym (openers-opens own) ∙ nothing (λ o. o.block) (located_blocks own) (blocks_of_openers own ∙ e) in
     let last : innermost own ≡ None = ap last_of (no_places own none) in
     let h : Some (length u.before) ≡ None = sym u.innermost_is ∙ last in
     absurd cc
@@ -70,26 +70,30 @@ at_length : {A : Type 0} (xs : List A) (x : A) (ys : List A) → slice_get (xs +
 at_length [] x ys = refl
 at_length (z ∷ xs) x ys = at_length xs x ys
 
-one_unclosed : (own : List (Placed Written)) (line other : ℕ) → IsUnclosed own line → IsUnclosed own other → line ≡ other
+one_unclosed : (own : List (Located Named)) (line other : ℕ) → IsUnclosed own line → IsUnclosed own other → line ≡ other
 one_unclosed own line other u v =
     let place : Some (length u.before) ≡ Some (length v.before) = sym u.innermost_is ∙ v.innermost_is in
     let many : length u.before ≡ length v.before = cc in
-    let opener : Some u.opener ≡ Some v.opener = sym (at_length u.before u.opener u.after) ∙ ap (λ xs. slice_get xs (length u.before)) (sym u.split ∙ v.split) ∙ ap (slice_get (v.before ++ v.opener ∷ v.after)) many ∙ at_length v.before v.opener v.after in
+    let opener : Some u.opener ≡ Some v.opener = sym (at_length u.before u.opener u.after) ∙ ap (λ xs. slice_get xs (length u.before)) (sym u.split ∙ v.split)
+    ∙ ap (slice_get (v.before ++ v.opener ∷ v.after)) many ∙ at_length v.before v.opener v.after in
     let same : u.opener ≡ v.opener = cc in
     u.line_is ∙ ap (λ o. o.line) same ∙ sym v.line_is
 
 -- ---- What the rest of a file gives, by its next line
 
-module _ (files : Files) (a : Around) (l : Left) (own : List (Placed Written)) (log : Log) where
+module _ (files : Files) (a : FileContext) (l : UnreadLines) (own : List (Located Named)) (log : Log) where
   -- after a statement
-  data Said (m : Left) (s : Written) (r : Result Log Refused) : Type 0 where
-    said_effect : (c : Cause) → effect_cause a own log s ≡ Some c → r ≡ Err (refused c a.file l.number) → Said m s r
-    said_plain : is_source s ≡ false → effect_cause a own log s ≡ None → Rest files a m (with_line own a l.number s) (logged log a l.number s) r → Said m s r
-    said_bad_source : (name : List ℕ) (c : Cause) → s ≡ SourceLine name → source_cause files a log.counted name ≡ Some c → r ≡ Err (refused c a.file l.number) → Said m s r
-    said_inside : (name bytes : List ℕ) (e : Refused) → s ≡ SourceLine name → source_cause files a log.counted name ≡ None → files name ≡ Some bytes → Rest files (inside a own name) (left bytes 1) [] (opening log bytes) (Err e) → r ≡ Err e → Said m s r
-    said_source : (name bytes : List ℕ) (more : Log) → s ≡ SourceLine name → source_cause files a log.counted name ≡ None → files name ≡ Some bytes → Rest files (inside a own name) (left bytes 1) [] (opening log bytes) (Ok more) → Rest files a m (with_line own a l.number (SourceLine name)) more r → Said m s r
+  data Said (m : UnreadLines) (s : Named) (r : Result Log Refused) : Type 0 where
+    said_effect : (c : Cause) → limit_cause a own log s ≡ Some c → r ≡ Err (refused c a.file l.number) → Said m s r
+    said_plain : is_source s ≡ false → limit_cause a own log s ≡ None → Rest files a m (with_line own a l.number s) (logged log a l.number s) r → Said m s r
+    said_bad_source : (name : List ℕ) (c : Cause) → s ≡ SourceLine name → source_cause files a log.total_lines name ≡ Some c → r ≡ Err (refused c a.file l.number) → Said m s r
+    said_inside : (name bytes : List ℕ) (e : Refused) → s ≡ SourceLine name → source_cause files a log.total_lines name ≡ None → files name ≡ Some bytes →
+        Rest files (inside a own name) (unread_lines bytes 1) [] (with_file log bytes) (Err e) → r ≡ Err e → Said m s r
+    said_source : (name bytes : List ℕ) (more : Log) → s ≡ SourceLine name → source_cause files a log.total_lines name ≡ None → files name ≡ Some bytes →
+        Rest files (inside a own name) (unread_lines bytes 1) [] (with_file log bytes) (Ok more) →
+        Rest files a m (with_line own a l.number (SourceLine name)) more r → Said m s r
 
-  abbrev Says : Left → Result Written Cause → Result Log Refused → Type 0
+  abbrev Says : UnreadLines → Result Named Cause → Result Log Refused → Type 0
   Says m (Ok s) r = Said m s r
   Says m (Err c) r = r ≡ Err (refused c a.file l.number)
 
@@ -97,39 +101,42 @@ module _ (files : Files) (a : Around) (l : Left) (own : List (Placed Written)) (
   Gives Ends r = ((open_blocks (statements own) ≡ []) × (r ≡ Ok log)) ⊎ ((line : ℕ) × IsUnclosed own line × (r ≡ Err (refused (cause code.Block) a.file line)))
   Gives Long r = r ≡ Err (refused (cause code.LineTooLong) a.file l.number)
   Gives (Line m ts (Some why)) r = r ≡ Err (refused (text_cause why) a.file l.number)
-  Gives (Line m ts None) r = ((ts ≡ []) × Rest files a m own log r) ⊎ ((ts ≢ []) × ((s : Result Written Cause) × ReadsLine (context_of a own log) (lexemes ts) s × Says m s r))
+  Gives (Line m ts None) r = ((ts ≡ []) × Rest files a m own log r) ⊎ ((ts ≢ []) × ((s : Result Named Cause) × ReadsLine (context_of a own log) (lexemes ts) s × Says m s r))
 
   -- how the file goes on, and what that gives
   abbrev Goes : Result Log Refused → Type 0
   Goes r = (t : Turn) × IsTurn l t × Gives t r
 
-  goes_statement : (m : Left) (s : Result Written Cause) (r : Result Log Refused) → NextStatement l m (context_of a own log) s → Says m s r → Goes r
+  goes_statement : (m : UnreadLines) (s : Result Named Cause) (r : Result Log Refused) → NextStatement l m (context_of a own log) s → Says m s r → Goes r
   goes_statement m s r n h = (Line m n.tokens None, n.next, inr (n.some, (s, n.reads, h)))
 
-goes : {files : Files} {a : Around} {l : Left} {own : List (Placed Written)} {log : Log} {r : Result Log Refused} → Rest files a l own log r → Goes files a l own log r
+goes : {files : Files} {a : FileContext} {l : UnreadLines} {own : List (Located Named)} {log : Log} {r : Result Log Refused} → Rest files a l own log r → Goes files a l own log r
 goes (at_end a l own log none closed) = (Ends, none, inl (closed, refl))
 goes (unclosed a l own log line none unmatched) = (Ends, none, inr (line, unmatched, refl))
 goes (too_long a l own log long) = (Long, long, refl)
 goes (no_tokens a l m own log ts why next) = (Line m ts (Some why), next, refl)
 goes (blank a l m own log r next d) = (Line m [] None, next, inl (refl, d))
 goes {files} (bad_line a l m own log c n) = goes_statement files a l own log m (Err c) _ n refl
-goes {files} (bad_effect a l m own log s c n e) = goes_statement files a l own log m (Ok s) _ n (said_effect c e refl)
+goes {files} (over_limit a l m own log s c n e) = goes_statement files a l own log m (Ok s) _ n (said_effect c e refl)
 goes {files} (statement a l m own log s r n plain e d) = goes_statement files a l own log m (Ok s) r n (said_plain plain e d)
 goes {files} (bad_source a l m own log name c n e) = goes_statement files a l own log m (Ok (SourceLine name)) _ n (said_bad_source name c refl e refl)
 goes {files} (refused_inside a l m own log name bytes e n free there d) = goes_statement files a l own log m (Ok (SourceLine name)) _ n (said_inside name bytes e refl free there d refl)
 goes {files} (source a l m own log more name bytes r n free there d f) = goes_statement files a l own log m (Ok (SourceLine name)) r n (said_source name bytes more refl free there d f)
 
 -- what the next line gives
-gives : (files : Files) (a : Around) (l : Left) (own : List (Placed Written)) (log : Log) (r : Result Log Refused) (t : Turn) → IsTurn l t → Rest files a l own log r → Gives files a l own log t r
+gives : (files : Files) (a : FileContext) (l : UnreadLines) (own : List (Located Named)) (log : Log) (r : Result Log Refused) (t : Turn) → IsTurn l t →
+    Rest files a l own log r → Gives files a l own log t r
 gives files a l own log r t is d =
     let (u, is', h) = goes d in
     subst (λ v. Gives files a l own log v r) (one_turn l u t is' is) h
 
 -- what the next statement gives
-says : (files : Files) (a : Around) (l m : Left) (own : List (Placed Written)) (log : Log) (s : Result Written Cause) (r : Result Log Refused) → NextStatement l m (context_of a own log) s → Rest files a l own log r → Says files a l own log m s r
+says : (files : Files) (a : FileContext) (l m : UnreadLines) (own : List (Located Named)) (log : Log) (s : Result Named Cause) (r : Result Log Refused) →
+    NextStatement l m (context_of a own log) s → Rest files a l own log r → Says files a l own log m s r
 says files a l m own log s r n d = by (gives files a l own log r (Line m n.tokens None) n.next d)
   where
-    by : ((n.tokens ≡ []) × Rest files a m own log r) ⊎ ((n.tokens ≢ []) × ((t : Result Written Cause) × ReadsLine (context_of a own log) (lexemes n.tokens) t × Says files a l own log m t r)) → Says files a l own log m s r
+    by : ((n.tokens ≡ []) × Rest files a m own log r) ⊎ ((n.tokens ≢ [])
+        × ((t : Result Named Cause) × ReadsLine (context_of a own log) (lexemes n.tokens) t × Says files a l own log m t r)) → Says files a l own log m s r
     by (inl x) = absurd (n.some x.0)
     by (inr x) = subst (λ t. Says files a l own log m t r) (one_line (context_of a own log) (lexemes n.tokens) x.1.0 s x.1.1 n.reads) x.1.2
 
@@ -141,68 +148,70 @@ none_or_some o x e f = let h : None ≡ Some x = sym e ∙ f in absurd cc
 pub one_some : {A : Type 0} (o : Option A) (x y : A) → o ≡ Some x → o ≡ Some y → x ≡ y
 one_some o x y e f = let h : Some x ≡ Some y = sym e ∙ f in cc
 
-plain_or_source : {B : Type 0} (s : Written) (name : List ℕ) → is_source s ≡ false → s ≡ SourceLine name → B
+plain_or_source : {B : Type 0} (s : Named) (name : List ℕ) → is_source s ≡ false → s ≡ SourceLine name → B
 plain_or_source s name e f = let h : true ≡ false = ap is_source (sym f) ∙ e in absurd cc
 
-abbrev pub source_line : List ℕ → Written
+abbrev pub source_line : List ℕ → Named
 source_line name = SourceLine name
 
 pub one_name : (name other : List ℕ) → source_line name ≡ source_line other → name ≡ other
 one_name name other e = cc
 
-same_source : (s : Written) (name other : List ℕ) → s ≡ SourceLine name → s ≡ SourceLine other → name ≡ other
+same_source : (s : Named) (name other : List ℕ) → s ≡ SourceLine name → s ≡ SourceLine other → name ≡ other
 same_source s name other e f = one_name name other (sym e ∙ f)
 
 -- a `source` line opens no block and defines nothing
-source_effect : (a : Around) (own : List (Placed Written)) (log : Log) (s : Written) (name : List ℕ) → s ≡ SourceLine name → effect_cause a own log s ≡ None
-source_effect a own log s name e = ap (effect_cause a own log) e
+source_effect : (a : FileContext) (own : List (Located Named)) (log : Log) (s : Named) (name : List ℕ) → s ≡ SourceLine name → limit_cause a own log s ≡ None
+source_effect a own log s name e = ap (limit_cause a own log) e
 
-abbrev refused_at : Around → Left → Cause → Result Log Refused
+abbrev refused_at : FileContext → UnreadLines → Cause → Result Log Refused
 refused_at a l c = Err (refused c a.file l.number)
 
-module _ (files : Files) (a : Around) (l m : Left) (own : List (Placed Written)) (log : Log) (other : Result Log Refused) where
-  same_effect : (s : Written) (c : Cause) → effect_cause a own log s ≡ Some c → Said files a l own log m s other → refused_at a l c ≡ other
-  same_effect s c f (said_effect d g e) = ap (refused_at a l) (one_some (effect_cause a own log s) c d f g) ∙ sym e
-  same_effect s c f (said_plain p g e) = none_or_some (effect_cause a own log s) c g f
-  same_effect s c f (said_bad_source name d e g h) = none_or_some (effect_cause a own log s) c (source_effect a own log s name e) f
-  same_effect s c f (said_inside name bytes d e g h i j) = none_or_some (effect_cause a own log s) c (source_effect a own log s name e) f
-  same_effect s c f (said_source name bytes more e g h i j) = none_or_some (effect_cause a own log s) c (source_effect a own log s name e) f
+module _ (files : Files) (a : FileContext) (l m : UnreadLines) (own : List (Located Named)) (log : Log) (other : Result Log Refused) where
+  same_effect : (s : Named) (c : Cause) → limit_cause a own log s ≡ Some c → Said files a l own log m s other → refused_at a l c ≡ other
+  same_effect s c f (said_effect d g e) = ap (refused_at a l) (one_some (limit_cause a own log s) c d f g) ∙ sym e
+  same_effect s c f (said_plain p g e) = none_or_some (limit_cause a own log s) c g f
+  same_effect s c f (said_bad_source name d e g h) = none_or_some (limit_cause a own log s) c (source_effect a own log s name e) f
+  same_effect s c f (said_inside name bytes d e g h i j) = none_or_some (limit_cause a own log s) c (source_effect a own log s name e) f
+  same_effect s c f (said_source name bytes more e g h i j) = none_or_some (limit_cause a own log s) c (source_effect a own log s name e) f
 
-  same_plain : (s : Written) → is_source s ≡ false → effect_cause a own log s ≡ None → Said files a l own log m s other → Rest files a m (with_line own a l.number s) (logged log a l.number s) other
-  same_plain s p f (said_effect d g e) = none_or_some (effect_cause a own log s) d f g
+  same_plain : (s : Named) → is_source s ≡ false → limit_cause a own log s ≡ None → Said files a l own log m s other → Rest files a m (with_line own a l.number s) (logged log a l.number s) other
+  same_plain s p f (said_effect d g e) = none_or_some (limit_cause a own log s) d f g
   same_plain s p f (said_plain q g e) = e
   same_plain s p f (said_bad_source name d e g h) = plain_or_source s name p e
   same_plain s p f (said_inside name bytes d e g h i j) = plain_or_source s name p e
   same_plain s p f (said_source name bytes more e g h i j) = plain_or_source s name p e
 
   module _ (name : List ℕ) where
-    same_bad_source : (c : Cause) → source_cause files a log.counted name ≡ Some c → Said files a l own log m (SourceLine name) other → refused_at a l c ≡ other
-    same_bad_source c f (said_effect d g e) = none_or_some (effect_cause a own log (SourceLine name)) d refl g
+    same_bad_source : (c : Cause) → source_cause files a log.total_lines name ≡ Some c → Said files a l own log m (SourceLine name) other → refused_at a l c ≡ other
+    same_bad_source c f (said_effect d g e) = none_or_some (limit_cause a own log (SourceLine name)) d refl g
     same_bad_source c f (said_plain p g e) = plain_or_source (SourceLine name) name p refl
     same_bad_source c f (said_bad_source n d e g h) =
-        ap (refused_at a l) (one_some (source_cause files a log.counted n) c d (subst (λ k. source_cause files a log.counted k ≡ Some c) (one_name name n e) f) g) ∙ sym h
-    same_bad_source c f (said_inside n bytes d e g h i j) = none_or_some (source_cause files a log.counted n) c g (subst (λ k. source_cause files a log.counted k ≡ Some c) (one_name name n e) f)
-    same_bad_source c f (said_source n bytes more e g h i j) = none_or_some (source_cause files a log.counted n) c g (subst (λ k. source_cause files a log.counted k ≡ Some c) (one_name name n e) f)
+        ap (refused_at a l) (one_some (source_cause files a log.total_lines n) c d (subst (λ k. source_cause files a log.total_lines k ≡ Some c) (one_name name n e) f) g) ∙ sym h
+    same_bad_source c f (said_inside n bytes d e g h i j) =
+        none_or_some (source_cause files a log.total_lines n) c g (subst (λ k. source_cause files a log.total_lines k ≡ Some c) (one_name name n e) f)
+    same_bad_source c f (said_source n bytes more e g h i j) =
+        none_or_some (source_cause files a log.total_lines n) c g (subst (λ k. source_cause files a log.total_lines k ≡ Some c) (one_name name n e) f)
 
-    module _ (bytes : List ℕ) (free : source_cause files a log.counted name ≡ None) (there : files name ≡ Some bytes) where
+    module _ (bytes : List ℕ) (free : source_cause files a log.total_lines name ≡ None) (there : files name ≡ Some bytes) where
       -- the same file is opened
       abbrev Inner : Result Log Refused → Type 0
-      Inner r = Rest files (inside a own name) (left bytes 1) [] (opening log bytes) r
+      Inner r = Rest files (inside a own name) (unread_lines bytes 1) [] (with_file log bytes) r
 
-      inner : (n b : List ℕ) (r : Result Log Refused) → source_line name ≡ source_line n → files n ≡ Some b → Rest files (inside a own n) (left b 1) [] (opening log b) r → Inner r
+      inner : (n b : List ℕ) (r : Result Log Refused) → source_line name ≡ source_line n → files n ≡ Some b → Rest files (inside a own n) (unread_lines b 1) [] (with_file log b) r → Inner r
       inner n b r e f d =
           let g : n ≡ name = sym (one_name name n e) in
           let h : b ≡ bytes = one_some (files name) b bytes (subst (λ k. files k ≡ Some b) g f) there in
-          subst (λ x. Rest files (inside a own name) (left x 1) [] (opening log x) r) h (subst (λ k. Rest files (inside a own k) (left b 1) [] (opening log b) r) g d)
+          subst (λ x. Rest files (inside a own name) (unread_lines x 1) [] (with_file log x) r) h (subst (λ k. Rest files (inside a own k) (unread_lines b 1) [] (with_file log b) r) g d)
 
       -- what the file gives, and what follows it
       abbrev Entered : Type 0
       Entered = ((e : Refused) × Inner (Err e) × (other ≡ Err e)) ⊎ ((more : Log) × Inner (Ok more) × Rest files a m (with_line own a l.number (SourceLine name)) more other)
 
       entered : Said files a l own log m (SourceLine name) other → Entered
-      entered (said_effect d g e) = none_or_some (effect_cause a own log (SourceLine name)) d refl g
+      entered (said_effect d g e) = none_or_some (limit_cause a own log (SourceLine name)) d refl g
       entered (said_plain p g e) = plain_or_source (SourceLine name) name p refl
-      entered (said_bad_source n d e g h) = none_or_some (source_cause files a log.counted name) d free (subst (λ k. source_cause files a log.counted k ≡ Some d) (sym (one_name name n e)) g)
+      entered (said_bad_source n d e g h) = none_or_some (source_cause files a log.total_lines name) d free (subst (λ k. source_cause files a log.total_lines k ≡ Some d) (sym (one_name name n e)) g)
       entered (said_inside n b d e g h i j) = inl (d, inner n b (Err d) e h i, j)
       entered (said_source n b more e g h i j) =
           inr (more, inner n b (Ok more) e h i, subst (λ k. Rest files a m (with_line own a l.number (SourceLine k)) more other) (sym (one_name name n e)) j)
@@ -216,7 +225,8 @@ err_or_ok e log h = absurd cc
 abbrev outcome : Log → Result Log Refused
 outcome g = Ok g
 
-pub one_rest : {files : Files} {a : Around} {l : Left} {own : List (Placed Written)} {log : Log} {r : Result Log Refused} → Rest files a l own log r → (other : Result Log Refused) → Rest files a l own log other → r ≡ other
+pub one_rest : {files : Files} {a : FileContext} {l : UnreadLines} {own : List (Located Named)} {log : Log} {r : Result Log Refused} →
+    Rest files a l own log r → (other : Result Log Refused) → Rest files a l own log other → r ≡ other
 one_rest {files} (at_end a l own log none closed) other e = by (gives files a l own log other Ends none e)
   where
     by : ((open_blocks (statements own) ≡ []) × (other ≡ Ok log)) ⊎ ((line : ℕ) × IsUnclosed own line × (other ≡ Err (refused (cause code.Block) a.file line))) → Ok log ≡ other
@@ -224,7 +234,8 @@ one_rest {files} (at_end a l own log none closed) other e = by (gives files a l 
     by (inr x) = absurd (closed_or_not own x.0 closed x.1)
 one_rest {files} (unclosed a l own log line none unmatched) other e = by (gives files a l own log other Ends none e)
   where
-    by : ((open_blocks (statements own) ≡ []) × (other ≡ Ok log)) ⊎ ((n : ℕ) × IsUnclosed own n × (other ≡ Err (refused (cause code.Block) a.file n))) → Err (refused (cause code.Block) a.file line) ≡ other
+    by : ((open_blocks (statements own) ≡ []) × (other ≡ Ok log)) ⊎ ((n : ℕ) × IsUnclosed own n × (other ≡ Err (refused (cause code.Block) a.file n))) →
+        Err (refused (cause code.Block) a.file line) ≡ other
     by (inl x) = absurd (closed_or_not own line x.0 unmatched)
     by (inr x) = ap (λ n. Err (refused (cause code.Block) a.file n)) (one_unclosed own line x.0 unmatched x.1) ∙ sym x.2
 one_rest {files} (too_long a l own log long) other e = sym (gives files a l own log other Long long e)
@@ -234,7 +245,7 @@ one_rest {files} (blank a l m own log r next d) other e = elim (gives files a l 
   | inr x ↦ absurd (x.0 refl)
 ]
 one_rest {files} (bad_line a l m own log c n) other e = sym (says files a l m own log (Err c) other n e)
-one_rest {files} (bad_effect a l m own log s c n f) other e = same_effect files a l m own log other s c f (says files a l m own log (Ok s) other n e)
+one_rest {files} (over_limit a l m own log s c n f) other e = same_effect files a l m own log other s c f (says files a l m own log (Ok s) other n e)
 one_rest {files} (statement a l m own log s r n plain f d) other e = one_rest d other (same_plain files a l m own log other s plain f (says files a l m own log (Ok s) other n e))
 one_rest {files} (bad_source a l m own log name c n f) other e = same_bad_source files a l m own log other name c f (says files a l m own log (Ok (SourceLine name)) other n e)
 one_rest {files} (refused_inside a l m own log name bytes c n free there d) other e =
@@ -252,7 +263,7 @@ one_rest {files} (source a l m own log more name bytes r n free there d f) other
     one_log g h i = cc
 
 abbrev RootGives : Files → List ℕ → Result Log Refused → Type 0
-RootGives files root r = (bytes : List ℕ) × (files root ≡ Some bytes) × Rest files (root_around root) (left bytes 1) [] (opening nothing_read bytes) r
+RootGives files root r = (bytes : List ℕ) × (files root ≡ Some bytes) × Rest files (root_context root) (unread_lines bytes 1) [] (with_file nothing_read bytes) r
 
 pub one_expansion_law : OneExpansion
 one_expansion_law files root r other d e = by (bytes_cause root 0 (files root)) d e
@@ -261,4 +272,4 @@ one_expansion_law files root r other d e = by (bytes_cause root 0 (files root)) 
     by (Some c) x y = x ∙ sym y
     by None x y =
         let b : y.0 ≡ x.0 = one_some (files root) y.0 x.0 y.1 x.1 in
-        one_rest x.2 other (subst (λ b. Rest files (root_around root) (left b 1) [] (opening nothing_read b) other) b y.2)
+        one_rest x.2 other (subst (λ b. Rest files (root_context root) (unread_lines b 1) [] (with_file nothing_read b) other) b y.2)

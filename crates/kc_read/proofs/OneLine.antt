@@ -8,8 +8,8 @@ use Rattle.kc_expr.proofs.OneTree.{unambiguous}
 use Rattle.kc_expr.proofs.LongestLemmas.{one_longest, is_expression, not_too_deep, determined}
 use Rattle.kc_read.specs.declared.statement.Keyword.{Keyword}
 use Rattle.kc_read.specs.declared.statement.Keyword.TheVariants as key
-use Rattle.kc_read.specs.Statements.{Written, Asked, IfLine, EndIfLine, CommentLine, SourceLine, MenuLine, EndMenuLine, EndChoiceLine, MainMenuLine, TypeLine, PromptLine, DefaultLine, DefLine, DependsLine, VisibleLine, SelectLine, ImplyLine, RangeLine, HelpLine, ModulesLine}
-use Rattle.kc_read.specs.Lines.{Context, Cause, Front, front, StartsExpression, ExpressionFault, IsMore, IsWhole, WholeFault, ReadsWhole, IsCondition, ConditionFault, ReadsCondition, After, finish, text_of, word_of, target_of, operand_of, plain_text, good_name, choice_line, option_line, expected, keyword_of, known, in_place, place_cause, left_out, ReadsTextLine, ReadsSource, ReadsConfig, ReadsAsked, ReadsType, ReadsValue, ReadsTarget, ReadsRange, ReadsRest, ReadsPlaced, ReadsLine, begins_with}
+use Rattle.kc_read.specs.Statements.{Named, InputPrompt, IfLine, EndIfLine, CommentLine, SourceLine, MenuLine, EndMenuLine, EndChoiceLine, MainMenuLine, TypeLine, PromptLine, DefaultLine, DefLine, DependsLine, VisibleLine, SelectLine, ImplyLine, RangeLine, HelpLine, ModulesLine}
+use Rattle.kc_read.specs.Lines.{LineContext, Cause, Front, front, StartsExpression, ExpressionFault, IsMore, IsWhole, WholeFault, ReadsWhole, IsCondition, ConditionFault, ReadsCondition, After, finish, text_of, word_of, target_of, operand_of, plain_text, good_name, choice_line, option_line, expected, keyword_of, known, in_place, placement_cause, left_out, ReadsTextLine, ReadsSource, ReadsConfig, ReadsPrompt, ReadsType, ReadsValue, ReadsTarget, ReadsRange, ReadsRest, ReadsPlaced, ReadsLine, begins_with}
 
 -- ---- Expressions
 
@@ -94,23 +94,24 @@ one_after : {A B : Type 0} (o : Result A Cause) (Next : A → Result B Cause →
 one_after (Ok a) Next h r s x y = h a r s x y
 one_after (Err c) Next h r s x y = x ∙ sym y
 
-one_whole : (make : Disjunction → Written) (ts : List Lexeme) → AtMostOne (ReadsWhole make ts)
+one_whole : (make : Disjunction → Named) (ts : List Lexeme) → AtMostOne (ReadsWhole make ts)
 one_whole make ts (Ok x) (Ok y) a b = ap Ok (a.2 ∙ ap make (same_whole ts a.0 b.0 a.1 b.1) ∙ sym b.2)
 one_whole make ts (Ok x) (Err d) a b = absurd (whole_or_not ts a.0 d a.1 b)
 one_whole make ts (Err c) (Ok y) a b = absurd (whole_or_not ts b.0 c b.1 a)
 one_whole make ts (Err c) (Err d) a b = ap Err (same_whole_fault ts c d a b)
 
-one_condition : (make : Option Disjunction → Written) (ts : List Lexeme) → AtMostOne (ReadsCondition make ts)
+one_condition : (make : Option Disjunction → Named) (ts : List Lexeme) → AtMostOne (ReadsCondition make ts)
 one_condition make ts (Ok x) (Ok y) a b = ap Ok (a.2 ∙ ap make (same_condition ts a.0 b.0 a.1 b.1) ∙ sym b.2)
 one_condition make ts (Ok x) (Err d) a b = absurd (condition_or_not ts a.0 d a.1 b)
 one_condition make ts (Err c) (Ok y) a b = absurd (condition_or_not ts b.0 c b.1 a)
 one_condition make ts (Err c) (Err d) a b = ap Err (same_condition_fault ts c d a b)
 
-value_or_not : (ts : List Lexeme) (f : Front) (w : Option Disjunction) (c : Cause) → StartsExpression ts f → IsCondition f.rest w → ExpressionFault ts c ⊎ ((g : Front) × StartsExpression ts g × ConditionFault g.rest c) → ⊥
+value_or_not : (ts : List Lexeme) (f : Front) (w : Option Disjunction) (c : Cause) → StartsExpression ts f → IsCondition f.rest w →
+    ExpressionFault ts c ⊎ ((g : Front) × StartsExpression ts g × ConditionFault g.rest c) → ⊥
 value_or_not ts f w c s i (inl x) = starts_or_not ts f c s x
 value_or_not ts f w c s i (inr x) = condition_or_not f.rest w c i (subst (λ g. ConditionFault g.rest c) (same_front ts x.0 f x.1 s) x.2)
 
-one_value : (make : Disjunction → Option Disjunction → Written) (ts : List Lexeme) → AtMostOne (ReadsValue make ts)
+one_value : (make : Disjunction → Option Disjunction → Named) (ts : List Lexeme) → AtMostOne (ReadsValue make ts)
 one_value make ts (Ok x) (Ok y) a b =
     let f : a.0 ≡ b.0 = same_front ts a.0 b.0 a.2 b.2 in
     let w : a.1 ≡ b.1 = same_condition b.0.rest a.1 b.1 (subst (λ g. IsCondition g.rest a.1) f a.3) b.3 in
@@ -122,7 +123,7 @@ one_value make ts (Err c) (Err d) (inl x) (inr y) = absurd (starts_or_not ts y.0
 one_value make ts (Err c) (Err d) (inr x) (inl y) = absurd (starts_or_not ts x.0 d x.1 y)
 one_value make ts (Err c) (Err d) (inr x) (inr y) = ap Err (same_condition_fault y.0.rest c d (subst (λ g. ConditionFault g.rest c) (same_front ts x.0 y.0 x.1 y.1) x.2) y.2)
 
-one_text : (make : List ℕ → Written) (ts : List Lexeme) → AtMostOne (ReadsTextLine make ts)
+one_text : (make : List ℕ → Named) (ts : List Lexeme) → AtMostOne (ReadsTextLine make ts)
 one_text make ts = one_after (text_of ts) (λ t r. r ≡ finish (make t) (drop 1 ts)) (λ t. this_one (finish (make t) (drop 1 ts)))
 
 pub one_source : (ts : List Lexeme) → AtMostOne (ReadsSource ts)
@@ -133,7 +134,7 @@ one_config : (ts : List Lexeme) → AtMostOne (ReadsConfig ts)
 one_config ts = one_after (word_of ts) (λ w. After (finish w (drop 1 ts)) (λ v r. r ≡ good_name v))
     (λ w. one_after (finish w (drop 1 ts)) (λ v r. r ≡ good_name v) (λ v. this_one (good_name v)))
 
-one_asked : (make : Asked Disjunction → Written) (ts : List Lexeme) → AtMostOne (ReadsAsked make ts)
+one_asked : (make : InputPrompt Disjunction → Named) (ts : List Lexeme) → AtMostOne (ReadsPrompt make ts)
 one_asked make ts = one_after (text_of ts) (λ t. ReadsCondition (λ w. make (record { text = t; when = w })) (drop 1 ts)) (λ t. one_condition (λ w. make (record { text = t; when = w })) (drop 1 ts))
 
 one_type : (k : Kind) (ts : List Lexeme) → AtMostOne (ReadsType k ts)
@@ -142,14 +143,14 @@ one_type k ts r s (inl x) (inr y) = absurd (more_or_none ts y.0 x.0)
 one_type k ts r s (inr x) (inl y) = absurd (more_or_none ts x.0 y.0)
 one_type k ts r s (inr x) (inr y) = one_asked (λ p. TypeLine k (Some p)) ts r s x.1 y.1
 
-one_target : (make : List ℕ → Option Disjunction → Written) (ts : List Lexeme) → AtMostOne (ReadsTarget make ts)
+one_target : (make : List ℕ → Option Disjunction → Named) (ts : List Lexeme) → AtMostOne (ReadsTarget make ts)
 one_target make ts = one_after (target_of ts) (λ t. ReadsCondition (make t) (drop 1 ts)) (λ t. one_condition (make t) (drop 1 ts))
 
 one_range : (ts : List Lexeme) → AtMostOne (ReadsRange ts)
 one_range ts = one_after (operand_of ts) (λ a. After (operand_of (drop 1 ts)) (λ b. ReadsCondition (RangeLine a b) (drop 2 ts)))
     (λ a. one_after (operand_of (drop 1 ts)) (λ b. ReadsCondition (RangeLine a b) (drop 2 ts)) (λ b. one_condition (RangeLine a b) (drop 2 ts)))
 
-one_expected : (make : Disjunction → Written) (w : List ℕ) (ts : List Lexeme) → AtMostOne (After (expected w ts) (ReadsWhole make))
+one_expected : (make : Disjunction → Named) (w : List ℕ) (ts : List Lexeme) → AtMostOne (After (expected w ts) (ReadsWhole make))
 one_expected make w ts = one_after (expected w ts) (ReadsWhole make) (one_whole make)
 
 one_rest : (w : List ℕ) (k : Keyword) (ts : List Lexeme) → AtMostOne (ReadsRest w k ts)
@@ -177,9 +178,9 @@ one_rest w key.Modules ts = this_one (finish ModulesLine ts)
 one_rest w key.«Option» ts = this_one (option_line ts)
 one_rest w key.LeftOut ts = this_one (Err (left_out w))
 
-one_placed : (c : Context) (w : List ℕ) (ts : List Lexeme) (k : Keyword) → AtMostOne (ReadsPlaced c w ts k)
-one_placed c w ts k = one_after (in_place k (place_cause c w ts k)) (λ j. ReadsRest w j ts) (λ j. one_rest w j ts)
+one_placed : (c : LineContext) (w : List ℕ) (ts : List Lexeme) (k : Keyword) → AtMostOne (ReadsPlaced c w ts k)
+one_placed c w ts k = one_after (in_place k (placement_cause c w ts k)) (λ j. ReadsRest w j ts) (λ j. one_rest w j ts)
 
-pub one_line : (c : Context) (ts : List Lexeme) → AtMostOne (ReadsLine c ts)
+pub one_line : (c : LineContext) (ts : List Lexeme) → AtMostOne (ReadsLine c ts)
 one_line c ts = one_after (word_of ts) (λ w. After (known (keyword_of w)) (ReadsPlaced c w (drop 1 ts)))
     (λ w. one_after (known (keyword_of w)) (ReadsPlaced c w (drop 1 ts)) (one_placed c w (drop 1 ts)))

@@ -3,8 +3,8 @@ use Rattle.std.specs.Bool.{⊤}
 use Rattle.std.proofs.Common.{IfErr, IsErrAnd, take, ◌≡◌, ◌≢◌, ℕ, ◌-◌, ◌<◌, Bool, true, false, cond, List, [], ◌∷◌, ◌++◌, length, Option, Some, None, Result, Ok, Err, refl, sym, ap, ◌∙◌, subst, map, arith, append-nil}
 use Rattle.std.proofs.lemmas.Result.{err_from_is_err_and}
 use Rattle.kc_expr.specs.declared.expression.SymId.{SymId}
-use Rattle.kc_text.specs.Lines.{Left, left}
-use Rattle.kc_text.specs.Tokens.{Piece}
+use Rattle.kc_text.specs.Lines.{UnreadLines, unread_lines}
+use Rattle.kc_text.specs.Tokens.{TokenView}
 use Rattle.kc_text.specs.declared.faults.TextFault.{TextFault}
 use Rattle.kc_text.proofs.Helps.{after_help-le}
 use Rattle.kc_text.proofs.Joins.{takes_less}
@@ -12,18 +12,18 @@ use Rattle.kc_read.specs.declared.frame.Frame.{Frame}
 use Rattle.kc_read.specs.declared.progress.Progress.{Progress}
 use Rattle.kc_read.specs.declared.refusal.Code.TheVariants as code
 use Rattle.kc_read.specs.declared.refusal.Refusal.{Refusal}
-use Rattle.kc_read.specs.declared.statement.Entry.TheVariants as entry
+use Rattle.kc_read.specs.declared.statement.EntryKind.TheVariants as entry
 use Rattle.kc_read.specs.declared.statement.Statement.{Statement}
 use Rattle.kc_read.specs.Blocks.{last_of}
-use Rattle.kc_read.specs.Expansion.{Around, Log, Rest, refused, context_of, inside, is_help, is_source, lexemes, logged, opening, source_cause, sourcing_cause, with_line, without_help, NextLine, NextStatement, at_end, unclosed, too_long, no_tokens, blank, bad_line, bad_effect, statement, bad_source, refused_inside, source}
+use Rattle.kc_read.specs.Expansion.{FileContext, Log, Rest, refused, context_of, inside, is_help, is_source, lexemes, logged, with_file, source_cause, sourcing_cause, with_line, without_help, NextLine, NextStatement, at_end, unclosed, too_long, no_tokens, blank, bad_line, over_limit, statement, bad_source, refused_inside, source}
 use Rattle.kc_read.specs.Files.{Files}
-use Rattle.kc_read.specs.Lines.{Context, Cause, cause}
-use Rattle.kc_read.specs.Progress.{GoesOn, IsNextRead, IsReading, IsStatementRead, IsEnded, IsFileRead, IsOpenAtEnd, IsProgress, IsRestRefusal, IsState, IsTaken, effect_view, open_names}
-use Rattle.kc_read.specs.Reads.{statement_view}
+use Rattle.kc_read.specs.Lines.{LineContext, Cause, cause}
+use Rattle.kc_read.specs.Progress.{HasAdvanced, IsNextRead, IsReading, IsStatementRead, IsEnded, IsFileRead, IsOpenAtEnd, IsProgress, IsRestRefusal, IsState, IsTaken, limit_view, open_names}
+use Rattle.kc_read.specs.StatementViews.{statement_view}
 use Rattle.kc_read.specs.LineReads.{IsMade, cause_of}
 use Rattle.kc_read.specs.declared.statement.Fault.{Fault}
-use Rattle.kc_read.specs.Statements.{Placed, Written, SourceLine}
-use Rattle.kc_read.specs.Steps.{refusal_view}
+use Rattle.kc_read.specs.Statements.{Located, Named, SourceLine}
+use Rattle.kc_read.specs.RefusalView.{refusal_view}
 use Rattle.kc_read.specs.NextStep.{IsStepRefusal, StepFault}
 use Rattle.kc_read.specs.NextStep as step
 use Rattle.kc_read.proofs.BlockLemmas as blocks
@@ -31,7 +31,7 @@ use Rattle.kc_read.proofs.ListLemmas.{but_last, but_last-append, but_last-take}
 use Rattle.kc_read.proofs.StateLemmas.{effect_same, frame_push, state_taken}
 
 -- A line is taken from what is left of a file.
-pub next_less : (l m : Left) (ts : List Piece) (out : Option TextFault) → NextLine l m ts out → length m.lines < length l.lines
+pub next_less : (l m : UnreadLines) (ts : List TokenView) (out : Option TextFault) → NextLine l m ts out → length m.lines < length l.lines
 next_less l m ts out n =
     let less : length n.middle.lines < length l.lines = takes_less l n.middle n.text n.taken in
     by (is_help (lexemes ts)) less n.left_after
@@ -40,7 +40,7 @@ next_less l m ts out n =
     by true less e = omega (arith, less, after_help-le n.middle.lines, ap (λ x. length x.lines) e)
     by false less e = omega (arith, less, ap (λ x. length x.lines) e)
 
-pub next_clear : (l m : Left) (ts : List Piece) (out : Option TextFault) → NextLine l m ts out → m.refusal ≡ None
+pub next_clear : (l m : UnreadLines) (ts : List TokenView) (out : Option TextFault) → NextLine l m ts out → m.refusal ≡ None
 next_clear l m ts out n = by (is_help (lexemes ts)) n.left_after
   where
     by : (b : Bool) → m ≡ cond b (without_help n.middle) n.middle → m.refusal ≡ None
@@ -48,35 +48,45 @@ next_clear l m ts out n = by (is_help (lexemes ts)) n.left_after
     by false e = ap (λ x. x.refusal) e ∙ n.taken.5
 
 -- a refusal of the next line is one of the rest
-fault_of_rest : (files : Files) (a : Around) (l : Left) (own : List (Placed Written)) (log : Log) (c : Context) (why : Cause) → c ≡ context_of a own log → StepFault c l why → Rest files a l own log (Err (refused why a.file l.number))
+fault_of_rest : (files : Files) (a : FileContext) (l : UnreadLines) (own : List (Located Named)) (log : Log) (c : LineContext) (why : Cause) →
+    c ≡ context_of a own log → StepFault c l why → Rest files a l own log (Err (refused why a.file l.number))
 fault_of_rest files a l own log c why e (step.too_long t) = too_long a l own log t
 fault_of_rest files a l own log c why e (step.no_tokens new ts w n) = no_tokens a l new own log ts w n
 fault_of_rest files a l own log c why e (step.refused_line new w n) = bad_line a l new own log w (subst (λ k. NextStatement l new k (Err w)) e n)
 
 -- a refusal that is made for a cause and a line
-pub refusal_at : (files : Files) (a : Around) (l : Left) (own : List (Placed Written)) (log : Log) (r : Refusal) (why : Cause) (file : List ℕ) (line : ℕ) → refusal_view r ≡ refused why file line → file ≡ a.file → line ≡ l.number → Rest files a l own log (Err (refused why a.file l.number)) → Rest files a l own log (Err (refusal_view r))
+pub refusal_at : (files : Files) (a : FileContext) (l : UnreadLines) (own : List (Located Named)) (log : Log) (r : Refusal) (why : Cause) (file : List ℕ)
+    (line : ℕ) → refusal_view r ≡ refused why file line → file ≡ a.file → line ≡ l.number → Rest files a l own log (Err (refused why a.file l.number)) →
+    Rest files a l own log (Err (refusal_view r))
 refusal_at files a l own log r why file line v e n rest =
     subst (λ x. Rest files a l own log (Err x)) (sym (v ∙ ap (λ f. refused why f line) e ∙ ap (λ k. refused why a.file k) n)) rest
 
-pub step_refused : (files : Files) (a : Around) (l : Left) (own : List (Placed Written)) (log : Log) (c : Context) (file : List ℕ) (r : Refusal) → c ≡ context_of a own log → file ≡ a.file → IsStepRefusal file c l r → IsRestRefusal files a l own log r
+pub step_refused : (files : Files) (a : FileContext) (l : UnreadLines) (own : List (Located Named)) (log : Log) (c : LineContext) (file : List ℕ) (r : Refusal)
+    → c ≡ context_of a own log → file ≡ a.file → IsStepRefusal file c l r → IsRestRefusal files a l own log r
 step_refused files a l own log c file r e f h ne =
     let w = h ne in
     refusal_at files a l own log r w.0 file l.number w.2 f refl (fault_of_rest files a l own log c w.0 e w.1)
 
 -- the end of a file
-pub ended : (files : Files) (first : List (List ℕ)) (modules : Option SymId) (names : List (List ℕ)) (a : Around) (l : Left) (own : List (Placed Written)) (log : Log) (p : Progress) (f : Frame) → IsState first modules names a own log p f → l.lines ≡ [] → f.blocks.items ≡ [] → IsEnded files first modules names a l own log p
+pub ended : (files : Files) (first : List (List ℕ)) (modules : Option SymId) (names : List (List ℕ)) (a : FileContext) (l : UnreadLines)
+    (own : List (Located Named)) (log : Log) (p : Progress) (f : Frame) → IsState first modules names a own log p f → l.lines ≡ [] → f.blocks.items ≡ [] →
+    IsEnded files first modules names a l own log p
 ended files first modules names a l own log p f i e none = record {
   rest = at_end a l own log e (sym (blocks.blocks_of_openers own) ∙ ap (map (λ o. o.block)) (sym i.frame.blocks ∙ none));
   progress = i.progress;
 }
 
-pub end_refused : (files : Files) (first : List (List ℕ)) (modules : Option SymId) (names : List (List ℕ)) (a : Around) (l : Left) (own : List (Placed Written)) (log : Log) (p : Progress) (f : Frame) (r : Refusal) → IsState first modules names a own log p f → l.lines ≡ [] → IsOpenAtEnd f (refusal_view r) → Rest files a l own log (Err (refusal_view r))
+pub end_refused : (files : Files) (first : List (List ℕ)) (modules : Option SymId) (names : List (List ℕ)) (a : FileContext) (l : UnreadLines)
+    (own : List (Located Named)) (log : Log) (p : Progress) (f : Frame) (r : Refusal) → IsState first modules names a own log p f → l.lines ≡ [] →
+    IsOpenAtEnd f (refusal_view r) → Rest files a l own log (Err (refusal_view r))
 end_refused files first modules names a l own log p f r i e o =
     subst (λ x. Rest files a l own log (Err x)) (sym (o.2 ∙ ap (λ n. refused (cause code.Block) n o.0.line) i.frame.file))
     (unclosed a l own log o.0.line e (blocks.unclosed own o.0 (ap last_of (sym i.frame.blocks) ∙ o.1)))
 
 -- a line without tokens
-pub blank_goes : (files : Files) (first : List (List ℕ)) (modules : Option SymId) (names : List (List ℕ)) (a : Around) (l m : Left) (own : List (Placed Written)) (log : Log) (p : Progress) (f : Frame) → IsState first modules names a own log p f → NextLine l m [] None → GoesOn files first modules names a l m own log p f
+pub blank_goes : (files : Files) (first : List (List ℕ)) (modules : Option SymId) (names : List (List ℕ)) (a : FileContext) (l m : UnreadLines)
+    (own : List (Located Named)) (log : Log) (p : Progress) (f : Frame) → IsState first modules names a own log p f → NextLine l m [] None →
+    HasAdvanced files first modules names a l m own log p f
 blank_goes files first modules names a l m own log p f i n = record {
   own_now = own;
   log_now = log;
@@ -85,7 +95,10 @@ blank_goes files first modules names a l m own log p f i n = record {
 }
 
 -- a statement that is no `source` line
-pub statement_goes : (files : Files) (first : List (List ℕ)) (modules : Option SymId) (known names : List (List ℕ)) (a : Around) (l m : Left) (own : List (Placed Written)) (log : Log) (f g : Frame) (p q : Progress) (s : Statement) (x : Written) (line : ℕ) → IsState first modules known a own log p f → IsMade modules known names s x → NextStatement l m (context_of a own log) (Ok x) → line ≡ l.number → is_source x ≡ false → IsTaken (statement_view s) line f g p q → effect_view (statement_view s) f p ≡ None → GoesOn files first modules names a l m own log q g
+pub statement_goes : (files : Files) (first : List (List ℕ)) (modules : Option SymId) (known names : List (List ℕ)) (a : FileContext) (l m : UnreadLines)
+    (own : List (Located Named)) (log : Log) (f g : Frame) (p q : Progress) (s : Statement) (x : Named) (line : ℕ) → IsState first modules known a own log p f →
+    IsMade modules known names s x → NextStatement l m (context_of a own log) (Ok x) → line ≡ l.number → is_source x ≡ false →
+    IsTaken (statement_view s) line f g p q → limit_view (statement_view s) f p ≡ None → HasAdvanced files first modules names a l m own log q g
 statement_goes files first modules known names a l m own log f g p q s x line i made next e src t allowed = record {
   own_now = with_line own a line x;
   log_now = logged log a line x;
@@ -95,25 +108,42 @@ statement_goes files first modules known names a l m own log f g p q s x line i 
       (subst (λ n. Rest files a m (with_line own a n x) (logged log a n x) r) e rest);
 }
 
-pub effect_refused : (files : Files) (first : List (List ℕ)) (modules : Option SymId) (known names : List (List ℕ)) (a : Around) (l m : Left) (own : List (Placed Written)) (log : Log) (f : Frame) (p : Progress) (s : Statement) (x : Written) (line : ℕ) (file : List ℕ) (why : Cause) (r : Refusal) → IsState first modules known a own log p f → IsMade modules known names s x → NextStatement l m (context_of a own log) (Ok x) → line ≡ l.number → file ≡ f.file.value.items → effect_view (statement_view s) f p ≡ Some why → refusal_view r ≡ refused why file line → Rest files a l own log (Err (refusal_view r))
+pub effect_refused : (files : Files) (first : List (List ℕ)) (modules : Option SymId) (known names : List (List ℕ)) (a : FileContext) (l m : UnreadLines)
+    (own : List (Located Named)) (log : Log) (f : Frame) (p : Progress) (s : Statement) (x : Named) (line : ℕ) (file : List ℕ) (why : Cause) (r : Refusal) →
+    IsState first modules known a own log p f → IsMade modules known names s x → NextStatement l m (context_of a own log) (Ok x) → line ≡ l.number →
+    file ≡ f.file.value.items → limit_view (statement_view s) f p ≡ Some why → refusal_view r ≡ refused why file line →
+    Rest files a l own log (Err (refusal_view r))
 effect_refused files first modules known names a l m own log f p s x line file why r i made next e g effect v =
     refusal_at files a l own log r why file line v (g ∙ i.frame.file) e
-    (bad_effect a l m own log x why next (sym (effect_same first modules known names a own log f p s x i made) ∙ effect))
+    (over_limit a l m own log x why next (sym (effect_same first modules known names a own log f p s x i made) ∙ effect))
 
 -- a `source` line
-pub source_refused : (files : Files) (first : List (List ℕ)) (modules : Option SymId) (names : List (List ℕ)) (a : Around) (l m : Left) (own : List (Placed Written)) (log : Log) (f : Frame) (p : Progress) (name : List ℕ) (line : ℕ) (file : List ℕ) (why : Cause) (r : Refusal) → IsState first modules names a own log p f → NextStatement l m (context_of a own log) (Ok (SourceLine name)) → line ≡ l.number → file ≡ f.file.value.items → sourcing_cause files (open_names p) p.counted name ≡ Some why → refusal_view r ≡ refused why file line → Rest files a l own log (Err (refusal_view r))
+pub source_refused : (files : Files) (first : List (List ℕ)) (modules : Option SymId) (names : List (List ℕ)) (a : FileContext) (l m : UnreadLines)
+    (own : List (Located Named)) (log : Log) (f : Frame) (p : Progress) (name : List ℕ) (line : ℕ) (file : List ℕ) (why : Cause) (r : Refusal) →
+    IsState first modules names a own log p f → NextStatement l m (context_of a own log) (Ok (SourceLine name)) → line ≡ l.number → file ≡ f.file.value.items →
+    sourcing_cause files (open_names p) p.total_lines name ≡ Some why → refusal_view r ≡ refused why file line → Rest files a l own log (Err (refusal_view r))
 source_refused files first modules names a l m own log f p name line file why r i next e g bad v =
     refusal_at files a l own log r why file line v (g ∙ i.frame.file) e
-    (bad_source a l m own log name why next ((λ j. sourcing_cause files (sym i.files j) (sym i.progress.counted j) name) ∙ bad))
+    (bad_source a l m own log name why next ((λ j. sourcing_cause files (sym i.files j) (sym i.progress.total_lines j) name) ∙ bad))
 
-source_allowed : (files : Files) (first : List (List ℕ)) (modules : Option SymId) (names : List (List ℕ)) (a : Around) (own : List (Placed Written)) (log : Log) (f : Frame) (p : Progress) (name : List ℕ) → IsState first modules names a own log p f → sourcing_cause files (open_names p) p.counted name ≡ None → source_cause files a log.counted name ≡ None
-source_allowed files first modules names a own log f p name i allowed = (λ j. sourcing_cause files (sym i.files j) (sym i.progress.counted j) name) ∙ allowed
+source_allowed : (files : Files) (first : List (List ℕ)) (modules : Option SymId) (names : List (List ℕ)) (a : FileContext) (own : List (Located Named))
+    (log : Log) (f : Frame) (p : Progress) (name : List ℕ) → IsState first modules names a own log p f →
+    sourcing_cause files (open_names p) p.total_lines name ≡ None → source_cause files a log.total_lines name ≡ None
+source_allowed files first modules names a own log f p name i allowed = (λ j. sourcing_cause files (sym i.files j) (sym i.progress.total_lines j) name) ∙ allowed
 
-pub inside_refused : (files : Files) (first : List (List ℕ)) (modules : Option SymId) (names : List (List ℕ)) (a : Around) (l m : Left) (own : List (Placed Written)) (log : Log) (f : Frame) (p : Progress) (name bytes : List ℕ) (r : Refusal) → IsState first modules names a own log p f → NextStatement l m (context_of a own log) (Ok (SourceLine name)) → sourcing_cause files (open_names p) p.counted name ≡ None → files name ≡ Some bytes → IsRestRefusal files (inside a own name) (left bytes 1) [] (opening log bytes) r → IsRestRefusal files a l own log r
+pub inside_refused : (files : Files) (first : List (List ℕ)) (modules : Option SymId) (names : List (List ℕ)) (a : FileContext) (l m : UnreadLines)
+    (own : List (Located Named)) (log : Log) (f : Frame) (p : Progress) (name bytes : List ℕ) (r : Refusal) → IsState first modules names a own log p f →
+    NextStatement l m (context_of a own log) (Ok (SourceLine name)) → sourcing_cause files (open_names p) p.total_lines name ≡ None → files name ≡ Some bytes →
+    IsRestRefusal files (inside a own name) (unread_lines bytes 1) [] (with_file log bytes) r → IsRestRefusal files a l own log r
 inside_refused files first modules names a l m own log f p name bytes r i next allowed found inner ne =
     refused_inside a l m own log name bytes (refusal_view r) next (source_allowed files first modules names a own log f p name i allowed) found (inner ne)
 
-pub source_goes : (files : Files) (first : List (List ℕ)) (modules : Option SymId) (known names : List (List ℕ)) (a : Around) (l m : Left) (own : List (Placed Written)) (log : Log) (f g : Frame) (p q done : Progress) (name bytes : List ℕ) (line : ℕ) → IsState first modules known a own log p f → NextStatement l m (context_of a own log) (Ok (SourceLine name)) → line ≡ l.number → sourcing_cause files (open_names p) p.counted name ≡ None → files name ≡ Some bytes → IsFileRead files first modules names (inside a own name) (left bytes 1) (opening log bytes) q → g ≡ record f { entry = entry.Nothing } → open_names done ≡ open_names p → done ≡ record q { open_files = done.open_files } → GoesOn files first modules names a l m own log done g
+pub source_goes : (files : Files) (first : List (List ℕ)) (modules : Option SymId) (known names : List (List ℕ)) (a : FileContext) (l m : UnreadLines)
+    (own : List (Located Named)) (log : Log) (f g : Frame) (p q done : Progress) (name bytes : List ℕ) (line : ℕ) → IsState first modules known a own log p f →
+    NextStatement l m (context_of a own log) (Ok (SourceLine name)) → line ≡ l.number → sourcing_cause files (open_names p) p.total_lines name ≡ None →
+    files name ≡ Some bytes → IsFileRead files first modules names (inside a own name) (unread_lines bytes 1) (with_file log bytes) q →
+    g ≡ record f { entry = entry.Nothing } → open_names done ≡ open_names p → done ≡ record q { open_files = done.open_files } →
+    HasAdvanced files first modules names a l m own log done g
 source_goes files first modules known names a l m own log f g p q done name bytes line i next e allowed found inner frame_is files_are done_is = record {
   own_now = with_line own a line (SourceLine name);
   log_now = inner.log_now;
@@ -121,12 +151,13 @@ source_goes files first modules known names a l m own log f g p q done name byte
     progress = subst (IsProgress first modules names inner.log_now) (sym done_is) (record {
       lines = inner.progress.lines;
       mentions = inner.progress.mentions;
-      counted = inner.progress.counted;
+      total_lines = inner.progress.total_lines;
       defined_is = inner.progress.defined_is;
       config = inner.progress.config;
       modules_is = inner.progress.modules_is;
     });
-    frame = frame_push a own f g (SourceLine name) line i.frame (ap (λ x. x.file) frame_is) (ap (λ x. x.depth) frame_is) (ap (λ x. x.in_choice) frame_is) (ap (λ x. x.blocks.items) frame_is) (ap (λ x. x.entry) frame_is);
+    frame = frame_push a own f g (SourceLine name) line i.frame (ap (λ x. x.file) frame_is) (ap (λ x. x.depth) frame_is) (ap (λ x. x.in_choice) frame_is)
+        (ap (λ x. x.blocks.items) frame_is) (ap (λ x. x.entry) frame_is);
     files = files_are ∙ i.files;
   };
   follows = λ r rest.
@@ -135,7 +166,9 @@ source_goes files first modules known names a l m own log f g p q done name byte
 }
 
 -- one line after another
-pub goes_on : (files : Files) (first : List (List ℕ)) (modules : Option SymId) (mid names : List (List ℕ)) (a : Around) (k l m : Left) (log : Log) (p q : Progress) (f g : Frame) (h : GoesOn files first modules mid a k l [] log p f) → GoesOn files first modules names a l m h.own_now h.log_now q g → GoesOn files first modules names a k m [] log q g
+pub goes_on : (files : Files) (first : List (List ℕ)) (modules : Option SymId) (mid names : List (List ℕ)) (a : FileContext) (k l m : UnreadLines) (log : Log)
+    (p q : Progress) (f g : Frame) (h : HasAdvanced files first modules mid a k l [] log p f) →
+    HasAdvanced files first modules names a l m h.own_now h.log_now q g → HasAdvanced files first modules names a k m [] log q g
 goes_on files first modules mid names a k l m log p q f g h n = record {
   own_now = n.own_now;
   log_now = n.log_now;
@@ -143,24 +176,34 @@ goes_on files first modules mid names a k l m log p q f g h n = record {
   follows = λ r rest. h.follows r (n.follows r rest);
 }
 
-pub file_read : (files : Files) (first : List (List ℕ)) (modules : Option SymId) (mid names : List (List ℕ)) (a : Around) (k l : Left) (log : Log) (p q : Progress) (f : Frame) (h : GoesOn files first modules mid a k l [] log p f) → IsEnded files first modules names a l h.own_now h.log_now q → IsFileRead files first modules names a k log q
+pub file_read : (files : Files) (first : List (List ℕ)) (modules : Option SymId) (mid names : List (List ℕ)) (a : FileContext) (k l : UnreadLines) (log : Log)
+    (p q : Progress) (f : Frame) (h : HasAdvanced files first modules mid a k l [] log p f) → IsEnded files first modules names a l h.own_now h.log_now q →
+    IsFileRead files first modules names a k log q
 file_read files first modules mid names a k l log p q f h n = record {
   log_now = h.log_now;
   rest = h.follows (Ok h.log_now) n.rest;
   progress = n.progress;
 }
 
-pub file_refused : (files : Files) (first : List (List ℕ)) (modules : Option SymId) (mid : List (List ℕ)) (a : Around) (k l : Left) (log : Log) (p : Progress) (f : Frame) (r : Refusal) (h : GoesOn files first modules mid a k l [] log p f) → IsRestRefusal files a l h.own_now h.log_now r → IsRestRefusal files a k [] log r
+pub file_refused : (files : Files) (first : List (List ℕ)) (modules : Option SymId) (mid : List (List ℕ)) (a : FileContext) (k l : UnreadLines) (log : Log)
+    (p : Progress) (f : Frame) (r : Refusal) (h : HasAdvanced files first modules mid a k l [] log p f) → IsRestRefusal files a l h.own_now h.log_now r →
+    IsRestRefusal files a k [] log r
 file_refused files first modules mid a k l log p f r h n ne = h.follows (Err (refusal_view r)) (n ne)
 
 -- a refusal that is passed on
-pub reading_passed : (files : Files) (first : List (List ℕ)) (modules : Option SymId) (names : List (List ℕ)) (a : Around) (l : Left) (log : Log) (p : Progress) (r : Result ⊤ Refusal) (e : Refusal) → IsErrAnd r (λ y. y ≡ e) → IsRestRefusal files a l [] log e → IsReading files first modules names a l log p r
+pub reading_passed : (files : Files) (first : List (List ℕ)) (modules : Option SymId) (names : List (List ℕ)) (a : FileContext) (l : UnreadLines) (log : Log)
+    (p : Progress) (r : Result ⊤ Refusal) (e : Refusal) → IsErrAnd r (λ y. y ≡ e) → IsRestRefusal files a l [] log e →
+    IsReading files first modules names a l log p r
 reading_passed files first modules names a l log p r e is h = let q = err_from_is_err_and r is in rw (q.1, q.2) h
 
-pub next_passed : (files : Files) (first : List (List ℕ)) (modules : Option SymId) (names : List (List ℕ)) (a : Around) (l m : Left) (own : List (Placed Written)) (log : Log) (p : Progress) (f : Frame) (r : Result Bool Refusal) (e : Refusal) → IsErrAnd r (λ y. y ≡ e) → IsRestRefusal files a l own log e → IsNextRead files first modules names a l m own log p f r
+pub next_passed : (files : Files) (first : List (List ℕ)) (modules : Option SymId) (names : List (List ℕ)) (a : FileContext) (l m : UnreadLines)
+    (own : List (Located Named)) (log : Log) (p : Progress) (f : Frame) (r : Result Bool Refusal) (e : Refusal) → IsErrAnd r (λ y. y ≡ e) →
+    IsRestRefusal files a l own log e → IsNextRead files first modules names a l m own log p f r
 next_passed files first modules names a l m own log p f r e is h = let q = err_from_is_err_and r is in rw (q.1, q.2) h
 
-pub statement_passed : (files : Files) (first : List (List ℕ)) (modules : Option SymId) (names : List (List ℕ)) (a : Around) (l m : Left) (own : List (Placed Written)) (log : Log) (p : Progress) (f : Frame) (r : Result ⊤ Refusal) (e : Refusal) → IsErrAnd r (λ y. y ≡ e) → IsRestRefusal files a l own log e → IsStatementRead files first modules names a l m own log p f r
+pub statement_passed : (files : Files) (first : List (List ℕ)) (modules : Option SymId) (names : List (List ℕ)) (a : FileContext) (l m : UnreadLines)
+    (own : List (Located Named)) (log : Log) (p : Progress) (f : Frame) (r : Result ⊤ Refusal) (e : Refusal) → IsErrAnd r (λ y. y ≡ e) →
+    IsRestRefusal files a l own log e → IsStatementRead files first modules names a l m own log p f r
 statement_passed files first modules names a l m own log p f r e is h = let q = err_from_is_err_and r is in rw (q.1, q.2) h
 
 -- a cause that is not being out of memory

@@ -5,24 +5,24 @@ use Rattle.std.proofs.Common.{◌≡◌, ℕ, ◌+◌, Bool, false, List, length
 use Rattle.std.specs.Option.{option_or}
 use Rattle.kc_expr.specs.declared.expression.SymId.{SymId}
 use Rattle.kc_expr.specs.Names.{symbol, number_of}
-use Rattle.kc_read.specs.declared.statement.Entry.{Entry}
+use Rattle.kc_read.specs.declared.statement.EntryKind.{EntryKind}
 use Rattle.kc_read.specs.declared.statement.Statement.{Statement}
 use Rattle.kc_read.specs.declared.statement.Statement.TheVariants as made
-use Rattle.kc_read.specs.Blocks.{Bracket, bracket, is_attribute, is_modules, entry_of, name_at, open_blocks}
-use Rattle.kc_read.specs.Expansion.{Around, Log, statements, defined, effect_cause, opener_cause, symbol_cause, is_source}
+use Rattle.kc_read.specs.Blocks.{Bracket, bracket, is_attribute, is_modules, entry_of, defined_name, open_blocks}
+use Rattle.kc_read.specs.Expansion.{FileContext, Log, statements, defined, limit_cause, nesting_cause, symbol_cause, is_source}
 use Rattle.kc_read.specs.Progress.{naming_cause}
 use Rattle.kc_read.specs.Expanded.{IsNamed}
-use Rattle.kc_read.specs.Reads.{statement_view}
+use Rattle.kc_read.specs.StatementViews.{statement_view}
 use Rattle.kc_read.specs.LineReads.{IsMade}
 use Rattle.kc_read.specs.Statements as s
-use Rattle.kc_read.specs.Statements.{Written, Numbered, Placed, numbered, ConfigLine, IfLine, EndIfLine, CommentLine, SourceLine, MenuLine, EndMenuLine, ChoiceLine, EndChoiceLine, MainMenuLine, TypeLine, PromptLine, DefaultLine, DefLine, DependsLine, VisibleLine, SelectLine, ImplyLine, RangeLine, HelpLine, ModulesLine, IgnoredLine}
+use Rattle.kc_read.specs.Statements.{Named, Located, numbered, ConfigLine, IfLine, EndIfLine, CommentLine, SourceLine, MenuLine, EndMenuLine, ChoiceLine, EndChoiceLine, MainMenuLine, TypeLine, PromptLine, DefaultLine, DefLine, DependsLine, VisibleLine, SelectLine, ImplyLine, RangeLine, HelpLine, ModulesLine, IgnoredLine}
 use Rattle.kc_read.proofs.NameLemmas.{extends_none, is_named}
 
 -- the bracket, whether it is an attribute, the entry that it begins, whether it is a `modules` line, and a `source` line
-abbrev pub shape : {E L S : Type 0} → s.Statement E L S → Bracket × Bool × Entry × Bool × Bool
+abbrev pub shape : {E L S : Type 0} → s.Statement E L S → Bracket × Bool × EntryKind × Bool × Bool
 shape x = (bracket x, is_attribute x, entry_of (Some x), is_modules x, is_source x)
 
-shape_numbered : (modules : Option SymId) (number : List ℕ → ℕ) (x : Written) → shape (numbered modules number x) ≡ shape x
+shape_numbered : (modules : Option SymId) (number : List ℕ → ℕ) (x : Named) → shape (numbered modules number x) ≡ shape x
 shape_numbered modules number (ConfigLine n) = refl
 shape_numbered modules number (IfLine e) = refl
 shape_numbered modules number EndIfLine = refl
@@ -46,7 +46,7 @@ shape_numbered modules number HelpLine = refl
 shape_numbered modules number ModulesLine = refl
 shape_numbered modules number IgnoredLine = refl
 
-name_numbered : (modules : Option SymId) (number : List ℕ → ℕ) (x : Written) → name_at (numbered modules number x) ≡ option_map (λ n. symbol (number n)) (name_at x)
+name_numbered : (modules : Option SymId) (number : List ℕ → ℕ) (x : Named) → defined_name (numbered modules number x) ≡ option_map (λ n. symbol (number n)) (defined_name x)
 name_numbered modules number (ConfigLine n) = refl
 name_numbered modules number (IfLine e) = refl
 name_numbered modules number EndIfLine = refl
@@ -70,18 +70,20 @@ name_numbered modules number HelpLine = refl
 name_numbered modules number ModulesLine = refl
 name_numbered modules number IgnoredLine = refl
 
-pub made_shape : (modules : Option SymId) (known names : List (List ℕ)) (s : Statement) (x : Written) → IsMade modules known names s x → shape (statement_view s) ≡ shape x
+pub made_shape : (modules : Option SymId) (known names : List (List ℕ)) (s : Statement) (x : Named) → IsMade modules known names s x → shape (statement_view s) ≡ shape x
 made_shape modules known names s x m = ap shape (m.form names (extends_none names)) ∙ shape_numbered modules (number_of names) x
 
-pub made_name : (modules : Option SymId) (known names : List (List ℕ)) (s : Statement) (x : Written) → IsMade modules known names s x → IsNamed names (name_at (statement_view s)) (name_at x)
-made_name modules known names s x m = is_named names (name_at (statement_view s)) (name_at x) (λ later e. ap name_at (m.form later e) ∙ name_numbered modules (number_of later) x)
+pub made_name : (modules : Option SymId) (known names : List (List ℕ)) (s : Statement) (x : Named) → IsMade modules known names s x → IsNamed names (defined_name (statement_view s)) (defined_name x)
+made_name modules known names s x m = is_named names (defined_name (statement_view s)) (defined_name x) (λ later e. ap defined_name (m.form later e) ∙ name_numbered modules (number_of later) x)
 
 pub or_none : {A : Type 0} (o : Option A) → option_or o None ≡ o
 or_none None = refl
 or_none (Some x) = refl
 
--- a config line is counted, and any other line opens a block or has no effect
-pub effect_by : (a : Around) (own : List (Placed Written)) (log : Log) (x : Written) → option_or (naming_cause (defined (statements log.lines)) (name_at x)) (opener_cause (length a.blocks + length (open_blocks (statements own))) (bracket x)) ≡ effect_cause a own log x
+-- a config line may define a symbol too many, and any other line open a block too many
+pub effect_by : (a : FileContext) (own : List (Located Named)) (log : Log) (x : Named) →
+    option_or (naming_cause (defined (statements log.lines)) (defined_name x))
+    (nesting_cause (length a.blocks + length (open_blocks (statements own))) (bracket x)) ≡ limit_cause a own log x
 effect_by site own log (ConfigLine n) = or_none (symbol_cause (defined (statements log.lines)) n)
 effect_by site own log (IfLine e) = refl
 effect_by site own log EndIfLine = refl
@@ -106,7 +108,7 @@ effect_by site own log ModulesLine = refl
 effect_by site own log IgnoredLine = refl
 
 -- a `source` line is written as one
-pub source_is : (modules : Option SymId) (number : List ℕ → ℕ) (t : List ℕ) (x : Written) → SourceLine t ≡ numbered modules number x → x ≡ SourceLine t
+pub source_is : (modules : Option SymId) (number : List ℕ → ℕ) (t : List ℕ) (x : Named) → SourceLine t ≡ numbered modules number x → x ≡ SourceLine t
 source_is modules number t (ConfigLine n) same = absurd cc
 source_is modules number t (IfLine e) same = absurd cc
 source_is modules number t EndIfLine same = absurd cc
@@ -154,5 +156,6 @@ no_source made.Help h = refl
 no_source made.Modules h = refl
 no_source made.Ignored h = refl
 
-pub made_no_source : (modules : Option SymId) (known names : List (List ℕ)) (s : Statement) (x : Written) → IsMade modules known names s x → ((t : Vec ℕ Global) → s ≡ made.Source t → ⊥) → is_source x ≡ false
+pub made_no_source : (modules : Option SymId) (known names : List (List ℕ)) (s : Statement) (x : Named) → IsMade modules known names s x →
+    ((t : Vec ℕ Global) → s ≡ made.Source t → ⊥) → is_source x ≡ false
 made_no_source modules known names s x m h = sym (ap (λ z. z.4) (made_shape modules known names s x m)) ∙ no_source s h

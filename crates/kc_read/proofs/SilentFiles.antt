@@ -10,12 +10,12 @@ use Rattle.std.proofs.Math.Seq.{get_or-append_seam}
 use Rattle.bstr.specs.Find.{FindsNeedle, IsFirstByte, Nowhere, OccursAt, Passes, is_byte}
 use Rattle.kc_text.specs.Help.{after_text, column, from_other, is_help_line}
 use Rattle.kc_text.specs.Lexemes.{Lexeme, AWord, AQuoted, AnOp, Spells}
-use Rattle.kc_text.specs.Lines.{IsFirstLine, Left, Physical, continues, joined_text, left, lines_of_parts, physical_lines}
-use Rattle.kc_text.specs.Tokens.{Cuts, Piece}
+use Rattle.kc_text.specs.Lines.{IsFirstLine, UnreadLines, Physical, continues, joined_text, unread_lines, lines_of_parts, physical_lines}
+use Rattle.kc_text.specs.Tokens.{Cuts, TokenView}
 use Rattle.kc_text.proofs.Physicals.{lf}
 use Rattle.kc_read.specs.Expansion.{NextLine, is_help, lexemes, without_help}
 use Rattle.kc_read.specs.Lines.{begins_with}
-use Rattle.kc_read.specs.Sources.{Holds, IsSilent, IsSource, Names, none, here, past}
+use Rattle.kc_read.specs.Sources.{Holds, IsSilent, IsSource, SourceNames, none, here, past}
 use Rattle.kc_read.specs.Sources as spec
 use Rattle.kc_read.proofs.FileLemmas.{same_name_eq}
 
@@ -56,8 +56,12 @@ stands_at text bytes k o =
 
 byte_at : (text : List ℕ) (b k : ℕ) → k < length text → Passes (is_byte b) text k → Holds text (b ∷ [])
 byte_at text b k lt p =
-    let same : get_or text k 0 ≡ b = eqb-true (get_or text k 0) b p in
-    (take k text, drop (suc k) text, sym (take-append-drop k text) ∙ ap (λ l. take k text ++ l) (drop-cons text k 0 lt ∙ ap (λ x. x ∷ drop (suc k) text) same) ∙ sym (append_assoc (take k text) (b ∷ []) _))
+    let same : get_or text k 0 ≡ b = eqb-true (get_or text k 0) b p in (
+      take k text,
+      drop (suc k) text,
+      sym (take-append-drop k text) ∙ ap (λ l. take k text ++ l) (drop-cons text k 0 lt ∙ ap (λ x. x ∷ drop (suc k) text) same)
+          ∙ sym (append_assoc (take k text) (b ∷ []) _),
+    )
 
 pub text_found : (file : List ℕ) (word : Option ℕ) → FindsNeedle file (codes "source") 0 word → is_some word ≡ true → Holds file (codes "source")
 text_found file None w e = absurd cc
@@ -155,7 +159,7 @@ text_silent (l ∷ ls) s = elim (cases_Bool (eqb (column 0 l.text) 0)) [
   | inr e ↦ rw e (other_silent (is_help_line (Some (column 0 l.text))) (l ∷ ls) s)
 ]
 
-help_silent : (b : Bool) (m : Left) → AreSilent m.lines → AreSilent (cond b (without_help m) m).lines
+help_silent : (b : Bool) (m : UnreadLines) → AreSilent m.lines → AreSilent (cond b (without_help m) m).lines
 help_silent true m s = text_silent (from_other (is_help_line None) m.lines) (other_silent (is_help_line None) m.lines s)
 help_silent false m s = s
 
@@ -178,27 +182,27 @@ first_other text rest n (AWord w) xs s h spelled b = s.no_word (subst (Holds tex
 first_other text rest n (AQuoted t) xs s h spelled b = absurd cc
 first_other text rest n (AnOp o) xs s h spelled b = absurd cc
 
-no_source_word : (text : List ℕ) (ts : List Piece) (q : ℕ) → IsSilent text → Cuts text 0 ts q → begins_with (codes "source") (lexemes ts) ≡ true → ⊥
+no_source_word : (text : List ℕ) (ts : List TokenView) (q : ℕ) → IsSilent text → Cuts text 0 ts q → begins_with (codes "source") (lexemes ts) ≡ true → ⊥
 no_source_word text [] q s cut b = absurd cc
 no_source_word text (t ∷ ts) q s cut b =
     let rest = drop t.start text in
     let n = t.end - t.start in
     first_other text rest n t.lexeme (lexemes ts) s (held_within text rest (take n rest) (drop_held t.start text) (take_held n rest)) cut.1.longest.spelled b
 
-silent_after : (l m : Left) (ts : List Piece) → AreSilent l.lines → NextLine l m ts None → AreSilent m.lines
+silent_after : (l m : UnreadLines) (ts : List TokenView) → AreSilent l.lines → NextLine l m ts None → AreSilent m.lines
 silent_after l m ts s n =
     let after = (first_silent l.lines n.taken.0 n.middle.lines s n.taken.1).1 in
-    subst (λ (k : Left). AreSilent k.lines) (sym n.left_after) (help_silent (is_help (lexemes ts)) n.middle after)
+    subst (λ (k : UnreadLines). AreSilent k.lines) (sym n.left_after) (help_silent (is_help (lexemes ts)) n.middle after)
 
-no_source_line : (l m : Left) (name : List ℕ) → AreSilent l.lines → IsSource l m name → ⊥
+no_source_line : (l m : UnreadLines) (name : List ℕ) → AreSilent l.lines → IsSource l m name → ⊥
 no_source_line l m name s line =
     let (ts, next, begins, reads) = line in
     let text = (first_silent l.lines next.taken.0 next.middle.lines s next.taken.1).0 in
     no_source_word next.text ts next.cut.0 (subst IsSilent (sym next.taken.2) text) next.cut.2 begins
 
-nothing_passed : (l m n : Left) (name : List ℕ) → AreSilent l.lines → spec.Passes l m → IsSource m n name → ⊥
+nothing_passed : (l m n : UnreadLines) (name : List ℕ) → AreSilent l.lines → spec.Passes l m → IsSource m n name → ⊥
 nothing_passed l m n name s (here k) line = no_source_line l n name s line
 nothing_passed l m n name s (past k j i o p) line = nothing_passed j m n name (silent_after l j o.0 s o.1) p line
 
-pub no_names : (file : List ℕ) → IsSilent file → Names (left file 1) []
-no_names file s = none (left file 1) (λ m n name p line. nothing_passed (left file 1) m n name (file_silent file s) p line)
+pub no_names : (file : List ℕ) → IsSilent file → SourceNames (unread_lines file 1) []
+no_names file s = none (unread_lines file 1) (λ m n name p line. nothing_passed (unread_lines file 1) m n name (file_silent file s) p line)

@@ -1,25 +1,25 @@
 -- The names of a file's `source` lines, one line after another.
-use Rattle.std.proofs.Common.{IfOk, ◌⊎◌, inl, inr, ◌≡◌, ◌≢◌, ℕ, ◌<◌, Bool, true, false, cond, List, [], ◌∷◌, ◌++◌, map, length, drop, codes, Option, Some, None, MatchOption, Result, Ok, Err, refl, sym, ap, ◌∙◌, subst, append_assoc, append-nil}
+use Rattle.std.proofs.Common.{IfOk, ◌⊎◌, inl, inr, ◌≡◌, ◌≢◌, ℕ, ◌<◌, Bool, true, false, cond, List, [], ◌∷◌, ◌++◌, map, length, drop, codes, Option, Some, None, MatchOption, Result, Ok, Err, refl, sym, ap, ◌∙◌, subst, append_assoc}
 use Rattle.kc_text.specs.declared.faults.TextFault.{TextFault}
 use Rattle.kc_text.specs.declared.faults.TextFault.TheVariants as fault
 use Rattle.kc_text.specs.declared.tokens.Token.{Token}
-use Rattle.kc_text.specs.Lines.{Left, TakesLine, IsLineFault}
-use Rattle.kc_text.specs.Tokens.{Piece, IsCut, IsCutting, IsRefused, pieces}
+use Rattle.kc_text.specs.Lines.{UnreadLines, TakesLine, IsLineFault}
+use Rattle.kc_text.specs.Tokens.{TokenView, IsCut, IsCutting, IsRefused, token_views}
 use Rattle.kc_expr.specs.Grammar.{lexemes_from}
 use Rattle.kc_read.specs.Expansion.{NextLine, is_help, lexemes, without_help}
 use Rattle.kc_read.specs.Lines.{Cause, ReadsSource, begins_with}
-use Rattle.kc_read.specs.Sources.{GoesOn, Names, IsFound}
+use Rattle.kc_read.specs.Sources.{HasMoreLines, SourceNames, IsFound}
 use Rattle.kc_read.specs.Statements.{SourceLine}
 use Rattle.kc_read.proofs.FrontLemmas.{after_one}
-use Rattle.kc_read.proofs.StepLemmas.{lexemes-pieces, left_help, left_other}
+use Rattle.kc_read.proofs.StepLemmas.{lexemes-token_views, left_help, left_other}
 use Rattle.kc_text.specs.Help.{Drops, after_help}
 use Rattle.kc_text.specs.Lexemes.{Lexeme}
 use Rattle.std.specs.declared.alloc.AllocError.{AllocError}
 use Rattle.kc_read.proofs.ListLemmas.{map-push}
 use Rattle.kc_read.proofs.RestLemmas.{next_clear, next_less}
 use Rattle.kc_read.proofs.SourceLines.{bad_source, before_other, before_source, no_tokens, too_long}
-use Rattle.kc_read.specs.declared.sources.Found.{Found}
-use Rattle.kc_read.specs.declared.sources.Found.TheVariants as found
+use Rattle.kc_read.specs.declared.sources.NextSource.{NextSource}
+use Rattle.kc_read.specs.declared.sources.NextSource.TheVariants as found
 use Rattle.std.specs.declared.vec.Vec.{Vec}
 use Rattle.std.specs.declared.alloc.Global.{Global}
 
@@ -28,84 +28,88 @@ cause_none None P Q e h = h
 cause_none (Some x) P Q e h = absurd cc
 
 -- a line that cannot be taken, or cannot be cut, ends the names
-pub line_ends : (old : Left) (why : TextFault) → old.refusal ≡ None → MatchOption old.refusal (IsLineFault old why) (λ given. given ≡ why) → why ≢ fault.Memory → Names old []
+pub line_ends : (old : UnreadLines) (why : TextFault) → old.refusal ≡ None → MatchOption old.refusal (IsLineFault old why) (λ given. given ≡ why) → why ≢ fault.Memory → SourceNames old []
 line_ends old why clear is ne = by why (cause_none old.refusal (IsLineFault old why) (λ given. given ≡ why) clear is) ne
   where
-    by : (w : TextFault) → IsLineFault old w → w ≢ fault.Memory → Names old []
+    by : (w : TextFault) → IsLineFault old w → w ≢ fault.Memory → SourceNames old []
     by (fault.LineTooLong n) h ne = too_long old h.1
     by fault.Memory h ne = absurd (ne refl)
     by fault.BadToken h ne = absurd h
     by fault.Macro h ne = absurd h
 
-refused_line : (old mid : Left) (text : List ℕ) (ts : List Piece) (why : TextFault) → TakesLine old mid text → IsCut text ts (Some why) → Names old []
+refused_line : (old mid : UnreadLines) (text : List ℕ) (ts : List TokenView) (why : TextFault) → TakesLine old mid text → IsCut text ts (Some why) → SourceNames old []
 refused_line old mid text ts why t k = no_tokens old (cond (is_help (lexemes ts)) (without_help mid) mid) ts why (record { middle = mid; text = text; taken = t; cut = k; left_after = refl })
 
-pub cut_ends : (old mid : Left) (text : List ℕ) (why : TextFault) → TakesLine old mid text → IsRefused text why → why ≢ fault.Memory → Names old []
+pub cut_ends : (old mid : UnreadLines) (text : List ℕ) (why : TextFault) → TakesLine old mid text → IsRefused text why → why ≢ fault.Memory → SourceNames old []
 cut_ends old mid text fault.Macro t k ne = refused_line old mid text k.0 fault.Macro t k.1
 cut_ends old mid text fault.BadToken t k ne = refused_line old mid text k.0 fault.BadToken t k.1
 cut_ends old mid text (fault.LineTooLong n) t k ne = absurd k
 cut_ends old mid text fault.Memory t k ne = absurd (ne refl)
 
 -- a line that is taken
-pub taken_line : (old mid new : Left) (text : List ℕ) (ts : List Token) → TakesLine old mid text → IsCutting text (pieces ts) → new ≡ cond (is_help (lexemes (pieces ts))) (without_help mid) mid → NextLine old new (pieces ts) None
+pub taken_line : (old mid new : UnreadLines) (text : List ℕ) (ts : List Token) → TakesLine old mid text → IsCutting text (token_views ts) →
+    new ≡ cond (is_help (lexemes (token_views ts))) (without_help mid) mid → NextLine old new (token_views ts) None
 taken_line old mid new text ts t k e = record { middle = mid; text = text; taken = t; cut = k; left_after = e }
 
-pub begins_pieces : (ts : List Token) (b : Bool) → b ≡ begins_with (codes "source") (lexemes_from ts 0) → begins_with (codes "source") (lexemes (pieces ts)) ≡ b
-begins_pieces ts b e = ap (begins_with (codes "source")) (lexemes-pieces ts) ∙ sym e
+pub begins_pieces : (ts : List Token) (b : Bool) → b ≡ begins_with (codes "source") (lexemes_from ts 0) → begins_with (codes "source") (lexemes (token_views ts)) ≡ b
+begins_pieces ts b e = ap (begins_with (codes "source")) (lexemes-token_views ts) ∙ sym e
 
-rest_pieces : (ts : List Token) → drop 1 (lexemes (pieces ts)) ≡ lexemes_from ts 1
-rest_pieces ts = ap (drop 1) (lexemes-pieces ts) ∙ after_one ts 0
+rest_pieces : (ts : List Token) → drop 1 (lexemes (token_views ts)) ≡ lexemes_from ts 1
+rest_pieces ts = ap (drop 1) (lexemes-token_views ts) ∙ after_one ts 0
 
-pub source_found : (ts : List Token) (name : List ℕ) → ReadsSource (lexemes_from ts 1) (Ok (SourceLine name)) → ReadsSource (drop 1 (lexemes (pieces ts))) (Ok (SourceLine name))
+pub source_found : (ts : List Token) (name : List ℕ) → ReadsSource (lexemes_from ts 1) (Ok (SourceLine name)) → ReadsSource (drop 1 (lexemes (token_views ts))) (Ok (SourceLine name))
 source_found ts name h = subst (λ ls. ReadsSource ls (Ok (SourceLine name))) (sym (rest_pieces ts)) h
 
-pub source_bad : (old new : Left) (ts : List Token) (c : Cause) → NextLine old new (pieces ts) None → begins_with (codes "source") (lexemes (pieces ts)) ≡ true → ReadsSource (lexemes_from ts 1) (Err c) → Names old []
-source_bad old new ts c n b h = bad_source old new (pieces ts) c n b (subst (λ ls. ReadsSource ls (Err c)) (sym (rest_pieces ts)) h)
+pub source_bad : (old new : UnreadLines) (ts : List Token) (c : Cause) → NextLine old new (token_views ts) None →
+    begins_with (codes "source") (lexemes (token_views ts)) ≡ true → ReadsSource (lexemes_from ts 1) (Err c) → SourceNames old []
+source_bad old new ts c n b h = bad_source old new (token_views ts) c n b (subst (λ ls. ReadsSource ls (Err c)) (sym (rest_pieces ts)) h)
 
 -- The names so far, and those that follow.
-abbrev pub Follows : Left → Left → List (List ℕ) → Type 0
-Follows start now names = (rest : List (List ℕ)) → Names now rest → Names start (names ++ rest)
+abbrev pub Follows : UnreadLines → UnreadLines → List (List ℕ) → Type 0
+Follows start now names = (rest : List (List ℕ)) → SourceNames now rest → SourceNames start (names ++ rest)
 
-pub follows_done : (start now : Left) (names : List (List ℕ)) → Follows start now names → Names now [] → Names start names
-follows_done start now names f h = subst (Names start) (append-nil names) (f [] h)
-
-pub follows_other : (start now next : Left) (names : List (List ℕ)) → Follows start now names → IsFound now next found.Other → Follows start next names
+pub follows_other : (start now next : UnreadLines) (names : List (List ℕ)) → Follows start now names → IsFound now next found.Other → Follows start next names
 follows_other start now next names f h = λ rest g. f rest (before_other now next rest h g)
 
-pub follows_name : (start now next : Left) (name : Vec ℕ Global) (names : List (Vec ℕ Global)) → Follows start now (map (λ n. n.items) names) → IsFound now next (found.Name name) → Follows start next (map (λ n. n.items) (names ++ name ∷ []))
+pub follows_name : (start now next : UnreadLines) (name : Vec ℕ Global) (names : List (Vec ℕ Global)) → Follows start now (map (λ n. n.items) names) →
+    IsFound now next (found.Name name) → Follows start next (map (λ n. n.items) (names ++ name ∷ []))
 follows_name start now next name names f h = λ rest g.
-    subst (Names start) (sym (ap (λ ns. ns ++ rest) (map-push (λ n. n.items) names name) ∙ append_assoc (map (λ n. n.items) names) (name.items ∷ []) rest))
+    subst (SourceNames start) (sym (ap (λ ns. ns ++ rest) (map-push (λ n. n.items) names name) ∙ append_assoc (map (λ n. n.items) names) (name.items ∷ []) rest))
     (f (name.items ∷ rest) (before_source now next name.items rest h g))
 
 -- a line after which another follows
-pub found_clear : (old new : Left) (f : Found) → IsFound old new f → GoesOn f → new.refusal ≡ None
+pub found_clear : (old new : UnreadLines) (f : NextSource) → IsFound old new f → HasMoreLines f → new.refusal ≡ None
 found_clear old new found.Nothing h g = absurd g
 found_clear old new found.Other h g = next_clear old new h.0 None h.1
 found_clear old new (found.Name t) h g = next_clear old new h.0 None h.1
 
-pub found_less : (old new : Left) (f : Found) → IsFound old new f → GoesOn f → length new.lines < length old.lines
+pub found_less : (old new : UnreadLines) (f : NextSource) → IsFound old new f → HasMoreLines f → length new.lines < length old.lines
 found_less old new found.Nothing h g = absurd g
 found_less old new found.Other h g = next_less old new h.0 None h.1
 found_less old new (found.Name t) h g = next_less old new h.0 None h.1
 
 -- what a line says, whatever the lines were before it
-abbrev pub SaysSource : Left → Left → List ℕ → Found → Type 0
-SaysSource mid new text f = (before : Left) → TakesLine before mid text → IsFound before new f
+abbrev pub SaysSource : UnreadLines → UnreadLines → List ℕ → NextSource → Type 0
+SaysSource mid new text f = (before : UnreadLines) → TakesLine before mid text → IsFound before new f
 
-pub says_clear : (old mid new : Left) (text : List ℕ) (r : Result Found AllocError) → TakesLine old mid text → IfOk r (SaysSource mid new text) → IfOk r (λ f. GoesOn f → new.refusal ≡ None)
+pub says_clear : (old mid new : UnreadLines) (text : List ℕ) (r : Result NextSource AllocError) → TakesLine old mid text → IfOk r (SaysSource mid new text) →
+    IfOk r (λ f. HasMoreLines f → new.refusal ≡ None)
 says_clear old mid new text (Ok f) taken says = found_clear old new f (says old taken)
 says_clear old mid new text (Err e) taken says = says
 
-pub says_less : (old mid new : Left) (text : List ℕ) (r : Result Found AllocError) → TakesLine old mid text → IfOk r (SaysSource mid new text) → IfOk r (λ f. GoesOn f → length new.lines < length old.lines)
+pub says_less : (old mid new : UnreadLines) (text : List ℕ) (r : Result NextSource AllocError) → TakesLine old mid text → IfOk r (SaysSource mid new text) →
+    IfOk r (λ f. HasMoreLines f → length new.lines < length old.lines)
 says_less old mid new text (Ok f) taken says = found_less old new f (says old taken)
 says_less old mid new text (Err e) taken says = says
 
 -- a line that could not be taken or cut
-pub ended_found : (P : Found → Type 0) (r : Result Found AllocError) (why : TextFault) → IfOk r (λ f. (f ≡ found.Nothing) × (why ≢ fault.Memory)) → (why ≢ fault.Memory → P found.Nothing) → IfOk r P
+pub ended_found : (P : NextSource → Type 0) (r : Result NextSource AllocError) (why : TextFault) → IfOk r (λ f. (f ≡ found.Nothing) × (why ≢ fault.Memory)) →
+    (why ≢ fault.Memory → P found.Nothing) → IfOk r P
 ended_found P (Ok f) why h names = subst P (sym h.0) (names h.1)
 ended_found P (Err e) why h names = h
 
 -- the line after a line that is taken
-pub left_of : (ls : List Lexeme) (b : Bool) (mid new : Left) → mid.refusal ≡ None → b ≡ is_help ls → ((b ≡ true) × Drops mid new (after_help mid.lines)) ⊎ ((b ≡ false) × (new ≡ mid)) → new ≡ cond (is_help ls) (without_help mid) mid
+pub left_of : (ls : List Lexeme) (b : Bool) (mid new : UnreadLines) → mid.refusal ≡ None → b ≡ is_help ls →
+    ((b ≡ true) × Drops mid new (after_help mid.lines)) ⊎ ((b ≡ false) × (new ≡ mid)) → new ≡ cond (is_help ls) (without_help mid) mid
 left_of ls b mid new clear e (inl h) = left_help ls mid new (sym e ∙ h.0) h.1
 left_of ls b mid new clear e (inr h) = left_other ls mid new (sym e ∙ h.0) h.1

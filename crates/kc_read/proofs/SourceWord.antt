@@ -9,9 +9,9 @@ use Rattle.kc_expr.specs.Grammar.{Disjunction, if_word}
 use Rattle.kc_expr.specs.Names.{same_name}
 use Rattle.kc_read.specs.declared.statement.Keyword.{Keyword}
 use Rattle.kc_read.specs.declared.statement.Keyword.TheVariants as key
-use Rattle.kc_read.specs.Statements.{Written, Asked, IfLine, EndIfLine, CommentLine, SourceLine, MenuLine, EndMenuLine, EndChoiceLine, MainMenuLine, TypeLine, PromptLine, DefaultLine, DefLine, DependsLine, VisibleLine, SelectLine, ImplyLine, RangeLine, HelpLine, ModulesLine, ConfigLine, IgnoredLine}
+use Rattle.kc_read.specs.Statements.{Named, InputPrompt, IfLine, EndIfLine, CommentLine, SourceLine, MenuLine, EndMenuLine, EndChoiceLine, MainMenuLine, TypeLine, PromptLine, DefaultLine, DefLine, DependsLine, VisibleLine, SelectLine, ImplyLine, RangeLine, HelpLine, ModulesLine, ConfigLine, IgnoredLine}
 use Rattle.kc_read.specs.declared.refusal.Code.TheVariants as code
-use Rattle.kc_read.specs.Lines.{Context, Cause, syntax_cause, After, ReadsWhole, ReadsCondition, ReadsTextLine, ReadsSource, ReadsConfig, ReadsAsked, ReadsType, ReadsValue, ReadsTarget, ReadsRange, ReadsRest, ReadsPlaced, ReadsLine, finish, text_of, word_of, target_of, operand_of, good_name, is_good_name, choice_line, option_line, expected, block_words, type_words, attribute_words, left_out_words, keyword_in, keyword_of, known, in_place, place_cause, begins_with}
+use Rattle.kc_read.specs.Lines.{LineContext, Cause, syntax_cause, After, ReadsWhole, ReadsCondition, ReadsTextLine, ReadsSource, ReadsConfig, ReadsPrompt, ReadsType, ReadsValue, ReadsTarget, ReadsRange, ReadsRest, ReadsPlaced, ReadsLine, finish, text_of, word_of, target_of, operand_of, good_name, is_good_name, choice_line, option_line, expected, block_words, type_words, attribute_words, left_out_words, keyword_in, keyword_of, known, in_place, placement_cause, begins_with}
 use Rattle.kc_read.proofs.FileLemmas.{same_name_eq}
 use Rattle.kc_read.proofs.KeywordLemmas.{keyword_in_turn}
 use Rattle.kc_read.proofs.OneExpansion.{source_line}
@@ -35,16 +35,46 @@ either_word None p e f = f
 either_word (Some k) p e f = e
 
 block_other : (w : List ℕ) → same_name w (codes "source") ≡ false → is_source_key (keyword_in block_words w) ≡ false
-block_other w e = other_word (same_name w (codes "config")) key.Config _ refl (other_word (same_name w (codes "menuconfig")) key.Config _ refl (other_word (same_name w (codes "if")) key.If _ refl (other_word (same_name w (codes "endif")) key.EndIf _ refl (other_word (same_name w (codes "comment")) key.Comment _ refl (not_source (same_name w (codes "source")) _ e (other_word (same_name w (codes "menu")) key.Menu _ refl (other_word (same_name w (codes "endmenu")) key.EndMenu _ refl (other_word (same_name w (codes "choice")) key.Choice _ refl (other_word (same_name w (codes "endchoice")) key.EndChoice _ refl (other_word (same_name w (codes "mainmenu")) key.MainMenu _ refl (refl)))))))))))
+block_other w e = other_word (same_name w (codes "config")) key.Config _ refl
+    (other_word (same_name w (codes "menuconfig")) key.Config _ refl
+    (other_word (same_name w (codes "if")) key.If _ refl
+    (other_word (same_name w (codes "endif")) key.EndIf _ refl
+    (other_word (same_name w (codes "comment")) key.Comment _ refl
+    (not_source (same_name w (codes "source")) _ e (other_word (same_name w (codes "menu")) key.Menu _ refl
+    (other_word (same_name w (codes "endmenu")) key.EndMenu _ refl
+    (other_word (same_name w (codes "choice")) key.Choice _ refl
+    (other_word (same_name w (codes "endchoice")) key.EndChoice _ refl (other_word (same_name w (codes "mainmenu")) key.MainMenu _ refl (refl)))))))))))
 
 type_other : (w : List ℕ) → is_source_key (keyword_in type_words w) ≡ false
-type_other w = other_word (same_name w (codes "bool")) (key.Type kind.Bool) _ refl (other_word (same_name w (codes "tristate")) (key.Type kind.Tristate) _ refl (other_word (same_name w (codes "string")) (key.Type kind.Str) _ refl (other_word (same_name w (codes "int")) (key.Type kind.Int) _ refl (other_word (same_name w (codes "hex")) (key.Type kind.Hex) _ refl (other_word (same_name w (codes "def_bool")) (key.Def kind.Bool) _ refl (other_word (same_name w (codes "def_tristate")) (key.Def kind.Tristate) _ refl (refl)))))))
+type_other w = other_word (same_name w (codes "bool")) (key.Type kind.Bool) _ refl
+    (other_word (same_name w (codes "tristate")) (key.Type kind.Tristate) _ refl
+    (other_word (same_name w (codes "string")) (key.Type kind.Str) _ refl
+    (other_word (same_name w (codes "int")) (key.Type kind.Int) _ refl
+    (other_word (same_name w (codes "hex")) (key.Type kind.Hex) _ refl
+    (other_word (same_name w (codes "def_bool")) (key.Def kind.Bool) _ refl
+    (other_word (same_name w (codes "def_tristate")) (key.Def kind.Tristate) _ refl (refl)))))))
 
 attribute_other : (w : List ℕ) → is_source_key (keyword_in attribute_words w) ≡ false
-attribute_other w = other_word (same_name w (codes "default")) key.Default _ refl (other_word (same_name w (codes "depends")) key.Depends _ refl (other_word (same_name w (codes "help")) key.Help _ refl (other_word (same_name w (codes "select")) key.Select _ refl (other_word (same_name w (codes "prompt")) key.Prompt _ refl (other_word (same_name w (codes "imply")) key.Imply _ refl (other_word (same_name w (codes "range")) key.Range _ refl (other_word (same_name w (codes "visible")) key.Visible _ refl (other_word (same_name w (codes "modules")) key.Modules _ refl (other_word (same_name w (codes "option")) key.«Option» _ refl (other_word (same_name w (codes "---help---")) key.Help _ refl (refl)))))))))))
+attribute_other w = other_word (same_name w (codes "default")) key.Default _ refl
+    (other_word (same_name w (codes "depends")) key.Depends _ refl
+    (other_word (same_name w (codes "help")) key.Help _ refl
+    (other_word (same_name w (codes "select")) key.Select _ refl
+    (other_word (same_name w (codes "prompt")) key.Prompt _ refl
+    (other_word (same_name w (codes "imply")) key.Imply _ refl
+    (other_word (same_name w (codes "range")) key.Range _ refl
+    (other_word (same_name w (codes "visible")) key.Visible _ refl
+    (other_word (same_name w (codes "modules")) key.Modules _ refl
+    (other_word (same_name w (codes "option")) key.«Option» _ refl (other_word (same_name w (codes "---help---")) key.Help _ refl (refl)))))))))))
 
 left_out_other : (w : List ℕ) → is_source_key (keyword_in left_out_words w) ≡ false
-left_out_other w = other_word (same_name w (codes "rsource")) key.LeftOut _ refl (other_word (same_name w (codes "osource")) key.LeftOut _ refl (other_word (same_name w (codes "orsource")) key.LeftOut _ refl (other_word (same_name w (codes "boolean")) key.LeftOut _ refl (other_word (same_name w (codes "def_int")) key.LeftOut _ refl (other_word (same_name w (codes "def_hex")) key.LeftOut _ refl (other_word (same_name w (codes "def_string")) key.LeftOut _ refl (other_word (same_name w (codes "transitional")) key.LeftOut _ refl (other_word (same_name w (codes "optional")) key.LeftOut _ refl (refl)))))))))
+left_out_other w = other_word (same_name w (codes "rsource")) key.LeftOut _ refl
+    (other_word (same_name w (codes "osource")) key.LeftOut _ refl
+    (other_word (same_name w (codes "orsource")) key.LeftOut _ refl
+    (other_word (same_name w (codes "boolean")) key.LeftOut _ refl
+    (other_word (same_name w (codes "def_int")) key.LeftOut _ refl
+    (other_word (same_name w (codes "def_hex")) key.LeftOut _ refl
+    (other_word (same_name w (codes "def_string")) key.LeftOut _ refl
+    (other_word (same_name w (codes "transitional")) key.LeftOut _ refl (other_word (same_name w (codes "optional")) key.LeftOut _ refl (refl)))))))))
 
 keyword_other : (w : List ℕ) → same_name w (codes "source") ≡ false → is_source_key (keyword_of w) ≡ false
 keyword_other w e =
@@ -54,47 +84,48 @@ keyword_other w e =
 -- ---- What is read
 
 -- no `source` line is read
-abbrev NoSource : (Result Written Cause → Type 0) → Type 0
+abbrev NoSource : (Result Named Cause → Type 0) → Type 0
 NoSource R = (name : List ℕ) → R (Ok (SourceLine name)) → ⊥
 
 -- this is no `source` line
-abbrev IsOther : Result Written Cause → Type 0
+abbrev IsOther : Result Named Cause → Type 0
 IsOther t = (name : List ℕ) → Ok (source_line name) ≡ t → ⊥
 
-none_after : {A : Type 0} (o : Result A Cause) (Next : A → Result Written Cause → Type 0) → ((a : A) → NoSource (Next a)) → NoSource (After o Next)
+none_after : {A : Type 0} (o : Result A Cause) (Next : A → Result Named Cause → Type 0) → ((a : A) → NoSource (Next a)) → NoSource (After o Next)
 none_after (Ok a) Next h name x = h a name x
 none_after (Err c) Next h name x = let e : Ok (source_line name) ≡ Err c = x in cc
 
-none_whole : (make : Disjunction → Written) (ts : List Lexeme) → ((d : Disjunction) → IsOther (Ok (make d))) → NoSource (ReadsWhole make ts)
+none_whole : (make : Disjunction → Named) (ts : List Lexeme) → ((d : Disjunction) → IsOther (Ok (make d))) → NoSource (ReadsWhole make ts)
 none_whole make ts h name x = h x.0 name (ap Ok x.2)
 
-none_condition : (make : Option Disjunction → Written) (ts : List Lexeme) → ((w : Option Disjunction) → IsOther (Ok (make w))) → NoSource (ReadsCondition make ts)
+none_condition : (make : Option Disjunction → Named) (ts : List Lexeme) → ((w : Option Disjunction) → IsOther (Ok (make w))) → NoSource (ReadsCondition make ts)
 none_condition make ts h name x = h x.0 name (ap Ok x.2)
 
-none_value : (make : Disjunction → Option Disjunction → Written) (ts : List Lexeme) → ((d : Disjunction) (w : Option Disjunction) → IsOther (Ok (make d w))) → NoSource (ReadsValue make ts)
+none_value : (make : Disjunction → Option Disjunction → Named) (ts : List Lexeme) → ((d : Disjunction) (w : Option Disjunction) → IsOther (Ok (make d w))) → NoSource (ReadsValue make ts)
 none_value make ts h name x = h x.0.tree x.1 name (ap Ok x.4)
 
-other_end : (s : Written) (ts : List Lexeme) → IsOther (Ok s) → IsOther (finish s ts)
+other_end : (s : Named) (ts : List Lexeme) → IsOther (Ok s) → IsOther (finish s ts)
 other_end s [] h name e = h name e
 other_end s (t ∷ ts) h name e = cc
 
-none_text : (make : List ℕ → Written) (ts : List Lexeme) → ((t : List ℕ) → IsOther (Ok (make t))) → NoSource (ReadsTextLine make ts)
+none_text : (make : List ℕ → Named) (ts : List Lexeme) → ((t : List ℕ) → IsOther (Ok (make t))) → NoSource (ReadsTextLine make ts)
 none_text make ts h = none_after (text_of ts) (λ t r. r ≡ finish (make t) (drop 1 ts)) (λ t. other_end (make t) (drop 1 ts) (h t))
 
-none_asked : (make : Asked Disjunction → Written) (ts : List Lexeme) → ((p : Asked Disjunction) → IsOther (Ok (make p))) → NoSource (ReadsAsked make ts)
-none_asked make ts h = none_after (text_of ts) (λ t. ReadsCondition (λ w. make (record { text = t; when = w })) (drop 1 ts)) (λ t. none_condition (λ w. make (record { text = t; when = w })) (drop 1 ts) (λ w. h (record { text = t; when = w })))
+none_asked : (make : InputPrompt Disjunction → Named) (ts : List Lexeme) → ((p : InputPrompt Disjunction) → IsOther (Ok (make p))) → NoSource (ReadsPrompt make ts)
+none_asked make ts h = none_after (text_of ts) (λ t. ReadsCondition (λ w. make (record { text = t; when = w })) (drop 1 ts))
+    (λ t. none_condition (λ w. make (record { text = t; when = w })) (drop 1 ts) (λ w. h (record { text = t; when = w })))
 
-none_target : (make : List ℕ → Option Disjunction → Written) (ts : List Lexeme) → ((t : List ℕ) (w : Option Disjunction) → IsOther (Ok (make t w))) → NoSource (ReadsTarget make ts)
+none_target : (make : List ℕ → Option Disjunction → Named) (ts : List Lexeme) → ((t : List ℕ) (w : Option Disjunction) → IsOther (Ok (make t w))) → NoSource (ReadsTarget make ts)
 none_target make ts h = none_after (target_of ts) (λ t. ReadsCondition (make t) (drop 1 ts)) (λ t. none_condition (make t) (drop 1 ts) (h t))
 
-none_expected : (make : Disjunction → Written) (w : List ℕ) (ts : List Lexeme) → ((d : Disjunction) → IsOther (Ok (make d))) → NoSource (After (expected w ts) (ReadsWhole make))
+none_expected : (make : Disjunction → Named) (w : List ℕ) (ts : List Lexeme) → ((d : Disjunction) → IsOther (Ok (make d))) → NoSource (After (expected w ts) (ReadsWhole make))
 none_expected make w ts h = none_after (expected w ts) (ReadsWhole make) (λ us. none_whole make us h)
 
 none_range : (ts : List Lexeme) → NoSource (ReadsRange ts)
 none_range ts = none_after (operand_of ts) (λ a. After (operand_of (drop 1 ts)) (λ b. ReadsCondition (RangeLine a b) (drop 2 ts)))
     (λ a. none_after (operand_of (drop 1 ts)) (λ b. ReadsCondition (RangeLine a b) (drop 2 ts)) (λ b. none_condition (RangeLine a b) (drop 2 ts) (λ w name e. cc)))
 
-other_if : (b : Bool) (x y : Result Written Cause) → IsOther x → IsOther y → IsOther (cond b x y)
+other_if : (b : Bool) (x y : Result Named Cause) → IsOther x → IsOther y → IsOther (cond b x y)
 other_if true x y h i = h
 other_if false x y h i = i
 
@@ -146,16 +177,16 @@ none_rest w key.Modules ts e = other_end ModulesLine ts (λ name f. cc)
 none_rest w key.«Option» ts e = other_option ts
 none_rest w key.LeftOut ts e = other_refused _
 
-none_placed : (c : Context) (w : List ℕ) (ts : List Lexeme) (o : Option Keyword) → is_source_key o ≡ false → NoSource (After (known o) (ReadsPlaced c w ts))
+none_placed : (c : LineContext) (w : List ℕ) (ts : List Lexeme) (o : Option Keyword) → is_source_key o ≡ false → NoSource (After (known o) (ReadsPlaced c w ts))
 none_placed c w ts None e name x = let f : Ok (source_line name) ≡ Err syntax_cause = x in cc
-none_placed c w ts (Some k) e name x = by (place_cause c w ts k) x
+none_placed c w ts (Some k) e name x = by (placement_cause c w ts k) x
   where
     by : (o : Option Cause) → After (in_place k o) (λ j. ReadsRest w j ts) (Ok (SourceLine name)) → ⊥
     by None y = none_rest w k ts e name y
     by (Some why) y = let f : Ok (source_line name) ≡ Err why = y in cc
 
 -- a `source` line begins with that word
-pub source_begins : (c : Context) (ts : List Lexeme) (name : List ℕ) → ReadsLine c ts (Ok (SourceLine name)) → begins_with (codes "source") ts ≡ true
+pub source_begins : (c : LineContext) (ts : List Lexeme) (name : List ℕ) → ReadsLine c ts (Ok (SourceLine name)) → begins_with (codes "source") ts ≡ true
 source_begins c [] name x = absurd (let e : Ok (source_line name) ≡ Err syntax_cause = x in cc)
 source_begins c (AQuoted t ∷ ts) name x = absurd (let e : Ok (source_line name) ≡ Err syntax_cause = x in cc)
 source_begins c (AnOp o ∷ ts) name x = absurd (let e : Ok (source_line name) ≡ Err syntax_cause = x in cc)
@@ -165,7 +196,7 @@ source_begins c (AWord w ∷ ts) name x = elim (cases_Bool (same_name w (codes "
 ]
 
 -- what begins with the word is read as a `source` line
-pub begins_source : (c : Context) (ts : List Lexeme) (r : Result Written Cause) → begins_with (codes "source") ts ≡ true → ReadsLine c ts r → ReadsSource (drop 1 ts) r
+pub begins_source : (c : LineContext) (ts : List Lexeme) (r : Result Named Cause) → begins_with (codes "source") ts ≡ true → ReadsLine c ts r → ReadsSource (drop 1 ts) r
 begins_source c [] r b x = absurd cc
 begins_source c (AQuoted t ∷ ts) r b x = absurd cc
 begins_source c (AnOp o ∷ ts) r b x = absurd cc

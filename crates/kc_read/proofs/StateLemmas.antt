@@ -12,59 +12,62 @@ use Rattle.kc_expr.proofs.NamesLemmas.{extends_on, mentioned_on, mentioned_exten
 use Rattle.kc_read.specs.declared.frame.Frame.{Frame}
 use Rattle.kc_read.specs.declared.progress.Progress.{Progress}
 use Rattle.kc_read.specs.declared.statement.Statement.{Statement}
-use Rattle.kc_read.specs.Blocks.{bracket, definitions, entry_of, is_attribute, is_modules, is_other, last_of, last_other, modules_of, name_at, open_blocks}
+use Rattle.kc_read.specs.Blocks.{bracket, definitions, entry_of, is_attribute, is_modules, is_no_attribute, last_of, last_no_attribute, modules_of, defined_name, open_blocks}
 use Rattle.kc_read.specs.Progress.{name_after}
 use Rattle.kc_read.proofs.ModulesLemmas.{modules_after, modules_same}
-use Rattle.kc_read.specs.Expansion.{Around, Log, Rest, context_of, effect_cause, opener_cause, defined, inside, is_choice, lines_of, logged, opening, statements, with_line, Expands, Refused, bytes_cause, nothing_read, refused, root_around}
+use Rattle.kc_read.specs.Expansion.{FileContext, Log, Rest, context_of, limit_cause, nesting_cause, defined, inside, is_choice, lines_of, logged, with_file, statements, with_line, Expands, Refused, bytes_cause, nothing_read, refused, root_context}
 use Rattle.kc_read.specs.Files.{Files}
-use Rattle.kc_read.specs.Lines.{Context, Cause}
-use Rattle.kc_text.specs.Lines.{left}
-use Rattle.kc_read.specs.Numbering.{place_numbered}
-use Rattle.kc_read.specs.Progress.{effect_view, IsEntered, IsFrame, IsInside, IsProgress, IsState, IsTaken, IsBegun, defined_after, entry_after, ids_match, openers_after}
+use Rattle.kc_read.specs.Lines.{LineContext, Cause}
+use Rattle.kc_text.specs.Lines.{unread_lines}
+use Rattle.kc_read.specs.Numbering.{located_numbered}
+use Rattle.kc_read.specs.Progress.{limit_view, IsEntered, IsFrame, IsSourcedFrame, IsProgress, IsState, IsTaken, IsBegun, defined_after, entry_after, ids_match, open_blocks_after}
 use Rattle.kc_read.specs.Expanded.{IsNamed}
-use Rattle.kc_read.specs.Reads.{line_view, statement_view}
+use Rattle.kc_read.specs.StatementViews.{line_view, statement_view}
 use Rattle.kc_read.specs.LineReads.{IsMade}
-use Rattle.kc_read.specs.Statements.{Numbered, Placed, Written, statement_words}
+use Rattle.kc_read.specs.Statements.{Numbered, Located, Named, names_in_statement}
 use Rattle.kc_read.proofs.BlockLemmas.{blocks_of_openers, openers_push}
 use Rattle.kc_read.proofs.ListLemmas.{last_of-map, last_of-push, list_any-map, map-push}
 use Rattle.kc_read.proofs.NameLemmas.{defining_same, match_same, named_if, named_later, named_or, numbers_after}
 use Rattle.kc_read.proofs.ShapeLemmas.{effect_by, made_name, made_shape, or_none, shape}
 
-abbrev placed : Around → ℕ → Written → Placed Written
-placed a n x = record { file = a.file; line = n; statement = x }
+abbrev ranked : FileContext → ℕ → Named → Located Named
+ranked a n x = record { file = a.file; line = n; statement = x }
 
-entry_push : (ss : List Written) (x : Written) → entry_after (entry_of (last_other ss)) x ≡ entry_of (last_other (ss ++ x ∷ []))
-entry_push ss x = by (is_attribute x) ∙ ap (λ l. entry_of (last_of l)) (sym (filter-append is_other ss (x ∷ [])))
+entry_push : (ss : List Named) (x : Named) → entry_after (entry_of (last_no_attribute ss)) x ≡ entry_of (last_no_attribute (ss ++ x ∷ []))
+entry_push ss x = by (is_attribute x) ∙ ap (λ l. entry_of (last_of l)) (sym (filter-append is_no_attribute ss (x ∷ [])))
   where
-    by : (b : Bool) → cond b (entry_of (last_other ss)) (entry_of (Some x)) ≡ entry_of (last_of (filter is_other ss ++ cond (cond b false true) (x ∷ []) []))
-    by true = ap (λ l. entry_of (last_of l)) (sym (append-nil (filter is_other ss)))
-    by false = ap entry_of (sym (last_of-push (filter is_other ss) x))
+    by : (b : Bool) → cond b (entry_of (last_no_attribute ss)) (entry_of (Some x)) ≡ entry_of (last_of (filter is_no_attribute ss ++ cond (cond b false true) (x ∷ []) []))
+    by true = ap (λ l. entry_of (last_of l)) (sym (append-nil (filter is_no_attribute ss)))
+    by false = ap entry_of (sym (last_of-push (filter is_no_attribute ss) x))
 
-pub frame_push : (a : Around) (own : List (Placed Written)) (f g : Frame) (x : Written) (n : ℕ) → IsFrame a own f → g.file ≡ f.file → g.depth ≡ f.depth → g.in_choice ≡ f.in_choice → g.blocks.items ≡ openers_after (bracket x) n f.blocks.items → g.entry ≡ entry_after f.entry x → IsFrame a (with_line own a n x) g
+pub frame_push : (a : FileContext) (own : List (Located Named)) (f g : Frame) (x : Named) (n : ℕ) → IsFrame a own f → g.file ≡ f.file → g.depth ≡ f.depth →
+    g.in_choice ≡ f.in_choice → g.blocks.items ≡ open_blocks_after (bracket x) n f.blocks.items → g.entry ≡ entry_after f.entry x →
+    IsFrame a (with_line own a n x) g
 frame_push a own f g x n i e_file e_depth e_choice e_blocks e_entry = record {
   file = ap (λ r. r.value.items) e_file ∙ i.file;
   depth = e_depth ∙ i.depth;
   in_choice = e_choice ∙ i.in_choice;
-  blocks = e_blocks ∙ ap (openers_after (bracket x) n) i.blocks ∙ sym (openers_push own (placed a n x));
+  blocks = e_blocks ∙ ap (open_blocks_after (bracket x) n) i.blocks ∙ sym (openers_push own (ranked a n x));
   entry =
       e_entry ∙ ap (λ z. entry_after z x) i.entry ∙ entry_push (statements own) x
-      ∙ ap (λ l. entry_of (last_other l)) (sym (map-push (λ l. l.statement) own (placed a n x)));
+      ∙ ap (λ l. entry_of (last_no_attribute l)) (sym (map-push (λ l. l.statement) own (ranked a n x)));
 }
 
-frame_taken : (a : Around) (own : List (Placed Written)) (f g : Frame) (p q : Progress) (v : Numbered) (x : Written) (n : ℕ) → IsFrame a own f → shape v ≡ shape x → IsTaken v n f g p q → IsFrame a (with_line own a n x) g
+frame_taken : (a : FileContext) (own : List (Located Named)) (f g : Frame) (p q : Progress) (v : Numbered) (x : Named) (n : ℕ) → IsFrame a own f →
+    shape v ≡ shape x → IsTaken v n f g p q → IsFrame a (with_line own a n x) g
 frame_taken a own f g p q v x n i e t =
     frame_push a own f g x n i t.file t.depth t.in_choice
-    (t.blocks ∙ ap (λ b. openers_after b n f.blocks.items) (ap (λ z. z.0) e))
+    (t.blocks ∙ ap (λ b. open_blocks_after b n f.blocks.items) (ap (λ z. z.0) e))
     (t.entry ∙ ap (λ b. cond b f.entry (entry_of (Some v))) (ap (λ z. z.1) e) ∙ ap (λ y. cond (is_attribute x) f.entry y) (ap (λ z. z.2) e))
 
 -- the definitions, one statement later
-definitions_push : (ss : List Written) (x : Written) → definitions (ss ++ x ∷ []) ≡ definitions ss ++ cons_option (name_at x) []
-definitions_push ss x = filter_map-append name_at ss (x ∷ [])
+definitions_push : (ss : List Named) (x : Named) → definitions (ss ++ x ∷ []) ≡ definitions ss ++ cons_option (defined_name x) []
+definitions_push ss x = filter_map-append defined_name ss (x ∷ [])
 
-defined_push : (ss : List Written) (x : Written) → defined_after (defined ss) (name_at x) ≡ defined (ss ++ x ∷ [])
+defined_push : (ss : List Named) (x : Named) → defined_after (defined ss) (defined_name x) ≡ defined (ss ++ x ∷ [])
 defined_push ss x =
-    by (name_at x)
-    ∙ sym (all_mentioned-append [] (definitions ss) (cons_option (name_at x) []))
+    by (defined_name x)
+    ∙ sym (all_mentioned-append [] (definitions ss) (cons_option (defined_name x) []))
     ∙ ap (all_mentioned []) (sym (definitions_push ss x))
   where
     by : (o : Option (List ℕ)) → defined_after (defined ss) o ≡ all_mentioned (defined ss) (cons_option o [])
@@ -75,8 +78,8 @@ last_defined : (ds : List (List ℕ)) (o : Option (List ℕ)) → option_or o (l
 last_defined ds None = ap last_of (sym (append-nil ds))
 last_defined ds (Some n) = sym (last_of-push ds n)
 
-last_definition_push : (ss : List Written) (x : Written) → option_or (name_at x) (last_of (definitions ss)) ≡ last_of (definitions (ss ++ x ∷ []))
-last_definition_push ss x = last_defined (definitions ss) (name_at x) ∙ ap last_of (sym (definitions_push ss x))
+last_definition_push : (ss : List Named) (x : Named) → option_or (defined_name x) (last_of (definitions ss)) ≡ last_of (definitions (ss ++ x ∷ []))
+last_definition_push ss x = last_defined (definitions ss) (defined_name x) ∙ ap last_of (sym (definitions_push ss x))
 
 or_assoc : {A : Type 0} (o p q : Option A) → option_or o (option_or p q) ≡ option_or (option_or o p) q
 or_assoc None p q = refl
@@ -95,30 +98,33 @@ last_first (Some n) now (d ∷ ds) = by (last_of (d ∷ ds)) refl
         none_last d (x ∷ xs) e = none_last x xs e
     by (Some m) e = refl
 
-modules_push : (ss : List Written) (now : Option (List ℕ)) (x : Written) → modules_after now (ss ++ x ∷ []) ≡ option_or (modules_after now ss) (cond (is_modules x) (option_or (last_of (definitions ss)) now) None)
+modules_push : (ss : List Named) (now : Option (List ℕ)) (x : Named) →
+    modules_after now (ss ++ x ∷ []) ≡ option_or (modules_after now ss) (cond (is_modules x) (option_or (last_of (definitions ss)) now) None)
 modules_push [] now x = or_none (cond (is_modules x) now None)
 modules_push (s ∷ ss) now x =
     let first = cond (is_modules s) now None in
     ap (option_or first) (modules_push ss (name_after now s) x)
     ∙ or_assoc first (modules_after (name_after now s) ss) (cond (is_modules x) (option_or (last_of (definitions ss)) (name_after now s)) None)
-    ∙ ap (λ o. option_or (option_or first (modules_after (name_after now s) ss)) (cond (is_modules x) o None)) (last_first (name_at s) now (definitions ss))
+    ∙ ap (λ o. option_or (option_or first (modules_after (name_after now s) ss)) (cond (is_modules x) o None)) (last_first (defined_name s) now (definitions ss))
 
-modules_of_push : (ss : List Written) (x : Written) → modules_of (ss ++ x ∷ []) ≡ option_or (modules_of ss) (cond (is_modules x) (last_of (definitions ss)) None)
+modules_of_push : (ss : List Named) (x : Named) → modules_of (ss ++ x ∷ []) ≡ option_or (modules_of ss) (cond (is_modules x) (last_of (definitions ss)) None)
 modules_of_push ss x =
     sym (modules_same (ss ++ x ∷ []))
     ∙ modules_push ss None x
     ∙ ap (λ o. option_or (modules_after None ss) (cond (is_modules x) o None)) (or_none (last_of (definitions ss)))
     ∙ ap (λ o. option_or o (cond (is_modules x) (last_of (definitions ss)) None)) (modules_same ss)
 
-words_push : (ss : List Written) (x : Written) → flat_map statement_words ss ++ statement_words x ≡ flat_map statement_words (ss ++ x ∷ [])
-words_push ss x = ap (λ ws. flat_map statement_words ss ++ ws) (sym (append-nil (statement_words x))) ∙ sym (flat_map-append statement_words ss (x ∷ []))
+words_push : (ss : List Named) (x : Named) → flat_map names_in_statement ss ++ names_in_statement x ≡ flat_map names_in_statement (ss ++ x ∷ [])
+words_push ss x = ap (λ ws. flat_map names_in_statement ss ++ ws) (sym (append-nil (names_in_statement x))) ∙ sym (flat_map-append names_in_statement ss (x ∷ []))
 
-progress_taken : (first : List (List ℕ)) (modules : Option SymId) (known names : List (List ℕ)) (a : Around) (own : List (Placed Written)) (log : Log) (f g : Frame) (p q : Progress) (s : Statement) (x : Written) (n : ℕ) → IsProgress first modules known log p → IsFrame a own f → IsMade modules known names s x → IsTaken (statement_view s) n f g p q → IsProgress first modules names (logged log a n x) q
+progress_taken : (first : List (List ℕ)) (modules : Option SymId) (known names : List (List ℕ)) (a : FileContext) (own : List (Located Named)) (log : Log)
+    (f g : Frame) (p q : Progress) (s : Statement) (x : Named) (n : ℕ) → IsProgress first modules known log p → IsFrame a own f →
+    IsMade modules known names s x → IsTaken (statement_view s) n f g p q → IsProgress first modules names (logged log a n x) q
 progress_taken first modules known names a own log f g p q s x n i fr m t =
     let ss = statements log.lines in
-    let later_names : Extends known names = mentioned_extends known names (statement_words x) m.mentions in
-    let pushed : statements (log.lines ++ placed a n x ∷ []) ≡ ss ++ x ∷ [] = map-push (λ l. l.statement) log.lines (placed a n x) in
-    let name : IsNamed names (name_at (statement_view s)) (name_at x) = made_name modules known names s x m in
+    let later_names : Extends known names = mentioned_extends known names (names_in_statement x) m.mentions in
+    let pushed : statements (log.lines ++ ranked a n x ∷ []) ≡ ss ++ x ∷ [] = map-push (λ l. l.statement) log.lines (ranked a n x) in
+    let name : IsNamed names (defined_name (statement_view s)) (defined_name x) = made_name modules known names s x m in
     let is_mod : is_modules (statement_view s) ≡ is_modules x = ap (λ z. z.3) (made_shape modules known names s x m) in
     let config_now : IsNamed names p.config (last_of (definitions ss)) = named_later known names p.config (last_of (definitions ss)) later_names i.config in
     let modules_now : IsNamed names p.modules (modules_of ss) = named_later known names p.modules (modules_of ss) later_names i.modules_is in
@@ -126,26 +132,29 @@ progress_taken first modules known names a own log f g p q s x n i fr m t =
       lines = λ later e.
           t.lines
           ∙ (λ j. i.lines later (extends_on known names later later_names e) j ++ record { file = fr.file j; line = n; statement = m.form later e j } ∷ [])
-          ∙ sym (map-push (place_numbered modules (number_of later)) log.lines (placed a n x));
-      mentions = mentioned_on first known names (flat_map statement_words ss) (statement_words x) i.mentions m.mentions ∙ ap (all_mentioned first) (words_push ss x ∙ ap (flat_map statement_words) (sym pushed));
-      counted = t.counted ∙ i.counted;
+          ∙ sym (map-push (located_numbered modules (number_of later)) log.lines (ranked a n x));
+      mentions = mentioned_on first known names (flat_map names_in_statement ss) (names_in_statement x) i.mentions m.mentions
+          ∙ ap (all_mentioned first) (words_push ss x ∙ ap (flat_map names_in_statement) (sym pushed));
+      total_lines = t.total_lines ∙ i.total_lines;
       defined_is =
           λ later e.
           t.defined_is
-          ∙ numbers_after known names p.defined (defined ss) (name_at (statement_view s)) (name_at x) later_names i.defined_is name later e
+          ∙ numbers_after known names p.defined (defined ss) (defined_name (statement_view s)) (defined_name x) later_names i.defined_is name later e
           ∙ ap (map (λ w. symbol (number_of later w))) (defined_push ss x ∙ ap defined (sym pushed));
       config =
-          subst (λ o. IsNamed names o (last_of (definitions (statements (log.lines ++ placed a n x ∷ []))))) (sym t.config)
-          (subst (IsNamed names (option_or (name_at (statement_view s)) p.config)) (last_definition_push ss x ∙ ap (λ l. last_of (definitions l)) (sym pushed))
-          (named_or names (name_at (statement_view s)) p.config (name_at x) (last_of (definitions ss)) name config_now));
+          subst (λ o. IsNamed names o (last_of (definitions (statements (log.lines ++ ranked a n x ∷ []))))) (sym t.config)
+          (subst (IsNamed names (option_or (defined_name (statement_view s)) p.config)) (last_definition_push ss x ∙ ap (λ l. last_of (definitions l)) (sym pushed))
+          (named_or names (defined_name (statement_view s)) p.config (defined_name x) (last_of (definitions ss)) name config_now));
       modules_is =
-          subst (λ o. IsNamed names o (modules_of (statements (log.lines ++ placed a n x ∷ [])))) (sym (t.modules_is ∙ ap (λ b. option_or p.modules (cond b p.config None)) is_mod))
+          subst (λ o. IsNamed names o (modules_of (statements (log.lines ++ ranked a n x ∷ [])))) (sym (t.modules_is ∙ ap (λ b. option_or p.modules (cond b p.config None)) is_mod))
           (subst (IsNamed names (option_or p.modules (cond (is_modules x) p.config None))) (sym (modules_of_push ss x) ∙ ap modules_of (sym pushed))
           (named_or names p.modules (cond (is_modules x) p.config None) (modules_of ss) (cond (is_modules x) (last_of (definitions ss)) None) modules_now
           (named_if names (is_modules x) p.config (last_of (definitions ss)) config_now)));
     }
 
-pub state_taken : (first : List (List ℕ)) (modules : Option SymId) (known names : List (List ℕ)) (a : Around) (own : List (Placed Written)) (log : Log) (f g : Frame) (p q : Progress) (s : Statement) (x : Written) (n : ℕ) → IsState first modules known a own log p f → IsMade modules known names s x → IsTaken (statement_view s) n f g p q → IsState first modules names a (with_line own a n x) (logged log a n x) q g
+pub state_taken : (first : List (List ℕ)) (modules : Option SymId) (known names : List (List ℕ)) (a : FileContext) (own : List (Located Named)) (log : Log)
+    (f g : Frame) (p q : Progress) (s : Statement) (x : Named) (n : ℕ) → IsState first modules known a own log p f → IsMade modules known names s x →
+    IsTaken (statement_view s) n f g p q → IsState first modules names a (with_line own a n x) (logged log a n x) q g
 state_taken first modules known names a own log f g p q s x n i m t = record {
   progress = progress_taken first modules known names a own log f g p q s x n i.progress i.frame m t;
   frame = frame_taken a own f g p q (statement_view s) x n i.frame (made_shape modules known names s x m) t;
@@ -153,18 +162,24 @@ state_taken first modules known names a own log f g p q s x n i m t = record {
 }
 
 -- the context of the next line
-pub context_same : (first : List (List ℕ)) (modules : Option SymId) (names : List (List ℕ)) (a : Around) (own : List (Placed Written)) (log : Log) (f : Frame) (p : Progress) (c : Context) → IsState first modules names a own log p f → c.entry ≡ f.entry → c.own ≡ option_map (λ o. o.block) (last_of f.blocks.items) → c.in_choice ≡ (f.in_choice || list_any (λ o. is_choice o.block) f.blocks.items) → c.modules ≡ ids_match p.modules p.config → c ≡ context_of a own log
+pub context_same : (first : List (List ℕ)) (modules : Option SymId) (names : List (List ℕ)) (a : FileContext) (own : List (Located Named)) (log : Log)
+    (f : Frame) (p : Progress) (c : LineContext) → IsState first modules names a own log p f → c.entry ≡ f.entry →
+    c.own ≡ option_map (λ o. o.block) (last_of f.blocks.items) → c.in_choice ≡ (f.in_choice || list_any (λ o. is_choice o.block) f.blocks.items) →
+    c.modules ≡ ids_match p.modules p.config → c ≡ context_of a own log
 context_same first modules names a own log f p c i e_entry e_own e_choice e_modules =
     let blocks : map (λ o. o.block) f.blocks.items ≡ open_blocks (statements own) = ap (map (λ o. o.block)) i.frame.blocks ∙ blocks_of_openers own in
     let entry_is = e_entry ∙ i.frame.entry in
     let own_is = e_own ∙ sym (last_of-map (λ o. o.block) f.blocks.items) ∙ ap last_of blocks in
-    let choice_is = e_choice ∙ ap (λ b. b || list_any (λ o. is_choice o.block) f.blocks.items) i.frame.in_choice ∙ ap (λ b. list_any is_choice a.blocks || b) (sym (list_any-map is_choice (λ o. o.block) f.blocks.items) ∙ ap (list_any is_choice) blocks) in
+    let choice_is = e_choice ∙ ap (λ b. b || list_any (λ o. is_choice o.block) f.blocks.items) i.frame.in_choice
+    ∙ ap (λ b. list_any is_choice a.blocks || b) (sym (list_any-map is_choice (λ o. o.block) f.blocks.items) ∙ ap (list_any is_choice) blocks) in
     let modules_are = e_modules ∙ match_same names p.modules p.config (modules_of (statements log.lines)) (last_of (definitions (statements log.lines))) i.progress.modules_is i.progress.config in
     λ j. record { entry = entry_is j; own = own_is j; in_choice = choice_is j; modules = modules_are j }
 
 -- inside a file that is sourced
-pub state_inside : (first : List (List ℕ)) (modules : Option SymId) (names : List (List ℕ)) (a : Around) (own : List (Placed Written)) (log : Log) (f g : Frame) (p q : Progress) (name bytes : List ℕ) (counted : ℕ) → IsState first modules names a own log p f → IsInside f name g → IsEntered name counted p q → counted ≡ p.counted + lines_of bytes → IsState first modules names (inside a own name) [] (opening log bytes) q g
-state_inside first modules names a own log f g p q name bytes counted i n t c =
+pub state_inside : (first : List (List ℕ)) (modules : Option SymId) (names : List (List ℕ)) (a : FileContext) (own : List (Located Named)) (log : Log)
+    (f g : Frame) (p q : Progress) (name bytes : List ℕ) (total_lines : ℕ) → IsState first modules names a own log p f → IsSourcedFrame f name g →
+    IsEntered name total_lines p q → total_lines ≡ p.total_lines + lines_of bytes → IsState first modules names (inside a own name) [] (with_file log bytes) q g
+state_inside first modules names a own log f g p q name bytes total_lines i n t c =
     let blocks : map (λ o. o.block) f.blocks.items ≡ open_blocks (statements own) = ap (map (λ o. o.block)) i.frame.blocks ∙ blocks_of_openers own in
     let mapped : length (map (λ o. o.block) f.blocks.items) ≡ length f.blocks.items = simp length-map in
     let many : length f.blocks.items ≡ length (open_blocks (statements own)) = sym mapped ∙ ap length blocks in
@@ -173,7 +188,7 @@ state_inside first modules names a own log f g p q name bytes counted i n t c =
       progress = record {
         lines = λ later e. ap (λ ls. map line_view ls.items) t.lines ∙ i.progress.lines later e;
         mentions = i.progress.mentions;
-        counted = t.counted_is ∙ c ∙ ap (λ k. k + lines_of bytes) i.progress.counted;
+        total_lines = t.total_lines_is ∙ c ∙ ap (λ k. k + lines_of bytes) i.progress.total_lines;
         defined_is = λ later e. t.defined_is ∙ i.progress.defined_is later e;
         config = subst (λ o. IsNamed names o (last_of (definitions (statements log.lines)))) (sym t.config) i.progress.config;
         modules_is = subst (λ o. IsNamed names o (modules_of (statements log.lines))) (sym t.modules_is) i.progress.modules_is;
@@ -193,25 +208,29 @@ state_inside first modules names a own log f g p q name bytes counted i n t c =
           ∙ ap (λ ns. ns ++ fr.value.items ∷ []) i.files ∙ ap (λ w. a.open_files ++ w ∷ []) t.open_files.1;
     }
 
--- what a statement may not do
-pub effect_same : (first : List (List ℕ)) (modules : Option SymId) (known names : List (List ℕ)) (a : Around) (own : List (Placed Written)) (log : Log) (f : Frame) (p : Progress) (s : Statement) (x : Written) → IsState first modules known a own log p f → IsMade modules known names s x → effect_view (statement_view s) f p ≡ effect_cause a own log x
+-- the limit that a statement passes
+pub effect_same : (first : List (List ℕ)) (modules : Option SymId) (known names : List (List ℕ)) (a : FileContext) (own : List (Located Named)) (log : Log)
+    (f : Frame) (p : Progress) (s : Statement) (x : Named) → IsState first modules known a own log p f → IsMade modules known names s x →
+    limit_view (statement_view s) f p ≡ limit_cause a own log x
 effect_same first modules known names a own log f p s x i m =
     let blocks : map (λ o. o.block) f.blocks.items ≡ open_blocks (statements own) = ap (map (λ o. o.block)) i.frame.blocks ∙ blocks_of_openers own in
     let mapped : length (map (λ o. o.block) f.blocks.items) ≡ length f.blocks.items = simp length-map in
     let many : length f.blocks.items ≡ length (open_blocks (statements own)) = sym mapped ∙ ap length blocks in
-    let later_names : Extends known names = mentioned_extends known names (statement_words x) m.mentions in
-    let defining = defining_same known names p.defined (defined (statements log.lines)) (name_at (statement_view s)) (name_at x) later_names i.progress.defined_is (made_name modules known names s x m) in
+    let later_names : Extends known names = mentioned_extends known names (names_in_statement x) m.mentions in
+    let defining = defining_same known names p.defined (defined (statements log.lines)) (defined_name (statement_view s)) (defined_name x)
+    later_names i.progress.defined_is (made_name modules known names s x m) in
     let depth : f.depth + length f.blocks.items ≡ length a.blocks + length (open_blocks (statements own)) = ap (λ k. k + length f.blocks.items) i.frame.depth ∙ ap (λ k. length a.blocks + k) many in
-    (λ j. option_or (defining j) (opener_cause (depth j) (ap (λ z. z.0) (made_shape modules known names s x m) j)))
+    (λ j. option_or (defining j) (nesting_cause (depth j) (ap (λ z. z.0) (made_shape modules known names s x m) j)))
     ∙ effect_by a own log x
 
 -- as the root file is opened
-pub state_begun : (modules : Option SymId) (names : List (List ℕ)) (root bytes : List ℕ) (counted : ℕ) (f : Frame) (p : Progress) → IsBegun root counted f p → counted ≡ 0 + lines_of bytes → IsState names modules names (root_around root) [] (opening nothing_read bytes) p f
-state_begun modules names root bytes counted f p b c = record {
+pub state_begun : (modules : Option SymId) (names : List (List ℕ)) (root bytes : List ℕ) (total_lines : ℕ) (f : Frame) (p : Progress) →
+    IsBegun root total_lines f p → total_lines ≡ 0 + lines_of bytes → IsState names modules names (root_context root) [] (with_file nothing_read bytes) p f
+state_begun modules names root bytes total_lines f p b c = record {
   progress = record {
     lines = λ later e. ap (map line_view) b.lines;
     mentions = refl;
-    counted = b.counted_is ∙ c;
+    total_lines = b.total_lines_is ∙ c;
     defined_is = λ later e. b.defined_is;
     config = subst (λ o. IsNamed names o None) (sym b.config) tt;
     modules_is = subst (λ o. IsNamed names o None) (sym b.modules_is) tt;
@@ -226,7 +245,8 @@ state_begun modules names root bytes counted f p b c = record {
   files = b.open_files;
 }
 
-pub expands_read : (files : Files) (root bytes : List ℕ) (r : Result Log Refused) → bytes_cause root 0 (files root) ≡ None → files root ≡ Some bytes → Rest files (root_around root) (left bytes 1) [] (opening nothing_read bytes) r → Expands files root r
+pub expands_read : (files : Files) (root bytes : List ℕ) (r : Result Log Refused) → bytes_cause root 0 (files root) ≡ None → files root ≡ Some bytes →
+    Rest files (root_context root) (unread_lines bytes 1) [] (with_file nothing_read bytes) r → Expands files root r
 expands_read files root bytes r allowed found rest = rw allowed (bytes, found, rest)
 
 pub expands_refused : (files : Files) (root : List ℕ) (why : Cause) (e : Refused) → bytes_cause root 0 (files root) ≡ Some why → e ≡ refused why root 0 → Expands files root (Err e)

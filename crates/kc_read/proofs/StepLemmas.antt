@@ -3,26 +3,26 @@ use Rattle.std.proofs.Common.{◌≡◌, ◌≢◌, ℕ, Bool, true, false, cond
 use Rattle.std.specs.Prelude.{MatchOption}
 use Rattle.kc_text.specs.declared.faults.TextFault.{TextFault}
 use Rattle.kc_text.specs.declared.faults.TextFault.TheVariants as fault
-use Rattle.kc_text.specs.Lines.{Left, TakesLine, IsLineFault}
+use Rattle.kc_text.specs.Lines.{UnreadLines, TakesLine, IsLineFault}
 use Rattle.kc_text.specs.Help.{Drops, after_help}
-use Rattle.kc_text.specs.Tokens.{Piece, IsCut, IsCutting, IsRefused}
+use Rattle.kc_text.specs.Tokens.{TokenView, IsCut, IsCutting, IsRefused}
 use Rattle.kc_read.specs.declared.refusal.Refusal.{Refusal}
 use Rattle.kc_read.specs.declared.refusal.Code.TheVariants as code
-use Rattle.kc_read.specs.Statements.{Written}
+use Rattle.kc_read.specs.Statements.{Named}
 use Rattle.kc_read.specs.declared.statement.Fault.{Fault}
 use Rattle.kc_read.specs.LineReads.{IsFault, cause_of}
-use Rattle.kc_read.specs.Steps.{refusal_view}
+use Rattle.kc_read.specs.RefusalView.{refusal_view}
 use Rattle.kc_read.specs.NextStep.{IsStepRefusal, StepFault, too_long, no_tokens, refused_line}
 use Rattle.kc_text.specs.Lexemes.{Lexeme, lexeme}
-use Rattle.kc_text.specs.Tokens.{pieces}
+use Rattle.kc_text.specs.Tokens.{token_views}
 use Rattle.kc_text.specs.declared.tokens.Token.{Token}
 use Rattle.kc_expr.specs.Grammar.{lexemes_from}
-use Rattle.kc_read.specs.Lines.{Context, Cause, cause, begins_with, ReadsLine}
+use Rattle.kc_read.specs.Lines.{LineContext, Cause, cause, begins_with, ReadsLine}
 use Rattle.kc_read.specs.Expansion.{lexemes, is_help, without_help, NextStatement, refused, text_cause, long_line}
 
-pub lexemes-pieces : (ts : List Token) → lexemes (pieces ts) ≡ lexemes_from ts 0
-lexemes-pieces [] = refl
-lexemes-pieces (t ∷ ts) = ap (λ l. lexeme t.kind ∷ l) (lexemes-pieces ts)
+pub lexemes-token_views : (ts : List Token) → lexemes (token_views ts) ≡ lexemes_from ts 0
+lexemes-token_views [] = refl
+lexemes-token_views (t ∷ ts) = ap (λ l. lexeme t.kind ∷ l) (lexemes-token_views ts)
 
 pub help_first : (ls : List Lexeme) (b : Bool) → b ≡ begins_with (codes "help") ls → b ≡ true → b ≡ is_help ls
 help_first ls b e t = let h : begins_with (codes "help") ls ≡ true = sym e ∙ t in rw h t
@@ -37,7 +37,9 @@ cause_none (Some x) P Q e h = absurd cc
 view_with : (r : Refusal) (a b : Cause) (file : List ℕ) (m n : ℕ) → a ≡ b → m ≡ n → refusal_view r ≡ refused a file m → refusal_view r ≡ refused b file n
 view_with r a b file m n e d h = h ∙ ap (λ c. refused c file m) e ∙ ap (λ k. refused b file k) d
 
-pub line_fault : (file : List ℕ) (c : Context) (old : Left) (why : TextFault) (r : Refusal) (line : ℕ) (a : Cause) → old.refusal ≡ None → MatchOption old.refusal (IsLineFault old why) (λ given. given ≡ why) → line ≡ long_line why → a ≡ text_cause why → (r.code ≢ code.Memory → refusal_view r ≡ refused a file line) → IsStepRefusal file c old r
+pub line_fault : (file : List ℕ) (c : LineContext) (old : UnreadLines) (why : TextFault) (r : Refusal) (line : ℕ) (a : Cause) → old.refusal ≡ None →
+    MatchOption old.refusal (IsLineFault old why) (λ given. given ≡ why) → line ≡ long_line why → a ≡ text_cause why →
+    (r.code ≢ code.Memory → refusal_view r ≡ refused a file line) → IsStepRefusal file c old r
 line_fault file c old why r line a clear cause_is number_is a_is view = by why (cause_none old.refusal (IsLineFault old why) (λ given. given ≡ why) clear cause_is) number_is a_is
   where
     by : (w : TextFault) → IsLineFault old w → line ≡ long_line w → a ≡ text_cause w → IsStepRefusal file c old r
@@ -46,31 +48,45 @@ line_fault file c old why r line a clear cause_is number_is a_is view = by why (
     by fault.BadToken h d e ne = absurd h
     by fault.Macro h d e ne = absurd h
 
-refused_tokens : (c : Context) (old mid : Left) (text : List ℕ) (ts : List Piece) (why : TextFault) → TakesLine old mid text → IsCut text ts (Some why) → StepFault c old (text_cause why)
+refused_tokens : (c : LineContext) (old mid : UnreadLines) (text : List ℕ) (ts : List TokenView) (why : TextFault) → TakesLine old mid text →
+    IsCut text ts (Some why) → StepFault c old (text_cause why)
 refused_tokens c old mid text ts why t k = no_tokens (cond (is_help (lexemes ts)) (without_help mid) mid) ts why (record { middle = mid; text = text; taken = t; cut = k; left_after = refl })
 
-pub lex_fault : (file : List ℕ) (c : Context) (old mid : Left) (text : List ℕ) (why : TextFault) (r : Refusal) (line : ℕ) (a : Cause) → TakesLine old mid text → IsRefused text why → line ≡ old.number → a ≡ text_cause why → (r.code ≢ code.Memory → refusal_view r ≡ refused a file line) → IsStepRefusal file c old r
-lex_fault file c old mid text fault.Macro r line a t k d e view ne = (text_cause fault.Macro, refused_tokens c old mid text k.0 fault.Macro t k.1, view_with r a (text_cause fault.Macro) file line old.number e d (view ne))
-lex_fault file c old mid text fault.BadToken r line a t k d e view ne = (text_cause fault.BadToken, refused_tokens c old mid text k.0 fault.BadToken t k.1, view_with r a (text_cause fault.BadToken) file line old.number e d (view ne))
+pub lex_fault : (file : List ℕ) (c : LineContext) (old mid : UnreadLines) (text : List ℕ) (why : TextFault) (r : Refusal) (line : ℕ) (a : Cause) →
+    TakesLine old mid text → IsRefused text why → line ≡ old.number → a ≡ text_cause why → (r.code ≢ code.Memory → refusal_view r ≡ refused a file line) →
+    IsStepRefusal file c old r
+lex_fault file c old mid text fault.Macro r line a t k d e view ne =
+    (text_cause fault.Macro, refused_tokens c old mid text k.0 fault.Macro t k.1, view_with r a (text_cause fault.Macro) file line old.number e d (view ne))
+lex_fault file c old mid text fault.BadToken r line a t k d e view ne = (
+  text_cause fault.BadToken,
+  refused_tokens c old mid text k.0 fault.BadToken t k.1,
+  view_with r a (text_cause fault.BadToken) file line old.number e d
+      (view ne),
+)
 lex_fault file c old mid text (fault.LineTooLong n) r line a t k d e view ne = absurd k
 lex_fault file c old mid text fault.Memory r line a t k d e view ne = absurd (ne (ap (λ v. v.code) (view ne) ∙ ap (λ x. x.code) e))
 
-pub left_help : (ls : List Lexeme) (mid new : Left) → is_help ls ≡ true → Drops mid new (after_help mid.lines) → new ≡ cond (is_help ls) (without_help mid) mid
+pub left_help : (ls : List Lexeme) (mid new : UnreadLines) → is_help ls ≡ true → Drops mid new (after_help mid.lines) → new ≡ cond (is_help ls) (without_help mid) mid
 left_help ls mid new t d = rw t (λ i. record { lines = d.lines i; number = d.number i; refusal = d.refusal i })
 
-pub left_other : (ls : List Lexeme) (mid new : Left) → is_help ls ≡ false → new ≡ mid → new ≡ cond (is_help ls) (without_help mid) mid
+pub left_other : (ls : List Lexeme) (mid new : UnreadLines) → is_help ls ≡ false → new ≡ mid → new ≡ cond (is_help ls) (without_help mid) mid
 left_other ls mid new f e = rw f e
 
-pub next_statement : (c : Context) (old mid new : Left) (text : List ℕ) (ts : List Token) (r : Result Written Cause) → TakesLine old mid text → IsCutting text (pieces ts) → ts ≢ [] → ReadsLine c (lexemes_from ts 0) r → new ≡ cond (is_help (lexemes (pieces ts))) (without_help mid) mid → NextStatement old new c r
+pub next_statement : (c : LineContext) (old mid new : UnreadLines) (text : List ℕ) (ts : List Token) (r : Result Named Cause) → TakesLine old mid text →
+    IsCutting text (token_views ts) → ts ≢ [] → ReadsLine c (lexemes_from ts 0) r → new ≡ cond (is_help (lexemes (token_views ts))) (without_help mid) mid →
+    NextStatement old new c r
 next_statement c old mid new text [] r t k some reads e = absurd (some refl)
 next_statement c old mid new text (x ∷ xs) r t k some reads e = record {
-  tokens = pieces (x ∷ xs);
+  tokens = token_views (x ∷ xs);
   some = λ p. absurd cc;
   next = record { middle = mid; text = text; taken = t; cut = k; left_after = e };
-  reads = subst (λ ls. ReadsLine c ls r) (sym (lexemes-pieces (x ∷ xs))) reads;
+  reads = subst (λ ls. ReadsLine c ls r) (sym (lexemes-token_views (x ∷ xs))) reads;
 }
 
-pub read_refused : (file : List ℕ) (c : Context) (old mid new : Left) (text : List ℕ) (ts : List Token) (f : Fault) (r : Refusal) (line : ℕ) → TakesLine old mid text → IsCutting text (pieces ts) → ts ≢ [] → new ≡ cond (is_help (lexemes (pieces ts))) (without_help mid) mid → IsFault f (λ y. ReadsLine c (lexemes_from ts 0) (Err y)) → line ≡ old.number → (r.code ≢ code.Memory → refusal_view r ≡ refused (cause_of f) file line) → IsStepRefusal file c old r
+pub read_refused : (file : List ℕ) (c : LineContext) (old mid new : UnreadLines) (text : List ℕ) (ts : List Token) (f : Fault) (r : Refusal) (line : ℕ) →
+    TakesLine old mid text → IsCutting text (token_views ts) → ts ≢ [] → new ≡ cond (is_help (lexemes (token_views ts))) (without_help mid) mid →
+    IsFault f (λ y. ReadsLine c (lexemes_from ts 0) (Err y)) → line ≡ old.number → (r.code ≢ code.Memory → refusal_view r ≡ refused (cause_of f) file line) →
+    IsStepRefusal file c old r
 read_refused file c old mid new text ts f r line t k some e h d view ne =
     let g : f.code ≢ code.Memory = λ p. ne (ap (λ v. v.code) (view ne) ∙ p) in
     (cause_of f, refused_line new (cause_of f) (next_statement c old mid new text ts (Err (cause_of f)) t k some (h g) e), view ne ∙ ap (λ n. refused (cause_of f) file n) d)

@@ -4,8 +4,8 @@ use Rattle.std.specs.List.{take_while, filter_map}
 use Rattle.std.specs.Option.{option_or}
 use Rattle.kc_read.specs.declared.statement.Block.{Block}
 use Rattle.kc_read.specs.declared.statement.Block.TheVariants as block
-use Rattle.kc_read.specs.declared.statement.Entry.{Entry}
-use Rattle.kc_read.specs.declared.statement.Entry.TheVariants as entry
+use Rattle.kc_read.specs.declared.statement.EntryKind.{EntryKind}
+use Rattle.kc_read.specs.declared.statement.EntryKind.TheVariants as entry
 use Rattle.kc_read.specs.Statements.{Statement, ConfigLine, IfLine, EndIfLine, CommentLine, MenuLine, EndMenuLine, ChoiceLine, EndChoiceLine, TypeLine, PromptLine, DefaultLine, DefLine, DependsLine, VisibleLine, SelectLine, ImplyLine, RangeLine, HelpLine, ModulesLine, IgnoredLine}
 
 pub data Bracket : Type 0 where
@@ -73,8 +73,8 @@ module _ {E L S : Type 0} where
   is_attribute IgnoredLine = true
   is_attribute _ = false
 
-  abbrev pub is_other : Statement E L S → Bool
-  is_other s = if is_attribute s then false else true
+  abbrev pub is_no_attribute : Statement E L S → Bool
+  is_no_attribute s = if is_attribute s then false else true
 
   -- a block that was open stays open through these statements, with d brackets open in it
   abbrev pub stays_open : ℕ → List (Statement E L S) → Bool
@@ -99,7 +99,7 @@ module _ {E L S : Type 0} where
   abbrev pub open_blocks : List (Statement E L S) → List Block
   open_blocks ss = filter_map (λ j. opened (bracket_at ss j)) (open_places ss)
 
-  -- the places of the openers of the blocks that are open before statement i: those round it, and for a statement that
+  -- the places of the openers of the blocks that are open before statement i: those that enclose it, and for a statement that
   -- closes a block that block too, so that a closer counts as inside its own block
   abbrev pub enclosing : List (Statement E L S) → ℕ → List ℕ
   enclosing ss i = open_places (take i ss)
@@ -109,35 +109,35 @@ module _ {E L S : Type 0} where
   attributes ss j = take_while is_attribute (drop (suc j) ss)
 
   -- the last statement that is no attribute
-  abbrev pub last_other : List (Statement E L S) → Option (Statement E L S)
-  last_other ss = last_of (filter is_other ss)
+  abbrev pub last_no_attribute : List (Statement E L S) → Option (Statement E L S)
+  last_no_attribute ss = last_of (filter is_no_attribute ss)
 
-  abbrev pub entry_of : Option (Statement E L S) → Entry
+  abbrev pub entry_of : Option (Statement E L S) → EntryKind
   entry_of (Some (ConfigLine n)) = entry.Config
   entry_of (Some ChoiceLine) = entry.Choice
   entry_of (Some (MenuLine t)) = entry.Menu
   entry_of (Some (CommentLine t)) = entry.Comment
   entry_of _ = entry.Nothing
 
-  abbrev pub name_at : Statement E L S → Option S
-  name_at (ConfigLine n) = Some n
-  name_at _ = None
+  abbrev pub defined_name : Statement E L S → Option S
+  defined_name (ConfigLine n) = Some n
+  defined_name _ = None
 
   -- the names that are defined, each as often as it is
   abbrev pub definitions : List (Statement E L S) → List S
-  definitions = filter_map name_at
+  definitions = filter_map defined_name
 
   abbrev pub is_modules : Statement E L S → Bool
   is_modules ModulesLine = true
   is_modules _ = false
 
   -- a `modules` line stands before the next `config` line
-  abbrev pub is_marked : List (Statement E L S) → Bool
-  is_marked [] = false
-  is_marked (s ∷ ss) = if is_modules s then true else (if is_some (name_at s) then false else is_marked ss)
+  abbrev pub has_modules_line : List (Statement E L S) → Bool
+  has_modules_line [] = false
+  has_modules_line (s ∷ ss) = if is_modules s then true else (if is_some (defined_name s) then false else has_modules_line ss)
 
   -- The modules symbol's name, that of the last `config` line before the first `modules` line: of the first `config` line
   -- that a `modules` line follows before the next `config` line.
   abbrev pub modules_of : List (Statement E L S) → Option S
   modules_of [] = None
-  modules_of (s ∷ ss) = option_or (if is_marked ss then name_at s else None) (modules_of ss)
+  modules_of (s ∷ ss) = option_or (if has_modules_line ss then defined_name s else None) (modules_of ss)

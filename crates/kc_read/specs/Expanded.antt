@@ -6,9 +6,9 @@ use Rattle.kc_expr.specs.Names.{all_mentioned, symbol, IsNumber}
 use Rattle.kc_read.specs.declared.expansion.Expansion.{Expansion}
 use Rattle.kc_read.specs.Blocks.{modules_of}
 use Rattle.kc_read.specs.Expansion.{Log, statements, defined}
-use Rattle.kc_read.specs.Numbering.{place_numbered}
-use Rattle.kc_read.specs.Reads.{ForLater, line_view}
-use Rattle.kc_read.specs.Statements.{statement_words}
+use Rattle.kc_read.specs.Numbering.{located_numbered}
+use Rattle.kc_read.specs.StatementViews.{ForLater, line_view}
+use Rattle.kc_read.specs.Statements.{names_in_statement}
 
 -- the number of a name, where there is a name
 abbrev pub IsNamed : List (List ℕ) → Option SymId → Option (List ℕ) → Type 0
@@ -23,7 +23,7 @@ AreNumbers names ids ns = ForLater names (λ number. ids ≡ map (λ n. symbol (
 
 -- the expanded list that was read: the names stood at first, and are names now
 pub record IsExpansion (first : List (List ℕ)) (modules : Option SymId) (names : List (List ℕ)) (log : Log) (e : Expansion) : Type 0 where
-  pub lines : ForLater names (λ number. map line_view e.lines.items ≡ map (place_numbered modules number) log.lines)
-  pub mentions : names ≡ all_mentioned first (flat_map statement_words (statements log.lines))
+  pub lines : ForLater names (λ number. map line_view e.lines.items ≡ map (located_numbered modules number) log.lines)
+  pub mentions : names ≡ all_mentioned first (flat_map names_in_statement (statements log.lines))
   pub defined_is : AreNumbers names e.defined (defined (statements log.lines))
   pub modules_is : IsNamed names e.modules (modules_of (statements log.lines))

@@ -4,11 +4,11 @@ pub mod Expansion
 pub mod Files
 pub mod Limits
 pub mod Lines
-pub mod Openings
+pub mod OpenedFiles
 pub mod Statements
-pub mod Reads
+pub mod StatementViews
 pub mod LineReads
-pub mod Steps
+pub mod RefusalView
 pub mod NextStep
 pub mod Numbering
 pub mod Existing

@@ -2,7 +2,7 @@
 use Rattle.std.specs.Prelude.{◌≡◌, ◌≢◌, ℕ, ◌+◌, ◌<◌, List, [], ◌∷◌, length, Bool, true, false, Option, Some, None, Result, Ok, Err, option_map}
 use Rattle.kc_expr.specs.declared.expression.SymId.{SymId}
 use Rattle.kc_expr.specs.Form.{Form, Leaf}
-use Rattle.kc_expr.specs.Grammar.{Disjunction, Atom, leaf, lexemes_from, meaning_or, words, atom_words}
+use Rattle.kc_expr.specs.Grammar.{Disjunction, Atom, leaf, lexemes_from, meaning_or, names_in, names_in_atom}
 use Rattle.kc_expr.specs.Names.{all_mentioned}
 use Rattle.kc_text.specs.Escapes.{unescape}
 use Rattle.kc_text.specs.Lexemes.{Lexeme, lexeme}
@@ -10,10 +10,10 @@ use Rattle.kc_text.specs.declared.tokens.Token.{Token}
 use Rattle.kc_read.specs.declared.refusal.Code.TheVariants as code
 use Rattle.kc_read.specs.declared.statement.Fault.{Fault}
 use Rattle.kc_read.specs.declared.statement.Statement.{Statement}
-use Rattle.kc_read.specs.Statements.{Written, numbered, statement_words, condition_words}
+use Rattle.kc_read.specs.Statements.{Named, numbered, names_in_statement, names_in_condition}
 use Rattle.kc_read.specs.Lines.{Cause, front, StartsExpression, IsWhole, IsCondition}
 use Rattle.kc_text.specs.declared.tokens.TokenKind.{TokenKind}
-use Rattle.kc_read.specs.Reads.{ForLater, statement_view}
+use Rattle.kc_read.specs.StatementViews.{ForLater, statement_view}
 
 -- what a refusal of a line says, unless memory ran out
 abbrev pub cause_of : Fault → Cause
@@ -29,9 +29,9 @@ IsToken None tokens at = lexemes_from tokens at ≡ []
 IsToken (Some k) tokens at = (at < length tokens) × (lexemes_from tokens at ≡ lexeme k ∷ lexemes_from tokens (at + 1))
 
 -- the text that these bytes say, in quotes or as a word
-abbrev pub text_said : Bool → List ℕ → List ℕ
-text_said true t = unescape t
-text_said false t = t
+abbrev pub unquoted_text : Bool → List ℕ → List ℕ
+unquoted_text true t = unescape t
+unquoted_text false t = t
 
 -- a part that is one token was read, or refused
 abbrev pub IsPart : {A B : Type 0} → Result B Cause → (A → B) → Result A Fault → Type 0
@@ -39,43 +39,39 @@ IsPart part view (Ok a) = part ≡ Ok (view a)
 IsPart part view (Err f) = IsFault f (λ c. part ≡ Err c)
 
 -- the statement that was made of what is written, and the names that it mentioned
-pub record IsMade (modules : Option SymId) (old names : List (List ℕ)) (s : Statement) (x : Written) : Type 0 where
-  pub mentions : names ≡ all_mentioned old (statement_words x)
+pub record IsMade (modules : Option SymId) (old names : List (List ℕ)) (s : Statement) (x : Named) : Type 0 where
+  pub mentions : names ≡ all_mentioned old (names_in_statement x)
   pub form : ForLater names (λ number. statement_view s ≡ numbered modules number x)
 
 -- the line's statement was read, or refused
-abbrev pub IsRead : Option SymId → List (List ℕ) → List (List ℕ) → (Result Written Cause → Type 0) → Result Statement Fault → Type 0
-IsRead modules old names Reads (Ok s) = (x : Written) × Reads (Ok x) × IsMade modules old names s x
+abbrev pub IsRead : Option SymId → List (List ℕ) → List (List ℕ) → (Result Named Cause → Type 0) → Result Statement Fault → Type 0
+IsRead modules old names Reads (Ok s) = (x : Named) × Reads (Ok x) × IsMade modules old names s x
 IsRead modules old names Reads (Err f) = IsFault f (λ c. Reads (Err c))
 
 -- an expression and the place after it
 pub record IsFront (condition : Option SymId) (old names : List (List ℕ)) (ts rest : List Lexeme) (e : Form) : Type 0 where
   pub tree : Disjunction
   pub starts : StartsExpression ts (front tree rest)
-  pub mentions : names ≡ all_mentioned old (words tree)
+  pub mentions : names ≡ all_mentioned old (names_in tree)
   pub form : ForLater names (λ number. e ≡ meaning_or condition number tree)
 
 -- an expression up to the end of the line
 pub record IsWholeForm (condition : Option SymId) (old names : List (List ℕ)) (ts : List Lexeme) (e : Form) : Type 0 where
   pub tree : Disjunction
   pub whole : IsWhole ts tree
-  pub mentions : names ≡ all_mentioned old (words tree)
+  pub mentions : names ≡ all_mentioned old (names_in tree)
   pub form : ForLater names (λ number. e ≡ meaning_or condition number tree)
 
 -- a condition up to the end of the line
 pub record IsConditionForm (condition : Option SymId) (old names : List (List ℕ)) (ts : List Lexeme) (e : Option Form) : Type 0 where
   pub tree : Option Disjunction
   pub condition_is : IsCondition ts tree
-  pub mentions : names ≡ all_mentioned old (condition_words tree)
+  pub mentions : names ≡ all_mentioned old (names_in_condition tree)
   pub form : ForLater names (λ number. e ≡ option_map (meaning_or condition number) tree)
-
--- what is wrong with the place of a line
-abbrev pub IsPlaceFault : Option Cause → Option Fault → Type 0
-IsPlaceFault c f = option_map cause_of f ≡ c
 
 -- the operand that was read
 pub record IsOperand (old names : List (List ℕ)) (part : Result Atom Cause) (l : Leaf) : Type 0 where
   pub atom : Atom
   pub part_is : part ≡ Ok atom
-  pub mentions : names ≡ all_mentioned old (atom_words atom)
+  pub mentions : names ≡ all_mentioned old (names_in_atom atom)
   pub form : ForLater names (λ number. l ≡ leaf number atom)

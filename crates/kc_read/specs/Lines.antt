@@ -6,7 +6,7 @@ use Rattle.kc_text.specs.Lexemes.{Lexeme, AWord, AQuoted, AnOp}
 use Rattle.kc_text.specs.Escapes.{unescape}
 use Rattle.kc_expr.specs.declared.expression.Kind.{Kind}
 use Rattle.kc_expr.specs.declared.expression.Kind.TheVariants as kind
-use Rattle.kc_expr.specs.Grammar.{Disjunction, Atom, WordAtom, QuotedAtom, spell_or, levels_or, terminals, LongestFront, if_word, is_letter}
+use Rattle.kc_expr.specs.Grammar.{Disjunction, Atom, WordAtom, QuotedAtom, spell_or, levels_or, terminals, LongestFront, if_word, is_tristate_constant}
 use Rattle.kc_expr.specs.Limits.{longest_name, most_levels}
 use Rattle.kc_expr.specs.Names.{is_name_byte, same_name}
 use Rattle.kc_expr.specs.Parsing.{IsNoExpression, IsTooDeep}
@@ -18,9 +18,9 @@ use Rattle.kc_read.specs.declared.statement.Keyword.{Keyword}
 use Rattle.kc_read.specs.declared.statement.Keyword.TheVariants as key
 use Rattle.kc_read.specs.declared.statement.Block.{Block}
 use Rattle.kc_read.specs.declared.statement.Block.TheVariants as block
-use Rattle.kc_read.specs.declared.statement.Entry.{Entry}
-use Rattle.kc_read.specs.declared.statement.Entry.TheVariants as entry
-use Rattle.kc_read.specs.Statements.{Written, Asked, ConfigLine, IfLine, EndIfLine, CommentLine, SourceLine, MenuLine, EndMenuLine, ChoiceLine, EndChoiceLine, MainMenuLine, TypeLine, PromptLine, DefaultLine, DefLine, DependsLine, VisibleLine, SelectLine, ImplyLine, RangeLine, HelpLine, ModulesLine, IgnoredLine}
+use Rattle.kc_read.specs.declared.statement.EntryKind.{EntryKind}
+use Rattle.kc_read.specs.declared.statement.EntryKind.TheVariants as entry
+use Rattle.kc_read.specs.Statements.{Named, InputPrompt, ConfigLine, IfLine, EndIfLine, CommentLine, SourceLine, MenuLine, EndMenuLine, ChoiceLine, EndChoiceLine, MainMenuLine, TypeLine, PromptLine, DefaultLine, DefLine, DependsLine, VisibleLine, SelectLine, ImplyLine, RangeLine, HelpLine, ModulesLine, IgnoredLine}
 
 -- why a line is refused
 pub record Cause : Type 0 where
@@ -112,9 +112,9 @@ keyword_of w = keyword_in keyword_words w
 
 -- Whether the line stands in a right place.
 
--- what surrounds a line: its entry, its file's innermost open block, if a choice is open, and if it may say `modules`
-pub record Context : Type 0 where
-  pub entry : Entry
+-- the context of a line: its entry, its file's innermost open block, if a choice is open, and if it may say `modules`
+pub record LineContext : Type 0 where
+  pub entry : EntryKind
   pub own : Option Block
   pub in_choice : Bool
   pub modules : Bool
@@ -129,39 +129,39 @@ abbrev pub unless_placed : Bool → Option Cause
 unless_placed true = None
 unless_placed false = Some misplaced_cause
 
-abbrev pub is_config : Entry → Bool
+abbrev pub is_config : EntryKind → Bool
 is_config entry.Config = true
 is_config entry.Choice = false
 is_config entry.Menu = false
 is_config entry.Comment = false
 is_config entry.Nothing = false
 
-abbrev pub is_choice : Entry → Bool
+abbrev pub is_choice : EntryKind → Bool
 is_choice entry.Config = false
 is_choice entry.Choice = true
 is_choice entry.Menu = false
 is_choice entry.Comment = false
 is_choice entry.Nothing = false
 
-abbrev pub is_menu : Entry → Bool
+abbrev pub is_menu : EntryKind → Bool
 is_menu entry.Config = false
 is_menu entry.Choice = false
 is_menu entry.Menu = true
 is_menu entry.Comment = false
 is_menu entry.Nothing = false
 
-abbrev pub is_entry : Entry → Bool
+abbrev pub is_entry : EntryKind → Bool
 is_entry entry.Config = true
 is_entry entry.Choice = true
 is_entry entry.Menu = true
 is_entry entry.Comment = true
 is_entry entry.Nothing = false
 
-abbrev pub type_place : Entry → Kind → Option Cause
-type_place entry.Config k = None
-type_place entry.Choice kind.Bool = None
-type_place entry.Choice kind.Tristate = Some (left_out (codes "tristate choice"))
-type_place e k = Some misplaced_cause
+abbrev pub type_placement : EntryKind → Kind → Option Cause
+type_placement entry.Config k = None
+type_placement entry.Choice kind.Bool = None
+type_placement entry.Choice kind.Tristate = Some (left_out (codes "tristate choice"))
+type_placement e k = Some misplaced_cause
 
 -- the next token is this word
 abbrev pub begins_with : List ℕ → List Lexeme → Bool
@@ -170,31 +170,31 @@ begins_with w (AWord v ∷ ts) = same_name v w
 begins_with w (AQuoted t ∷ ts) = false
 begins_with w (AnOp o ∷ ts) = false
 
--- what is wrong with the first word, or with the place of the line, where something is
-abbrev pub place_cause : Context → List ℕ → List Lexeme → Keyword → Option Cause
-place_cause c w ts key.Config = None
-place_cause c w ts key.If = None
-place_cause c w ts key.EndIf = closes block.If c.own
-place_cause c w ts key.Comment = None
-place_cause c w ts key.Source = None
-place_cause c w ts key.Menu = unless_placed (not c.in_choice)
-place_cause c w ts key.EndMenu = closes block.Menu c.own
-place_cause c w ts key.Choice = unless_placed (not c.in_choice)
-place_cause c w ts key.EndChoice = closes block.Choice c.own
-place_cause c w ts key.MainMenu = unless_placed (not c.in_choice)
-place_cause c w ts (key.Type k) = type_place c.entry k
-place_cause c w ts key.Prompt = unless_placed (is_config c.entry || is_choice c.entry)
-place_cause c w ts key.Default = unless_placed (is_config c.entry || is_choice c.entry)
-place_cause c w ts (key.Def k) = unless_placed (is_config c.entry)
-place_cause c w ts key.Depends = unless_placed (is_entry c.entry)
-place_cause c w ts key.Visible = unless_placed (is_menu c.entry)
-place_cause c w ts key.Select = unless_placed (is_config c.entry)
-place_cause c w ts key.Imply = unless_placed (is_config c.entry)
-place_cause c w ts key.Range = unless_placed (is_config c.entry)
-place_cause c w ts key.Help = unless_placed (is_config c.entry || is_choice c.entry)
-place_cause c w ts key.Modules = unless_placed (is_config c.entry && c.modules)
-place_cause c w ts key.«Option» = if begins_with (codes "modules") ts then unless_placed (is_config c.entry && c.modules) else unless_placed (is_config c.entry)
-place_cause c w ts key.LeftOut = Some (left_out w)
+-- what is wrong with the first word, or with the placement of the line, where something is
+abbrev pub placement_cause : LineContext → List ℕ → List Lexeme → Keyword → Option Cause
+placement_cause c w ts key.Config = None
+placement_cause c w ts key.If = None
+placement_cause c w ts key.EndIf = closes block.If c.own
+placement_cause c w ts key.Comment = None
+placement_cause c w ts key.Source = None
+placement_cause c w ts key.Menu = unless_placed (not c.in_choice)
+placement_cause c w ts key.EndMenu = closes block.Menu c.own
+placement_cause c w ts key.Choice = unless_placed (not c.in_choice)
+placement_cause c w ts key.EndChoice = closes block.Choice c.own
+placement_cause c w ts key.MainMenu = unless_placed (not c.in_choice)
+placement_cause c w ts (key.Type k) = type_placement c.entry k
+placement_cause c w ts key.Prompt = unless_placed (is_config c.entry || is_choice c.entry)
+placement_cause c w ts key.Default = unless_placed (is_config c.entry || is_choice c.entry)
+placement_cause c w ts (key.Def k) = unless_placed (is_config c.entry)
+placement_cause c w ts key.Depends = unless_placed (is_entry c.entry)
+placement_cause c w ts key.Visible = unless_placed (is_menu c.entry)
+placement_cause c w ts key.Select = unless_placed (is_config c.entry)
+placement_cause c w ts key.Imply = unless_placed (is_config c.entry)
+placement_cause c w ts key.Range = unless_placed (is_config c.entry)
+placement_cause c w ts key.Help = unless_placed (is_config c.entry || is_choice c.entry)
+placement_cause c w ts key.Modules = unless_placed (is_config c.entry && c.modules)
+placement_cause c w ts key.«Option» = if begins_with (codes "modules") ts then unless_placed (is_config c.entry && c.modules) else unless_placed (is_config c.entry)
+placement_cause c w ts key.LeftOut = Some (left_out w)
 
 -- Parts of a line.
 
@@ -239,7 +239,7 @@ IsWhole ts d = StartsExpression ts (front d [])
 abbrev pub WholeFault : List Lexeme → Cause → Type 0
 WholeFault ts c = ExpressionFault ts c ⊎ ((f : Front) × StartsExpression ts f × IsMore f.rest × (c ≡ syntax_cause))
 
-abbrev pub ReadsWhole : (Disjunction → Written) → List Lexeme → Result Written Cause → Type 0
+abbrev pub ReadsWhole : (Disjunction → Named) → List Lexeme → Result Named Cause → Type 0
 ReadsWhole make ts (Ok x) = (d : Disjunction) × IsWhole ts d × (x ≡ make d)
 ReadsWhole make ts (Err c) = WholeFault ts c
 
@@ -253,7 +253,7 @@ ConditionFault ts c =
     ((begins_with if_word ts ≡ true) × WholeFault (drop 1 ts) c)
     ⊎ (IsMore ts × (begins_with if_word ts ≡ false) × (c ≡ syntax_cause))
 
-abbrev pub ReadsCondition : (Option Disjunction → Written) → List Lexeme → Result Written Cause → Type 0
+abbrev pub ReadsCondition : (Option Disjunction → Named) → List Lexeme → Result Named Cause → Type 0
 ReadsCondition make ts (Ok x) = (w : Option Disjunction) × IsCondition ts w × (x ≡ make w)
 ReadsCondition make ts (Err c) = ConditionFault ts c
 
@@ -274,7 +274,7 @@ word_of (AnOp o ∷ ts) = Err syntax_cause
 -- the name that a select or an imply names
 abbrev pub target_of : List Lexeme → Result (List ℕ) Cause
 target_of [] = Err syntax_cause
-target_of (AWord w ∷ ts) = if same_name w if_word || is_letter w then Err syntax_cause else Ok w
+target_of (AWord w ∷ ts) = if same_name w if_word || is_tristate_constant w then Err syntax_cause else Ok w
 target_of (AQuoted t ∷ ts) = Err syntax_cause
 target_of (AnOp o ∷ ts) = Err syntax_cause
 
@@ -289,7 +289,7 @@ operand_of (AnOp o ∷ ts) = Err syntax_cause
 abbrev pub After : {A B : Type 0} → Result A Cause → (A → Result B Cause → Type 0) → Result B Cause → Type 0
 After o Next r = MatchResult o (λ a. Next a r) (λ c. r ≡ Err c)
 
-abbrev pub ReadsTextLine : (List ℕ → Written) → List Lexeme → Result Written Cause → Type 0
+abbrev pub ReadsTextLine : (List ℕ → Named) → List Lexeme → Result Named Cause → Type 0
 ReadsTextLine make ts = After (text_of ts) (λ t r. r ≡ finish (make t) (drop 1 ts))
 
 -- `*`, `?` or `[` stands in the text
@@ -299,32 +299,32 @@ is_pattern t = list_any (λ b. b == byte "*" || b == byte "?" || b == byte "[") 
 abbrev pub plain_text : List ℕ → Result (List ℕ) Cause
 plain_text t = if is_pattern t then Err (left_out (codes "pattern")) else Ok t
 
-abbrev pub ReadsSource : List Lexeme → Result Written Cause → Type 0
+abbrev pub ReadsSource : List Lexeme → Result Named Cause → Type 0
 ReadsSource ts = After (text_of ts) (λ t. After (plain_text t) (λ u r. r ≡ finish (SourceLine u) (drop 1 ts)))
 
 -- one byte or more that may stand in a name, not too many, and none of the words n, m, y and if
 abbrev pub is_good_name : List ℕ → Bool
-is_good_name w = if same_name w if_word || is_letter w then false else (nat_le 1 (length w) && nat_le (length w) longest_name && list_all is_name_byte w)
+is_good_name w = if same_name w if_word || is_tristate_constant w then false else (nat_le 1 (length w) && nat_le (length w) longest_name && list_all is_name_byte w)
 
-abbrev pub good_name : List ℕ → Result Written Cause
+abbrev pub good_name : List ℕ → Result Named Cause
 good_name w = if is_good_name w then Ok (ConfigLine w) else Err (record { code = code.BadName; detail = w })
 
-abbrev pub ReadsConfig : List Lexeme → Result Written Cause → Type 0
+abbrev pub ReadsConfig : List Lexeme → Result Named Cause → Type 0
 ReadsConfig ts = After (word_of ts) (λ w. After (finish w (drop 1 ts)) (λ v r. r ≡ good_name v))
 
-abbrev pub choice_line : List Lexeme → Result Written Cause
+abbrev pub choice_line : List Lexeme → Result Named Cause
 choice_line [] = Ok ChoiceLine
 choice_line (t ∷ ts) = Err (left_out (codes "named choice"))
 
 -- a text, and then a condition
-abbrev pub ReadsAsked : (Asked Disjunction → Written) → List Lexeme → Result Written Cause → Type 0
-ReadsAsked make ts = After (text_of ts) (λ t. ReadsCondition (λ w. make (record { text = t; when = w })) (drop 1 ts))
+abbrev pub ReadsPrompt : (InputPrompt Disjunction → Named) → List Lexeme → Result Named Cause → Type 0
+ReadsPrompt make ts = After (text_of ts) (λ t. ReadsCondition (λ w. make (record { text = t; when = w })) (drop 1 ts))
 
-abbrev pub ReadsType : Kind → List Lexeme → Result Written Cause → Type 0
-ReadsType k ts r = ((ts ≡ []) × (r ≡ Ok (TypeLine k None))) ⊎ (IsMore ts × ReadsAsked (λ p. TypeLine k (Some p)) ts r)
+abbrev pub ReadsType : Kind → List Lexeme → Result Named Cause → Type 0
+ReadsType k ts r = ((ts ≡ []) × (r ≡ Ok (TypeLine k None))) ⊎ (IsMore ts × ReadsPrompt (λ p. TypeLine k (Some p)) ts r)
 
 -- a value, and then a condition
-abbrev pub ReadsValue : (Disjunction → Option Disjunction → Written) → List Lexeme → Result Written Cause → Type 0
+abbrev pub ReadsValue : (Disjunction → Option Disjunction → Named) → List Lexeme → Result Named Cause → Type 0
 ReadsValue make ts (Ok x) = (f : Front) × (w : Option Disjunction) × StartsExpression ts f × IsCondition f.rest w × (x ≡ make f.tree w)
 ReadsValue make ts (Err c) = ExpressionFault ts c ⊎ ((f : Front) × StartsExpression ts f × ConditionFault f.rest c)
 
@@ -332,19 +332,19 @@ ReadsValue make ts (Err c) = ExpressionFault ts c ⊎ ((f : Front) × StartsExpr
 abbrev pub expected : List ℕ → List Lexeme → Result (List Lexeme) Cause
 expected w ts = if begins_with w ts then Ok (drop 1 ts) else Err syntax_cause
 
-abbrev pub ReadsDepends : List Lexeme → Result Written Cause → Type 0
+abbrev pub ReadsDepends : List Lexeme → Result Named Cause → Type 0
 ReadsDepends ts r = After (expected (codes "on") ts) (λ us. ReadsWhole DependsLine us) r
 
-abbrev pub ReadsVisible : List Lexeme → Result Written Cause → Type 0
+abbrev pub ReadsVisible : List Lexeme → Result Named Cause → Type 0
 ReadsVisible ts r = After (expected if_word ts) (λ us. ReadsWhole VisibleLine us) r
 
-abbrev pub ReadsTarget : (List ℕ → Option Disjunction → Written) → List Lexeme → Result Written Cause → Type 0
+abbrev pub ReadsTarget : (List ℕ → Option Disjunction → Named) → List Lexeme → Result Named Cause → Type 0
 ReadsTarget make ts = After (target_of ts) (λ t. ReadsCondition (make t) (drop 1 ts))
 
-abbrev pub ReadsRange : List Lexeme → Result Written Cause → Type 0
+abbrev pub ReadsRange : List Lexeme → Result Named Cause → Type 0
 ReadsRange ts = After (operand_of ts) (λ a. After (operand_of (drop 1 ts)) (λ b. ReadsCondition (RangeLine a b) (drop 2 ts)))
 
-abbrev pub option_line : List Lexeme → Result Written Cause
+abbrev pub option_line : List Lexeme → Result Named Cause
 option_line ts =
     if begins_with (codes "modules") ts then finish ModulesLine (drop 1 ts)
     else if begins_with (codes "allnoconfig_y") ts then finish IgnoredLine (drop 1 ts)
@@ -353,7 +353,7 @@ option_line ts =
     else Err syntax_cause
 
 -- what follows the first word
-abbrev pub ReadsRest : List ℕ → Keyword → List Lexeme → Result Written Cause → Type 0
+abbrev pub ReadsRest : List ℕ → Keyword → List Lexeme → Result Named Cause → Type 0
 ReadsRest w key.Config ts r = ReadsConfig ts r
 ReadsRest w key.If ts r = ReadsWhole IfLine ts r
 ReadsRest w key.EndIf ts r = r ≡ finish EndIfLine ts
@@ -365,7 +365,7 @@ ReadsRest w key.Choice ts r = r ≡ choice_line ts
 ReadsRest w key.EndChoice ts r = r ≡ finish EndChoiceLine ts
 ReadsRest w key.MainMenu ts r = ReadsTextLine MainMenuLine ts r
 ReadsRest w (key.Type k) ts r = ReadsType k ts r
-ReadsRest w key.Prompt ts r = ReadsAsked PromptLine ts r
+ReadsRest w key.Prompt ts r = ReadsPrompt PromptLine ts r
 ReadsRest w key.Default ts r = ReadsValue DefaultLine ts r
 ReadsRest w (key.Def k) ts r = ReadsValue (DefLine k) ts r
 ReadsRest w key.Depends ts r = ReadsDepends ts r
@@ -378,7 +378,7 @@ ReadsRest w key.Modules ts r = r ≡ finish ModulesLine ts
 ReadsRest w key.«Option» ts r = r ≡ option_line ts
 ReadsRest w key.LeftOut ts r = r ≡ Err (left_out w)
 
--- nothing is wrong with the place
+-- nothing is wrong with the placement
 abbrev pub in_place : Keyword → Option Cause → Result Keyword Cause
 in_place k None = Ok k
 in_place k (Some why) = Err why
@@ -387,14 +387,14 @@ abbrev pub known : Option Keyword → Result Keyword Cause
 known None = Err syntax_cause
 known (Some k) = Ok k
 
--- the place, and then the rest
-abbrev pub ReadsPlaced : Context → List ℕ → List Lexeme → Keyword → Result Written Cause → Type 0
-ReadsPlaced c w ts k r = After (in_place k (place_cause c w ts k)) (λ j. ReadsRest w j ts) r
+-- the placement, and then the rest
+abbrev pub ReadsPlaced : LineContext → List ℕ → List Lexeme → Keyword → Result Named Cause → Type 0
+ReadsPlaced c w ts k r = After (in_place k (placement_cause c w ts k)) (λ j. ReadsRest w j ts) r
 
--- the whole line: its first word, its place and its rest, in this order
-abbrev pub ReadsLine : Context → List Lexeme → Result Written Cause → Type 0
+-- the whole line: its first word, its placement and its rest, in this order
+abbrev pub ReadsLine : LineContext → List Lexeme → Result Named Cause → Type 0
 ReadsLine c ts r = After (word_of ts) (λ w. After (known (keyword_of w)) (ReadsPlaced c w (drop 1 ts))) r
 
 -- in each context a line has one outcome, a statement or a cause, and no other
 abbrev pub OneStatement : Type 0
-OneStatement = (c : Context) (ts : List Lexeme) → (r : Result Written Cause) × ReadsLine c ts r × ((other : Result Written Cause) → ReadsLine c ts other → r ≡ other)
+OneStatement = (c : LineContext) (ts : List Lexeme) → (r : Result Named Cause) × ReadsLine c ts r × ((other : Result Named Cause) → ReadsLine c ts other → r ≡ other)

@@ -1,31 +1,31 @@
 -- For proofs: What the next line of a file is.
 use Rattle.std.specs.Prelude.{◌≡◌, ◌≢◌, ℕ, List, [], Option, Some, None, Ok, Err}
 use Rattle.kc_expr.specs.declared.expression.SymId.{SymId}
-use Rattle.kc_text.specs.Lines.{Left}
+use Rattle.kc_text.specs.Lines.{UnreadLines}
 use Rattle.kc_read.specs.declared.refusal.Refusal.{Refusal}
 use Rattle.kc_read.specs.declared.refusal.Code.TheVariants as code
 use Rattle.kc_read.specs.declared.step.Step.{Step}
 use Rattle.kc_read.specs.declared.step.Step.TheVariants as step
-use Rattle.kc_read.specs.Statements.{Written}
-use Rattle.kc_read.specs.Lines.{Context, Cause, cause}
+use Rattle.kc_read.specs.Statements.{Named}
+use Rattle.kc_read.specs.Lines.{LineContext, Cause, cause}
 use Rattle.kc_read.specs.Expansion.{refused, NextLine, NextStatement, text_cause}
 use Rattle.kc_read.specs.LineReads.{IsMade}
 use Rattle.kc_text.specs.Lines.{IsTooLong}
-use Rattle.kc_text.specs.Tokens.{Piece}
+use Rattle.kc_text.specs.Tokens.{TokenView}
 use Rattle.kc_text.specs.declared.faults.TextFault.{TextFault}
-use Rattle.kc_read.specs.Steps.{refusal_view}
+use Rattle.kc_read.specs.RefusalView.{refusal_view}
 
 -- the end, a line without tokens, or a statement with the number of its line
-abbrev pub IsStep : Option SymId → List (List ℕ) → List (List ℕ) → Context → Left → Left → Step → Type 0
+abbrev pub IsStep : Option SymId → List (List ℕ) → List (List ℕ) → LineContext → UnreadLines → UnreadLines → Step → Type 0
 IsStep modules known names c old new step.End = (old.lines ≡ []) × (names ≡ known)
 IsStep modules known names c old new step.Blank = NextLine old new [] None × (names ≡ known)
-IsStep modules known names c old new (step.Next n s) = (x : Written) × (n ≡ old.number) × NextStatement old new c (Ok x) × IsMade modules known names s x
+IsStep modules known names c old new (step.Next n s) = (x : Named) × (n ≡ old.number) × NextStatement old new c (Ok x) × IsMade modules known names s x
 
 -- the first fault of the line
-pub data StepFault (c : Context) (old : Left) : Cause → Type 0 where
+pub data StepFault (c : LineContext) (old : UnreadLines) : Cause → Type 0 where
   too_long : IsTooLong old → StepFault c old (cause code.LineTooLong)
-  no_tokens : (new : Left) (ts : List Piece) (why : TextFault) → NextLine old new ts (Some why) → StepFault c old (text_cause why)
-  refused_line : (new : Left) (why : Cause) → NextStatement old new c (Err why) → StepFault c old why
+  no_tokens : (new : UnreadLines) (ts : List TokenView) (why : TextFault) → NextLine old new ts (Some why) → StepFault c old (text_cause why)
+  refused_line : (new : UnreadLines) (why : Cause) → NextStatement old new c (Err why) → StepFault c old why
 
-abbrev pub IsStepRefusal : List ℕ → Context → Left → Refusal → Type 0
+abbrev pub IsStepRefusal : List ℕ → LineContext → UnreadLines → Refusal → Type 0
 IsStepRefusal file c old r = r.code ≢ code.Memory → (why : Cause) × StepFault c old why × (refusal_view r ≡ refused why file old.number)

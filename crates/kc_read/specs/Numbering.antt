@@ -5,29 +5,29 @@ use Rattle.kc_expr.specs.declared.expression.SymId.{SymId}
 use Rattle.kc_expr.specs.Names.{symbol, number_of, all_mentioned}
 use Rattle.kc_read.specs.Blocks.{modules_of}
 use Rattle.kc_read.specs.Expansion.{statements, defined}
-use Rattle.kc_read.specs.Statements.{Written, Numbered, Placed, numbered, statement_words}
+use Rattle.kc_read.specs.Statements.{Named, Numbered, Located, numbered, names_in_statement}
 
 -- the name of the modules symbol
-abbrev pub modules_name : List Written → List ℕ
+abbrev pub modules_name : List Named → List ℕ
 modules_name ss = unwrap_or (modules_of ss) (codes "MODULES")
 
 -- The names: those of the symbols in order of their first definition, that of the modules symbol, and then the others
 -- in order of their first mention.
-abbrev pub known_names : List Written → List (List ℕ)
+abbrev pub known_names : List Named → List (List ℕ)
 known_names ss = all_mentioned (defined ss) (modules_name ss ∷ [])
 
-abbrev pub names_of : List Written → List (List ℕ)
-names_of ss = all_mentioned (known_names ss) (flat_map statement_words ss)
+abbrev pub names_of : List Named → List (List ℕ)
+names_of ss = all_mentioned (known_names ss) (flat_map names_in_statement ss)
 
-abbrev pub modules_id : List Written → SymId
+abbrev pub modules_id : List Named → SymId
 modules_id ss = symbol (number_of (names_of ss) (modules_name ss))
 
 -- a line with its names numbered
-abbrev pub place_numbered : Option SymId → (List ℕ → ℕ) → Placed Written → Placed Numbered
-place_numbered modules number l = record { file = l.file; line = l.line; statement = numbered modules number l.statement }
+abbrev pub located_numbered : Option SymId → (List ℕ → ℕ) → Located Named → Located Numbered
+located_numbered modules number l = record { file = l.file; line = l.line; statement = numbered modules number l.statement }
 
-abbrev pub number_line : List Written → Placed Written → Placed Numbered
-number_line ss = place_numbered (Some (modules_id ss)) (number_of (names_of ss))
+abbrev pub number_line : List Named → Located Named → Located Numbered
+number_line ss = located_numbered (Some (modules_id ss)) (number_of (names_of ss))
 
-abbrev pub numbered_lines : List (Placed Written) → List (Placed Numbered)
+abbrev pub numbered_lines : List (Located Named) → List (Located Numbered)
 numbered_lines ls = map (number_line (statements ls)) ls

@@ -7,48 +7,48 @@ use Rattle.std.specs.declared.vec.Vec.{Vec}
 use Rattle.std.specs.declared.rc.Rc.{Rc}
 use Rattle.kc_expr.specs.Limits.{most_symbols}
 use Rattle.kc_read.specs.Limits.{most_blocks, most_files, most_lines}
-use Rattle.kc_text.specs.Lines.{Left}
+use Rattle.kc_text.specs.Lines.{UnreadLines}
 use Rattle.kc_expr.specs.declared.expression.SymId.{SymId}
 use Rattle.kc_expr.specs.Names.{all_mentioned, mention}
-use Rattle.kc_expr.specs.Order.{placed}
+use Rattle.kc_expr.specs.Order.{ranked}
 use Rattle.kc_read.specs.declared.frame.Frame.{Frame}
 use Rattle.kc_read.specs.declared.progress.Progress.{Progress}
 use Rattle.kc_read.specs.declared.refusal.Code.TheVariants as code
 use Rattle.kc_read.specs.declared.refusal.Refusal.{Refusal}
-use Rattle.kc_read.specs.declared.statement.Entry.{Entry}
-use Rattle.kc_read.specs.declared.statement.Entry.TheVariants as entry
-use Rattle.kc_read.specs.declared.statement.Opener.{Opener}
-use Rattle.kc_read.specs.Blocks.{Bracket, Opens, Closes, NoBracket, bracket, opened, open_places, last_of, last_other, entry_of, is_attribute, definitions, modules_of, name_at, is_modules}
-use Rattle.kc_read.specs.Expansion.{Around, Log, Refused, Rest, statements, defined, is_choice, refused, symbol_cause, opener_cause}
-use Rattle.kc_read.specs.Lines.{Context, Cause, cause}
+use Rattle.kc_read.specs.declared.statement.EntryKind.{EntryKind}
+use Rattle.kc_read.specs.declared.statement.EntryKind.TheVariants as entry
+use Rattle.kc_read.specs.declared.statement.OpenBlock.{OpenBlock}
+use Rattle.kc_read.specs.Blocks.{Bracket, Opens, Closes, NoBracket, bracket, opened, open_places, last_of, last_no_attribute, entry_of, is_attribute, definitions, modules_of, defined_name, is_modules}
+use Rattle.kc_read.specs.Expansion.{FileContext, Log, Refused, Rest, statements, defined, is_choice, refused, symbol_cause, nesting_cause}
+use Rattle.kc_read.specs.Lines.{LineContext, Cause, cause}
 use Rattle.kc_read.specs.Files.{Files}
-use Rattle.kc_read.specs.Numbering.{place_numbered}
-use Rattle.kc_read.specs.Reads.{ForLater, line_view}
-use Rattle.kc_read.specs.Statements.{Statement, Written, Numbered, Placed, statement_words}
-use Rattle.kc_read.specs.Steps.{refusal_view}
+use Rattle.kc_read.specs.Numbering.{located_numbered}
+use Rattle.kc_read.specs.StatementViews.{ForLater, line_view}
+use Rattle.kc_read.specs.Statements.{Statement, Named, Numbered, Located, names_in_statement}
+use Rattle.kc_read.specs.RefusalView.{refusal_view}
 use Rattle.kc_read.specs.Expanded.{AreNumbers, IsNamed}
 
 -- the last defined name after one more statement
 abbrev pub name_after : {E L S : Type 0} → Option S → Statement E L S → Option S
-name_after now s = option_or (name_at s) now
+name_after now s = option_or (defined_name s) now
 
--- the opener of a block, if the line is one
-abbrev pub opener_of : Option (Placed Written) → Option Opener
-opener_of None = None
-opener_of (Some l) = option_map (λ b. record { block = b; line = l.line }) (opened (bracket l.statement))
+-- the block that the line opens, if it opens one
+abbrev pub open_block_of : Option (Located Named) → Option OpenBlock
+open_block_of None = None
+open_block_of (Some l) = option_map (λ b. record { block = b; line = l.line }) (opened (bracket l.statement))
 
--- the openers of the blocks that are open after these lines, the outermost first
-abbrev pub open_openers : List (Placed Written) → List Opener
-open_openers ls = filter_map (λ j. opener_of (slice_get ls j)) (open_places (statements ls))
+-- the blocks that are open after these lines, each with the line that opened it, the outermost first
+abbrev pub located_blocks : List (Located Named) → List OpenBlock
+located_blocks ls = filter_map (λ j. open_block_of (slice_get ls j)) (open_places (statements ls))
 
 -- the open blocks after one more line
-abbrev pub openers_after : Bracket → ℕ → List Opener → List Opener
-openers_after (Opens b) n bs = bs ++ record { block = b; line = n } ∷ []
-openers_after Closes n bs = take (length bs - 1) bs
-openers_after NoBracket n bs = bs
+abbrev pub open_blocks_after : Bracket → ℕ → List OpenBlock → List OpenBlock
+open_blocks_after (Opens b) n bs = bs ++ record { block = b; line = n } ∷ []
+open_blocks_after Closes n bs = take (length bs - 1) bs
+open_blocks_after NoBracket n bs = bs
 
 -- the entry after one more statement
-abbrev pub entry_after : {E L S : Type 0} → Entry → Statement E L S → Entry
+abbrev pub entry_after : {E L S : Type 0} → EntryKind → Statement E L S → EntryKind
 entry_after now s = if is_attribute s then now else entry_of (Some s)
 
 -- no more blocks are open than there may be
@@ -56,12 +56,12 @@ abbrev pub IsShallow : Frame → Type 0
 IsShallow f = f.depth + length f.blocks.items ≤ most_blocks
 
 -- what a file's reader knows: own are the file's statements so far
-pub record IsFrame (a : Around) (own : List (Placed Written)) (f : Frame) : Type 0 where
+pub record IsFrame (a : FileContext) (own : List (Located Named)) (f : Frame) : Type 0 where
   pub file : f.file.value.items ≡ a.file
   pub depth : f.depth ≡ length a.blocks
   pub in_choice : f.in_choice ≡ list_any is_choice a.blocks
-  pub blocks : f.blocks.items ≡ open_openers own
-  pub entry : f.entry ≡ entry_of (last_other (statements own))
+  pub blocks : f.blocks.items ≡ located_blocks own
+  pub entry : f.entry ≡ entry_of (last_no_attribute (statements own))
 
 -- whether the numbers say the same symbol
 abbrev pub ids_match : Option SymId → Option SymId → Bool
@@ -69,8 +69,8 @@ ids_match None now = true
 ids_match (Some i) None = false
 ids_match (Some i) (Some j) = i.0 == j.0
 
--- what surrounds the next line of a file
-abbrev pub context_in : Frame → Progress → Context
+-- the context of the next line of a file
+abbrev pub context_in : Frame → Progress → LineContext
 context_in f p = record {
   entry = f.entry;
   own = option_map (λ o. o.block) (last_of f.blocks.items);
@@ -80,9 +80,9 @@ context_in f p = record {
 
 -- what is remembered of all files: the names stood at first, and are names now
 pub record IsProgress (first : List (List ℕ)) (modules : Option SymId) (names : List (List ℕ)) (log : Log) (p : Progress) : Type 0 where
-  pub lines : ForLater names (λ number. map line_view p.lines.items ≡ map (place_numbered modules number) log.lines)
-  pub mentions : names ≡ all_mentioned first (flat_map statement_words (statements log.lines))
-  pub counted : p.counted ≡ log.counted
+  pub lines : ForLater names (λ number. map line_view p.lines.items ≡ map (located_numbered modules number) log.lines)
+  pub mentions : names ≡ all_mentioned first (flat_map names_in_statement (statements log.lines))
+  pub total_lines : p.total_lines ≡ log.total_lines
   pub defined_is : AreNumbers names p.defined (defined (statements log.lines))
   pub config : IsNamed names p.config (last_of (definitions (statements log.lines)))
   pub modules_is : IsNamed names p.modules (modules_of (statements log.lines))
@@ -90,19 +90,19 @@ pub record IsProgress (first : List (List ℕ)) (modules : Option SymId) (names 
 abbrev pub open_names : Progress → List (List ℕ)
 open_names p = map (λ f. f.value.items) p.open_files.items
 
-pub record IsState (first : List (List ℕ)) (modules : Option SymId) (names : List (List ℕ)) (a : Around) (own : List (Placed Written)) (log : Log) (p : Progress) (f : Frame) : Type 0 where
+pub record IsState (first : List (List ℕ)) (modules : Option SymId) (names : List (List ℕ)) (a : FileContext) (own : List (Located Named)) (log : Log) (p : Progress) (f : Frame) : Type 0 where
   pub progress : IsProgress first modules names log p
   pub frame : IsFrame a own f
   pub files : open_names p ≡ a.open_files
 
 -- no more symbols are defined than there may be
-abbrev pub IsCounted : Progress → Type 0
-IsCounted p = length p.defined ≤ most_symbols
+abbrev pub HasSymbolsWithin : Progress → Type 0
+HasSymbolsWithin p = length p.defined ≤ most_symbols
 
 -- as many physical lines, symbols and files as there may be
 pub record IsBounded (p : Progress) : Type 0 where
-  pub lines : p.counted ≤ most_lines
-  pub symbols : IsCounted p
+  pub lines : p.total_lines ≤ most_lines
+  pub symbols : HasSymbolsWithin p
   pub files : length p.open_files.items ≤ most_files
 
 -- the defined names once this one is defined, where there is one, and why it may not be
@@ -117,44 +117,44 @@ naming_cause ds (Some n) = symbol_cause ds n
 -- the same of the symbols
 abbrev pub order_after : List SymId → Option SymId → List SymId
 order_after ids None = ids
-order_after ids (Some id) = placed ids id
+order_after ids (Some id) = ranked ids id
 
 abbrev pub placing_cause : List SymId → SymId → Option Cause
-placing_cause ids id = if nat_lt most_symbols (length (placed ids id)) then Some (cause code.TooManySymbols) else None
+placing_cause ids id = if nat_lt most_symbols (length (ranked ids id)) then Some (cause code.TooManySymbols) else None
 
 abbrev pub defining_cause : List SymId → Option SymId → Option Cause
 defining_cause ids None = None
 defining_cause ids (Some id) = placing_cause ids id
 
--- a statement was seen: what is remembered of the symbols
-pub record IsSeen (s : Numbered) (old new : Progress) : Type 0 where
-  pub defined_is : new.defined ≡ order_after old.defined (name_at s)
+-- a statement was remembered: what it changes of the symbols
+pub record IsRemembered (s : Numbered) (old new : Progress) : Type 0 where
+  pub defined_is : new.defined ≡ order_after old.defined (defined_name s)
   pub config : new.config ≡ name_after old.config s
   pub modules_is : new.modules ≡ option_or old.modules (if is_modules s then old.config else None)
   pub lines : new.lines ≡ old.lines
-  pub counted : new.counted ≡ old.counted
+  pub total_lines : new.total_lines ≡ old.total_lines
   pub open_files : new.open_files ≡ old.open_files
 
 -- a statement was taken
 pub record IsTaken (s : Numbered) (line : ℕ) (f g : Frame) (old new : Progress) : Type 0 where
-  pub defined_is : new.defined ≡ order_after old.defined (name_at s)
+  pub defined_is : new.defined ≡ order_after old.defined (defined_name s)
   pub config : new.config ≡ name_after old.config s
   pub modules_is : new.modules ≡ option_or old.modules (if is_modules s then old.config else None)
   pub lines : map line_view new.lines.items ≡ map line_view old.lines.items ++ record { file = f.file.value.items; line = line; statement = s } ∷ []
-  pub counted : new.counted ≡ old.counted
+  pub total_lines : new.total_lines ≡ old.total_lines
   pub open_files : new.open_files ≡ old.open_files
   pub file : g.file ≡ f.file
   pub depth : g.depth ≡ f.depth
   pub in_choice : g.in_choice ≡ f.in_choice
-  pub blocks : g.blocks.items ≡ openers_after (bracket s) line f.blocks.items
+  pub blocks : g.blocks.items ≡ open_blocks_after (bracket s) line f.blocks.items
   pub entry : g.entry ≡ entry_after f.entry s
 
--- what a statement may not do
-abbrev pub effect_view : Numbered → Frame → Progress → Option Cause
-effect_view s f p = option_or (defining_cause p.defined (name_at s)) (opener_cause (f.depth + length f.blocks.items) (bracket s))
+-- the limit that a statement passes, where it defines a symbol too many or opens a block too many
+abbrev pub limit_view : Numbered → Frame → Progress → Option Cause
+limit_view s f p = option_or (defining_cause p.defined (defined_name s)) (nesting_cause (f.depth + length f.blocks.items) (bracket s))
 
 -- what is known inside a file that is sourced in another one
-pub record IsInside (f : Frame) (name : List ℕ) (g : Frame) : Type 0 where
+pub record IsSourcedFrame (f : Frame) (name : List ℕ) (g : Frame) : Type 0 where
   pub file : g.file.value.items ≡ name
   pub depth : g.depth ≡ f.depth + length f.blocks.items
   pub in_choice : g.in_choice ≡ (f.in_choice || list_any (λ o. is_choice o.block) f.blocks.items)
@@ -162,9 +162,9 @@ pub record IsInside (f : Frame) (name : List ℕ) (g : Frame) : Type 0 where
   pub entry : g.entry ≡ entry.Nothing
 
 -- a file is opened
-pub record IsEntered (name : List ℕ) (counted : ℕ) (old new : Progress) : Type 0 where
+pub record IsEntered (name : List ℕ) (total_lines : ℕ) (old new : Progress) : Type 0 where
   pub open_files : (f : Rc (Vec ℕ Global) Global) × (f.value.items ≡ name) × (new.open_files.items ≡ old.open_files.items ++ f ∷ [])
-  pub counted_is : new.counted ≡ counted
+  pub total_lines_is : new.total_lines ≡ total_lines
   pub lines : new.lines ≡ old.lines
   pub defined_is : new.defined ≡ old.defined
   pub config : new.config ≡ old.config
@@ -172,53 +172,53 @@ pub record IsEntered (name : List ℕ) (counted : ℕ) (old new : Progress) : Ty
 
 -- a block of the file is open at its end
 abbrev pub IsOpenAtEnd : Frame → Refused → Type 0
-IsOpenAtEnd f r = (o : Opener) × (last_of f.blocks.items ≡ Some o) × (r ≡ refused (cause code.Block) f.file.value.items o.line)
+IsOpenAtEnd f r = (o : OpenBlock) × (last_of f.blocks.items ≡ Some o) × (r ≡ refused (cause code.Block) f.file.value.items o.line)
 
 -- a refusal of the rest of a file
-abbrev pub IsRestRefusal : Files → Around → Left → List (Placed Written) → Log → Refusal → Type 0
+abbrev pub IsRestRefusal : Files → FileContext → UnreadLines → List (Located Named) → Log → Refusal → Type 0
 IsRestRefusal files a l own log r = r.code ≢ code.Memory → Rest files a l own log (Err (refusal_view r))
 
-module _ (files : Files) (first : List (List ℕ)) (modules : Option SymId) (names : List (List ℕ)) (a : Around) where
-  -- a file goes on: what its rest gives from here on is what it gave from the line before on
-  pub record GoesOn (old new : Left) (own : List (Placed Written)) (log : Log) (p : Progress) (f : Frame) : Type 0 where
-    pub own_now : List (Placed Written)
+module _ (files : Files) (first : List (List ℕ)) (modules : Option SymId) (names : List (List ℕ)) (a : FileContext) where
+  -- the reader has advanced in a file: what its rest gives from here on is what it gave from the line before on
+  pub record HasAdvanced (old new : UnreadLines) (own : List (Located Named)) (log : Log) (p : Progress) (f : Frame) : Type 0 where
+    pub own_now : List (Located Named)
     pub log_now : Log
     pub state : IsState first modules names a own_now log_now p f
     pub follows : (r : Result Log Refused) → Rest files a new own_now log_now r → Rest files a old own log r
 
   -- a whole file was read
-  pub record IsFileRead (l : Left) (log : Log) (p : Progress) : Type 0 where
+  pub record IsFileRead (l : UnreadLines) (log : Log) (p : Progress) : Type 0 where
     pub log_now : Log
     pub rest : Rest files a l [] log (Ok log_now)
     pub progress : IsProgress first modules names log_now p
 
   -- a file has ended
-  pub record IsEnded (l : Left) (own : List (Placed Written)) (log : Log) (p : Progress) : Type 0 where
+  pub record IsEnded (l : UnreadLines) (own : List (Located Named)) (log : Log) (p : Progress) : Type 0 where
     pub rest : Rest files a l own log (Ok log)
     pub progress : IsProgress first modules names log p
 
-  abbrev pub IsReading : Left → Log → Progress → Result ⊤ Refusal → Type 0
+  abbrev pub IsReading : UnreadLines → Log → Progress → Result ⊤ Refusal → Type 0
   IsReading l log p (Ok u) = IsFileRead l log p
   IsReading l log p (Err r) = IsRestRefusal files a l [] log r
 
-  abbrev pub IsStatementRead : Left → Left → List (Placed Written) → Log → Progress → Frame → Result ⊤ Refusal → Type 0
-  IsStatementRead l m own log p f (Ok u) = GoesOn l m own log p f
+  abbrev pub IsStatementRead : UnreadLines → UnreadLines → List (Located Named) → Log → Progress → Frame → Result ⊤ Refusal → Type 0
+  IsStatementRead l m own log p f (Ok u) = HasAdvanced l m own log p f
   IsStatementRead l m own log p f (Err r) = IsRestRefusal files a l own log r
 
-  abbrev pub IsNextRead : Left → Left → List (Placed Written) → Log → Progress → Frame → Result Bool Refusal → Type 0
-  IsNextRead l m own log p f (Ok true) = GoesOn l m own log p f
+  abbrev pub IsNextRead : UnreadLines → UnreadLines → List (Located Named) → Log → Progress → Frame → Result Bool Refusal → Type 0
+  IsNextRead l m own log p f (Ok true) = HasAdvanced l m own log p f
   IsNextRead l m own log p f (Ok false) = IsEnded l own log p
   IsNextRead l m own log p f (Err r) = IsRestRefusal files a l own log r
 
 -- what is known as the root file is opened
-pub record IsBegun (root : List ℕ) (counted : ℕ) (f : Frame) (p : Progress) : Type 0 where
+pub record IsBegun (root : List ℕ) (total_lines : ℕ) (f : Frame) (p : Progress) : Type 0 where
   pub file : f.file.value.items ≡ root
   pub depth : f.depth ≡ 0
   pub in_choice : f.in_choice ≡ false
   pub blocks : f.blocks.items ≡ []
   pub entry : f.entry ≡ entry.Nothing
   pub lines : p.lines.items ≡ []
-  pub counted_is : p.counted ≡ counted
+  pub total_lines_is : p.total_lines ≡ total_lines
   pub defined_is : p.defined ≡ []
   pub config : p.config ≡ None
   pub modules_is : p.modules ≡ None

@@ -1,32 +1,36 @@
--- Trusted: The expanded list as one sentence: a file's own statements, with the list of its file in place of each `source` statement.
+-- Trusted: The expanded list as one sentence: a file's own statements, with the list of its file in place of each `source`
+-- statement.
 use Rattle.std.specs.Prelude.{◌≡◌, ℕ, List, [], ◌∷◌, ◌++◌, false, Some, None, Ok}
-use Rattle.kc_text.specs.Lines.{Left, left}
+use Rattle.kc_text.specs.Lines.{UnreadLines, unread_lines}
 use Rattle.kc_read.specs.Expansion.{Log, Expands, NextLine, NextStatement, is_source}
 use Rattle.kc_read.specs.Files.{Files}
-use Rattle.kc_read.specs.Lines.{Context}
-use Rattle.kc_read.specs.Statements.{Placed, Written, SourceLine}
+use Rattle.kc_read.specs.Lines.{LineContext}
+use Rattle.kc_read.specs.Statements.{Located, Named, SourceLine}
 
-abbrev pub placed : List ℕ → ℕ → Written → Placed Written
-placed file n s = record { file = file; line = n; statement = s }
+abbrev pub located : List ℕ → ℕ → Named → Located Named
+located file n s = record { file = file; line = n; statement = s }
 
 -- from this place of a file on these are its own statements, each with the number of its line; a line without tokens has none
-pub data Owns (file : List ℕ) : Left → List (Placed Written) → Type 0 where
-  no_line : (l : Left) → l.lines ≡ [] → Owns file l []
-  no_tokens : (l m : Left) (own : List (Placed Written)) → NextLine l m [] None → Owns file m own → Owns file l own
-  one_more : (l m : Left) (c : Context) (s : Written) (own : List (Placed Written)) → NextStatement l m c (Ok s) → Owns file m own → Owns file l (placed file l.number s ∷ own)
+pub data Owns (file : List ℕ) : UnreadLines → List (Located Named) → Type 0 where
+  no_line : (l : UnreadLines) → l.lines ≡ [] → Owns file l []
+  no_tokens : (l m : UnreadLines) (own : List (Located Named)) → NextLine l m [] None → Owns file m own → Owns file l own
+  one_more : (l m : UnreadLines) (c : LineContext) (s : Named) (own : List (Located Named)) → NextStatement l m c (Ok s) → Owns file m own → Owns file l (located file l.number s ∷ own)
 
--- Each `source` statement is replaced by the statements of the file that it names, in which the same was done, and each other one stays.
-pub data Replaces (files : Files) : List (Placed Written) → List (Placed Written) → Type 0 where
+-- Each `source` statement is replaced by the statements of the file that it names, in which the same was done, and each other
+-- one stays.
+pub data Replaces (files : Files) : List (Located Named) → List (Located Named) → Type 0 where
   nothing : Replaces files [] []
-  kept : (s : Placed Written) (own list : List (Placed Written)) → is_source s.statement ≡ false → Replaces files own list → Replaces files (s ∷ own) (s ∷ list)
-  replaced : (s : Placed Written) (name bytes : List ℕ) (own inner inside list : List (Placed Written)) → s.statement ≡ SourceLine name → files name ≡ Some bytes → Owns name (left bytes 1) inner → Replaces files inner inside → Replaces files own list → Replaces files (s ∷ own) (inside ++ list)
+  kept : (s : Located Named) (own list : List (Located Named)) → is_source s.statement ≡ false → Replaces files own list → Replaces files (s ∷ own) (s ∷ list)
+  replaced : (s : Located Named) (name bytes : List ℕ) (own inner inside list : List (Located Named)) → s.statement ≡ SourceLine name →
+      files name ≡ Some bytes → Owns name (unread_lines bytes 1) inner → Replaces files inner inside → Replaces files own list →
+      Replaces files (s ∷ own) (inside ++ list)
 
 -- the list of a file
-pub record IsListOf (files : Files) (name : List ℕ) (list : List (Placed Written)) : Type 0 where
+pub record IsListOf (files : Files) (name : List ℕ) (list : List (Located Named)) : Type 0 where
   pub bytes : List ℕ
   pub there : files name ≡ Some bytes
-  pub own : List (Placed Written)
-  pub owns : Owns name (left bytes 1) own
+  pub own : List (Located Named)
+  pub owns : Owns name (unread_lines bytes 1) own
   pub replaces : Replaces files own list
 
 -- the expanded list is the list of the root file

@@ -3,11 +3,11 @@ use Rattle.std.specs.Prelude.{ℕ, List, [], ◌∷◌, ◌++◌, Option, Some, 
 use Rattle.kc_expr.specs.declared.expression.SymId.{SymId}
 use Rattle.kc_expr.specs.declared.expression.Kind.{Kind}
 use Rattle.kc_expr.specs.Form.{Form, Leaf}
-use Rattle.kc_expr.specs.Grammar.{Disjunction, Atom, meaning_or, leaf, words, atom_words}
+use Rattle.kc_expr.specs.Grammar.{Disjunction, Atom, meaning_or, leaf, names_in, names_in_atom}
 use Rattle.kc_expr.specs.Names.{symbol}
 
 -- a prompt's text and its condition
-pub record Asked (E : Type 0) : Type 0 where
+pub record InputPrompt (E : Type 0) : Type 0 where
   pub text : List ℕ
   pub when : Option E
 
@@ -23,8 +23,8 @@ pub data Statement (E L S : Type 0) : Type 0 where
   ChoiceLine : Statement E L S
   EndChoiceLine : Statement E L S
   MainMenuLine : List ℕ → Statement E L S
-  TypeLine : Kind → Option (Asked E) → Statement E L S
-  PromptLine : Asked E → Statement E L S
+  TypeLine : Kind → Option (InputPrompt E) → Statement E L S
+  PromptLine : InputPrompt E → Statement E L S
   DefaultLine : E → Option E → Statement E L S
   DefLine : Kind → E → Option E → Statement E L S
   DependsLine : E → Statement E L S
@@ -37,8 +37,8 @@ pub data Statement (E L S : Type 0) : Type 0 where
   IgnoredLine : Statement E L S
 
 -- as it is written: with derivations and names
-abbrev pub Written : Type 0
-Written = Statement Disjunction Atom (List ℕ)
+abbrev pub Named : Type 0
+Named = Statement Disjunction Atom (List ℕ)
 
 -- as it is numbered
 abbrev pub Numbered : Type 0
@@ -55,11 +55,11 @@ module _ (modules : Option SymId) (number : List ℕ → ℕ) where
   condition_form d = meaning_or modules number d
 
   -- a prompt's condition: what it asks is not kept
-  abbrev pub asked_form : Asked Disjunction → Asked Form
-  asked_form a = record { text = []; when = option_map condition_form a.when }
+  abbrev pub prompt_form : InputPrompt Disjunction → InputPrompt Form
+  prompt_form a = record { text = []; when = option_map condition_form a.when }
 
   -- the statement with its names numbered
-  abbrev pub numbered : Written → Numbered
+  abbrev pub numbered : Named → Numbered
   numbered (ConfigLine n) = ConfigLine (symbol (number n))
   numbered (IfLine e) = IfLine (condition_form e)
   numbered EndIfLine = EndIfLine
@@ -70,8 +70,8 @@ module _ (modules : Option SymId) (number : List ℕ → ℕ) where
   numbered ChoiceLine = ChoiceLine
   numbered EndChoiceLine = EndChoiceLine
   numbered (MainMenuLine t) = MainMenuLine t
-  numbered (TypeLine k p) = TypeLine k (option_map asked_form p)
-  numbered (PromptLine p) = PromptLine (asked_form p)
+  numbered (TypeLine k p) = TypeLine k (option_map prompt_form p)
+  numbered (PromptLine p) = PromptLine (prompt_form p)
   numbered (DefaultLine v w) = DefaultLine (value_form number v) (option_map condition_form w)
   numbered (DefLine k v w) = DefLine k (value_form number v) (option_map condition_form w)
   numbered (DependsLine e) = DependsLine (condition_form e)
@@ -84,40 +84,40 @@ module _ (modules : Option SymId) (number : List ℕ → ℕ) where
   numbered IgnoredLine = IgnoredLine
 
 -- the names that a statement mentions, from left to right
-abbrev pub condition_words : Option Disjunction → List (List ℕ)
-condition_words None = []
-condition_words (Some d) = words d
+abbrev pub names_in_condition : Option Disjunction → List (List ℕ)
+names_in_condition None = []
+names_in_condition (Some d) = names_in d
 
-abbrev pub asked_words : Option (Asked Disjunction) → List (List ℕ)
-asked_words None = []
-asked_words (Some p) = condition_words p.when
+abbrev pub names_in_prompt : Option (InputPrompt Disjunction) → List (List ℕ)
+names_in_prompt None = []
+names_in_prompt (Some p) = names_in_condition p.when
 
-abbrev pub statement_words : Written → List (List ℕ)
-statement_words (ConfigLine n) = n ∷ []
-statement_words (IfLine e) = words e
-statement_words EndIfLine = []
-statement_words (CommentLine t) = []
-statement_words (SourceLine t) = []
-statement_words (MenuLine t) = []
-statement_words EndMenuLine = []
-statement_words ChoiceLine = []
-statement_words EndChoiceLine = []
-statement_words (MainMenuLine t) = []
-statement_words (TypeLine k p) = asked_words p
-statement_words (PromptLine p) = condition_words p.when
-statement_words (DefaultLine v w) = words v ++ condition_words w
-statement_words (DefLine k v w) = words v ++ condition_words w
-statement_words (DependsLine e) = words e
-statement_words (VisibleLine e) = words e
-statement_words (SelectLine n w) = n ∷ condition_words w
-statement_words (ImplyLine n w) = n ∷ condition_words w
-statement_words (RangeLine a b w) = atom_words a ++ (atom_words b ++ condition_words w)
-statement_words HelpLine = []
-statement_words ModulesLine = []
-statement_words IgnoredLine = []
+abbrev pub names_in_statement : Named → List (List ℕ)
+names_in_statement (ConfigLine n) = n ∷ []
+names_in_statement (IfLine e) = names_in e
+names_in_statement EndIfLine = []
+names_in_statement (CommentLine t) = []
+names_in_statement (SourceLine t) = []
+names_in_statement (MenuLine t) = []
+names_in_statement EndMenuLine = []
+names_in_statement ChoiceLine = []
+names_in_statement EndChoiceLine = []
+names_in_statement (MainMenuLine t) = []
+names_in_statement (TypeLine k p) = names_in_prompt p
+names_in_statement (PromptLine p) = names_in_condition p.when
+names_in_statement (DefaultLine v w) = names_in v ++ names_in_condition w
+names_in_statement (DefLine k v w) = names_in v ++ names_in_condition w
+names_in_statement (DependsLine e) = names_in e
+names_in_statement (VisibleLine e) = names_in e
+names_in_statement (SelectLine n w) = n ∷ names_in_condition w
+names_in_statement (ImplyLine n w) = n ∷ names_in_condition w
+names_in_statement (RangeLine a b w) = names_in_atom a ++ (names_in_atom b ++ names_in_condition w)
+names_in_statement HelpLine = []
+names_in_statement ModulesLine = []
+names_in_statement IgnoredLine = []
 
 -- a statement and where it stands
-pub record Placed (T : Type 0) : Type 0 where
+pub record Located (T : Type 0) : Type 0 where
   pub file : List ℕ
   pub line : ℕ
   pub statement : T

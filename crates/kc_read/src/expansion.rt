@@ -7,17 +7,16 @@ ghost use Rattle.kc_read.specs.Expansion.{Expands, Log};
 ghost use Rattle.kc_read.specs.Files.{bytes_in};
 ghost use Rattle.kc_read.specs.Progress.{IsBegun, IsBounded, IsShallow};
 ghost use Rattle.kc_read.specs.Expanded.{IsExpansion};
-ghost use Rattle.kc_read.specs.Steps.{IsMemory, refusal_view};
+ghost use Rattle.kc_read.specs.RefusalView.{IsMemory, refusal_view};
 ghost use Rattle.kc_read.specs.declared.refusal.Code.TheVariants.{Memory};
 
 use crate::file_map::FileMap;
 use crate::files::{Reader, open, read_file};
 use crate::frame::Frame;
-use crate::line::Line;
 use crate::progress::Progress;
 use crate::refusal::Refusal;
 use crate::refuse::{memory, refuse};
-use crate::statement::{Entry, Fault};
+use crate::statement::{EntryKind, Fault, Line};
 use kc_expr::expression::SymId;
 use kc_expr::names::Names;
 use kc_expr::order::SymbolOrder;
@@ -34,9 +33,13 @@ pub struct Expansion {
 }
 
 // What is known as the root file is opened.
-fn begin(alloc: Global, root: &[u8], counted: usize) -> Result<(Frame, Progress), Fault<'static>>
-    requires { counted ≤ most_lines }
-    ensures begun { IfOk result (λ r. IsBegun root.now counted r.0 r.1) }
+fn begin(
+    alloc: Global,
+    root: &[u8],
+    total_lines: usize,
+) -> Result<(Frame, Progress), Fault<'static>>
+    requires { total_lines ≤ most_lines }
+    ensures begun { IfOk result (λ r. IsBegun root.now total_lines r.0 r.1) }
     ensures shallow { IfOk result (λ r. IsShallow r.0) }
     ensures bounded { IfOk result (λ r. IsBounded r.1) }
     ensures memory { IfErr result (λ f. f.code ≡ Memory) }
@@ -50,11 +53,11 @@ fn begin(alloc: Global, root: &[u8], counted: usize) -> Result<(Frame, Progress)
         depth: 0,
         in_choice: false,
         blocks: Vec::new(alloc),
-        entry: Entry::Nothing,
+        entry: EntryKind::Nothing,
     };
     let progress = Progress {
         lines: Vec::new(alloc),
-        counted,
+        total_lines,
         defined: SymbolOrder::new(alloc),
         config: None,
         modules: None,
@@ -73,7 +76,7 @@ fn begin(alloc: Global, root: &[u8], counted: usize) -> Result<(Frame, Progress)
 /// Each of the refusals E1 to E12 and E16 comes exactly for its cause, at the first line with a fault: E1 where a file
 /// is not in the map, E2 where it is open now, E3 where the physical lines of the files opened so far are more than
 /// 1,000,000, each file counted as often as it is sourced, E12 for the 65th block, file or level open at once, E16 for
-/// the 65,536th defined symbol; a refusal of the root file itself stands at its line 0. E20, which has no place and no
+/// the 65,536th defined symbol; a refusal of the root file itself stands at its line 0. E20, which has no location and no
 /// detail, is out of memory. After a refusal the names are the old ones, after which further ones may have been added.
 ///
 /// The statements are those of the kernel's kconfig-language document; the limits and the order of checks are our own.
@@ -89,11 +92,11 @@ pub fn expand(
     ensures memory { IfErr result IsMemory }
     ensures names { Extends names.old names.new }
 {
-    let (bytes, counted) = match open(map, root, 0) {
+    let (bytes, total_lines) = match open(map, root, 0) {
         Ok(opened) => opened,
         Err(fault) => return Err(refuse(alloc, fault, root, 0)),
     };
-    let (frame, mut progress) = match begin(alloc, root, counted) {
+    let (frame, mut progress) = match begin(alloc, root, total_lines) {
         Ok(begun) => begun,
         Err(_) => return Err(memory(alloc)),
     };

@@ -2,27 +2,26 @@
 
 ghost use Rattle.std.specs.Prelude.{◌≡◌, ◌≢◌, ◌≤◌, ◌<◌, ◌+◌, ℕ, List, Option, [], ◌∷◌, ◌++◌, None, Some, Ok, Err, false, true, length, map, IfErr, IfOk, OnOk, IsTrue};
 ghost use Rattle.kc_read.specs.Limits.{most_files, most_lines};
-ghost use Rattle.kc_text.specs.Lines.{Left, left};
+ghost use Rattle.kc_text.specs.Lines.{UnreadLines, unread_lines};
 ghost use Rattle.std.specs.List.{list_any};
 ghost use Rattle.kc_expr.specs.Names.{Extends, same_name};
 ghost use Rattle.kc_read.specs.declared.refusal.Code.TheVariants.{Memory};
 ghost use Rattle.kc_read.specs.Expansion as spec;
-ghost use Rattle.kc_read.specs.Expansion.{Around, Log, NextStatement, sourcing_cause};
+ghost use Rattle.kc_read.specs.Expansion.{FileContext, Log, NextStatement, sourcing_cause};
 ghost use Rattle.kc_read.specs.Files.{bytes_in};
-ghost use Rattle.kc_read.specs.Progress.{IsBounded, IsEntered, IsInside, IsNextRead, IsOpenAtEnd, IsReading, IsShallow, IsState, IsStatementRead, IsTaken, effect_view, open_names};
-ghost use Rattle.kc_read.specs.Reads.{statement_view};
+ghost use Rattle.kc_read.specs.Progress.{IsBounded, IsEntered, IsSourcedFrame, IsNextRead, IsOpenAtEnd, IsReading, IsShallow, IsState, IsStatementRead, IsTaken, limit_view, open_names};
+ghost use Rattle.kc_read.specs.StatementViews.{statement_view};
 ghost use Rattle.kc_read.specs.LineReads.{IsFault, IsMade, cause_of};
-ghost use Rattle.kc_read.specs.Statements.{Placed, Written, SourceLine};
-ghost use Rattle.kc_read.specs.Steps.{IsMemory, refusal_view};
+ghost use Rattle.kc_read.specs.Statements.{Located, Named, SourceLine};
+ghost use Rattle.kc_read.specs.RefusalView.{IsMemory, refusal_view};
 
 use crate::file_map::FileMap;
 use crate::frame::Frame;
-use crate::line::Line;
-use crate::position::Position;
 use crate::progress::Progress;
+use crate::reader::Position;
 use crate::refusal::{Code, Refusal};
 use crate::refuse::{memory, refuse};
-use crate::statement::{Entry, Fault, Statement};
+use crate::statement::{EntryKind, Fault, Line, Statement};
 use crate::step::{Step, next_step};
 use kc_expr::expression::SymId;
 use kc_expr::names::Names;
@@ -42,17 +41,17 @@ pub struct Reader<'a> {
     pub modules: Option<SymId>,
 }
 
-/// The bytes of a file, and how many physical lines are counted with those of the file.
+/// The bytes of a file, and the total of physical lines with those of the file.
 pub fn open<'a, 'b>(
     map: &'a FileMap,
     name: &'b [u8],
-    counted: usize,
+    total_lines: usize,
 ) -> Result<(&'a [u8], usize), Fault<'b>>
-    requires { counted ≤ most_lines }
+    requires { total_lines ≤ most_lines }
     ensures bytes { IfOk result (λ r. bytes_in map.now name.now ≡ Some r.0.now) }
-    ensures counted { IfOk result (λ r. (r.1 ≡ counted + spec.lines_of r.0.now) × (r.1 ≤ most_lines)) }
-    ensures allowed { OnOk result (spec.bytes_cause name.now counted (bytes_in map.now name.now) ≡ None) }
-    ensures fault { IfErr result (λ f. spec.bytes_cause name.now counted (bytes_in map.now name.now) ≡ Some (cause_of f)) }
+    ensures total_lines { IfOk result (λ r. (r.1 ≡ total_lines + spec.lines_of r.0.now) × (r.1 ≤ most_lines)) }
+    ensures allowed { OnOk result (spec.bytes_cause name.now total_lines (bytes_in map.now name.now) ≡ None) }
+    ensures fault { IfErr result (λ f. spec.bytes_cause name.now total_lines (bytes_in map.now name.now) ≡ Some (cause_of f)) }
 {
     let Some(bytes) = map.get(name) else {
         return Err(Fault {
@@ -61,13 +60,13 @@ pub fn open<'a, 'b>(
         });
     };
     let lines = line_count(bytes);
-    if lines > MAX_LINES - counted {
+    if lines > MAX_LINES - total_lines {
         return Err(Fault {
             code: Code::TooManyLines,
             detail: b"",
         });
     }
-    Ok((bytes, counted + lines))
+    Ok((bytes, total_lines + lines))
 }
 
 // Whether the open file has this name.
@@ -84,7 +83,7 @@ fn is_open(progress: &Progress, name: &[u8]) -> bool
     progress.open_files.iter().any(|file| is_named(file, name))
 }
 
-// The bytes of a sourced file, and how many physical lines are counted with them.
+// The bytes of a sourced file, and the total of physical lines with those of the file.
 fn open_source<'a, 'b>(
     map: &'a FileMap,
     name: &'b [u8],
@@ -92,10 +91,10 @@ fn open_source<'a, 'b>(
 ) -> Result<(&'a [u8], usize), Fault<'b>>
     requires { IsBounded progress.now }
     ensures bytes { IfOk result (λ r. bytes_in map.now name.now ≡ Some r.0.now) }
-    ensures counted { IfOk result (λ r. (r.1 ≡ progress.now.counted + spec.lines_of r.0.now) × (r.1 ≤ most_lines)) }
+    ensures total_lines { IfOk result (λ r. (r.1 ≡ progress.now.total_lines + spec.lines_of r.0.now) × (r.1 ≤ most_lines)) }
     ensures fewer { OnOk result (length progress.now.open_files.items < most_files) }
-    ensures allowed { OnOk result (sourcing_cause (bytes_in map.now) (open_names progress.now) progress.now.counted name.now ≡ None) }
-    ensures fault { IfErr result (λ f. sourcing_cause (bytes_in map.now) (open_names progress.now) progress.now.counted name.now ≡ Some (cause_of f)) }
+    ensures allowed { OnOk result (sourcing_cause (bytes_in map.now) (open_names progress.now) progress.now.total_lines name.now ≡ None) }
+    ensures fault { IfErr result (λ f. sourcing_cause (bytes_in map.now) (open_names progress.now) progress.now.total_lines name.now ≡ Some (cause_of f)) }
 {
     if is_open(progress, name) {
         return Err(Fault {
@@ -109,7 +108,7 @@ fn open_source<'a, 'b>(
             detail: b"",
         });
     }
-    open(map, name, progress.counted)
+    open(map, name, progress.total_lines)
 }
 
 // Takes a statement that is no `source` line.
@@ -125,11 +124,11 @@ fn take(
     ensures shallow { OnOk result (IsShallow frame.new) }
     ensures file { frame.new.file ≡ frame.old.file }
     ensures bounded { OnOk result (IsBounded progress.new) }
-    ensures allowed { OnOk result (effect_view (statement_view statement) frame.old progress.old ≡ None) }
-    ensures fault { IfErr result (λ f. IsFault f (λ c. effect_view (statement_view statement) frame.old progress.old ≡ Some c)) }
+    ensures allowed { OnOk result (limit_view (statement_view statement) frame.old progress.old ≡ None) }
+    ensures fault { IfErr result (λ f. IsFault f (λ c. limit_view (statement_view statement) frame.old progress.old ≡ Some c)) }
 {
     // Each early end drops the statement by a call: `?` would write out the drop of every kind of statement at each.
-    if let Err(fault) = progress.see(&statement) {
+    if let Err(fault) = progress.remember(&statement) {
         drop(statement);
         return Err(fault);
     }
@@ -156,29 +155,29 @@ fn take(
 fn enter(
     alloc: Global,
     name: Vec<u8>,
-    counted: usize,
+    total_lines: usize,
     frame: &Frame,
     progress: &mut Progress,
 ) -> Result<Frame, Fault<'static>>
     requires shallow { IsShallow frame.now }
     requires bounded { IsBounded progress.old }
-    requires counted { counted ≤ most_lines }
+    requires total_lines { total_lines ≤ most_lines }
     requires fewer { length progress.old.open_files.items < most_files }
-    ensures frame { IfOk result (λ f. IsInside frame.now name.items f) }
-    ensures progress { OnOk result (IsEntered name.items counted progress.old progress.new) }
+    ensures frame { IfOk result (λ f. IsSourcedFrame frame.now name.items f) }
+    ensures progress { OnOk result (IsEntered name.items total_lines progress.old progress.new) }
     ensures shallow { IfOk result IsShallow }
     ensures bounded { OnOk result (IsBounded progress.new) }
     ensures memory { IfErr result (λ f. f.code ≡ Memory) }
 {
     let file = Rc::new(alloc, name)?;
     progress.open_files.push(file.clone()?)?;
-    progress.counted = counted;
+    progress.total_lines = total_lines;
     Ok(Frame {
         file,
         depth: frame.depth + frame.blocks.len(),
         in_choice: frame.is_in_choice(),
         blocks: Vec::new(alloc),
-        entry: Entry::Nothing,
+        entry: EntryKind::Nothing,
     })
 }
 
@@ -211,7 +210,7 @@ pub fn read_file(
 ) -> Result<(), Refusal>
     requires shallow { IsShallow frame }
     requires bounded { IsBounded progress.old }
-    ensures read { (first : List (List ℕ)) (a : Around) (log : Log) → IsState first reader.now.modules names.old a [] log progress.old frame → IsReading (bytes_in reader.now.map.now) first reader.now.modules names.new a (left bytes.now 1) log progress.new result }
+    ensures read { (first : List (List ℕ)) (a : FileContext) (log : Log) → IsState first reader.now.modules names.old a [] log progress.old frame → IsReading (bytes_in reader.now.map.now) first reader.now.modules names.new a (unread_lines bytes.now 1) log progress.new result }
     ensures open { OnOk result (progress.new.open_files.items ≡ progress.old.open_files.items) }
     ensures bounded { OnOk result (IsBounded progress.new) }
     ensures memory { IfErr result IsMemory }
@@ -247,7 +246,7 @@ fn read_next<'a>(
     requires clear { lines.old.refusal ≡ None }
     requires shallow { IsShallow frame.old }
     requires bounded { IsBounded progress.old }
-    ensures read { (first : List (List ℕ)) (a : Around) (own : List (Placed Written)) (log : Log) → IsState first reader.now.modules names.old a own log progress.old frame.old → IsNextRead (bytes_in reader.now.map.now) first reader.now.modules names.new a lines.old lines.new own log progress.new frame.new result }
+    ensures read { (first : List (List ℕ)) (a : FileContext) (own : List (Located Named)) (log : Log) → IsState first reader.now.modules names.old a own log progress.old frame.old → IsNextRead (bytes_in reader.now.map.now) first reader.now.modules names.new a lines.old lines.new own log progress.new frame.new result }
     ensures less { IfOk result (λ more. IsTrue more → length lines.new.lines < length lines.old.lines) }
     ensures clear { IfOk result (λ more. IsTrue more → lines.new.refusal ≡ None) }
     ensures open { OnOk result (progress.new.open_files.items ≡ progress.old.open_files.items) }
@@ -287,7 +286,7 @@ fn read_statement(
 ) -> Result<(), Refusal>
     requires shallow { IsShallow frame.old }
     requires bounded { IsBounded progress.old }
-    ensures read { (first known : List (List ℕ)) (a : Around) (own : List (Placed Written)) (log : Log) (x : Written) (l m : Left) → IsState first reader.now.modules known a own log progress.old frame.old → IsMade reader.now.modules known names.old statement x → NextStatement l m (spec.context_of a own log) (Ok x) → line ≡ l.number → IsStatementRead (bytes_in reader.now.map.now) first reader.now.modules names.new a l m own log progress.new frame.new result }
+    ensures read { (first known : List (List ℕ)) (a : FileContext) (own : List (Located Named)) (log : Log) (x : Named) (l m : UnreadLines) → IsState first reader.now.modules known a own log progress.old frame.old → IsMade reader.now.modules known names.old statement x → NextStatement l m (spec.context_of a own log) (Ok x) → line ≡ l.number → IsStatementRead (bytes_in reader.now.map.now) first reader.now.modules names.new a l m own log progress.new frame.new result }
     ensures open { OnOk result (progress.new.open_files.items ≡ progress.old.open_files.items) }
     ensures shallow { OnOk result (IsShallow frame.new) }
     ensures bounded { OnOk result (IsBounded progress.new) }
@@ -315,23 +314,23 @@ fn source(
 ) -> Result<(), Refusal>
     requires shallow { IsShallow frame.old }
     requires bounded { IsBounded progress.old }
-    ensures read { (first : List (List ℕ)) (a : Around) (own : List (Placed Written)) (log : Log) (l m : Left) → IsState first reader.now.modules names.old a own log progress.old frame.old → NextStatement l m (spec.context_of a own log) (Ok (SourceLine name.items)) → line ≡ l.number → IsStatementRead (bytes_in reader.now.map.now) first reader.now.modules names.new a l m own log progress.new frame.new result }
+    ensures read { (first : List (List ℕ)) (a : FileContext) (own : List (Located Named)) (log : Log) (l m : UnreadLines) → IsState first reader.now.modules names.old a own log progress.old frame.old → NextStatement l m (spec.context_of a own log) (Ok (SourceLine name.items)) → line ≡ l.number → IsStatementRead (bytes_in reader.now.map.now) first reader.now.modules names.new a l m own log progress.new frame.new result }
     ensures open { OnOk result (progress.new.open_files.items ≡ progress.old.open_files.items) }
     ensures shallow { OnOk result (IsShallow frame.new) }
     ensures bounded { OnOk result (IsBounded progress.new) }
     ensures memory { IfErr result IsMemory }
     ensures names { Extends names.old names.new }
 {
-    let (bytes, counted) = match open_source(reader.map, &name, progress) {
+    let (bytes, total_lines) = match open_source(reader.map, &name, progress) {
         Ok(opened) => opened,
         Err(fault) => return Err(refuse(reader.alloc, fault, &frame.file, line)),
     };
-    let inside = match enter(reader.alloc, name, counted, frame, progress) {
+    let inside = match enter(reader.alloc, name, total_lines, frame, progress) {
         Ok(inside) => inside,
         Err(_) => return Err(memory(reader.alloc)),
     };
     read_file(reader, bytes, inside, progress, names)?;
     progress.open_files.pop();
-    frame.entry = Entry::Nothing;
+    frame.entry = EntryKind::Nothing;
     Ok(())
 }

@@ -4,14 +4,14 @@ ghost use Rattle.std.specs.Prelude.{◌≡◌, ◌+◌, ◌≤◌, ◌||◌, IfE
 ghost use Rattle.std.specs.List.{list_any};
 ghost use Rattle.kc_read.specs.Blocks as blocks;
 ghost use Rattle.kc_read.specs.Expansion as expansion;
-ghost use Rattle.kc_read.specs.Progress.{IsShallow, openers_after, entry_after};
-ghost use Rattle.kc_read.specs.Reads.{statement_view};
+ghost use Rattle.kc_read.specs.Progress.{IsShallow, open_blocks_after, entry_after};
+ghost use Rattle.kc_read.specs.StatementViews.{statement_view};
 ghost use Rattle.kc_read.specs.LineReads.{IsFault, cause_of};
 ghost use Rattle.kc_read.specs.Lines.{cause};
 ghost use Rattle.kc_read.specs.declared.refusal.Code.TheVariants.{TooDeep};
 
 use crate::refusal::Code;
-use crate::statement::{Block, Entry, Fault, Opener, Statement};
+use crate::statement::{Block, EntryKind, Fault, OpenBlock, Statement};
 use std::rc::Rc;
 
 /// How many blocks may be open at once.
@@ -24,8 +24,8 @@ pub struct Frame {
     pub file: Rc<Vec<u8>>,
     pub depth: usize,
     pub in_choice: bool,
-    pub blocks: Vec<Opener>,
-    pub entry: Entry,
+    pub blocks: Vec<OpenBlock>,
+    pub entry: EntryKind,
 }
 
 // The block that a statement opens.
@@ -51,20 +51,20 @@ fn closes(statement: &Statement) -> bool
 }
 
 // The entry after one more statement.
-fn entry_after(entry: Entry, statement: &Statement) -> Entry
+fn entry_after(entry: EntryKind, statement: &Statement) -> EntryKind
     ensures { result ≡ entry_after entry (statement_view statement.now) }
 {
     match statement {
-        Statement::Config(_) => Entry::Config,
-        Statement::Choice => Entry::Choice,
-        Statement::Menu(_) => Entry::Menu,
-        Statement::Comment(_) => Entry::Comment,
+        Statement::Config(_) => EntryKind::Config,
+        Statement::Choice => EntryKind::Choice,
+        Statement::Menu(_) => EntryKind::Menu,
+        Statement::Comment(_) => EntryKind::Comment,
         Statement::If(_)
         | Statement::EndIf
         | Statement::Source(_)
         | Statement::EndMenu
         | Statement::EndChoice
-        | Statement::MainMenu(_) => Entry::Nothing,
+        | Statement::MainMenu(_) => EntryKind::Nothing,
         _ => entry,
     }
 }
@@ -79,8 +79,8 @@ fn is_choice(block: Block) -> bool
 }
 
 impl Frame {
-    /// The opener of the innermost open block of the file.
-    pub fn innermost(&self) -> Option<Opener>
+    /// The innermost open block of the file, and the line that opened it.
+    pub fn innermost(&self) -> Option<OpenBlock>
         ensures { result ≡ blocks.last_of self.now.blocks.items }
     {
         self.blocks.last().copied()
@@ -103,12 +103,12 @@ impl Frame {
     /// Takes a statement: a block is opened or closed, and the entry goes on or ends. The 65th open block is refused.
     pub fn take(&mut self, statement: &Statement, line: u32) -> Result<(), Fault<'static>>
         requires { IsShallow self.old }
-        ensures blocks { OnOk result (self.new.blocks.items ≡ openers_after (blocks.bracket (statement_view statement.now)) line self.old.blocks.items) }
+        ensures blocks { OnOk result (self.new.blocks.items ≡ open_blocks_after (blocks.bracket (statement_view statement.now)) line self.old.blocks.items) }
         ensures entry { OnOk result (self.new.entry ≡ entry_after self.old.entry (statement_view statement.now)) }
         ensures kept { (self.new.file ≡ self.old.file) × (self.new.depth ≡ self.old.depth) × (self.new.in_choice ≡ self.old.in_choice) }
         ensures shallow { IsShallow self.new }
-        ensures allowed { OnOk result (expansion.opener_cause (self.old.depth + length self.old.blocks.items) (blocks.bracket (statement_view statement.now)) ≡ None) }
-        ensures fault { IfErr result (λ f. IsFault f (λ c. expansion.opener_cause (self.old.depth + length self.old.blocks.items) (blocks.bracket (statement_view statement.now)) ≡ Some c)) }
+        ensures allowed { OnOk result (expansion.nesting_cause (self.old.depth + length self.old.blocks.items) (blocks.bracket (statement_view statement.now)) ≡ None) }
+        ensures fault { IfErr result (λ f. IsFault f (λ c. expansion.nesting_cause (self.old.depth + length self.old.blocks.items) (blocks.bracket (statement_view statement.now)) ≡ Some c)) }
     {
         if let Some(block) = opened(statement) {
             if self.depth + self.blocks.len() >= MAX_BLOCKS {
@@ -117,7 +117,7 @@ impl Frame {
                     detail: b"",
                 });
             }
-            self.blocks.push(Opener { block, line })?;
+            self.blocks.push(OpenBlock { block, line })?;
         }
         if closes(statement) {
             self.blocks.pop();

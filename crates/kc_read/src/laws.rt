@@ -3,7 +3,7 @@
 ghost use Rattle.kc_read.specs.Existing.{HasOneExpansion};
 ghost use Rattle.kc_read.specs.Expansion.{OneExpansion};
 ghost use Rattle.kc_read.specs.Lines.{OneStatement};
-ghost use Rattle.kc_read.specs.Openings.{AskedAreNamed, HasOneListOfNames};
+ghost use Rattle.kc_read.specs.OpenedFiles.{AskedAreNamed, HasOneListOfNames};
 ghost use Rattle.kc_read.specs.Replaced.{ExpandedIsListOf};
 
 /// The law of statements: in each context the tokens of a line are one statement or are refused for one cause, and

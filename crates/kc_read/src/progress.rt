@@ -2,16 +2,15 @@
 
 ghost use Rattle.std.specs.Prelude.{◌≡◌, ◌≤◌, IfErr, OnOk, [], ◌∷◌, ◌++◌, None, Some, false, true, length, nat_lt, nat_le, IfOk};
 ghost use Rattle.std.specs.Option.{option_or};
-ghost use Rattle.kc_expr.specs.Order.{placed};
-ghost use Rattle.kc_read.specs.Progress.{defining_cause, ids_match, IsCounted, IsSeen, placing_cause};
-ghost use Rattle.kc_read.specs.Reads.{statement_view};
+ghost use Rattle.kc_expr.specs.Order.{ranked};
+ghost use Rattle.kc_read.specs.Progress.{defining_cause, ids_match, HasSymbolsWithin, IsRemembered, placing_cause};
+ghost use Rattle.kc_read.specs.StatementViews.{statement_view};
 ghost use Rattle.kc_read.specs.LineReads.{IsFault, cause_of};
 ghost use Rattle.kc_read.specs.declared.refusal.Code.TheVariants.{TooManySymbols};
-ghost use Rattle.kc_read.specs.Blocks.{name_at};
+ghost use Rattle.kc_read.specs.Blocks.{defined_name};
 
-use crate::line::Line;
 use crate::refusal::Code;
-use crate::statement::{Fault, Statement};
+use crate::statement::{Fault, Line, Statement};
 use kc_expr::expression::SymId;
 use kc_expr::order::SymbolOrder;
 use std::rc::Rc;
@@ -24,7 +23,7 @@ const MAX_SYMBOLS: usize = 65535;
 #[derive(Drop)]
 pub struct Progress {
     pub lines: Vec<Line>,
-    pub counted: usize,
+    pub total_lines: usize,
     pub defined: SymbolOrder,
     pub config: Option<SymId>,
     pub modules: Option<SymId>,
@@ -45,16 +44,16 @@ impl Progress {
 
     // The symbol is defined. The 65,536th is refused.
     fn define(&mut self, id: SymId) -> Result<(), Fault<'static>>
-        requires { IsCounted self.old }
-        ensures defined { OnOk result (self.new.defined ≡ placed self.old.defined id) }
+        requires { HasSymbolsWithin self.old }
+        ensures defined { OnOk result (self.new.defined ≡ ranked self.old.defined id) }
         ensures config { OnOk result (self.new.config ≡ Some id) }
-        ensures kept { (self.new.lines ≡ self.old.lines) × (self.new.counted ≡ self.old.counted) × (self.new.modules ≡ self.old.modules) × (self.new.open_files ≡ self.old.open_files) }
-        ensures within { OnOk result (IsCounted self.new) }
+        ensures kept { (self.new.lines ≡ self.old.lines) × (self.new.total_lines ≡ self.old.total_lines) × (self.new.modules ≡ self.old.modules) × (self.new.open_files ≡ self.old.open_files) }
+        ensures within { OnOk result (HasSymbolsWithin self.new) }
         ensures allowed { OnOk result (placing_cause self.old.defined id ≡ None) }
         ensures fault { IfErr result (λ f. IsFault f (λ c. placing_cause self.old.defined id ≡ Some c)) }
     {
-        let place = self.defined.place(id)?;
-        if place.0 >= MAX_SYMBOLS {
+        let rank = self.defined.rank(id)?;
+        if rank.0 >= MAX_SYMBOLS {
             return Err(Fault {
                 code: Code::TooManySymbols,
                 detail: b"",
@@ -65,28 +64,28 @@ impl Progress {
     }
 
     // The symbol that was defined last has a `modules` line.
-    fn mark(&mut self)
+    fn mark_modules(&mut self)
         ensures modules { self.new.modules ≡ option_or self.old.modules self.old.config }
-        ensures kept { (self.new.lines ≡ self.old.lines) × (self.new.counted ≡ self.old.counted) × (self.new.defined ≡ self.old.defined) × (self.new.config ≡ self.old.config) × (self.new.open_files ≡ self.old.open_files) }
+        ensures kept { (self.new.lines ≡ self.old.lines) × (self.new.total_lines ≡ self.old.total_lines) × (self.new.defined ≡ self.old.defined) × (self.new.config ≡ self.old.config) × (self.new.open_files ≡ self.old.open_files) }
     {
         if self.modules.is_none() {
             self.modules = self.config;
         }
     }
 
-    /// Sees a statement: a config line defines its symbol, of which the 65,536th is refused, and the first `modules`
+    /// Remembers a statement: a config line defines its symbol, of which the 65,536th is refused, and the first `modules`
     /// line is remembered.
-    pub fn see(&mut self, statement: &Statement) -> Result<(), Fault<'static>>
-        requires { IsCounted self.old }
-        ensures seen { OnOk result (IsSeen (statement_view statement.now) self.old self.new) }
-        ensures within { OnOk result (IsCounted self.new) }
-        ensures allowed { OnOk result (defining_cause self.old.defined (name_at (statement_view statement.now)) ≡ None) }
-        ensures fault { IfErr result (λ f. IsFault f (λ c. defining_cause self.old.defined (name_at (statement_view statement.now)) ≡ Some c)) }
+    pub fn remember(&mut self, statement: &Statement) -> Result<(), Fault<'static>>
+        requires { HasSymbolsWithin self.old }
+        ensures seen { OnOk result (IsRemembered (statement_view statement.now) self.old self.new) }
+        ensures within { OnOk result (HasSymbolsWithin self.new) }
+        ensures allowed { OnOk result (defining_cause self.old.defined (defined_name (statement_view statement.now)) ≡ None) }
+        ensures fault { IfErr result (λ f. IsFault f (λ c. defining_cause self.old.defined (defined_name (statement_view statement.now)) ≡ Some c)) }
     {
         match statement {
             Statement::Config(id) => self.define(*id),
             Statement::Modules => {
-                self.mark();
+                self.mark_modules();
                 Ok(())
             }
             _ => Ok(()),

@@ -1,23 +1,24 @@
-//! The statement of a line.
+//! Reads the statement of a line.
 
 ghost use Rattle.std.specs.Prelude.{◌≡◌, ◌≤◌, ℕ, length, IfOk, IfErr, Ok, Some, None, Err, ◌<◌};
 ghost use Rattle.kc_expr.specs.Grammar.{lexemes_from};
 ghost use Rattle.kc_expr.specs.Names.{Extends};
 ghost use Rattle.kc_read.specs.Lines as spec;
-ghost use Rattle.kc_read.specs.Lines.{finish, ReadsLine, ReadsRest, ReadsWhole, ReadsValue, ReadsAsked, ReadsType, ReadsTarget, ReadsRange, ReadsDepends, ReadsVisible, ReadsConfig, ReadsSource, ReadsTextLine};
+ghost use Rattle.kc_read.specs.Lines.{finish, ReadsLine, ReadsRest, ReadsWhole, ReadsValue, ReadsPrompt, ReadsType, ReadsTarget, ReadsRange, ReadsDepends, ReadsVisible, ReadsConfig, ReadsSource, ReadsTextLine};
 ghost use Rattle.std.specs.Prelude.{List, Option};
 ghost use Rattle.kc_expr.specs.declared.expression.SymId.{SymId};
-ghost use Rattle.kc_read.specs.Statements.{Written, SourceLine, IfLine, CommentLine, DefaultLine, PromptLine, SelectLine, ImplyLine, MenuLine, MainMenuLine, DefLine, TypeLine};
+ghost use Rattle.kc_read.specs.Statements.{Named, SourceLine, IfLine, CommentLine, DefaultLine, PromptLine, SelectLine, ImplyLine, MenuLine, MainMenuLine, DefLine, TypeLine};
 ghost use Rattle.kc_read.specs.LineReads.{IsFault, IsRead, IsMade};
 ghost use Rattle.kc_read.specs.Progress.{context_in};
 
+use crate::frame::Frame;
 use crate::keywords::keyword_of;
-use crate::parts::{
+use crate::line_parts::{
     begins_with, condition, end, front, is_good_name, is_pattern, name_number, next, operand_at,
-    syntax, target_at, text_at, whole, word_at, written_text,
+    raw_text, syntax, target_at, text_at, whole, word_at,
 };
-use crate::place::{left_out, place_fault};
-use crate::position::Position;
+use crate::placement::{left_out, placement_fault};
+use crate::progress::Progress;
 use crate::refusal::Code;
 use crate::statement::{Bounds, Fault, Keyword, Prompt, Statement};
 use kc_expr::expression::{Kind, SymId};
@@ -25,6 +26,16 @@ use kc_expr::names::Names;
 use kc_text::Token;
 use std::alloc::Global;
 use std::rc::Rc;
+
+/// Where the next line stands: in a file that is open, behind what was read so far. `modules` is the number that stands for
+/// the modules symbol.
+#[derive(Drop)]
+pub struct Position<'p> {
+    pub alloc: Global,
+    pub modules: Option<SymId>,
+    pub frame: &'p Frame,
+    pub progress: &'p Progress,
+}
 
 fn config_line<'a>(tokens: &[Token<'a>], names: &mut Names) -> Result<Statement, Fault<'a>>
     ensures read { (modules : Option SymId) → IsRead modules names.old names.new (ReadsConfig (lexemes_from tokens.now 1)) result }
@@ -105,11 +116,11 @@ fn prompt_line<'a>(
     modules: Option<SymId>,
     names: &mut Names,
 ) -> Result<Statement, Fault<'a>>
-    ensures read { IsRead modules names.old names.new (ReadsAsked PromptLine (lexemes_from tokens.now 1)) result }
+    ensures read { IsRead modules names.old names.new (ReadsPrompt PromptLine (lexemes_from tokens.now 1)) result }
     ensures names { Extends names.old names.new }
 {
     // The text is not kept.
-    written_text(tokens, 1)?;
+    raw_text(tokens, 1)?;
     let when = condition(alloc, tokens, 2, modules, names)?;
     Ok(Statement::Prompt(Prompt { when }))
 }
@@ -131,7 +142,7 @@ fn depends_line<'a>(
 }
 
 fn end_line<'a>(tokens: &[Token<'a>], statement: Statement) -> Result<Statement, Fault<'a>>
-    ensures { (x : Written) (modules : Option SymId) (names : List (List ℕ)) → IsMade modules names names statement x → IsRead modules names names (λ r. r ≡ finish x (lexemes_from tokens.now 1)) result }
+    ensures { (x : Named) (modules : Option SymId) (names : List (List ℕ)) → IsMade modules names names statement x → IsRead modules names names (λ r. r ≡ finish x (lexemes_from tokens.now 1)) result }
 {
     // The call drops the statement once, where `?` would write out the drop of every kind of it.
     if let Err(fault) = end(tokens, 1) {
@@ -264,18 +275,18 @@ fn def_line<'a>(
     Ok(Statement::Def(kind, Rc::new(alloc, value)?, when))
 }
 
-fn asked_type<'a>(
+fn prompted_type<'a>(
     alloc: Global,
     tokens: &[Token<'a>],
     kind: Kind,
     modules: Option<SymId>,
     names: &mut Names,
 ) -> Result<Statement, Fault<'a>>
-    ensures read { IsRead modules names.old names.new (ReadsAsked (λ p. TypeLine kind (Some p)) (lexemes_from tokens.now 1)) result }
+    ensures read { IsRead modules names.old names.new (ReadsPrompt (λ p. TypeLine kind (Some p)) (lexemes_from tokens.now 1)) result }
     ensures names { Extends names.old names.new }
 {
     // The text is not kept.
-    written_text(tokens, 1)?;
+    raw_text(tokens, 1)?;
     let when = condition(alloc, tokens, 2, modules, names)?;
     Ok(Statement::Type(kind, Some(Prompt { when })))
 }
@@ -291,7 +302,7 @@ fn type_line<'a>(
     ensures names { Extends names.old names.new }
 {
     match next(tokens, 1) {
-        Some(_) => asked_type(alloc, tokens, kind, modules, names),
+        Some(_) => prompted_type(alloc, tokens, kind, modules, names),
         None => Ok(Statement::Type(kind, None)),
     }
 }
@@ -349,7 +360,7 @@ pub fn read_line<'a>(
     let Some(keyword) = keyword_of(word) else {
         return Err(syntax());
     };
-    if let Some(fault) = place_fault(position.frame, position.progress, word, tokens, keyword) {
+    if let Some(fault) = placement_fault(position.frame, position.progress, word, tokens, keyword) {
         return Err(fault);
     }
     rest_of_line(

@@ -1,10 +1,10 @@
-//! Refusals with their places.
+//! Refusals with their locations.
 
 ghost use Rattle.std.specs.Prelude.{◌≡◌, ◌≢◌, IfOk};
 ghost use Rattle.kc_read.specs.declared.refusal.Code.TheVariants.{Memory};
 ghost use Rattle.kc_read.specs.Expansion.{refused};
 ghost use Rattle.kc_read.specs.LineReads.{cause_of};
-ghost use Rattle.kc_read.specs.Steps.{IsMemory, out_of_memory, refusal_view};
+ghost use Rattle.kc_read.specs.RefusalView.{IsMemory, out_of_memory, refusal_view};
 
 use crate::refusal::{Code, Refusal};
 use crate::statement::Fault;
@@ -16,7 +16,7 @@ pub fn memory(alloc: Global) -> Refusal
 {
     Refusal {
         code: Code::Memory,
-        place: None,
+        location: None,
         detail: Vec::new(alloc),
     }
 }
@@ -29,7 +29,7 @@ fn copied(alloc: Global, fault: Fault, file: &[u8], line: u32) -> Result<Refusal
     let detail = Vec::from_slice(alloc, fault.detail)?;
     Ok(Refusal {
         code: fault.code,
-        place: Some((name, line)),
+        location: Some((name, line)),
         detail,
     })
 }

@@ -2,13 +2,13 @@
 
 ghost use Rattle.std.specs.Prelude.{◌≡◌, ◌≢◌, ◌<◌, ◌≤◌, ◌⊎◌, IfOk, OnErr, codes, length, map, None, false, true};
 ghost use Rattle.kc_text.specs.Limits.{longest_line};
-ghost use Rattle.kc_text.specs.Lines.{Left, TakesLine, left};
+ghost use Rattle.kc_text.specs.Lines.{UnreadLines, TakesLine, unread_lines};
 ghost use Rattle.kc_text.specs.declared.faults.TextFault.TheVariants.{Memory};
-ghost use Rattle.kc_read.specs.declared.sources.Found.TheVariants.{Nothing};
+ghost use Rattle.kc_read.specs.declared.sources.NextSource.TheVariants.{Nothing};
 ghost use Rattle.kc_read.specs.Sources as spec;
-ghost use Rattle.kc_read.specs.Sources.{GoesOn, Holds, IsFound, IsSilent};
+ghost use Rattle.kc_read.specs.Sources.{HasMoreLines, Holds, IsFound, IsSilent};
 
-use crate::parts::begins_with;
+use crate::line_parts::begins_with;
 use crate::reader::source_name;
 use crate::refusal::Code;
 use crate::step::{begins_help, token_list};
@@ -18,19 +18,21 @@ use std::alloc::{AllocError, Global};
 
 /// What the next line says: no name and none after it, none, or this one.
 #[derive(Debug, Drop)]
-pub enum Found {
+pub enum NextSource {
     Nothing,
     Other,
     Name(Vec<u8>),
 }
 
 // A line that is too long or cannot be cut is followed by no name.
-fn ended(fault: TextFault) -> Result<Found, AllocError>
+fn ended(fault: TextFault) -> Result<NextSource, AllocError>
     ensures { IfOk result (λ f. (f ≡ Nothing) × (fault ≢ Memory)) }
 {
     match fault {
         TextFault::Memory => Err(AllocError),
-        TextFault::LineTooLong(_) | TextFault::BadToken | TextFault::Macro => Ok(Found::Nothing),
+        TextFault::LineTooLong(_) | TextFault::BadToken | TextFault::Macro => Ok(
+            NextSource::Nothing,
+        ),
     }
 }
 
@@ -41,11 +43,11 @@ fn source_of_line<'l>(
     line: &'l [u8],
     tokens: &mut Vec<Token<'l>>,
     lines: &mut LogicalLines,
-) -> Result<Found, AllocError>
+) -> Result<NextSource, AllocError>
     requires clear { lines.old.refusal ≡ None }
     requires short { length line.now ≤ longest_line }
     // Whatever the lines were before.
-    ensures { IfOk result (λ f. (before : Left) → TakesLine before lines.old line.now → IsFound before lines.new f) }
+    ensures { IfOk result (λ f. (before : UnreadLines) → TakesLine before lines.old line.now → IsFound before lines.new f) }
 {
     match lex(line, tokens) {
         Ok(()) => {}
@@ -55,13 +57,13 @@ fn source_of_line<'l>(
         lines.skip_help();
     }
     if !begins_with(tokens, 0, b"source") {
-        return Ok(Found::Other);
+        return Ok(NextSource::Other);
     }
     match source_name(alloc, tokens) {
-        Ok(name) => Ok(Found::Name(name)),
+        Ok(name) => Ok(NextSource::Name(name)),
         Err(fault) => match fault.code {
             Code::Memory => Err(AllocError),
-            _ => Ok(Found::Nothing),
+            _ => Ok(NextSource::Nothing),
         },
     }
 }
@@ -73,18 +75,18 @@ fn next_source<'a>(
     lines: &mut LogicalLines<'a>,
     text: &mut Vec<u8>,
     tokens: &mut Vec<Token<'a>>,
-) -> Result<Found, AllocError>
+) -> Result<NextSource, AllocError>
     requires { lines.old.refusal ≡ None }
     ensures found { IfOk result (IsFound lines.old lines.new) }
-    ensures clear { IfOk result (λ f. GoesOn f → lines.new.refusal ≡ None) }
-    ensures less { IfOk result (λ f. GoesOn f → length lines.new.lines < length lines.old.lines) }
+    ensures clear { IfOk result (λ f. HasMoreLines f → lines.new.refusal ≡ None) }
+    ensures less { IfOk result (λ f. HasMoreLines f → length lines.new.lines < length lines.old.lines) }
 {
     if let Some((_, line)) = lines.next_single() {
         return source_of_line(alloc, line, tokens, lines);
     }
     match lines.next_into(text) {
         Ok(Some(_)) => {}
-        Ok(None) => return Ok(Found::Nothing),
+        Ok(None) => return Ok(NextSource::Nothing),
         Err(fault) => return ended(fault),
     }
     let mut own = token_list(alloc, text)?;
@@ -104,7 +106,7 @@ fn may_source(file: &[u8]) -> bool
 ///
 /// Its only error is to be out of memory, which no file without the text `source` and without a `\` answers.
 pub fn sources_of(alloc: Global, file: &[u8]) -> Result<Vec<Vec<u8>>, AllocError>
-    ensures names { IfOk result (λ names. spec.Names (left file.now 1) (map (λ n. n.items) names.items)) }
+    ensures names { IfOk result (λ names. spec.SourceNames (unread_lines file.now 1) (map (λ n. n.items) names.items)) }
     ensures heard { OnErr result (IsSilent file.now → ⊥) }
 {
     let mut names = Vec::new(alloc);
@@ -116,9 +118,9 @@ pub fn sources_of(alloc: Global, file: &[u8]) -> Result<Vec<Vec<u8>>, AllocError
     let mut tokens = Vec::new(alloc);
     'along: loop {
         match next_source(alloc, &mut lines, &mut text, &mut tokens)? {
-            Found::Nothing => return Ok(names),
-            Found::Other => {}
-            Found::Name(name) => names.push(name)?,
+            NextSource::Nothing => return Ok(names),
+            NextSource::Other => {}
+            NextSource::Name(name) => names.push(name)?,
         }
     }
 }

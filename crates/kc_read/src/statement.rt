@@ -1,4 +1,4 @@
-//! The statement of a line.
+//! The statement of a line, and where it stands.
 
 ghost use Rattle.std.specs.Prelude.{◌≡◌};
 ghost use Rattle.kc_read.specs.declared.refusal.Code.TheVariants.{Memory};
@@ -52,6 +52,14 @@ pub enum Statement {
     Ignored,
 }
 
+/// A statement and where it stands: its file and the number of its line.
+#[derive(Debug, Drop)]
+pub struct Line {
+    pub file: Rc<Vec<u8>>,
+    pub line: u32,
+    pub statement: Statement,
+}
+
 /// What a first word says (the kernel's kconfig-language document).
 #[derive(Clone, Copy, Debug, PartialEq, Eq)]
 pub enum Keyword {
@@ -88,16 +96,16 @@ pub enum Block {
     Choice,
 }
 
-/// The line that opened a block (our own).
+/// An open block, and the line that opened it (our own).
 #[derive(Clone, Copy, Debug)]
-pub struct Opener {
+pub struct OpenBlock {
     pub block: Block,
     pub line: u32,
 }
 
 /// The entry to which an attribute would belong (the kernel's kconfig-language document, "Menu attributes").
 #[derive(Clone, Copy, Debug, PartialEq, Eq)]
-pub enum Entry {
+pub enum EntryKind {
     Nothing,
     Config,
     Choice,

@@ -4,18 +4,17 @@ ghost use Rattle.std.specs.Prelude.{◌≡◌, ◌≢◌, ◌≤◌, [], length,
 ghost use Rattle.kc_text.specs.Limits.{longest_line};
 ghost use Rattle.kc_expr.specs.Grammar.{lexemes_from};
 ghost use Rattle.kc_expr.specs.Names.{Extends};
-ghost use Rattle.kc_text.specs.Lines.{Left, TakesLine};
-ghost use Rattle.kc_text.specs.Tokens.{pieces};
+ghost use Rattle.kc_text.specs.Lines.{UnreadLines, TakesLine};
+ghost use Rattle.kc_text.specs.Tokens.{token_views};
 ghost use Rattle.kc_read.specs.declared.refusal.Code.TheVariants.{Memory};
 ghost use Rattle.kc_read.specs.Expansion.{is_help, long_line, lexemes, refused, text_cause};
 ghost use Rattle.kc_read.specs.LineReads.{cause_of};
 ghost use Rattle.kc_read.specs.Progress.{context_in};
-ghost use Rattle.kc_read.specs.Steps.{IsMemory, out_of_memory, refusal_view};
+ghost use Rattle.kc_read.specs.RefusalView.{IsMemory, out_of_memory, refusal_view};
 ghost use Rattle.kc_read.specs.NextStep.{IsStep, IsStepRefusal};
 
-use crate::parts::begins_with;
-use crate::position::Position;
-use crate::reader::read_line;
+use crate::line_parts::begins_with;
+use crate::reader::{Position, read_line};
 use crate::refusal::{Code, Refusal};
 use crate::refuse::{memory, refuse};
 use crate::statement::{Fault, Statement};
@@ -68,7 +67,7 @@ pub fn token_list<'a>(alloc: Global, line: &[u8]) -> Result<Vec<Token<'a>>, Allo
 
 // Whether a help text follows.
 pub fn begins_help(tokens: &[Token]) -> bool
-    ensures { result ≡ is_help (lexemes (pieces tokens.now)) }
+    ensures { result ≡ is_help (lexemes (token_views tokens.now)) }
 {
     begins_with(tokens, 0, b"help") || begins_with(tokens, 0, b"---help---")
 }
@@ -85,8 +84,8 @@ fn step_of_line<'l>(
     requires clear { lines.old.refusal ≡ None }
     requires short { length line.now ≤ longest_line }
     // Whatever the lines were before.
-    ensures step { IfOk result (λ s. (before : Left) → number ≡ before.number → TakesLine before lines.old line.now → IsStep position.now.modules names.old names.new (context_in position.now.frame.now position.now.progress.now) before lines.new s) }
-    ensures refused { IfErr result (λ r. (before : Left) → number ≡ before.number → TakesLine before lines.old line.now → IsStepRefusal position.now.frame.now.file.value.items (context_in position.now.frame.now position.now.progress.now) before r) }
+    ensures step { IfOk result (λ s. (before : UnreadLines) → number ≡ before.number → TakesLine before lines.old line.now → IsStep position.now.modules names.old names.new (context_in position.now.frame.now position.now.progress.now) before lines.new s) }
+    ensures refused { IfErr result (λ r. (before : UnreadLines) → number ≡ before.number → TakesLine before lines.old line.now → IsStepRefusal position.now.frame.now.file.value.items (context_in position.now.frame.now position.now.progress.now) before r) }
     ensures memory { IfErr result IsMemory }
     ensures names { Extends names.old names.new }
 {

@@ -1,6 +1,6 @@
 //! Rows of the rule for make.
 use kc_conf::{FileMap, Status};
-use kc_memory::{Asked, MemoryInput, MemoryOutputs, PLAIN, files, run_asked};
+use kc_memory::{MemoryInput, MemoryOutputs, PLAIN, RunRequest, files, run_request};
 use std::alloc::Global;
 use std::process::Abort;
 use std::test::Fail;
@@ -84,7 +84,7 @@ fn run_row(
     depfile: Option<&str>,
     outputs: &mut MemoryOutputs,
 ) -> Result<Status, Fail> {
-    let asked = Asked {
+    let request = RunRequest {
         fragments: row.fragments,
         strict: row.strict,
         depfile,
@@ -94,7 +94,7 @@ fn run_row(
     for (_, text) in row.fragments {
         inputs.push(MemoryInput::new(text, 9, 9))?;
     }
-    run_asked(alloc, files, &asked, &mut inputs, outputs)
+    run_request(alloc, files, &request, &mut inputs, outputs)
 }
 
 // The row's run leaves its rule.

@@ -116,26 +116,26 @@ fn the_minimal_file_restores_and_no_line_of_it_can_go(rt: HostRuntime) -> Result
     Ok(())
 }
 
-// A run on the row's own `.config` gives that again, unless the row is one that does not settle.
-fn settles(rt: &impl Abort, alloc: Global, row: &Accepted) -> Result<(), Fail> {
+// A run on the row's own `.config` gives that again, unless the row is one that is not idempotent.
+fn is_idempotent_as_said(rt: &impl Abort, alloc: Global, row: &Accepted) -> Result<(), Fail> {
     let first = first_run(alloc, row)?;
     let config = &first.config.bytes;
     let is_other = gives_another(alloc, row, config, config)?;
-    assert_eq!(rt; !is_other, row.is_settled, "{}", row.name);
+    assert_eq!(rt; !is_other, row.is_idempotent, "{}", row.name);
     Ok(())
 }
 
-fn settle(rt: &impl Abort, alloc: Global, rows: &[Accepted]) -> Result<(), Fail> {
+fn are_idempotent_as_said(rt: &impl Abort, alloc: Global, rows: &[Accepted]) -> Result<(), Fail> {
     for row in rows {
-        settles(rt, alloc, row)?;
+        is_idempotent_as_said(rt, alloc, row)?;
     }
     Ok(())
 }
 
 #[test]
-fn a_run_on_its_own_text_changes_only_what_is_unsettled(rt: HostRuntime) -> Result<(), Fail> {
+fn a_run_on_its_own_text_changes_only_what_is_not_idempotent(rt: HostRuntime) -> Result<(), Fail> {
     for rows in tables() {
-        settle(&rt, rt.alloc(), rows)?;
+        are_idempotent_as_said(&rt, rt.alloc(), rows)?;
     }
     Ok(())
 }

@@ -25,7 +25,7 @@ pub(crate) struct Accepted {
     /// The warnings.
     pub notes: &'static [u8],
     /// Whether a run on its own text gives the same text.
-    pub is_settled: bool,
+    pub is_idempotent: bool,
 }
 
 /// An empty tree.
@@ -41,7 +41,7 @@ pub(crate) const ACCEPTED: Accepted = Accepted {
     header: None,
     minimal: None,
     notes: b"",
-    is_settled: true,
+    is_idempotent: true,
 };
 
 /// A refused tree, and its one line.

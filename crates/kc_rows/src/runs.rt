@@ -3,7 +3,7 @@ ghost use Rattle.std.specs.Prelude.{◌<◌};
 
 use crate::row::Accepted;
 use kc_conf::{FileMap, Status};
-use kc_memory::{Asked, MemoryInput, MemoryOutputs, PLAIN, files, run_asked};
+use kc_memory::{MemoryInput, MemoryOutputs, PLAIN, RunRequest, files, run_request};
 use std::alloc::{AllocError, Global};
 use std::test::Fail;
 
@@ -29,11 +29,11 @@ fn inputs_of<'x>(
     Ok(inputs)
 }
 
-// What a run over these files is asked for.
+// The run of this request over these files.
 fn run_files(
     alloc: Global,
     files: &FileMap,
-    asked: &Asked<'_>,
+    request: &RunRequest<'_>,
     settings: &[u8],
     first: usize,
     later: usize,
@@ -42,8 +42,8 @@ fn run_files(
     requires first { 0 < first }
     requires later { 0 < later }
 {
-    let mut inputs = inputs_of(alloc, settings, asked.fragments, first, later)?;
-    run_asked(alloc, files, asked, &mut inputs, outputs)
+    let mut inputs = inputs_of(alloc, settings, request.fragments, first, later)?;
+    run_request(alloc, files, request, &mut inputs, outputs)
 }
 
 /// Runs the row, whose streams come in such pieces.
@@ -58,14 +58,14 @@ pub(crate) fn run_row(
     requires later { 0 < later }
 {
     let files = files(alloc, "Kconfig", row.kconfig, row.others)?;
-    let asked = Asked {
+    let request = RunRequest {
         prefix: row.prefix,
         fragments: row.fragments,
         header: row.header.map(|_| "out.h"),
         minimal: row.minimal.map(|_| "min.config"),
         ..PLAIN
     };
-    run_files(alloc, &files, &asked, row.settings, first, later, outputs)
+    run_files(alloc, &files, &request, row.settings, first, later, outputs)
 }
 
 /// What a run warns of, and whether it refuses that.
@@ -89,7 +89,7 @@ pub(crate) fn run_warned(
     outputs: &mut MemoryOutputs,
 ) -> Result<Status, Fail> {
     let files = files(alloc, "Kconfig", row.kconfig, row.others)?;
-    let asked = Asked {
+    let request = RunRequest {
         prefix: row.prefix,
         fragments: row.fragments,
         header: row.header.map(|_| "out.h"),
@@ -98,7 +98,7 @@ pub(crate) fn run_warned(
         warn_lost: matches!(warnings, Warnings::OfLost | Warnings::OfLostRefused),
         ..PLAIN
     };
-    run_files(alloc, &files, &asked, row.settings, 4096, 4096, outputs)
+    run_files(alloc, &files, &request, row.settings, 4096, 4096, outputs)
 }
 
 // The status of the row's tree and prefix with these streams, header and minimal file with them.
@@ -110,14 +110,14 @@ fn status_on<'x>(
     outputs: &mut MemoryOutputs,
 ) -> Result<Status, Fail> {
     let files = files(alloc, "Kconfig", row.kconfig, row.others)?;
-    let asked = Asked {
+    let request = RunRequest {
         prefix: row.prefix,
         fragments,
         header: Some("out.h"),
         minimal: Some("min.config"),
         ..PLAIN
     };
-    run_files(alloc, &files, &asked, settings, 4096, 4096, outputs)
+    run_files(alloc, &files, &request, settings, 4096, 4096, outputs)
 }
 
 /// What the row's tree and prefix give with these streams, header and minimal file with them.

@@ -1,6 +1,6 @@
 //! The solver against the plain slow one.
 ghost use Rattle.std.specs.Prelude.{◌≡◌, None, ⊤, IfOk};
-ghost use Rattle.kc_user.specs.Places.{IsUserOf};
+ghost use Rattle.kc_user.specs.Places.{ArePlacesOf};
 ghost use Rattle.kc_solve.specs.Graphs.{IsGraphOf};
 ghost use Rattle.kc_tree.specs.Layouts.{IsLayoutOf};
 
@@ -56,7 +56,7 @@ fn joined(alloc: Global, row: &Accepted) -> Result<Vec<u8>, Fail> {
 
 // What a `.config` gives the user's places.
 fn user_of(alloc: Global, tree: &Tree, prefix: &Prefix, settings: &[u8]) -> Result<User, Fail>
-    ensures { IfOk result (λ user. IsUserOf tree.now user) }
+    ensures { IfOk result (λ user. ArePlacesOf tree.now user) }
 {
     let mut user = User::new(alloc, tree)?;
     let mut reader = DotReader::new(alloc, tree, prefix, b".config");
@@ -105,7 +105,7 @@ fn agrees(
 ) -> Result<(), Fail>
     requires laid { IsLayoutOf solved.now.tree layout.now }
     requires order { IsGraphOf solved.now.tree layout.now order.now }
-    requires user { IsUserOf solved.now.tree user.now }
+    requires user { ArePlacesOf solved.now.tree user.now }
 {
     let tree = solved.tree();
     let slow = slow_table(alloc, tree, layout, order, user)?;
@@ -117,7 +117,7 @@ fn agrees(
 
 // Both solvers give each symbol of the tree the same value.
 fn agree(rt: &impl Abort, alloc: Global, tree: &Tree, user: &User, name: &str) -> Result<(), Fail>
-    requires { IsUserOf tree.now user.now }
+    requires { ArePlacesOf tree.now user.now }
 {
     let layout = tree.layout();
     let order = order_of(alloc, tree, layout)?;

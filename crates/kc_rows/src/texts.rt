@@ -4,7 +4,8 @@ use crate::rows::{refused_rows, tables};
 use crate::runs::{ROOM, run_row};
 use kc_conf::{FileMap, Status};
 use kc_memory::{
-    Asked, MemoryInput, MemoryOutputs, PLAIN, Slot, config_text, files, header_text, run_once,
+    MemoryFile, MemoryInput, MemoryOutputs, PLAIN, RunRequest, config_text, files, header_text,
+    run_once,
 };
 use std::alloc::Global;
 use std::process::Abort;
@@ -21,28 +22,38 @@ pub(crate) fn is_done(rt: &impl Abort, status: Status, name: &str) {
 }
 
 // An output that is wanted holds this text, and one that is not was never begun.
-fn slot_holds(rt: &impl Abort, slot: &Slot, text: Option<&[u8]>, name: &str) {
-    is_text(rt, slot.bytes.as_slice(), text.unwrap_or(b""), name);
-    let is_called = slot.calls > 0;
-    let calls = (slot.is_begun, is_called, slot.failures);
+fn file_holds(rt: &impl Abort, file: &MemoryFile, text: Option<&[u8]>, name: &str) {
+    is_text(rt, file.bytes.as_slice(), text.unwrap_or(b""), name);
+    let is_called = file.calls > 0;
+    let calls = (file.is_begun, is_called, file.failures);
     assert_eq!(rt; calls, (text.is_some(), text.is_some(), 0), "{}", name);
 }
 
 // The full `.config` is the row's, behind its heading.
-fn config_holds(rt: &impl Abort, alloc: Global, row: &Accepted, slot: &Slot) -> Result<(), Fail> {
+fn config_holds(
+    rt: &impl Abort,
+    alloc: Global,
+    row: &Accepted,
+    file: &MemoryFile,
+) -> Result<(), Fail> {
     let config = config_text(alloc, row.title, row.config)?;
-    slot_holds(rt, slot, Some(config.as_slice()), row.name);
+    file_holds(rt, file, Some(config.as_slice()), row.name);
     Ok(())
 }
 
 // The header is the row's, behind its heading, where the row wants one.
-fn header_holds(rt: &impl Abort, alloc: Global, row: &Accepted, slot: &Slot) -> Result<(), Fail> {
+fn header_holds(
+    rt: &impl Abort,
+    alloc: Global,
+    row: &Accepted,
+    file: &MemoryFile,
+) -> Result<(), Fail> {
     match row.header {
         Some(lines) => {
             let header = header_text(alloc, row.title, lines)?;
-            slot_holds(rt, slot, Some(header.as_slice()), row.name);
+            file_holds(rt, file, Some(header.as_slice()), row.name);
         }
-        None => slot_holds(rt, slot, None, row.name),
+        None => file_holds(rt, file, None, row.name),
     }
     Ok(())
 }
@@ -56,7 +67,7 @@ pub(crate) fn holds(
 ) -> Result<(), Fail> {
     config_holds(rt, alloc, row, &outputs.config)?;
     header_holds(rt, alloc, row, &outputs.header)?;
-    slot_holds(rt, &outputs.minimal, row.minimal, row.name);
+    file_holds(rt, &outputs.minimal, row.minimal, row.name);
     is_text(rt, outputs.notes.bytes.as_slice(), row.notes, row.name);
     Ok(())
 }
@@ -97,14 +108,14 @@ fn is_refused(
     notes: &[u8],
     name: &str,
 ) -> Result<(), Fail> {
-    let asked = Asked {
+    let request = RunRequest {
         header: Some("out.h"),
         minimal: Some("min.config"),
         ..PLAIN
     };
     let input = MemoryInput::new(b"CONFIG_Q=y\n", 100, 100);
     let mut outputs = MemoryOutputs::new(alloc, ROOM)?;
-    let ended = run_once(alloc, files, &asked, input, &mut outputs);
+    let ended = run_once(alloc, files, &request, input, &mut outputs);
     tells_alone(rt, &outputs, notes, name);
     drop(outputs);
     assert_eq!(rt; ended?, (Status::Refused, 0), "{}", name);
@@ -114,9 +125,9 @@ fn is_refused(
 // The outputs have these notes, and none was begun.
 pub(crate) fn tells_alone(rt: &impl Abort, outputs: &MemoryOutputs, notes: &[u8], name: &str) {
     is_text(rt, outputs.notes.bytes.as_slice(), notes, name);
-    slot_holds(rt, &outputs.config, None, name);
-    slot_holds(rt, &outputs.header, None, name);
-    slot_holds(rt, &outputs.minimal, None, name);
+    file_holds(rt, &outputs.config, None, name);
+    file_holds(rt, &outputs.header, None, name);
+    file_holds(rt, &outputs.minimal, None, name);
 }
 
 // The row's tree is refused with its line.

@@ -7,100 +7,101 @@ use Rattle.kc_tree.specs.TreeFacts.{TreeFacts}
 use Rattle.std.specs.Prelude.{slice_get, slice_index_or}
 use Rattle.std.proofs.lemmas.List.FromFn.{get_or-map-range_with_len}
 use Rattle.kc_expr.specs.Names.{symbol}
-use Rattle.kc_expr.specs.Value.{Known}
+use Rattle.kc_expr.specs.Value.{SymbolValue}
 use Rattle.kc_tree.specs.TreeFacts.{SymbolFacts}
 use Rattle.kc_values.specs.Lookups.{facts, choice_at}
 use Rattle.kc_order.specs.Solution.{Solves}
 use Rattle.std.specs.Option.{is_some}
-use Rattle.kc_user.specs.Given.{Slot, At, In, Given}
-use Rattle.kc_values.specs.Solution.{symbol_count, slot, slot_by, slot_of_facts, rhs, equations}
+use Rattle.kc_user.specs.GivenValue.{UserPlace, SymbolPlace, ChoicePlace, GivenValue}
+use Rattle.kc_values.specs.Solution.{symbol_count, user_place, user_place_by, user_place_of, rhs, equations}
 use Rattle.kc_values.proofs.SameValue.{same_value_itself}
 use Rattle.kc_values.proofs.Uncounted.{uncounted}
 use Rattle.kc_values.specs.Differs.{same_value, selection, default_selection, differs, differs_at}
 use Rattle.kc_tree.specs.Words.{is_symbol_of}
 use Rattle.kc_values.specs.Values.{selected, equation, by_choice, by_kind, is_n, visibility}
-use Rattle.kc_values.specs.Written.{written}
+use Rattle.kc_values.specs.WrittenSymbols.{written}
 use Rattle.kc_values.specs.declared.table.Value.{Value}
 use Rattle.kc_solve.specs.Flags.{differs_by, is_written, IsSolvedOwn}
-use Rattle.kc_solve.specs.Places.{valuation}
+use Rattle.kc_solve.specs.PlaceLists.{valuation}
 use Rattle.kc_values.specs.Table.{known_in}
-use Rattle.kc_solve.proofs.WarningSteps.{tables_seen}
+use Rattle.kc_solve.proofs.WarningSteps.{tables_known}
 
 one_more : {X : Type 0} (f : ℕ → X) (i : ℕ) (x : X) (old new : List X) → old ≡ map f (range_with_len 0 i) → new ≡ old ++ x ∷ [] → x ≡ f i → new ≡ map f (range_with_len 0 (i + 1))
 one_more f i x old new e n h =
     n ∙ ap (λ xs. xs ++ x ∷ []) e ∙ ap (λ y. map f (range_with_len 0 i) ++ y ∷ []) h ∙ sym (map-range_with_len_more f 0 i i (omega arith))
 
-pub one_more_selected : (tree : TreeFacts) (values : List (Option Value)) (U : Slot → Option Given) (c : ℕ) (x : Option SymId) (old new : List (Option SymId)) →
+pub one_more_selected : (tree : TreeFacts) (values : List (Option Value)) (U : UserPlace → Option GivenValue) (c : ℕ) (x : Option SymId) (old new : List (Option SymId)) →
     length values ≡ symbol_count tree → old ≡ map (selection tree U (valuation tree values)) (range_with_len 0 c) → new ≡ old ++ x ∷ [] →
-    x ≡ selected tree (known_in tree values) (choice_at tree c) (U (In c)) → new ≡ map (selection tree U (valuation tree values)) (range_with_len 0 (c + 1))
+    x ≡ selected tree (known_in tree values) (choice_at tree c) (U (ChoicePlace c)) → new ≡ map (selection tree U (valuation tree values)) (range_with_len 0 (c + 1))
 one_more_selected tree values U c x old new l e n h =
-    one_more (selection tree U (valuation tree values)) c x old new e n (h ∙ ap (λ k. selected tree k (choice_at tree c) (U (In c))) (tables_seen tree values l))
+    one_more (selection tree U (valuation tree values)) c x old new e n (h ∙ ap (λ k. selected tree k (choice_at tree c) (U (ChoicePlace c))) (tables_known tree values l))
 
 pub one_more_default : (tree : TreeFacts) (values : List (Option Value)) (c : ℕ) (x : Option SymId) (old new : List (Option SymId)) →
     length values ≡ symbol_count tree → old ≡ map (default_selection tree (valuation tree values)) (range_with_len 0 c) → new ≡ old ++ x ∷ [] →
     x ≡ selected tree (known_in tree values) (choice_at tree c) None → new ≡ map (default_selection tree (valuation tree values)) (range_with_len 0 (c + 1))
 one_more_default tree values c x old new l e n h =
-    one_more (default_selection tree (valuation tree values)) c x old new e n (h ∙ ap (λ k. selected tree k (choice_at tree c) None) (tables_seen tree values l))
+    one_more (default_selection tree (valuation tree values)) c x old new e n (h ∙ ap (λ k. selected tree k (choice_at tree c) None) (tables_known tree values l))
 
 pub one_more_written : (tree : TreeFacts) (values : List (Option Value)) (i : ℕ) (x : Bool) (old new : List Bool) → length values ≡ symbol_count tree →
     old ≡ map (is_written tree (valuation tree values)) (range_with_len 0 i) → new ≡ old ++ x ∷ [] → x ≡ written tree (known_in tree values) (symbol i) →
     new ≡ map (is_written tree (valuation tree values)) (range_with_len 0 (i + 1))
 one_more_written tree values i x old new l e n h =
-    one_more (is_written tree (valuation tree values)) i x old new e n (h ∙ ap (λ k. written tree k (symbol i)) (tables_seen tree values l))
+    one_more (is_written tree (valuation tree values)) i x old new e n (h ∙ ap (λ k. written tree k (symbol i)) (tables_known tree values l))
 
-module _ (tree : TreeFacts) (values : List (Option Value)) (full : length values ≡ symbol_count tree) (U : Slot → Option Given) (i : ℕ) (f : SymbolFacts)
-    (at : slice_get tree.symbols i ≡ Some f) (chosen defaults : List (Option SymId))
-    (sel : chosen ≡ map (selection tree U (valuation tree values)) (range_with_len 0 (length tree.choices)))
+module _ (tree : TreeFacts) (values : List (Option Value)) (full : length values ≡ symbol_count tree) (U : UserPlace → Option GivenValue) (i : ℕ) (f : SymbolFacts)
+    (at : slice_get tree.symbols i ≡ Some f) (selections defaults : List (Option SymId))
+    (sel : selections ≡ map (selection tree U (valuation tree values)) (range_with_len 0 (length tree.choices)))
     (def : defaults ≡ map (default_selection tree (valuation tree values)) (range_with_len 0 (length tree.choices))) where
-  abbrev V : ℕ → Known
+  abbrev V : ℕ → SymbolValue
   V = valuation tree values
 
   -- the equation without what was given
   without : (c : Option ℕ) → f.choice ≡ c → rhs tree i None V ≡ by_choice tree (known_in tree values) (symbol i) f c None
   without c e =
-      ap (λ k. equation tree k (symbol i) (facts tree (symbol i)) None) (sym (tables_seen tree values full))
+      ap (λ k. equation tree k (symbol i) (facts tree (symbol i)) None) (sym (tables_known tree values full))
       ∙ ap (λ o. equation tree (known_in tree values) (symbol i) o None) at
       ∙ ap (λ o. by_choice tree (known_in tree values) (symbol i) f o None) e
 
   by_slot : (c : Option ℕ) → f.choice ≡ c → ((d : ℕ) → c ≡ Some d → d < length tree.choices) →
-      differs_by tree (known_in tree values) (symbol i) f c chosen defaults ≡ differs_at tree U V i (slot_by i c)
+      differs_by tree (known_in tree values) (symbol i) f c selections defaults ≡ differs_at tree U V i (user_place_by i c)
   by_slot None e below = ap (λ x. not (same_value (V i) x)) (sym (without None e))
   by_slot (Some c) e below =
       let l = below c refl in
-      let a : slice_index_or chosen c None ≡ selection tree U V c =
+      let a : slice_index_or selections c None ≡ selection tree U V c =
       ap (λ xs. slice_index_or xs c None) sel ∙ get_or-map-range_with_len (selection tree U V) 0 (length tree.choices) c c None l (omega arith) in
       let b : slice_index_or defaults c None ≡ default_selection tree V c =
       ap (λ xs. slice_index_or xs c None) def ∙ get_or-map-range_with_len (default_selection tree V) 0 (length tree.choices) c c None l (omega arith) in
       ap (λ x. is_symbol_of (symbol i) x && not (is_symbol_of (symbol i) (slice_index_or defaults c None))) a
       ∙ ap (λ x. is_symbol_of (symbol i) (selection tree U V c) && not (is_symbol_of (symbol i) x)) b
 
-  differs_is : ((d : ℕ) → f.choice ≡ Some d → d < length tree.choices) → differs_by tree (known_in tree values) (symbol i) f f.choice chosen defaults ≡ differs tree U V i
-  differs_is below = by_slot f.choice refl below ∙ ap (differs_at tree U V i) (sym (ap (slot_of_facts i) at))
+  differs_is : ((d : ℕ) → f.choice ≡ Some d → d < length tree.choices) → differs_by tree (known_in tree values) (symbol i) f f.choice selections defaults ≡ differs tree U V i
+  differs_is below = by_slot f.choice refl below ∙ ap (differs_at tree U V i) (sym (ap (user_place_of i) at))
 
   pub one_more_differs : ((d : ℕ) → f.choice ≡ Some d → d < length tree.choices) → (x : Bool) (old new : List Bool) → old ≡ map (differs tree U V) (range_with_len 0 i) →
-      new ≡ old ++ x ∷ [] → x ≡ differs_by tree (known_in tree values) (symbol i) f f.choice chosen defaults → new ≡ map (differs tree U V) (range_with_len 0 (i + 1))
+      new ≡ old ++ x ∷ [] → x ≡ differs_by tree (known_in tree values) (symbol i) f f.choice selections defaults → new ≡ map (differs tree U V) (range_with_len 0 (i + 1))
   one_more_differs below x old new e n h = one_more (differs tree U V) i x old new e n (h ∙ differs_is below)
 
-  solved_by : Solves (symbol_count tree) (equations tree U) V → i < symbol_count tree → (own : Option Given) → own ≡ U (At i) → (c : Option ℕ) → f.choice ≡ c →
+  solved_by : Solves (symbol_count tree) (equations tree U) V → i < symbol_count tree → (own : Option GivenValue) → own ≡ U (SymbolPlace i) → (c : Option ℕ) → f.choice ≡ c →
       IsSolvedOwn tree (known_in tree values) (symbol i) f c own
   solved_by solves l own given (Some c) e = tt
   solved_by solves l own given None e =
-      let place : slot tree i ≡ At i = ap (slot_of_facts i) at ∙ ap (slot_by i) e in
+      let place : user_place tree i ≡ SymbolPlace i = ap (user_place_of i) at ∙ ap (user_place_by i) e in
       solves i l
       ∙ ap (λ p. rhs tree i (U p) V) place
       ∙ ap (λ g. rhs tree i g V) (sym given)
-      ∙ ap (λ k. equation tree k (symbol i) (facts tree (symbol i)) own) (sym (tables_seen tree values full))
+      ∙ ap (λ k. equation tree k (symbol i) (facts tree (symbol i)) own) (sym (tables_known tree values full))
       ∙ ap (λ o. equation tree (known_in tree values) (symbol i) o own) at
       ∙ ap (λ o. by_choice tree (known_in tree values) (symbol i) f o own) e
 
   -- the value of a symbol outside a choice is what its equation gives
-  pub solved_here : Solves (symbol_count tree) (equations tree U) V → i < symbol_count tree → (own : Option Given) → own ≡ U (At i) → IsSolvedOwn tree (known_in tree values) (symbol i) f f.choice own
+  pub solved_here : Solves (symbol_count tree) (equations tree U) V → i < symbol_count tree → (own : Option GivenValue) → own ≡ U (SymbolPlace i) →
+      IsSolvedOwn tree (known_in tree values) (symbol i) f f.choice own
   solved_here solves l own given = solved_by solves l own given f.choice refl
 
 -- a symbol for which nothing counts that was given does not differ
-module _ (tree : TreeFacts) (known : SymId → Known) (s : SymId) (f : SymbolFacts) (own : Option Given) (chosen defaults : List (Option SymId))
+module _ (tree : TreeFacts) (known : SymId → SymbolValue) (s : SymId) (f : SymbolFacts) (own : Option GivenValue) (selections defaults : List (Option SymId))
     (nothing : (is_some own && not (is_n (visibility tree known f))) ≡ false) where
-  pub does_not_differ : (c : Option ℕ) → c ≡ None → IsSolvedOwn tree known s f c own → false ≡ differs_by tree known s f c chosen defaults
+  pub does_not_differ : (c : Option ℕ) → c ≡ None → IsSolvedOwn tree known s f c own → false ≡ differs_by tree known s f c selections defaults
   does_not_differ (Some c) e solved = cc
   does_not_differ None e solved =
       let same : known s ≡ by_kind tree known s f f.kind None = solved ∙ uncounted tree known s f f.kind own nothing in

@@ -17,7 +17,7 @@ use Rattle.kc_values.specs.Nodes.{choice_number, context_number}
 use Rattle.kc_values.proofs.AnyLemmas.{stands, stands_in}
 use Rattle.kc_values.proofs.NeedsAlike.{choice_told, told}
 use Rattle.kc_values.proofs.RowNeeds.{hit, names}
-use Rattle.kc_solve.proofs.FillSteps.{AreNamesThere}
+use Rattle.kc_solve.proofs.ComputeSteps.{AreNamesThere}
 
 -- a list that holds a defined symbol names it
 named : (tree : TreeFacts) (l : Layout) (s : ℕ) (ss : List SymId) → s < length l.symbols.items → Contains ss (symbol s) → names tree l s ss ≡ true

@@ -1,5 +1,5 @@
 pub mod TableSteps
-pub mod FillSteps
+pub mod ComputeSteps
 pub mod GroupNames
 pub mod UserSteps
 pub mod WarningSteps

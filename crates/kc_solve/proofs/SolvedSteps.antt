@@ -7,7 +7,7 @@ use Rattle.std.proofs.lemmas.List.{get_or_past}
 use Rattle.std.proofs.lemmas.List.FromFn.{get_or-map-range_with_len, length-map-range_with_len}
 use Rattle.std.proofs.lemmas.Option.{slice_get_past}
 use Rattle.kc_expr.specs.Names.{symbol}
-use Rattle.kc_expr.specs.Value.{Known, Written, known_of, truth_of_known, text_of_known}
+use Rattle.kc_expr.specs.Value.{SymbolValue, TextValue, value_by_kind, truth_of_value, text_of_value}
 use Rattle.kc_expr.specs.declared.expression.SymId.{SymId}
 use Rattle.kc_expr.specs.declared.expression.Tri.{Tri}
 use Rattle.kc_expr.specs.declared.expression.Tri.TheVariants.{N}
@@ -15,27 +15,27 @@ use Rattle.kc_expr.specs.declared.expression.Kind.{Kind}
 use Rattle.kc_expr.specs.declared.expression.Kind.TheVariants.{Undefined, Bool as IsBool, Tristate, Str, Int, Hex}
 use Rattle.kc_order.specs.Solution.{Solves, IsOnlySolution}
 use Rattle.kc_tree.specs.TreeFacts.{SymbolFacts, TreeFacts}
-use Rattle.kc_user.specs.Given.{Given, Slot, At, In}
+use Rattle.kc_user.specs.GivenValue.{GivenValue, UserPlace, SymbolPlace, ChoicePlace}
 use Rattle.kc_user.specs.Places.{Places, place_at}
 use Rattle.kc_values.specs.Differs.{differs, differs_at, same_value, selection, default_selection}
-use Rattle.kc_values.specs.Laws.{MinimalRestores, MinimalHasNothingToSpare, SettledWhere as Law, MembersAreTheirs}
+use Rattle.kc_values.specs.Laws.{MinimalRestores, MinimalHasNothingToSpare, IdempotentWhere as Law, MembersAreTheirs}
 use Rattle.kc_values.specs.Lookups.{choice_at, is_defined, facts, name}
-use Rattle.kc_values.specs.Solution.{equations, rhs, seen, slot, symbol_count}
+use Rattle.kc_values.specs.Solution.{equations, rhs, known_from, user_place, symbol_count}
 use Rattle.kc_values.specs.Table.{kind_in, value_in, tri_in, text_in}
 use Rattle.kc_tree.specs.Words.{is_symbol_of}
 use Rattle.kc_values.specs.Values.{equation, selected, visibility}
 use Rattle.kc_values.specs.Warnings.{warnings_of}
-use Rattle.kc_values.specs.Written as writing
+use Rattle.kc_values.specs.WrittenSymbols as writing
 use Rattle.kc_values.specs.declared.table.Value.{Value}
-use Rattle.kc_solve.proofs.WarningSteps.{tables_seen}
+use Rattle.kc_solve.proofs.WarningSteps.{tables_known}
 use Rattle.kc_solve.specs.Flags.{is_written}
-use Rattle.kc_solve.specs.Places.{valuation}
+use Rattle.kc_solve.specs.PlaceLists.{valuation}
 use Rattle.kc_values.specs.Table.{known_in}
 use Rattle.kc_solve.specs.Solved as solved
-use Rattle.kc_solve.specs.Solved.{IsMinimal, IsSolution, IsSolved, SettledWhere, Solution, TellsKnown, known, solution_in, value_of}
+use Rattle.kc_solve.specs.Solved.{IsMinimal, IsSolution, IsSolved, IdempotentWhere, Solution, TellsKnown, known, solution_in, value_of}
 
 -- what is known, by its type, truth value and text
-shape : (k : Kind) (t : Tri) (x : List ℕ) → known_of k (truth_of_known (known_of k t x)) (text_of_known (known_of k t x)) ≡ known_of k t x
+shape : (k : Kind) (t : Tri) (x : List ℕ) → value_by_kind k (truth_of_value (value_by_kind k t x)) (text_of_value (value_by_kind k t x)) ≡ value_by_kind k t x
 shape Undefined t x = refl
 shape IsBool t x = refl
 shape Tristate t x = refl
@@ -44,43 +44,43 @@ shape Int t x = refl
 shape Hex t x = refl
 
 module _ (tree : TreeFacts) (places : Places) (values : List (Option Value)) where
-  abbrev V : ℕ → Known
+  abbrev V : ℕ → SymbolValue
   V = valuation tree values
 
-  abbrev W : ℕ → Known
+  abbrev W : ℕ → SymbolValue
   W = value_of (solution_in tree places values)
 
   same_value_at : (i : ℕ) → i < symbol_count tree → W i ≡ V i
-  same_value_at i l = get_or-map-range_with_len V 0 (symbol_count tree) i i (Written Undefined []) l (omega arith)
+  same_value_at i l = get_or-map-range_with_len V 0 (symbol_count tree) i i (TextValue Undefined []) l (omega arith)
 
-  same_seen_at : (s : SymId) → seen tree W s ≡ seen tree V s
-  same_seen_at s =
+  same_known_at : (s : SymId) → known_from tree W s ≡ known_from tree V s
+  same_known_at s =
       elim (cases_Bool (is_defined tree s)) [
         | inl t ↦
             let e = same_value_at s.0 (ltb-true s.0 (symbol_count tree) t) in
-            ap (λ x. cond (is_defined tree s) x (Written Undefined (name tree s))) e
+            ap (λ x. cond (is_defined tree s) x (TextValue Undefined (name tree s))) e
         | inr f ↦
-            ap (λ b. cond b (W s.0) (Written Undefined (name tree s))) f ∙ sym (ap (λ b. cond b (V s.0) (Written Undefined (name tree s))) f)
+            ap (λ b. cond b (W s.0) (TextValue Undefined (name tree s))) f ∙ sym (ap (λ b. cond b (V s.0) (TextValue Undefined (name tree s))) f)
       ]
 
-  pub same_seen : seen tree W ≡ seen tree V
-  same_seen = λ i s. same_seen_at s i
+  pub same_known : known_from tree W ≡ known_from tree V
+  same_known = λ i s. same_known_at s i
 
   -- what the table tells is what is known in the solution
   pub table_tells : length values ≡ symbol_count tree → known_in tree values ≡ known (solution_in tree places values)
-  table_tells full = tables_seen tree values full ∙ sym same_seen
+  table_tells full = tables_known tree values full ∙ sym same_known
 
-  same_rhs : (i : ℕ) (given : Option Given) → rhs tree i given W ≡ rhs tree i given V
-  same_rhs i given = ap (λ k. equation tree k (symbol i) (facts tree (symbol i)) given) same_seen
+  same_rhs : (i : ℕ) (given : Option GivenValue) → rhs tree i given W ≡ rhs tree i given V
+  same_rhs i given = ap (λ k. equation tree k (symbol i) (facts tree (symbol i)) given) same_known
 
-  same_differs : (i : ℕ) (p : Slot) → i < symbol_count tree → differs_at tree (place_at places) W i p ≡ differs_at tree (place_at places) V i p
-  same_differs i (At j) l = ap (λ x. not (same_value x (rhs tree i None W))) (same_value_at i l) ∙ ap (λ x. not (same_value (V i) x)) (same_rhs i None)
-  same_differs i (In c) l =
-      ap (λ (k : SymId → Known). is_symbol_of (symbol i) (selected tree k (choice_at tree c) (place_at places (In c))) && not
-      (is_symbol_of (symbol i) (selected tree k (choice_at tree c) None))) same_seen
+  same_differs : (i : ℕ) (p : UserPlace) → i < symbol_count tree → differs_at tree (place_at places) W i p ≡ differs_at tree (place_at places) V i p
+  same_differs i (SymbolPlace j) l = ap (λ x. not (same_value x (rhs tree i None W))) (same_value_at i l) ∙ ap (λ x. not (same_value (V i) x)) (same_rhs i None)
+  same_differs i (ChoicePlace c) l =
+      ap (λ (k : SymId → SymbolValue). is_symbol_of (symbol i) (selected tree k (choice_at tree c) (place_at places (ChoicePlace c))) && not
+      (is_symbol_of (symbol i) (selected tree k (choice_at tree c) None))) same_known
 
   solves_too : Solves (symbol_count tree) (equations tree (place_at places)) V → Solves (symbol_count tree) (equations tree (place_at places)) W
-  solves_too solves s l = same_value_at s l ∙ solves s l ∙ sym (same_rhs s (place_at places (slot tree s)))
+  solves_too solves s l = same_value_at s l ∙ solves s l ∙ sym (same_rhs s (place_at places (user_place tree s)))
 
   only_too : IsOnlySolution (symbol_count tree) (equations tree (place_at places)) V → IsOnlySolution (symbol_count tree) (equations tree (place_at places)) W
   only_too only X solves s l = only X solves s l ∙ sym (same_value_at s l)
@@ -88,11 +88,11 @@ module _ (tree : TreeFacts) (places : Places) (values : List (Option Value)) whe
   -- these three tell what is known
   tells : length values ≡ symbol_count tree → TellsKnown (solution_in tree places values)
   tells full id =
-      subst (λ (k : SymId → Known). known_of (kind_in (facts tree id)) (truth_of_known (k id)) (text_of_known (k id)) ≡ k id) (table_tells full)
+      subst (λ (k : SymId → SymbolValue). value_by_kind (kind_in (facts tree id)) (truth_of_value (k id)) (text_of_value (k id)) ≡ k id) (table_tells full)
       (shape (kind_in (facts tree id)) (tri_in (value_in values id)) (text_in (value_in values id) (name tree id)))
 
   -- one thing that the table tells of a symbol, and what it says at a solution that is this one
-  pub told : {X : Type 0} (full : length values ≡ symbol_count tree) (s : Solution) (e : solution_in tree places values ≡ s) (f : TreeFacts → (SymId → Known) → X) (x : X) →
+  pub told : {X : Type 0} (full : length values ≡ symbol_count tree) (s : Solution) (e : solution_in tree places values ≡ s) (f : TreeFacts → (SymId → SymbolValue) → X) (x : X) →
       x ≡ f tree (known_in tree values) → x ≡ f s.tree (known s)
   told {X} full s e f x h =
       subst (λ (y : Solution). x ≡ f y.tree (known y)) e (h ∙ ap (f tree) (table_tells full))
@@ -101,13 +101,13 @@ module _ (tree : TreeFacts) (places : Places) (values : List (Option Value)) whe
       Some f ≡ facts tree id → t ≡ visibility tree (known_in tree values) f → t ≡ solved.visibility s id
   visible_is full s e id f t at h =
       subst (λ (y : Solution). t ≡ solved.visibility y id) e
-      (h ∙ ap (λ (k : SymId → Known). visibility tree k f) (table_tells full) ∙ ap (solved.visibility_by (solution_in tree places values)) at)
+      (h ∙ ap (λ (k : SymId → SymbolValue). visibility tree k f) (table_tells full) ∙ ap (solved.visibility_by (solution_in tree places values)) at)
 
   pub not_visible : (s : Solution) (e : solution_in tree places values ≡ s) (id : SymId) → facts tree id ≡ None → N ≡ solved.visibility s id
   not_visible s e id none =
       subst (λ (y : Solution). N ≡ solved.visibility y id) e (sym (ap (solved.visibility_by (solution_in tree places values)) none))
 
-  module _ (chosen defaults : List (Option SymId)) (differing written : List Bool) (lines : List (List ℕ)) (is : IsSolved tree places values chosen defaults differing written lines) where
+  module _ (selections defaults : List (Option SymId)) (differing written : List Bool) (lines : List (List ℕ)) (is : IsSolved tree places values selections defaults differing written lines) where
     pub is_solution : IsSolution (solution_in tree places values)
     is_solution = record {
       places = is.user;
@@ -125,26 +125,26 @@ module _ (tree : TreeFacts) (places : Places) (values : List (Option Value)) whe
       nothing_to_spare = λ keep is_kept. nothing tree (place_at places) W keep members (solves_too is.solves) is_kept;
     }
 
-    pub settled : Law → MembersAreTheirs tree → SettledWhere (solution_in tree places values)
-    settled law members allowed = law tree (place_at places) W members allowed (solves_too is.solves)
+    pub idempotent : Law → MembersAreTheirs tree → IdempotentWhere (solution_in tree places values)
+    idempotent law members allowed = law tree (place_at places) W members allowed (solves_too is.solves)
 
-    pub chosen_at : (c : ℕ) → c < length tree.choices → slice_index_or chosen c None ≡ solved.selection (solution_in tree places values) c
-    chosen_at c l =
-        ap (λ xs. slice_index_or xs c None) is.chosen_are
+    pub selection_at : (c : ℕ) → c < length tree.choices → slice_index_or selections c None ≡ solved.selection (solution_in tree places values) c
+    selection_at c l =
+        ap (λ xs. slice_index_or xs c None) is.selections_are
         ∙ get_or-map-range_with_len (selection tree (place_at places) V) 0 (length tree.choices) c c None l (omega arith)
-        ∙ ap (λ (k : SymId → Known). selected tree k (choice_at tree c) (place_at places (In c))) (sym same_seen)
+        ∙ ap (λ (k : SymId → SymbolValue). selected tree k (choice_at tree c) (place_at places (ChoicePlace c))) (sym same_known)
 
     pub default_at : (c : ℕ) → c < length tree.choices → slice_index_or defaults c None ≡ solved.default_selection (solution_in tree places values) c
     default_at c l =
         ap (λ xs. slice_index_or xs c None) is.defaults_are
         ∙ get_or-map-range_with_len (default_selection tree V) 0 (length tree.choices) c c None l (omega arith)
-        ∙ ap (λ (k : SymId → Known). selected tree k (choice_at tree c) None) (sym same_seen)
+        ∙ ap (λ (k : SymId → SymbolValue). selected tree k (choice_at tree c) None) (sym same_known)
 
     pub differing_at : (s : SymId) → s.0 < symbol_count tree → slice_index_or differing s.0 false ≡ solved.differs (solution_in tree places values) s
     differing_at s l =
         ap (λ xs. slice_index_or xs s.0 false) is.differing_are
         ∙ get_or-map-range_with_len (differs tree (place_at places) V) 0 (symbol_count tree) s.0 s.0 false l (omega arith)
-        ∙ sym (same_differs s.0 (slot tree s.0) l)
+        ∙ sym (same_differs s.0 (user_place tree s.0) l)
 
     written_long : length written ≡ symbol_count tree
     written_long = ap length is.written_are ∙ length-map-range_with_len (is_written tree V) 0 (symbol_count tree)
@@ -157,32 +157,33 @@ module _ (tree : TreeFacts) (places : Places) (values : List (Option Value)) whe
               let l = ltb-true s.0 (symbol_count tree) t in
               ap (λ xs. slice_index_or xs s.0 false) is.written_are
               ∙ get_or-map-range_with_len (is_written tree V) 0 (symbol_count tree) s.0 s.0 false l (omega arith)
-              ∙ ap (λ (k : SymId → Known). writing.written tree k s) (sym same_seen)
+              ∙ ap (λ (k : SymId → SymbolValue). writing.written tree k s) (sym same_known)
           | inr f ↦
               let past = ltb-false s.0 (symbol_count tree) f in
               get_or_past written s.0 false (subst (λ n. n ≤ s.0) (sym written_long) past)
-              ∙ sym (ap (writing.written_facts tree (seen tree W)) (slice_get_past tree.symbols s.0 past))
+              ∙ sym (ap (writing.written_facts tree (known_from tree W)) (slice_get_past tree.symbols s.0 past))
         ]
 
     pub lines_too : lines ≡ solved.warnings (solution_in tree places values)
     lines_too =
         is.lines_are
-        ∙ ap (λ (k : SymId → Known). flat_map (λ i. warnings_of tree k (name tree (symbol i)) (facts tree (symbol i)) (place_at places (At i))) (range_with_len 0 (symbol_count tree))) (sym same_seen)
+        ∙ ap (λ (k : SymId → SymbolValue). flat_map (λ i. warnings_of tree k (name tree (symbol i)) (facts tree (symbol i)) (place_at places (SymbolPlace i)))
+        (range_with_len 0 (symbol_count tree))) (sym same_known)
 
-    pub chosen_long : length chosen ≡ length tree.choices
-    chosen_long = ap length is.chosen_are ∙ length-map-range_with_len (selection tree (place_at places) V) 0 (length tree.choices)
+    pub selections_long : length selections ≡ length tree.choices
+    selections_long = ap length is.selections_are ∙ length-map-range_with_len (selection tree (place_at places) V) 0 (length tree.choices)
 
     pub defaults_long : length defaults ≡ length tree.choices
     defaults_long = ap length is.defaults_are ∙ length-map-range_with_len (default_selection tree V) 0 (length tree.choices)
 
     -- the same at a solution that is this one
     module _ (s : Solution) (e : solution_in tree places values ≡ s) where
-      pub chosen_within : (c : ℕ) → c < length s.tree.choices → c < length chosen
-      chosen_within c l = subst (λ n. c < n) (sym chosen_long) (subst (λ (x : Solution). c < length x.tree.choices) (sym e) l)
+      pub selection_within : (c : ℕ) → c < length s.tree.choices → c < length selections
+      selection_within c l = subst (λ n. c < n) (sym selections_long) (subst (λ (x : Solution). c < length x.tree.choices) (sym e) l)
 
-      pub chosen_is : (c : ℕ) → c < length s.tree.choices → slice_index_or chosen c None ≡ solved.selection s c
-      chosen_is c l =
-          subst (λ (x : Solution). slice_index_or chosen c None ≡ solved.selection x c) e (chosen_at c (subst (λ (x : Solution). c < length x.tree.choices) (sym e) l))
+      pub selection_is : (c : ℕ) → c < length s.tree.choices → slice_index_or selections c None ≡ solved.selection s c
+      selection_is c l =
+          subst (λ (x : Solution). slice_index_or selections c None ≡ solved.selection x c) e (selection_at c (subst (λ (x : Solution). c < length x.tree.choices) (sym e) l))
 
       pub defaults_within : (c : ℕ) → c < length s.tree.choices → c < length defaults
       defaults_within c l = subst (λ n. c < n) (sym defaults_long) (subst (λ (x : Solution). c < length x.tree.choices) (sym e) l)

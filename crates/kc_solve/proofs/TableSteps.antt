@@ -12,7 +12,7 @@ use Rattle.std.proofs.lemmas.List.{get_or_default, get_or_past, length-set}
 use Rattle.std.proofs.lemmas.Option.{slice_get_past, slice_get_within}
 use base.Stored.{Coded-set}
 use Rattle.kc_expr.specs.Names.{symbol}
-use Rattle.kc_expr.specs.Value.{Known, Truth, Written, known_of}
+use Rattle.kc_expr.specs.Value.{SymbolValue, Truth, TextValue, value_by_kind}
 use Rattle.kc_expr.specs.contracts.expression.Kind as kind_row
 use Rattle.kc_expr.specs.declared.expression.SymId.{SymId}
 use Rattle.kc_expr.specs.declared.expression.Tri.{Tri}
@@ -24,26 +24,26 @@ use Rattle.kc_tree.specs.Contexts.{mode_view}
 use Rattle.kc_tree.specs.Layouts.{facts_of}
 use Rattle.kc_tree.specs.TreeCode.{symbol_code}
 use Rattle.kc_tree.specs.TreeFacts.{IsWellFormed, SymbolFacts, TreeFacts}
-use Rattle.kc_tree.specs.declared.parts.ChoiceId.{ChoiceId}
-use Rattle.kc_tree.specs.declared.parts.Symbol.{Symbol}
+use Rattle.kc_tree.specs.declared.rows.ChoiceId.{ChoiceId}
+use Rattle.kc_tree.specs.declared.rows.Symbol.{Symbol}
 use Rattle.kc_tree.proofs.TreeLemmas.{symbols-length, symbols-at}
-use Rattle.kc_user.specs.Given.{Given, At}
+use Rattle.kc_user.specs.GivenValue.{GivenValue, SymbolPlace}
 use Rattle.kc_user.specs.declared.value.UserValue.{UserValue}
-use Rattle.kc_values.specs.Known.{IsRowOf, known_at}
+use Rattle.kc_values.specs.TableFacts.{IsRowOf, known_at}
 use Rattle.kc_values.specs.Lookups.{is_defined, facts, name}
 use Rattle.kc_values.specs.Needs.{names_of}
 use Rattle.kc_values.specs.Selections.{given_for}
-use Rattle.kc_values.specs.Solution.{slot_by, slot_of_facts, symbol_count, seen, slot, equations}
+use Rattle.kc_values.specs.Solution.{user_place_by, user_place_of, symbol_count, known_from, user_place, equations}
 use Rattle.kc_values.specs.Table.{kind_in, value_in, tri_in, text_in, known_value, known_in}
-use Rattle.kc_values.specs.User.{place}
+use Rattle.kc_values.specs.User.{given_in}
 use Rattle.kc_values.specs.Values.{equation, by_choice, by_kind}
 use Rattle.kc_values.specs.declared.table.Table.{Table}
 use Rattle.kc_values.specs.declared.table.Value.{Value}
 use Rattle.kc_values.specs.declared.table.Value.TheVariants as value
 use Rattle.kc_values.proofs.ModeLaws.{well_formed_members}
 use Rattle.kc_values.proofs.OnlyNamed.{same_equation}
-use Rattle.kc_solve.specs.Filling.{AreFilledValues}
-use Rattle.kc_solve.specs.Places.{given_at, places, valuation}
+use Rattle.kc_solve.specs.Computing.{AreComputedValues}
+use Rattle.kc_solve.specs.PlaceLists.{given_at, places, valuation}
 
 pub each : {X : Type 0} (P : X → Type 0) → ((x : X) → P x) → (xs : List X) → AllByRecursion P xs
 each P h [] = tt
@@ -68,23 +68,23 @@ row_count t = ∥∥₁_elim t.laid (ℕ_set _ _) (λ laid. sym (ap length laid.
 pub member_kind : (t : Table) (s : SymId) (f : SymbolFacts) (c : ℕ) → facts t.tree.now s ≡ Some f → f.choice ≡ Some c → f.kind ≡ IsBool
 member_kind t s f c e h = ∥∥₁_elim t.formed (Coded-set kind_row.the_row.coded _ _) (λ formed. (well_formed_members t.tree.now formed).1 s f c e h)
 
--- what is found of a symbol in a table is what is seen of it
-pub known_seen : (tree : TreeFacts) (values : List (Option Value)) → length values ≡ symbol_count tree → (s : SymId) → known_in tree values s ≡ seen tree (valuation tree values) s
+-- what is found of a symbol in a table is what is known of it
+pub known_seen : (tree : TreeFacts) (values : List (Option Value)) → length values ≡ symbol_count tree → (s : SymId) → known_in tree values s ≡ known_from tree (valuation tree values) s
 known_seen tree values l s =
     elim (cases_Bool (is_defined tree s)) [
-      | inl t ↦ sym (ap (λ b. cond b (known_in tree values s) (Written Undefined (name tree s))) t)
+      | inl t ↦ sym (ap (λ b. cond b (known_in tree values s) (TextValue Undefined (name tree s))) t)
       | inr f ↦
           let past : symbol_count tree ≤ s.0 = ltb-false s.0 (symbol_count tree) f in
           let no_facts = slice_get_past tree.symbols s.0 past in
           let no_value = get_or_past values s.0 None (omega arith) in
-          ap (λ o. known_of (kind_in o) (tri_in (value_in values s)) (text_in (value_in values s) (name tree s))) no_facts
-          ∙ ap (λ o. Written Undefined (text_in o (name tree s))) no_value
-          ∙ sym (ap (λ b. cond b (known_in tree values s) (Written Undefined (name tree s))) f)
+          ap (λ o. value_by_kind (kind_in o) (tri_in (value_in values s)) (text_in (value_in values s) (name tree s))) no_facts
+          ∙ ap (λ o. TextValue Undefined (text_in o (name tree s))) no_value
+          ∙ sym (ap (λ b. cond b (known_in tree values s) (TextValue Undefined (name tree s))) f)
     ]
 
 -- a value that an equation gives has the shape of its kind
-shaped_by_kind : (tree : TreeFacts) (known : SymId → Known) (s : SymId) (f : SymbolFacts) (user : Option Given) (n : List ℕ) (kind : Kind) (x : Value) →
-    known_value kind x ≡ by_kind tree known s f kind user → known_of kind (tri_in (Some x)) (text_in (Some x) n) ≡ known_value kind x
+shaped_by_kind : (tree : TreeFacts) (known : SymId → SymbolValue) (s : SymId) (f : SymbolFacts) (user : Option GivenValue) (n : List ℕ) (kind : Kind) (x : Value) →
+    known_value kind x ≡ by_kind tree known s f kind user → value_by_kind kind (tri_in (Some x)) (text_in (Some x) n) ≡ known_value kind x
 shaped_by_kind tree known s f user n Undefined (value.Truth t) e = cc
 shaped_by_kind tree known s f user n Undefined (value.Text v) e = refl
 shaped_by_kind tree known s f user n IsBool (value.Truth t) e = refl
@@ -98,7 +98,7 @@ shaped_by_kind tree known s f user n Int (value.Text v) e = refl
 shaped_by_kind tree known s f user n Hex (value.Truth t) e = cc
 shaped_by_kind tree known s f user n Hex (value.Text v) e = refl
 
-shaped_bool : (n : List ℕ) (kind : Kind) (x : Value) (t : Tri) → kind ≡ IsBool → known_value kind x ≡ Truth t → known_of kind (tri_in (Some x)) (text_in (Some x) n) ≡ known_value kind x
+shaped_bool : (n : List ℕ) (kind : Kind) (x : Value) (t : Tri) → kind ≡ IsBool → known_value kind x ≡ Truth t → value_by_kind kind (tri_in (Some x)) (text_in (Some x) n) ≡ known_value kind x
 shaped_bool n IsBool (value.Truth u) t b e = refl
 shaped_bool n IsBool (value.Text v) t b e = cc
 shaped_bool n Undefined x t b e = cc
@@ -107,45 +107,45 @@ shaped_bool n Str x t b e = cc
 shaped_bool n Int x t b e = cc
 shaped_bool n Hex x t b e = cc
 
-pub shaped : (tree : TreeFacts) (known : SymId → Known) (s : SymId) (f : SymbolFacts) (c : Option ℕ) (user : Option Given) (n : List ℕ) (x : Value) →
-    ((d : ℕ) → c ≡ Some d → f.kind ≡ IsBool) → known_value f.kind x ≡ by_choice tree known s f c user → known_of f.kind (tri_in (Some x)) (text_in (Some x) n) ≡ known_value f.kind x
+pub shaped : (tree : TreeFacts) (known : SymId → SymbolValue) (s : SymId) (f : SymbolFacts) (c : Option ℕ) (user : Option GivenValue) (n : List ℕ) (x : Value) →
+    ((d : ℕ) → c ≡ Some d → f.kind ≡ IsBool) → known_value f.kind x ≡ by_choice tree known s f c user → value_by_kind f.kind (tri_in (Some x)) (text_in (Some x) n) ≡ known_value f.kind x
 shaped tree known s f None user n x bools e = shaped_by_kind tree known s f user n f.kind x e
 shaped tree known s f (Some c) user n x bools e = shaped_bool n f.kind x _ (bools c refl) e
 
 -- one place written
 pub written_at : (tree : TreeFacts) (values : List (Option Value)) (i : ℕ) (f : SymbolFacts) (x : Value) → i < length values → facts tree (symbol i) ≡ Some f →
-    known_of f.kind (tri_in (Some x)) (text_in (Some x) (name tree (symbol i))) ≡ known_value f.kind x →
+    value_by_kind f.kind (tri_in (Some x)) (text_in (Some x) (name tree (symbol i))) ≡ known_value f.kind x →
     IsUpdate (valuation tree values) (valuation tree (slice_set values i (Some x))) i (known_value f.kind x)
 written_at tree values i f x l e shape = record {
   here =
-      ap (λ o. known_of (kind_in o) (tri_in (value_in (slice_set values i (Some x)) (symbol i))) (text_in (value_in (slice_set values i (Some x)) (symbol i)) (name tree (symbol i)))) e
-      ∙ ap (λ o. known_of f.kind (tri_in o) (text_in o (name tree (symbol i)))) (get_or-set_same values i (Some x) None l)
+      ap (λ o. value_by_kind (kind_in o) (tri_in (value_in (slice_set values i (Some x)) (symbol i))) (text_in (value_in (slice_set values i (Some x)) (symbol i)) (name tree (symbol i)))) e
+      ∙ ap (λ o. value_by_kind f.kind (tri_in o) (text_in o (name tree (symbol i)))) (get_or-set_same values i (Some x) None l)
       ∙ shape;
-  others = λ t ne. ap (λ o. known_of (kind_in (facts tree (symbol t))) (tri_in o) (text_in o (name tree (symbol t)))) (get_or-set_other values i t (Some x) None ne);
+  others = λ t ne. ap (λ o. value_by_kind (kind_in (facts tree (symbol t))) (tri_in o) (text_in o (name tree (symbol t)))) (get_or-set_other values i t (Some x) None ne);
 }
 
 pub place_of : (given : List (Option UserValue)) (chosen : List (Option SymId)) (i : ℕ) (choice : Option ChoiceId) →
-    given_for choice (places given chosen (At i)) chosen ≡ places given chosen (slot_by i (mode_view choice))
+    given_for choice (places given chosen (SymbolPlace i)) chosen ≡ places given chosen (user_place_by i (mode_view choice))
 place_of given chosen i None = refl
 place_of given chosen i (Some k) = refl
 
-equation_seen : (tree : TreeFacts) (values : List (Option Value)) → length values ≡ symbol_count tree → (s : SymId) (f : Option SymbolFacts) (user : Option Given) →
-    equation tree (known_in tree values) s f user ≡ equation tree (seen tree (valuation tree values)) s f user
+equation_seen : (tree : TreeFacts) (values : List (Option Value)) → length values ≡ symbol_count tree → (s : SymId) (f : Option SymbolFacts) (user : Option GivenValue) →
+    equation tree (known_in tree values) s f user ≡ equation tree (known_from tree (valuation tree values)) s f user
 equation_seen tree values l s f user =
-    same_equation depends_on_symbols tree (known_in tree values) (seen tree (valuation tree values)) s f user
-    (each (λ (t : SymId). known_in tree values t ≡ seen tree (valuation tree values) t) (known_seen tree values l) (names_of tree f))
+    same_equation depends_on_symbols tree (known_in tree values) (known_from tree (valuation tree values)) s f user
+    (each (λ (t : SymId). known_in tree values t ≡ known_from tree (valuation tree values) t) (known_seen tree values l) (names_of tree f))
 
 -- what was given for a symbol, as it is looked up
 pub place_given : (given : List (Option UserValue)) (i : ℕ) (v : Option UserValue) (own : Option (Bor UserValue)) → i < length given → v ≡ get_or given i v → option_copied own ≡ v →
-    place own ≡ given_at (slice_index_or given i None)
+    given_in own ≡ given_at (slice_index_or given i None)
 place_given given i v None l e o = ap given_at (o ∙ e ∙ get_or_default given i v None l)
 place_given given i v (Some u) l e o = ap given_at (o ∙ e ∙ get_or_default given i v None l)
 
--- a symbol filled with the value that its equation gives
+-- a symbol computed: it has the value that its equation gives
 pub filled_value : (t : Table) (id : SymId) (s : Symbol) (given : List (Option UserValue)) (chosen : List (Option SymId)) (x : Value) → IsRowOf t id s →
     length t.values.items ≡ symbol_count t.tree.now → id.0 < length t.values.items →
     known_value s.kind x ≡ by_choice t.tree.now (known_at t) id (facts_of t.layout.now id.0 s) (mode_view s.choice) (given_for s.choice (given_at (slice_index_or given id.0 None)) chosen) →
-    AreFilledValues t.tree.now given chosen id t.values.items (slice_set t.values.items id.0 (Some x))
+    AreComputedValues t.tree.now given chosen id t.values.items (slice_set t.values.items id.0 (Some x))
 filled_value t id s given chosen x row count below e =
     let tree = t.tree.now in
     let values = t.values.items in
@@ -154,12 +154,12 @@ filled_value t id s given chosen x row count below e =
     let P = places given chosen in
     let shape = shaped tree (known_at t) id f (mode_view s.choice) _ (name tree id) x (λ d h. member_kind t id f d at h) e in
     let u = written_at tree values id.0 f x below at shape in
-    let place : slot tree id.0 ≡ slot_by id.0 (mode_view s.choice) = ap (slot_of_facts id.0) at in
+    let at_place : user_place tree id.0 ≡ user_place_by id.0 (mode_view s.choice) = ap (user_place_of id.0) at in
     let value : known_value f.kind x ≡ equations tree P id.0 (valuation tree values) =
     e
-    ∙ ap (by_choice tree (known_at t) id f (mode_view s.choice)) (place_of given chosen id.0 s.choice ∙ ap P (sym place))
-    ∙ ap (λ o. equation tree (known_in tree values) id o (P (slot tree id.0))) (sym at)
-    ∙ equation_seen tree values count id (facts tree id) (P (slot tree id.0))
+    ∙ ap (by_choice tree (known_at t) id f (mode_view s.choice)) (place_of given chosen id.0 s.choice ∙ ap P (sym at_place))
+    ∙ ap (λ o. equation tree (known_in tree values) id o (P (user_place tree id.0))) (sym at)
+    ∙ equation_seen tree values count id (facts tree id) (P (user_place tree id.0))
     in
     record {
       here = u.here ∙ value;

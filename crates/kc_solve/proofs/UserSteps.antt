@@ -5,26 +5,26 @@ use Rattle.std.specs.Borrow.{Bor}
 use Rattle.std.specs.Option.{option_map}
 use Rattle.std.proofs.Math.ListN.{get_or-map}
 use Rattle.std.proofs.lemmas.List.{length-map}
-use Rattle.kc_expr.specs.Value.{Known}
+use Rattle.kc_expr.specs.Value.{SymbolValue}
 use Rattle.kc_expr.specs.declared.expression.SymId.{SymId}
 use Rattle.kc_order.specs.Solution.{Solves}
 use Rattle.kc_tree.specs.TreeFacts.{TreeFacts}
-use Rattle.kc_user.specs.Given.{Given, Slot, At, In}
+use Rattle.kc_user.specs.GivenValue.{GivenValue, UserPlace, SymbolPlace, ChoicePlace}
 use Rattle.kc_user.specs.Places.{Places, place_at}
 use Rattle.kc_user.specs.ValueView.{given_of_value}
 use Rattle.kc_user.specs.declared.value.UserValue.{UserValue}
 use Rattle.kc_values.specs.Selections.{member_given}
-use Rattle.kc_values.specs.Solution.{symbol_count, equations, rhs, slot}
-use Rattle.kc_values.specs.User.{place}
-use Rattle.kc_solve.specs.Places.{given_at, places}
+use Rattle.kc_values.specs.Solution.{symbol_count, equations, rhs, user_place}
+use Rattle.kc_values.specs.User.{given_in}
+use Rattle.kc_solve.specs.PlaceLists.{given_at, places}
 
 -- the value in a place
-pub place_mapped : (o : Option (Bor UserValue)) → place o ≡ option_map (λ value. given_of_value value.now) o
+pub place_mapped : (o : Option (Bor UserValue)) → given_in o ≡ option_map (λ value. given_of_value value.now) o
 place_mapped None = refl
 place_mapped (Some v) = refl
 
 -- as many places as values
-pub count_shown : (xs : List (Option UserValue)) (shown : List (Option Given)) → map (option_map given_of_value) xs ≡ shown → length xs ≡ length shown
+pub count_shown : (xs : List (Option UserValue)) (shown : List (Option GivenValue)) → map (option_map given_of_value) xs ≡ shown → length xs ≡ length shown
 count_shown xs shown e = sym (length-map xs (option_map given_of_value)) ∙ ap length e
 
 given_mapped : (xs : List (Option UserValue)) → map given_at xs ≡ map (option_map given_of_value) xs
@@ -33,11 +33,11 @@ given_mapped (None ∷ xs) = ap (λ ys. None ∷ ys) (given_mapped xs)
 given_mapped (Some v ∷ xs) = ap (λ ys. Some (given_of_value v) ∷ ys) (given_mapped xs)
 
 -- the places as lists of values are those that are told
-places_same : (xs : List (Option UserValue)) (ms : List (Option SymId)) (u : Places) → map given_at xs ≡ u.symbols → ms ≡ u.choices → (p : Slot) → places xs ms p ≡ place_at u p
-places_same xs ms u e h (At i) = sym (get_or-map given_at xs i None) ∙ ap (λ s. slice_index_or s i None) e
-places_same xs ms u e h (In c) = ap (λ m. member_given m c) h
+places_same : (xs : List (Option UserValue)) (ms : List (Option SymId)) (u : Places) → map given_at xs ≡ u.symbols → ms ≡ u.choices → (p : UserPlace) → places xs ms p ≡ place_at u p
+places_same xs ms u e h (SymbolPlace i) = sym (get_or-map given_at xs i None) ∙ ap (λ s. slice_index_or s i None) e
+places_same xs ms u e h (ChoicePlace c) = ap (λ m. member_given m c) h
 
-pub solves_as_shown : (tree : TreeFacts) (xs : List (Option UserValue)) (ms : List (Option SymId)) (u : Places) (V : ℕ → Known) → map (option_map given_of_value) xs ≡ u.symbols →
+pub solves_as_shown : (tree : TreeFacts) (xs : List (Option UserValue)) (ms : List (Option SymId)) (u : Places) (V : ℕ → SymbolValue) → map (option_map given_of_value) xs ≡ u.symbols →
     ms ≡ u.choices → Solves (symbol_count tree) (equations tree (places xs ms)) V → Solves (symbol_count tree) (equations tree (place_at u)) V
 solves_as_shown tree xs ms u V e h solves s l =
-    solves s l ∙ ap (λ p. rhs tree s p V) (places_same xs ms u (given_mapped xs ∙ e) h (slot tree s))
+    solves s l ∙ ap (λ p. rhs tree s p V) (places_same xs ms u (given_mapped xs ∙ e) h (user_place tree s))

@@ -1,26 +1,26 @@
 -- For proofs: Whether a symbol differs, by the selections of the choices, and whether it is written.
 use Rattle.std.specs.Prelude.{◌≡◌, ℕ, Bool, not, ◌&&◌, List, Option, Some, None, slice_index_or}
 use Rattle.kc_expr.specs.Names.{symbol}
-use Rattle.kc_expr.specs.Value.{Known}
+use Rattle.kc_expr.specs.Value.{SymbolValue}
 use Rattle.kc_expr.specs.declared.expression.SymId.{SymId}
 use Rattle.kc_tree.specs.TreeFacts.{SymbolFacts, TreeFacts}
-use Rattle.kc_user.specs.Given.{Given}
+use Rattle.kc_user.specs.GivenValue.{GivenValue}
 use Rattle.kc_tree.specs.Words.{is_symbol_of}
 use Rattle.kc_values.specs.Values.{by_kind}
 use Rattle.kc_values.specs.Differs.{same_value}
-use Rattle.kc_values.specs.Solution.{seen}
-use Rattle.kc_values.specs.Written.{written}
+use Rattle.kc_values.specs.Solution.{known_from}
+use Rattle.kc_values.specs.WrittenSymbols.{written}
 
-abbrev pub differs_by : TreeFacts → (SymId → Known) → SymId → SymbolFacts → Option ℕ → List (Option SymId) → List (Option SymId) → Bool
+abbrev pub differs_by : TreeFacts → (SymId → SymbolValue) → SymId → SymbolFacts → Option ℕ → List (Option SymId) → List (Option SymId) → Bool
 differs_by tree known s f None selections defaults = not (same_value (known s) (by_kind tree known s f f.kind None))
 differs_by tree known s f (Some c) selections defaults =
     is_symbol_of s (slice_index_or selections c None) && not (is_symbol_of s (slice_index_or defaults c None))
 
 -- the value of a symbol outside a choice is what its equation gives
-abbrev pub IsSolvedOwn : TreeFacts → (SymId → Known) → SymId → SymbolFacts → Option ℕ → Option Given → Type 0
+abbrev pub IsSolvedOwn : TreeFacts → (SymId → SymbolValue) → SymId → SymbolFacts → Option ℕ → Option GivenValue → Type 0
 IsSolvedOwn tree known s f None given = known s ≡ by_kind tree known s f f.kind given
 IsSolvedOwn tree known s f (Some c) given = Unit {0}
 
 -- whether the symbol of a number has a line in the .config, under a valuation
-abbrev pub is_written : TreeFacts → (ℕ → Known) → ℕ → Bool
-is_written tree V i = written tree (seen tree V) (symbol i)
+abbrev pub is_written : TreeFacts → (ℕ → SymbolValue) → ℕ → Bool
+is_written tree V i = written tree (known_from tree V) (symbol i)

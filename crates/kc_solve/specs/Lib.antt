@@ -1,9 +1,9 @@
-pub mod Places
+pub mod PlaceLists
 pub mod LoopText
 pub mod Refused
 pub mod Flags
 pub mod Solved
 pub mod SolutionCode
-pub mod Filling
+pub mod Computing
 pub mod Graphs
 pub mod Titles

@@ -3,7 +3,7 @@ use Rattle.std.specs.Prelude.{◌≡◌, ◌≢◌, ℕ, List, length, None}
 use Rattle.kc_order.specs.Needs.{needs_in}
 use Rattle.kc_order.specs.Loop.{IsNamedLoop}
 use Rattle.kc_read.specs.Expansion.{Refused}
-use Rattle.kc_read.specs.Steps.{refusal_view}
+use Rattle.kc_read.specs.RefusalView.{refusal_view}
 use Rattle.kc_read.specs.declared.refusal.Code.TheVariants as code
 use Rattle.kc_read.specs.declared.refusal.Refusal.{Refusal}
 use Rattle.kc_tree.specs.TreeFacts.{TreeFacts}
@@ -22,9 +22,9 @@ abbrev pub IsNamed : TreeFacts → LoopFault → Type 0
 IsNamed tree (Loop text) = IsLoopText tree text.items
 IsNamed tree Memory = Unit {0}
 
--- a loop has no place; its text is the detail
+-- a loop has no location; its text is the detail
 abbrev pub loop_refused : List ℕ → Refused
-loop_refused text = record { code = code.Loop; place = None; detail = text }
+loop_refused text = record { code = code.Loop; location = None; detail = text }
 
 -- where it is not out of memory, the refusal names the loop
 abbrev pub NamesLoop : TreeFacts → Refusal → Type 0

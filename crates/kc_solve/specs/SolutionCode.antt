@@ -1,8 +1,8 @@
 -- Trusted: How the logic stores a solution, by which a model may have it as its value.
 use Rattle.std.specs.Prelude.{List, refl}
 use Rattle.std.specs.Coded.{Coded, code_by, coded×, coded_list}
-use Rattle.kc_expr.specs.KnownCode.{known_code}
-use Rattle.kc_expr.specs.Value.{Known}
+use Rattle.kc_expr.specs.SymbolValueCode.{symbol_value_code}
+use Rattle.kc_expr.specs.Value.{SymbolValue}
 use Rattle.kc_tree.specs.TreeCode.{tree_code}
 use Rattle.kc_tree.specs.TreeFacts.{TreeFacts}
 use Rattle.kc_user.specs.Places.{Places}
@@ -11,7 +11,7 @@ use Rattle.kc_solve.specs.Solved.{Solution}
 
 abbrev pub solution_code : Coded Solution
 solution_code =
-    code_by (TreeFacts × (Places × List Known)) (coded× tree_code (coded× user.the_row.coded (coded_list known_code)))
+    code_by (TreeFacts × (Places × List SymbolValue)) (coded× tree_code (coded× user.the_row.coded (coded_list symbol_value_code)))
     (λ s. (s.tree, (s.places, s.values)))
     (λ p. record { tree = p.0; places = p.1.0; values = p.1.1 })
     (λ _. refl)

@@ -5,19 +5,19 @@ ghost use Rattle.std.specs.List.{range_with_len};
 ghost use Rattle.kc_order.specs.Solution.{Solves};
 ghost use Rattle.kc_solve.specs.Flags as flag;
 ghost use Rattle.kc_solve.specs.Flags.{IsSolvedOwn};
-ghost use Rattle.kc_solve.specs.Places.{valuation};
-ghost use Rattle.kc_user.specs.Places.{IsUserOf, place_at};
+ghost use Rattle.kc_solve.specs.PlaceLists.{valuation};
+ghost use Rattle.kc_user.specs.Places.{ArePlacesOf, place_at};
 ghost use Rattle.kc_tree.specs.Layouts.{facts_of};
 ghost use Rattle.kc_values.specs.Differs as spec;
 ghost use Rattle.kc_values.specs.Solution.{symbol_count, equations};
-ghost use Rattle.kc_values.specs.Known.{known_at, IsRowOf};
-ghost use Rattle.kc_values.specs.User.{place};
+ghost use Rattle.kc_values.specs.TableFacts.{known_at, IsRowOf};
+ghost use Rattle.kc_values.specs.User.{given_in};
 ghost use Rattle.kc_values.specs.Values as value;
 ghost use Rattle.kc_values.specs.Warnings.{value_warnings};
 
-use crate::fill::symbol_row;
+use crate::compute::symbol_row;
 use kc_expr::expression::{SymId, Tri};
-use kc_tree::parts::{ChoiceId, Symbol};
+use kc_tree::rows::{ChoiceId, Symbol};
 use kc_tree::tree::Tree;
 use kc_user::user::User;
 use kc_user::value::UserValue;
@@ -43,7 +43,7 @@ pub fn selections(
     user: &User,
 ) -> Result<Vec<Option<SymId>>, AllocError>
     requires full { length table.now.values.items ≡ symbol_count table.now.tree.now }
-    requires user { IsUserOf table.now.tree.now user.now }
+    requires user { ArePlacesOf table.now.tree.now user.now }
     ensures { IfOk result (λ v. v.items ≡ map (spec.selection table.now.tree.now (place_at user.now) (valuation table.now.tree.now table.now.values.items)) (range_with_len 0 (length table.now.tree.now.choices))) }
 {
     let count = choice_count(table.tree);
@@ -99,7 +99,7 @@ fn symbol_differs(
     requires selections { IfSome symbol.now.choice (λ c. c.0 < length selections.now) }
     requires defaults { IfSome symbol.now.choice (λ c. c.0 < length defaults.now) }
     requires shown { shown ≡ value.visibility table.now.tree.now (known_at table.now) (facts_of table.now.layout.now id.0 symbol.now) }
-    requires solved { IsSolvedOwn table.now.tree.now (known_at table.now) id (facts_of table.now.layout.now id.0 symbol.now) (facts_of table.now.layout.now id.0 symbol.now).choice (place user) }
+    requires solved { IsSolvedOwn table.now.tree.now (known_at table.now) id (facts_of table.now.layout.now id.0 symbol.now) (facts_of table.now.layout.now id.0 symbol.now).choice (given_in user) }
     ensures { IfOk result (λ b. b ≡ flag.differs_by table.now.tree.now (known_at table.now) id (facts_of table.now.layout.now id.0 symbol.now) (facts_of table.now.layout.now id.0 symbol.now).choice selections.now defaults.now) }
 {
     match symbol.choice {
@@ -140,7 +140,7 @@ pub fn flags_of(
     defaults: &[Option<SymId>],
 ) -> Result<Flags, AllocError>
     requires full { length table.now.values.items ≡ symbol_count table.now.tree.now }
-    requires user { IsUserOf table.now.tree.now user.now }
+    requires user { ArePlacesOf table.now.tree.now user.now }
     requires solves { Solves (symbol_count table.now.tree.now) (equations table.now.tree.now (place_at user.now)) (valuation table.now.tree.now table.now.values.items) }
     requires selections { selections.now ≡ map (spec.selection table.now.tree.now (place_at user.now) (valuation table.now.tree.now table.now.values.items)) (range_with_len 0 (length table.now.tree.now.choices)) }
     requires defaults { defaults.now ≡ map (spec.default_selection table.now.tree.now (valuation table.now.tree.now table.now.values.items)) (range_with_len 0 (length table.now.tree.now.choices)) }

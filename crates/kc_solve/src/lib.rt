@@ -1,7 +1,7 @@
 //! The solver: an order of a tree's symbols, and the one valuation that solves the equations under a user's places.
 #![tactic(auto)]
 
-mod fill;
+mod compute;
 mod flags;
 pub mod order;
 pub mod solve;

@@ -1,9 +1,9 @@
 //! An order of a tree's symbols, or the dependency loop that is named.
 
 ghost use Rattle.std.specs.Prelude.{◌≡◌, ◌≢◌, ◌++◌, length, IfOk, IfErr, OnOk};
-ghost use Rattle.kc_order.specs.Needs.{needs_in, SomeStuck};
+ghost use Rattle.kc_order.specs.Needs.{needs_in, SomeUnordered};
 ghost use Rattle.kc_order.specs.Order.{Orders};
-ghost use Rattle.kc_read.specs.Steps.{IsMemory, out_of_memory, refusal_view};
+ghost use Rattle.kc_read.specs.RefusalView.{IsMemory, out_of_memory, refusal_view};
 ghost use Rattle.kc_read.specs.declared.refusal.Code.TheVariants.{Memory};
 ghost use Rattle.kc_solve.specs.LoopText.{arrows, loop_text};
 ghost use Rattle.kc_solve.specs.Graphs.{IsGraphOf};
@@ -25,7 +25,8 @@ use std::alloc::{AllocError, Global};
 use std::marker::Model;
 
 /// All symbols of a tree in an order in which what each needs stands before it, with the contexts and choices between them. What
-/// it shows is the graph of needs that it was made for (our own; the kernel's kconfig-language document asks of a tree that its dependencies don't recur).
+/// it shows is the graph of needs that it was made for (our own; the kernel's kconfig-language document asks of a tree that
+/// its dependencies don't recur).
 #[derive(Drop)]
 pub struct Order {
     inner: kc_order::Order,
@@ -44,15 +45,15 @@ impl Order {
     ///
     /// # Errors
     ///
-    /// `Loop` exactly where some symbol is stuck: a walk along what is needed goes on for ever. It has no place, and its
-    /// detail is the loop that is named: the names of its symbols and its first again, joined by ` -> `, where the walk
-    /// goes from the first stuck symbol always on to the first stuck symbol that is needed (our own rule). `Memory`
-    /// where no memory was to be had.
+    /// `Loop` exactly where some symbol has no place in any order (is unordered): a walk along what is needed goes on for
+    /// ever. It has no location, and its detail is the loop that is named: the names of its symbols and its first again,
+    /// joined by ` -> `, where the walk goes from the first unordered symbol always on to the first unordered symbol that
+    /// is needed (our own rule). `Memory` where no memory was to be had.
     pub fn of(alloc: Global, tree: &Tree, layout: &Layout) -> Result<Order, Refusal>
         requires { IsLayoutOf tree.now layout.now }
         ensures same { IfOk result (IsGraphOf tree.now layout.now) }
         ensures accepted { OnOk result (IsAccepted tree.now) }
-        ensures stuck { IfErr result (λ r. r.code ≢ Memory → SomeStuck (length (needs tree.now)) (needs_in (needs tree.now))) }
+        ensures unordered { IfErr result (λ r. r.code ≢ Memory → SomeUnordered (length (needs tree.now)) (needs_in (needs tree.now))) }
         ensures refused { IfErr result (NamesLoop tree.now) }
         ensures memory { IfErr result IsMemory }
     {
@@ -77,7 +78,7 @@ fn loop_refusal(text: Vec<u8>) -> Refusal
 {
     Refusal {
         code: Code::Loop,
-        place: None,
+        location: None,
         detail: text,
     }
 }
@@ -88,7 +89,7 @@ fn memory(alloc: Global) -> Refusal
 {
     Refusal {
         code: Code::Memory,
-        place: None,
+        location: None,
         detail: Vec::new(alloc),
     }
 }
@@ -96,7 +97,7 @@ fn memory(alloc: Global) -> Refusal
 // Why a tree has no order.
 #[derive(Debug, Drop)]
 enum LoopFault {
-    // Some symbol is stuck: the names of the loop that is named and its first again, joined by ` -> `.
+    // Some symbol is unordered: the names of the loop that is named and its first again, joined by ` -> `.
     Loop(Vec<u8>),
     // No memory was to be had.
     Memory,
@@ -138,7 +139,7 @@ fn loop_text(alloc: Global, tree: &Tree, symbols: &[u32]) -> Result<Vec<u8>, All
     Ok(text)
 }
 
-// An order of the symbols of a tree in which what each needs stands before it. Fails where some symbol is stuck, with
+// An order of the symbols of a tree in which what each needs stands before it. Fails where some symbol is unordered, with
 // the text of the loop that is named, and for being out of memory.
 fn tree_order(alloc: Global, tree: &Tree, layout: &Layout) -> Result<kc_order::Order, LoopFault>
     requires { IsLayoutOf tree.now layout.now }

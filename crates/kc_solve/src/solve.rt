@@ -3,14 +3,14 @@
 ghost use Rattle.std.specs.Prelude.{◌≡◌, length, IfOk, OnOk};
 ghost use Rattle.kc_order.specs.Solution.{Solves, IsOnlySolution};
 ghost use Rattle.kc_solve.specs.Graphs.{IsGraphOf};
-ghost use Rattle.kc_solve.specs.Places.{valuation};
-ghost use Rattle.kc_solve.specs.Solved.{IsMinimal, SettledWhere, value_of};
+ghost use Rattle.kc_solve.specs.PlaceLists.{valuation};
+ghost use Rattle.kc_solve.specs.Solved.{IsMinimal, IdempotentWhere, value_of};
 ghost use Rattle.kc_tree.specs.Layouts.{IsLayoutOf};
-ghost use Rattle.kc_user.specs.Places.{IsUserOf, place_at};
+ghost use Rattle.kc_user.specs.Places.{ArePlacesOf, place_at};
 ghost use Rattle.kc_values.specs.Laws.{IsAccepted};
 ghost use Rattle.kc_values.specs.Solution.{symbol_count, equations};
 
-use crate::fill::fill;
+use crate::compute::compute;
 use crate::flags::{Flags, default_selections, flags_of, selections};
 use crate::order::Order;
 use crate::solved::Solved;
@@ -32,7 +32,7 @@ fn full_table<'t>(
 ) -> Result<Table<'t>, AllocError>
     requires laid { IsLayoutOf tree.now layout.now }
     requires order { IsGraphOf tree.now layout.now order.now }
-    requires user { IsUserOf tree.now user.now }
+    requires user { ArePlacesOf tree.now user.now }
     ensures tree { IfOk result (λ t. t.tree.now ≡ tree.now) }
     ensures accepted { OnOk result (IsAccepted tree.now) }
     ensures count { IfOk result (λ t. length t.values.items ≡ symbol_count tree.now) }
@@ -45,13 +45,14 @@ fn full_table<'t>(
     groups_stand_for_symbols();
     let given = user.symbols();
     let chosen = user.choices();
-    let table = fill(alloc, tree, layout, order.nodes(), given, chosen)?;
+    let table = compute(alloc, tree, layout, order.nodes(), given, chosen)?;
     Ok(table)
 }
 
 /// Solves a tree under a user's places: the one solution of the equations of its symbols, one for each (the kernel's
 /// kconfig-language document; where that is vague, kconfiglib's documented rules). Each value is computed once, along
-/// the order. The caller owes the layout of that tree, an order that was made for it, and places of that tree. Fails only when it is out of memory.
+/// the order. The caller owes the layout of that tree, an order that was made for it, and places of that tree. Fails only
+/// when it is out of memory.
 pub fn solve<'a>(
     alloc: Global,
     tree: &'a Tree,
@@ -61,13 +62,13 @@ pub fn solve<'a>(
 ) -> Result<Solved<'a>, AllocError>
     requires laid { IsLayoutOf tree.now layout.now }
     requires order { IsGraphOf tree.now layout.now order.now }
-    requires user { IsUserOf tree.now user.now }
+    requires user { ArePlacesOf tree.now user.now }
     ensures tree { IfOk result (λ s. s.tree ≡ tree.now) }
     ensures places { IfOk result (λ s. s.places ≡ user.now) }
     ensures solves { IfOk result (λ s. Solves (symbol_count tree.now) (equations tree.now (place_at user.now)) (value_of s)) }
     ensures only { IfOk result (λ s. IsOnlySolution (symbol_count tree.now) (equations tree.now (place_at user.now)) (value_of s)) }
     ensures minimal { IfOk result IsMinimal }
-    ensures settled { IfOk result SettledWhere }
+    ensures idempotent { IfOk result IdempotentWhere }
 {
     let table = full_table(alloc, tree, layout, order, user)?;
     let selections = selections(alloc, &table, user)?;
@@ -88,6 +89,6 @@ pub fn solve<'a>(
     };
     solved.is_solution();
     solved.is_minimal();
-    solved.is_settled_where();
+    solved.is_idempotent_where();
     Ok(solved)
 }

@@ -1,10 +1,10 @@
 //! The solution of a tree's equations under a user's places, and what follows from it.
 
 ghost use Rattle.std.specs.Prelude.{◌≡◌, ◌<◌, length, map, slice_get};
-ghost use Rattle.kc_expr.specs.Value.{text_of_known};
-ghost use Rattle.kc_values.specs.Known.{known_at};
+ghost use Rattle.kc_expr.specs.Value.{text_of_value};
+ghost use Rattle.kc_values.specs.TableFacts.{known_at};
 ghost use Rattle.kc_solve.specs.Solved as spec;
-ghost use Rattle.kc_solve.specs.Solved.{IsMinimal, IsSolution, SettledWhere, TellsKnown};
+ghost use Rattle.kc_solve.specs.Solved.{IsMinimal, IsSolution, IdempotentWhere, TellsKnown};
 ghost use Rattle.kc_solve.specs.Titles.{IsTitleAt};
 ghost use Rattle.kc_values.specs.Laws.{IsAccepted};
 ghost use Rattle.kc_values.specs.Solution.{symbol_count};
@@ -13,11 +13,11 @@ use crate::flags::{at_choice, at_symbol};
 use kc_expr::expression::{Kind, SymId, Tri};
 use kc_expr::values::{Values, tri_text};
 use kc_tree::layout::Layout;
-use kc_tree::parts::{ChoiceId, ContextId, Entry, Title};
+use kc_tree::rows::{ChoiceId, ContextId, ShownEntry, Title};
 use kc_tree::tree::Tree;
 use kc_user::user::User;
 use kc_values::conditions::title_condition;
-use kc_values::laws::{choices_stand_alone, minimal_restores, settled_where};
+use kc_values::laws::{choices_stand_alone, idempotent_where, minimal_restores};
 use kc_values::table::Table;
 use kc_values::truths::{truth_of, visibility};
 use std::marker::Model;
@@ -98,20 +98,20 @@ impl<'a> Solved<'a> {
     /// With the written values that are allowed as the user's, the values solve again exactly where no symbol outside a
     /// choice has the type tristate, is visible, and is greater than both its visibility and its reverse dependency (our
     /// own).
-    pub fn is_settled_where(&self)
-        ensures { SettledWhere self.now }
+    pub fn is_idempotent_where(&self)
+        ensures { IdempotentWhere self.now }
     {
-        settled_where();
+        idempotent_where();
         choices_stand_alone();
         let _count = self.table.tree.symbol_count();
     }
 
-    /// When the entry at a place is shown, a menu or comment: the least of what the blocks round it and its own lines ask for, and
-    /// of the mode of the choice round it (the kernel's kconfig-language document). Another entry is y.
-    pub fn shown(&self, place: usize) -> Tri
-        ensures { result ≡ spec.shown self.now (slice_get self.now.tree.entries place) }
+    /// When the entry of this number is shown, a menu or comment: the least of what the enclosing blocks and its own lines ask
+    /// for, and of the mode of the enclosing choice (the kernel's kconfig-language document). Another entry is y.
+    pub fn shown(&self, index: usize) -> Tri
+        ensures { result ≡ spec.shown self.now (slice_get self.now.tree.entries index) }
     {
-        match title_at(self.table.layout, place) {
+        match title_at(self.table.layout, index) {
             Some(title) => title_condition(&self.table, title),
             None => {
                 let _top = self.table.layout.context(ContextId(0));
@@ -178,20 +178,20 @@ impl<'a> Solved<'a> {
     }
 }
 
-// The title of the entry at a place, if it is a menu or comment.
-fn title_at(layout: &Layout, place: usize) -> Option<&Title>
-    ensures { IsTitleAt layout.now place result }
+// The title of the entry of this number, if it is a menu or comment.
+fn title_at(layout: &Layout, index: usize) -> Option<&Title>
+    ensures { IsTitleAt layout.now index result }
 {
-    match layout.entries().get(place) {
-        Some(Entry::Menu(id) | Entry::Comment(id)) => layout.title(*id),
-        Some(Entry::Symbol(_) | Entry::End(_)) => None,
+    match layout.entries().get(index) {
+        Some(ShownEntry::Menu(id) | ShownEntry::Comment(id)) => layout.title(*id),
+        Some(ShownEntry::Symbol(_) | ShownEntry::End(_)) => None,
         None => None,
     }
 }
 
 // The text of what is known of a symbol: `n`, `m` or `y` of a bool or tristate.
 fn known_text<'t>(table: &'t Table, id: SymId) -> &'t [u8]
-    ensures { result.now ≡ text_of_known (known_at table.now id) }
+    ensures { result.now ≡ text_of_value (known_at table.now id) }
 {
     match table.kind(id) {
         Kind::Bool | Kind::Tristate => tri_text(table.tri(id)),

@@ -4,11 +4,11 @@ use Rattle.std.specs.Prelude.{slice_set}
 use Rattle.std.proofs.lemmas.List.{length-set}
 use Rattle.kc_expr.specs.declared.expression.SymId.{SymId}
 use Rattle.kc_tree.specs.TreeFacts.{TreeFacts}
-use Rattle.kc_user.specs.Given.{Given}
-use Rattle.kc_user.specs.Places.{Places, IsUserOf}
+use Rattle.kc_user.specs.GivenValue.{GivenValue}
+use Rattle.kc_user.specs.Places.{Places, ArePlacesOf}
 
-pub set_stays : (tree : TreeFacts) (old new : Places) (i : ℕ) (g : Given) → IsUserOf tree old → new ≡ record old { symbols = slice_set old.symbols i (Some g) } → IsUserOf tree new
+pub set_stays : (tree : TreeFacts) (old new : Places) (i : ℕ) (g : GivenValue) → ArePlacesOf tree old → new ≡ record old { symbols = slice_set old.symbols i (Some g) } → ArePlacesOf tree new
 set_stays tree old new i g fits e = rw e (record { symbols = length-set old.symbols i (Some g) ∙ fits.symbols; choices = fits.choices })
 
-pub select_stays : (tree : TreeFacts) (old new : Places) (i : ℕ) (m : SymId) → IsUserOf tree old → new ≡ record old { choices = slice_set old.choices i (Some m) } → IsUserOf tree new
+pub select_stays : (tree : TreeFacts) (old new : Places) (i : ℕ) (m : SymId) → ArePlacesOf tree old → new ≡ record old { choices = slice_set old.choices i (Some m) } → ArePlacesOf tree new
 select_stays tree old new i m fits e = rw e (record { symbols = fits.symbols; choices = length-set old.choices i (Some m) ∙ fits.choices })

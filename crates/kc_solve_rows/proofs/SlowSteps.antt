@@ -1,36 +1,36 @@
 -- One more equation computed anew.
-use Rattle.std.proofs.Common.{◌≡◌, ℕ, ◌+◌, suc, false, List, length, Option, Some, None, sym, ◌∙◌, ap, subst, arith}
+use Rattle.std.proofs.Common.{◌≡◌, ℕ, ◌+◌, suc, false, List, length, Option, None, sym, ◌∙◌, ap, subst, arith}
 use Rattle.std.specs.Prelude.{slice_index_or, replicate}
 use Rattle.kc_expr.specs.Names.{symbol}
 use Rattle.kc_expr.specs.declared.expression.SymId.{SymId}
 use Rattle.kc_expr.specs.declared.expression.Tri.{Tri}
 use Rattle.kc_expr.proofs.AgreeLemmas.{depends_on_symbols}
-use Rattle.kc_order.specs.Needs.{needs_in, stuck_after, IsAccepted as AreAccepted}
+use Rattle.kc_order.specs.Needs.{needs_in, unordered_after, IsAccepted as AreAccepted}
 use Rattle.kc_order.specs.Solution.{IsUpdate, Solves}
-use Rattle.kc_order.proofs.OneRound.{HoldsUpTo, SolvesUnstuck, one_more, all_hold}
+use Rattle.kc_order.proofs.OneRound.{HoldsUpTo, SolvesOrdered, one_more, all_hold}
 use Rattle.kc_tree.specs.TreeFacts.{TreeFacts}
 use Rattle.kc_tree.specs.declared.layout.Layout.{Layout}
 use Rattle.kc_user.specs.declared.value.UserValue.{UserValue}
 use Rattle.kc_values.specs.Needs.{needs}
-use Rattle.kc_values.specs.Settled.{AreContextsSettled}
+use Rattle.kc_values.specs.Computed.{AreContextsComputed}
 use Rattle.kc_values.specs.Solution.{symbol_count, equations}
 use Rattle.kc_values.specs.declared.table.Value.{Value}
 use Rattle.kc_values.proofs.TreeNeeds.{needs_within, below_count, free_count, reads_rows}
-use Rattle.kc_solve.specs.Filling.{AreFilledValues}
-use Rattle.kc_solve.specs.Places.{places, valuation}
-use Rattle.kc_solve.proofs.FillSteps.{empty_at}
+use Rattle.kc_solve.specs.Computing.{AreComputedValues}
+use Rattle.kc_solve.specs.PlaceLists.{places, valuation}
+use Rattle.kc_solve.proofs.ComputeSteps.{empty_at}
 
--- where nothing is settled, what is settled is right
-pub settled_none : (tree : TreeFacts) (l : Layout) (values : List (Option Value)) (contexts : List (Option Tri)) → contexts ≡ replicate (length contexts) None →
-    AreContextsSettled tree l values contexts
-settled_none tree l values contexts none i t e = absurd (empty_at (length contexts) i t (sym (ap (λ xs. slice_index_or xs i None) none) ∙ e))
+-- where nothing is computed yet, what is computed is right
+pub computed_none : (tree : TreeFacts) (l : Layout) (values : List (Option Value)) (contexts : List (Option Tri)) → contexts ≡ replicate (length contexts) None →
+    AreContextsComputed tree l values contexts
+computed_none tree l values contexts none i t e = absurd (empty_at (length contexts) i t (sym (ap (λ xs. slice_index_or xs i None) none) ∙ e))
 
 module _ (tree : TreeFacts) (given : List (Option UserValue)) (chosen : List (Option SymId)) where
-  -- the equations of the symbols that are not stuck after k rounds hold in the table
+  -- the equations of the symbols that are not unordered after k rounds hold in the table
   abbrev pub HoldAfter : ℕ → List (Option Value) → Type 0
-  HoldAfter k values = SolvesUnstuck (symbol_count tree) (needs_in (needs tree)) (equations tree (places given chosen)) k (valuation tree values)
+  HoldAfter k values = SolvesOrdered (symbol_count tree) (needs_in (needs tree)) (equations tree (places given chosen)) k (valuation tree values)
 
-  -- and the first i of them where their symbols are not stuck after one more round
+  -- and the first i of them where their symbols are not unordered after one more round
   abbrev pub HoldUpTo : ℕ → ℕ → List (Option Value) → Type 0
   HoldUpTo k i values = HoldsUpTo (symbol_count tree) (needs_in (needs tree)) (equations tree (places given chosen)) k i (valuation tree values)
 
@@ -43,10 +43,10 @@ module _ (tree : TreeFacts) (given : List (Option UserValue)) (chosen : List (Op
   pub round_ended : (k i : ℕ) (values : List (Option Value)) → i ≡ symbol_count tree → HoldUpTo k i values → HoldAfter (k + 1) values
   round_ended k i values e h s l free =
       let next : k + 1 ≡ suc k = omega arith in
-      h.now s (omega arith) l (subst (λ m. stuck_after (needs_in (needs tree)) m s ≡ false) next free)
+      h.now s (omega arith) l (subst (λ m. unordered_after (needs_in (needs tree)) m s ≡ false) next free)
 
   -- one more equation computed
-  pub computed : (k i : ℕ) (values values' : List (Option Value)) → AreFilledValues tree given chosen (symbol i) values values' → HoldUpTo k i values → HoldUpTo k (i + 1) values'
+  pub computed : (k i : ℕ) (values values' : List (Option Value)) → AreComputedValues tree given chosen (symbol i) values values' → HoldUpTo k i values → HoldUpTo k (i + 1) values'
   computed k i values values' f h =
       let P = places given chosen in
       let update : IsUpdate (valuation tree values) (valuation tree values') i (equations tree P i (valuation tree values)) = record { here = f.here; others = λ t ne. f.others (symbol t) ne } in

@@ -1,5 +1,5 @@
 //! Worked rows of prefixes, of lines and of values of a `.config`.
-use kc_dot::line::{ConfigLine, config_line};
+use kc_dot::line::{DotLine, parse_dot_line};
 use kc_dot::prefix::Prefix;
 use kc_dot::value::line_value;
 use kc_expr::expression::{Kind, Tri};
@@ -26,22 +26,22 @@ fn prefixes(rt: HostRuntime) -> Result<(), Fail> {
 fn lines_of_a_config(rt: HostRuntime) -> Result<(), Fail> {
     let prefix = b"CONFIG_".as_slice();
     assert_eq!(rt;
-        config_line(prefix, b"CONFIG_A=y \t"),
-        ConfigLine::Set(b"A", b"y")
+        parse_dot_line(prefix, b"CONFIG_A=y \t"),
+        DotLine::Set(b"A", b"y")
     );
     assert_eq!(rt;
-        config_line(prefix, b"# CONFIG_A is not set"),
-        ConfigLine::Unset(b"A")
+        parse_dot_line(prefix, b"# CONFIG_A is not set"),
+        DotLine::Unset(b"A")
     );
     assert_eq!(rt;
-        config_line(prefix, b"# CONFIG_A  is not set"),
-        ConfigLine::Nothing
+        parse_dot_line(prefix, b"# CONFIG_A  is not set"),
+        DotLine::Nothing
     );
-    assert_eq!(rt; config_line(prefix, b" CONFIG_A=y"), ConfigLine::Malformed);
-    assert_eq!(rt; config_line(prefix, b" \t"), ConfigLine::Nothing);
-    assert_eq!(rt; config_line(prefix, b"CONFIG_=y"), ConfigLine::Malformed);
-    assert_eq!(rt; config_line(prefix, b"junk"), ConfigLine::Malformed);
-    assert_eq!(rt; config_line(b"", b" A=y"), ConfigLine::Set(b" A", b"y"));
+    assert_eq!(rt; parse_dot_line(prefix, b" CONFIG_A=y"), DotLine::Malformed);
+    assert_eq!(rt; parse_dot_line(prefix, b" \t"), DotLine::Nothing);
+    assert_eq!(rt; parse_dot_line(prefix, b"CONFIG_=y"), DotLine::Malformed);
+    assert_eq!(rt; parse_dot_line(prefix, b"junk"), DotLine::Malformed);
+    assert_eq!(rt; parse_dot_line(b"", b" A=y"), DotLine::Set(b" A", b"y"));
     Ok(())
 }
 

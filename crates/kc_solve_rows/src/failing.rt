@@ -26,13 +26,13 @@ const WARNINGS: &[u8] = b".config:2: warning K9: malformed line\n\
 
 // A sink that has room for so many bytes, and fails where it is full.
 #[derive(Drop)]
-struct Narrow {
+struct LimitedSink {
     bytes: Vec<u8>,
     room: usize,
     failures: u64,
 }
 
-impl Sink for Narrow {
+impl Sink for LimitedSink {
     ghost taken = { λ s. None };
 
     ghost failures = { λ s. s.failures };
@@ -54,8 +54,8 @@ impl Sink for Narrow {
     ghost goes_on = { λ s t u st tu. tt };
 }
 
-fn with_room(alloc: Global, room: usize) -> Narrow {
-    Narrow {
+fn with_room(alloc: Global, room: usize) -> LimitedSink {
+    LimitedSink {
         bytes: Vec::new(alloc),
         room,
         failures: 0,

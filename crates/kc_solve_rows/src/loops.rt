@@ -12,10 +12,10 @@ use std::test::Fail;
 fn named(refusal: Refusal) -> Result<Vec<u8>, Fail> {
     let Refusal {
         code,
-        place,
+        location,
         detail,
     } = refusal;
-    if code != Code::Loop || place.is_some() {
+    if code != Code::Loop || location.is_some() {
         return Err(Fail::from("another refusal"));
     }
     Ok(detail)
@@ -43,7 +43,7 @@ fn are_named(rt: &impl Abort, alloc: Global, rows: &[(&[u8], &[u8])]) -> Result<
     Ok(())
 }
 
-// The way into a loop is left out; of several loops the walk from the first stuck symbol comes to one.
+// The way into a loop is left out; of several loops the walk from the first unordered symbol comes to one.
 const WALKS: &[(&[u8], &[u8])] = &[
     (
         b"config X\n\tdef_bool A\nconfig A\n\tdef_bool B\nconfig B\n\tdef_bool A\n",
@@ -73,7 +73,7 @@ fn the_walk_decides(rt: HostRuntime) -> Result<(), Fail> {
     are_named(&rt, rt.alloc(), WALKS)
 }
 
-// Through dependencies, selects, implies and the blocks around.
+// Through dependencies, selects, implies and the enclosing blocks.
 const TRUTHS: &[(&[u8], &[u8])] = &[
     (
         b"config A\n\tbool \"a\"\n\tdepends on B\n\tselect B\nconfig B\n\tbool \"b\"\n",

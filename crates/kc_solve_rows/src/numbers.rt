@@ -8,7 +8,7 @@ use kc_build::build_tree;
 use kc_expr::expression::{Expr, Kind, Operand, SymId, Tri};
 use kc_expr::values::Values;
 use kc_read::file_map::FileMap;
-use kc_tree::parts::{ChoiceId, ContextId};
+use kc_tree::rows::{ChoiceId, ContextId};
 use kc_tree::tree::Tree;
 use kc_values::conditions::{context, mode_of};
 use kc_values::differs::member_differs;
@@ -158,7 +158,7 @@ fn a_default_is_one_operand(rt: HostRuntime) {
     let text = Vec::from_slice(rt.alloc(), b"a b").expect(&rt, "memory");
     let constant = Expr::One(Operand::Const(text));
     assert_eq!(rt; single_text(&constant, &Alike(Tri::N)), b"a b".as_slice());
-    let letter = Expr::One(Operand::Letter(Tri::Y));
+    let letter = Expr::One(Operand::TristateConstant(Tri::Y));
     assert_eq!(rt; single_text(&letter, &Alike(Tri::N)), b"y".as_slice());
     let symbol = Expr::One(Operand::Sym(SymId(0)));
     assert_eq!(rt; single_text(&symbol, &Alike(Tri::M)), b"m".as_slice());

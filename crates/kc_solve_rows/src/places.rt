@@ -1,6 +1,6 @@
 //! The places of a user, and what they may hold.
 
-use crate::row::Given;
+use crate::row::Setting;
 use crate::trial::{tree_of, user_of};
 use kc_expr::expression::{SymId, Tri};
 use kc_tree::tree::Tree;
@@ -114,7 +114,7 @@ fn fills(
     rt: &impl Abort,
     alloc: Global,
     tree: &Tree,
-    given: &[Given],
+    given: &[Setting],
     wanted: (bool, bool),
 ) -> Result<(), Fail> {
     let user = user_of(alloc, tree, given)?;
@@ -129,10 +129,10 @@ fn places_fill(rt: &impl Abort, alloc: Global, tree: &Tree) -> Result<(), Fail> 
         rt,
         alloc,
         tree,
-        &[Given::Truth(b"A", Tri::Y)],
+        &[Setting::Truth(b"A", Tri::Y)],
         (true, false),
     )?;
-    fills(rt, alloc, tree, &[Given::Member(b"M")], (false, true))
+    fills(rt, alloc, tree, &[Setting::Member(b"M")], (false, true))
 }
 
 #[test]

@@ -4,7 +4,7 @@ use kc_expr::expression::Tri;
 
 /// What a user gives.
 #[derive(Clone, Copy)]
-pub(crate) enum Given {
+pub(crate) enum Setting {
     /// For a bool or tristate symbol of this name.
     Truth(&'static [u8], Tri),
     /// For a string, int or hex symbol of this name.
@@ -13,14 +13,14 @@ pub(crate) enum Given {
     Member(&'static [u8]),
 }
 
-/// A tree, what is given, and what must be told of it.
+/// A tree, what is given, and the lines that must come out.
 pub(crate) struct Row {
     /// The Kconfig file.
     pub kconfig: &'static [u8],
     /// What the user gives.
-    pub given: &'static [Given],
+    pub given: &'static [Setting],
     /// For each symbol `NAME=VALUE VISIBILITY`, with ` written` where it has a line in the `.config` and ` differs` where
     /// it has one in the minimal file; for each choice `choice SELECTION by default SELECTION`, where `-` is none; and the
     /// warnings of the values.
-    pub told: &'static [u8],
+    pub expected: &'static [u8],
 }

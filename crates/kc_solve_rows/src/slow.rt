@@ -1,16 +1,16 @@
 //! The plain slow solver, beside which the tests hold the solver: every value computed anew, in rounds.
 
 ghost use Rattle.std.specs.Prelude.{◌≡◌, ◌<◌, length, replicate, slice_get, None, Some, IfOk, IfSome, OnOk, []};
-ghost use Rattle.kc_expr.specs.Value.{known_of};
+ghost use Rattle.kc_expr.specs.Value.{value_by_kind};
 ghost use Rattle.kc_expr.specs.declared.expression.Tri.TheVariants.{N};
 ghost use Rattle.kc_order.specs.Solution.{IsOnlySolution, Solves};
-ghost use Rattle.kc_solve.specs.Filling.{IsFilledSymbol};
+ghost use Rattle.kc_solve.specs.Computing.{IsComputedSymbol};
 ghost use Rattle.kc_solve.specs.Graphs.{IsGraphOf};
-ghost use Rattle.kc_solve.specs.Places.{places, valuation};
+ghost use Rattle.kc_solve.specs.PlaceLists.{places, valuation};
 ghost use Rattle.kc_tree.specs.Layouts.{IsLayoutOf, facts_of};
-ghost use Rattle.kc_values.specs.Known.{known_at};
-ghost use Rattle.kc_user.specs.Given.{At};
-ghost use Rattle.kc_user.specs.Places.{IsUserOf, place_at};
+ghost use Rattle.kc_values.specs.TableFacts.{known_at};
+ghost use Rattle.kc_user.specs.GivenValue.{SymbolPlace};
+ghost use Rattle.kc_user.specs.Places.{ArePlacesOf, place_at};
 ghost use Rattle.kc_values.specs.Laws.{IsAccepted};
 ghost use Rattle.kc_values.specs.Selections.{given_for, member_given};
 ghost use Rattle.kc_values.specs.Solution.{equations, symbol_count};
@@ -21,7 +21,7 @@ use kc_expr::expression::{Kind, SymId, Tri};
 use kc_order::ordered_are_accepted;
 use kc_solve::order::Order;
 use kc_tree::layout::Layout;
-use kc_tree::parts::{ChoiceId, Symbol};
+use kc_tree::rows::{ChoiceId, Symbol};
 use kc_tree::tree::Tree;
 use kc_user::user::User;
 use kc_user::value::UserValue;
@@ -44,7 +44,7 @@ fn symbol_row(layout: &Layout, id: SymId) -> &Symbol
 
 // n, or the empty text.
 fn first_value(alloc: Global, kind: Kind) -> Value
-    ensures { known_value kind result ≡ known_of kind N [] }
+    ensures { known_value kind result ≡ value_by_kind kind N [] }
 {
     match kind {
         Kind::Bool => Value::Truth(Tri::N),
@@ -69,7 +69,7 @@ fn first_values(alloc: Global, tree: &Tree) -> Result<Vec<Option<Value>>, AllocE
     Ok(values)
 }
 
-// A table of n and empty texts, where nothing is settled.
+// A table of n and empty texts, where nothing is computed.
 fn first_table<'t>(
     alloc: Global,
     tree: &'t Tree,
@@ -107,7 +107,7 @@ fn value_anew(
 ) -> Result<Value, AllocError>
     requires below { id.0 < length given.now }
     requires users { IfSome symbol.now.choice (λ c. c.0 < length chosen.now) }
-    ensures { IfOk result (λ x. known_value symbol.now.kind x ≡ by_choice table.now.tree.now (known_at table.now) id (facts_of table.now.layout.now id.0 symbol.now) (facts_of table.now.layout.now id.0 symbol.now).choice (given_for symbol.now.choice (places given.now chosen.now (At id.0)) chosen.now)) }
+    ensures { IfOk result (λ x. known_value symbol.now.kind x ≡ by_choice table.now.tree.now (known_at table.now) id (facts_of table.now.layout.now id.0 symbol.now) (facts_of table.now.layout.now id.0 symbol.now).choice (given_for symbol.now.choice (places given.now chosen.now (SymbolPlace id.0)) chosen.now)) }
 {
     let own = given[id.0].as_ref();
     match symbol.choice {
@@ -132,7 +132,7 @@ fn compute_anew(
     requires given { length given.now ≡ length table.old.values.items }
     requires chosen { length chosen.now ≡ length table.old.tree.now.choices }
     requires unsettled { table.old.contexts.items ≡ replicate (length table.old.contexts.items) None }
-    ensures { OnOk result (IsFilledSymbol given.now chosen.now id table.old table.new) }
+    ensures { OnOk result (IsComputedSymbol given.now chosen.now id table.old table.new) }
 {
     // A member's choice is one of the tree's: `symbol_count` says so.
     let _count = table.tree.symbol_count();
@@ -155,7 +155,7 @@ pub fn slow_table<'t>(
 ) -> Result<Table<'t>, AllocError>
     requires laid { IsLayoutOf tree.now layout.now }
     requires order { IsGraphOf tree.now layout.now order.now }
-    requires user { IsUserOf tree.now user.now }
+    requires user { ArePlacesOf tree.now user.now }
     ensures tree { IfOk result (λ t. t.tree.now ≡ tree.now) }
     ensures accepted { OnOk result (IsAccepted tree.now) }
     ensures count { IfOk result (λ t. length t.values.items ≡ symbol_count tree.now) }

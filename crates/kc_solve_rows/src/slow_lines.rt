@@ -1,16 +1,16 @@
 //! What the values of the plain slow solver tell, as lines.
 
-use crate::trial::{Told, choice_count, choice_into, symbol_into, warnings_into};
+use crate::trial::{SymbolReport, choice_count, choice_into, symbol_into, warnings_into};
 use kc_expr::expression::{Kind, SymId};
 use kc_expr::values::{Values, tri_text};
-use kc_tree::parts::{ChoiceId, Symbol};
+use kc_tree::rows::{ChoiceId, Symbol};
 use kc_user::user::User;
 use kc_user::value::UserValue;
 use kc_values::choices::selected_in;
 use kc_values::differs::member_differs;
 use kc_values::equation::own_equation;
 use kc_values::lookups::name;
-use kc_values::table::{Table, Value, found};
+use kc_values::table::{Table, Value, filled_value};
 use kc_values::truths::visibility;
 use kc_values::warnings;
 use kc_values::written::written;
@@ -55,7 +55,7 @@ fn differs(
         return Ok(member_differs(selection, default, id));
     }
     let without = own_equation(alloc, table, id, symbol, None)?;
-    Ok(!holds(found(&table.values, id), &without))
+    Ok(!holds(filled_value(&table.values, id), &without))
 }
 
 // The value as a text.
@@ -79,14 +79,14 @@ fn symbol_line(
         return Ok(());
     };
     let shown = visibility(table, symbol);
-    let told = Told {
+    let report = SymbolReport {
         name: name(table.tree, id),
         value: text_of(table, id),
         visibility: shown,
         is_written: written(table, id, symbol, shown),
         differs: differs(alloc, table, user, id, symbol)?,
     };
-    symbol_into(&told, out)?;
+    symbol_into(&report, out)?;
     let own = given(user, id);
     warnings::warnings_into(alloc, table, id, symbol, shown, own, lines)
 }

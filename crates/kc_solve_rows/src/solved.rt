@@ -1,10 +1,10 @@
 //! What the solver tells.
 
-use crate::trial::{Told, choice_count, choice_into, symbol_into, warnings_into};
+use crate::trial::{SymbolReport, choice_count, choice_into, symbol_into, warnings_into};
 use kc_expr::expression::SymId;
 use kc_expr::values::Values;
 use kc_solve::solved::Solved;
-use kc_tree::parts::ChoiceId;
+use kc_tree::rows::ChoiceId;
 use kc_values::lookups::name;
 use std::alloc::{AllocError, Global};
 
@@ -15,14 +15,14 @@ fn differs(solved: &Solved<'_>, id: SymId) -> bool {
 
 // The line of a symbol.
 fn symbol_line(solved: &Solved<'_>, id: SymId, out: &mut Vec<u8>) -> Result<(), AllocError> {
-    let told = Told {
+    let report = SymbolReport {
         name: name(solved.tree(), id),
         value: solved.text(id),
         visibility: solved.visibility(id),
         is_written: solved.written(id),
         differs: differs(solved, id),
     };
-    symbol_into(&told, out)
+    symbol_into(&report, out)
 }
 
 // The line of a choice.

@@ -3,7 +3,7 @@
 ghost use Rattle.std.specs.Prelude.{◌≡◌, ◌<◌, IfOk};
 ghost use Rattle.kc_solve.specs.Graphs.{IsGraphOf};
 ghost use Rattle.kc_tree.specs.Layouts.{IsLayoutOf};
-ghost use Rattle.kc_user.specs.Places.{IsUserOf};
+ghost use Rattle.kc_user.specs.Places.{ArePlacesOf};
 
 use crate::row::Row;
 use crate::rows::{choices, numbers, truths};
@@ -30,14 +30,14 @@ fn solver_tells(
     layout: &Layout,
     order: &Order,
     user: &User,
-    told: &[u8],
+    expected: &[u8],
 ) -> Result<(), Fail>
     requires laid { IsLayoutOf tree.now layout.now }
     requires order { IsGraphOf tree.now layout.now order.now }
-    requires user { IsUserOf tree.now user.now }
+    requires user { ArePlacesOf tree.now user.now }
 {
     let solution = solve(alloc, tree, layout, order, user)?;
-    is_told(rt, &solved::lines_of(alloc, &solution)?, told);
+    assert_lines(rt, &solved::lines_of(alloc, &solution)?, expected);
     Ok(())
 }
 
@@ -49,20 +49,20 @@ fn slow_tells(
     layout: &Layout,
     order: &Order,
     user: &User,
-    told: &[u8],
+    expected: &[u8],
 ) -> Result<(), Fail>
     requires laid { IsLayoutOf tree.now layout.now }
     requires order { IsGraphOf tree.now layout.now order.now }
-    requires user { IsUserOf tree.now user.now }
+    requires user { ArePlacesOf tree.now user.now }
 {
     let table = slow_table(alloc, tree, layout, order, user)?;
-    is_told(rt, &slow_lines::lines_of(alloc, &table, user)?, told);
+    assert_lines(rt, &slow_lines::lines_of(alloc, &table, user)?, expected);
     Ok(())
 }
 
-// This is told.
-fn is_told(rt: &impl Abort, found: &[u8], told: &[u8]) {
-    assert_eq!(rt; found, told);
+// The lines found are those expected.
+fn assert_lines(rt: &impl Abort, found: &[u8], expected: &[u8]) {
+    assert_eq!(rt; found, expected);
 }
 
 // The order of a tree without a loop.
@@ -82,21 +82,21 @@ fn told_alike(
     alloc: Global,
     tree: &Tree,
     user: &User,
-    told: &[u8],
+    expected: &[u8],
 ) -> Result<(), Fail>
-    requires { IsUserOf tree.now user.now }
+    requires { ArePlacesOf tree.now user.now }
 {
     let layout = tree.layout();
     let order = order_of(alloc, tree, layout)?;
-    solver_tells(rt, alloc, tree, layout, &order, user, told)?;
-    slow_tells(rt, alloc, tree, layout, &order, user, told)
+    solver_tells(rt, alloc, tree, layout, &order, user, expected)?;
+    slow_tells(rt, alloc, tree, layout, &order, user, expected)
 }
 
 // The row is told by both.
 fn holds(rt: &impl Abort, alloc: Global, row: &Row) -> Result<(), Fail> {
     let tree = tree_of(alloc, row.kconfig)?;
     let user = user_of(alloc, &tree, row.given)?;
-    told_alike(rt, alloc, &tree, &user, row.told)
+    told_alike(rt, alloc, &tree, &user, row.expected)
 }
 
 // Each row is told by both.
@@ -140,8 +140,8 @@ fn chain(alloc: Global, count: u32) -> Result<Vec<u8>, Fail>
 
 // The symbol is y, has no prompt, and is written.
 fn is_yes(rt: &impl Abort, solved: &Solved<'_>, id: SymId) {
-    let told = (solved.tri(id), solved.visibility(id), solved.written(id));
-    assert_eq!(rt; told, (Tri::Y, Tri::N, true));
+    let expected = (solved.tri(id), solved.visibility(id), solved.written(id));
+    assert_eq!(rt; expected, (Tri::Y, Tri::N, true));
 }
 
 // Each symbol is so without a user's values.

@@ -1,14 +1,14 @@
 //! The tree and the places of a row.
 
 ghost use Rattle.std.specs.Prelude.{◌≡◌, ◌<◌, length, IfOk, OnOk};
-ghost use Rattle.kc_user.specs.Places.{IsUserOf};
+ghost use Rattle.kc_user.specs.Places.{ArePlacesOf};
 
-use crate::row::Given;
+use crate::row::Setting;
 use kc_build::build_tree;
 use kc_expr::expression::{SymId, Tri};
 use kc_expr::values::tri_text;
 use kc_read::file_map::FileMap;
-use kc_tree::parts::ChoiceId;
+use kc_tree::rows::ChoiceId;
 use kc_tree::tree::Tree;
 use kc_user::user::User;
 use kc_user::value::UserValue;
@@ -55,8 +55,8 @@ pub(crate) fn choice_count(tree: &Tree) -> usize
 #[tactic(auto, using(crate::proofs::PlaceLemmas::set_stays))]
 fn set(tree: &Tree, user: &mut User, id: SymId, value: UserValue)
     requires defined { id.0 < length tree.now.symbols }
-    requires user { IsUserOf tree.now user.old }
-    ensures { IsUserOf tree.now user.new }
+    requires user { ArePlacesOf tree.now user.old }
+    ensures { ArePlacesOf tree.now user.new }
 {
     user.set(id, value);
 }
@@ -65,24 +65,24 @@ fn set(tree: &Tree, user: &mut User, id: SymId, value: UserValue)
 #[tactic(auto, using(crate::proofs::PlaceLemmas::select_stays))]
 fn select(tree: &Tree, user: &mut User, member: SymId)
     requires there { 0 < length tree.now.choices }
-    requires user { IsUserOf tree.now user.old }
-    ensures { IsUserOf tree.now user.new }
+    requires user { ArePlacesOf tree.now user.old }
+    ensures { ArePlacesOf tree.now user.new }
 {
     user.select(ChoiceId(0), member);
 }
 
 // Fills one place.
-fn give(alloc: Global, tree: &Tree, user: &mut User, given: &Given) -> Result<(), Fail>
-    requires { IsUserOf tree.now user.old }
-    ensures { OnOk result (IsUserOf tree.now user.new) }
+fn give(alloc: Global, tree: &Tree, user: &mut User, given: &Setting) -> Result<(), Fail>
+    requires { ArePlacesOf tree.now user.old }
+    ensures { OnOk result (ArePlacesOf tree.now user.new) }
 {
     match given {
-        Given::Truth(name, tri) => set(tree, user, symbol_of(tree, name)?, UserValue::Tri(*tri)),
-        Given::Text(name, text) => {
+        Setting::Truth(name, tri) => set(tree, user, symbol_of(tree, name)?, UserValue::Tri(*tri)),
+        Setting::Text(name, text) => {
             let bytes = Vec::from_slice(alloc, text)?;
             set(tree, user, symbol_of(tree, name)?, UserValue::Text(bytes));
         }
-        Given::Member(name) => {
+        Setting::Member(name) => {
             let member = symbol_of(tree, name)?;
             if choice_count(tree) == 0 {
                 return Err(Fail::from("no choice"));
@@ -94,8 +94,8 @@ fn give(alloc: Global, tree: &Tree, user: &mut User, given: &Given) -> Result<()
 }
 
 /// The places with what is given, one after another.
-pub(crate) fn user_of(alloc: Global, tree: &Tree, given: &[Given]) -> Result<User, Fail>
-    ensures { IfOk result (λ user. IsUserOf tree.now user) }
+pub(crate) fn user_of(alloc: Global, tree: &Tree, given: &[Setting]) -> Result<User, Fail>
+    ensures { IfOk result (λ user. ArePlacesOf tree.now user) }
 {
     let mut user = User::new(alloc, tree)?;
     for one in given {
@@ -104,9 +104,9 @@ pub(crate) fn user_of(alloc: Global, tree: &Tree, given: &[Given]) -> Result<Use
     Ok(user)
 }
 
-/// What is told of a symbol.
+/// What is shown of a symbol.
 #[derive(Clone, Copy)]
-pub(crate) struct Told<'a> {
+pub(crate) struct SymbolReport<'a> {
     pub name: &'a [u8],
     pub value: &'a [u8],
     pub visibility: Tri,
@@ -115,16 +115,16 @@ pub(crate) struct Told<'a> {
 }
 
 /// The line of a symbol, behind what stands in the text.
-pub(crate) fn symbol_into(told: &Told<'_>, out: &mut Vec<u8>) -> Result<(), AllocError> {
-    out.extend_from_slice(told.name)?;
+pub(crate) fn symbol_into(report: &SymbolReport<'_>, out: &mut Vec<u8>) -> Result<(), AllocError> {
+    out.extend_from_slice(report.name)?;
     out.push(b'=')?;
-    out.extend_from_slice(told.value)?;
+    out.extend_from_slice(report.value)?;
     out.push(b' ')?;
-    out.extend_from_slice(tri_text(told.visibility))?;
-    if told.is_written {
+    out.extend_from_slice(tri_text(report.visibility))?;
+    if report.is_written {
         out.extend_from_slice(b" written")?;
     }
-    if told.differs {
+    if report.differs {
         out.extend_from_slice(b" differs")?;
     }
     out.push(b'\n')?;

@@ -8,8 +8,8 @@ use Rattle.kc_text.specs.declared.faults.TextFault.{TextFault}
 use Rattle.kc_text.specs.declared.faults.TextFault.TheVariants as faults
 use Rattle.kc_text.specs.declared.tokens.Op.{Op}
 use Rattle.kc_text.specs.declared.tokens.Op.TheVariants as ops
-use Rattle.kc_text.specs.Lexemes.{is_blank, is_word_byte, IsQuote, IsInside, op_text, Lexeme, AWord, AQuoted, AnOp}
-use Rattle.kc_text.specs.Tokens.{Piece, AreBlanks, IsEnd, IsLongest, IsLongestOp, HasNoOp, HasNoToken, IsReason, IsQuoteFault, Cuts, GoesOut, IsCut, OneCutting}
+use Rattle.kc_text.specs.Lexemes.{is_blank, is_word_byte, IsQuote, IsQuotedBody, op_text, Lexeme, AWord, AQuoted, AnOp}
+use Rattle.kc_text.specs.Tokens.{TokenView, AreBlanks, IsEnd, IsLongest, IsLongestOp, HasNoOp, HasNoToken, IsReason, IsQuoteFault, Cuts, IsCutEnd, IsCut, OneCutting}
 use Rattle.kc_text.proofs.Quoted.{IsScanned, scanned_none, scanned_plain, scanned_taken, holds_dollar, holds_dollar_taken, no_end, no_end_taken, no_dollar_last}
 use Rattle.kc_text.proofs.Spelled.{apart, word_token_more, quoted_token, quoted_fault, op_token, no_token, no_macro_here}
 use Rattle.kc_text.proofs.Cutting.{blanks_none, blanks_join, longest_some}
@@ -44,7 +44,7 @@ record Quoted (q : ℕ) (body : List ℕ) : Type 0 where
   pub count : ℕ
   pub within : count < length body
   pub ends : get_or body count 0 ≡ q
-  pub inside : IsInside q (take count body)
+  pub inside : IsQuotedBody q (take count body)
   pub no_dollar : All (λ b. b ≢ 36) (take count body)
 
 abbrev QuotedOrNot : ℕ → List ℕ → Type 0
@@ -268,20 +268,20 @@ token_here (b ∷ body) lt = token_or_not b body
 
 -- what comes of cutting a line from a place on
 record CutFrom (line : List ℕ) (p : ℕ) : Type 0 where
-  pub tokens : List Piece
+  pub tokens : List TokenView
   pub out : Option TextFault
   pub end : ℕ
   pub within : end ≤ length line
   pub cuts : Cuts line p tokens end
-  pub goes_out : GoesOut (drop end line) out
+  pub goes_out : IsCutEnd (drop end line) out
 
-blank_before : (line : List ℕ) (p : ℕ) (ts : List Piece) (q : ℕ) → is_blank (get_or line p 0) ≡ true → Cuts line (p + 1) ts q → Cuts line p ts q
+blank_before : (line : List ℕ) (p : ℕ) (ts : List TokenView) (q : ℕ) → is_blank (get_or line p 0) ≡ true → Cuts line (p + 1) ts q → Cuts line p ts q
 blank_before line p ts q e c = by ts c
   where
     one : AreBlanks line p (p + 1)
     one = (omega arith, λ k le lt. let same : k ≡ p = omega arith in rw same e)
 
-    by : (us : List Piece) → Cuts line (p + 1) us q → Cuts line p us q
+    by : (us : List TokenView) → Cuts line (p + 1) us q → Cuts line p us q
     by [] d = blanks_join line p (p + 1) q one d
     by (u ∷ us) d = (blanks_join line p (p + 1) u.start one d.0, d.1, d.2)
 

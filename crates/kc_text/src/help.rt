@@ -1,7 +1,7 @@
 //! The lines of a help text.
 ghost use Rattle.std.specs.Prelude.{◌≡◌, ◌||◌};
 ghost use Rattle.kc_text.specs.Help.{column, is_blank_line, is_indented, is_help_line, from_other, after_help, Drops};
-ghost use Rattle.kc_text.specs.Lines.{physical_lines, left};
+ghost use Rattle.kc_text.specs.Lines.{physical_lines, unread_lines};
 
 use crate::physical::{Unread, first_physical};
 
@@ -52,7 +52,7 @@ fn is_help_line(text: &[u8], indent: Option<u128>) -> bool
 
 // Drops lines up to the first that does not belong to a help text of this indentation.
 fn drop_lines(rest: &[u8], number: u32, indent: Option<u128>) -> Unread<'_>
-    ensures { Drops (left rest.now number) (left result.rest.now result.number)
+    ensures { Drops (unread_lines rest.now number) (unread_lines result.rest.now result.number)
         (from_other (is_help_line indent) (physical_lines rest.now)) }
 {
     let mut after = rest;
@@ -76,7 +76,7 @@ fn drop_lines(rest: &[u8], number: u32, indent: Option<u128>) -> Unread<'_>
 
 // Drops the lines of a help text.
 pub(crate) fn drop_help(rest: &[u8], number: u32) -> Unread<'_>
-    ensures { Drops (left rest.now number) (left result.rest.now result.number)
+    ensures { Drops (unread_lines rest.now number) (unread_lines result.rest.now result.number)
         (after_help (physical_lines rest.now)) }
 {
     let start = drop_lines(rest, number, None);

@@ -2,7 +2,7 @@
 ghost use Rattle.std.specs.Prelude.{◌≡◌, ◌==◌, ◌<◌, ◌≤◌, ◌∷◌, length, count_by};
 ghost use Rattle.std.specs.Str.Lines.{strip_carriage_return};
 ghost use Rattle.kc_text.specs.Bytes.{byte};
-ghost use Rattle.kc_text.specs.Lines.{physical_lines, Physical, continues, share};
+ghost use Rattle.kc_text.specs.Lines.{physical_lines, Physical, continues, without_continuation};
 
 use bstr::ByteSlice;
 
@@ -22,9 +22,9 @@ impl<'a> PhysicalLine<'a> {
         self.ended && self.text.last_byte() == Some(b'\\')
     }
 
-    // What the line gives to its logical line.
-    pub(crate) fn share(&self) -> &'a [u8]
-        ensures { result.now ≡ share (record { text = self.now.text.now; ended = self.now.ended }) }
+    // What the line gives to its logical line: its text without the `\` that joins it.
+    pub(crate) fn without_continuation(&self) -> &'a [u8]
+        ensures { result.now ≡ without_continuation (record { text = self.now.text.now; ended = self.now.ended }) }
     {
         if self.continues() {
             &self.text[..self.text.len() - 1]

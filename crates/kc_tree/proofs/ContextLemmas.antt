@@ -6,9 +6,9 @@ use Rattle.std.specs.Option.{option_map}
 use Rattle.std.proofs.lemmas.List.{get_or_append_left, get_or_past, length-append, take-append-drop, take-append-le}
 use Rattle.std.proofs.lemmas.Option.{slice_get_within, slice_get_cases}
 use Rattle.std.proofs.Math.Seq.{get_or-append_seam, take-append_seam}
-use Rattle.kc_tree.specs.Contexts.{top, condition_in, condition_of, conditions_from, conditions_of, mode_view, AreNested, KeepsMode, BeginsMode, KeepModes, IsStep, IsContext}
+use Rattle.kc_tree.specs.Contexts.{top, condition_in, condition_of, conditions_from, conditions_of, mode_view, AreNested, KeepsMode, BeginsMode, KeepModes, IsContextAt, IsContext}
 use Rattle.kc_tree.specs.TreeFacts.{Condition}
-use Rattle.kc_tree.specs.declared.parts.Context.{Context}
+use Rattle.kc_tree.specs.declared.rows.Context.{Context}
 
 pub from-snoc : (table : List Condition) (cs : List Context) (c : Context) → conditions_from table (cs ++ c ∷ []) ≡ conditions_from table cs ++ condition_of (conditions_from table cs) c ∷ []
 from-snoc table [] c = refl
@@ -39,15 +39,18 @@ from-keeps table (c ∷ cs) i h =
 condition-same : (table others : List Condition) (c : Context) → condition_in table c.outer.0 ≡ condition_in others c.outer.0 → condition_of table c ≡ condition_of others c
 condition-same table others c e = rw e refl
 
-from-at : (table : List Condition) (cs : List Context) (k : ℕ) (c : Context) → slice_get cs k ≡ Some c → c.outer.0 < length table + k → condition_in (conditions_from table cs) (length table + k) ≡ condition_of (conditions_from table cs) c
+from-at : (table : List Condition) (cs : List Context) (k : ℕ) (c : Context) → slice_get cs k ≡ Some c → c.outer.0 < length table + k →
+    condition_in (conditions_from table cs) (length table + k) ≡ condition_of (conditions_from table cs) c
 from-at table [] k c e h = absurd cc
 from-at table (x ∷ xs) zero c e h =
     let same : x ≡ c = cc in
     let more = table ++ condition_of table x ∷ [] in
     let one : length more ≡ length table + 1 = length-append table (condition_of table x ∷ []) in
-    let here : condition_in (conditions_from more xs) (length table) ≡ condition_of table x = from-keeps more xs (length table) (omega (arith, one)) ∙ get_or-append_seam table (condition_of table x) [] top in
+    let here : condition_in (conditions_from more xs) (length table) ≡ condition_of table x = from-keeps more xs (length table) (omega (arith, one))
+    ∙ get_or-append_seam table (condition_of table x) [] top in
     let below : x.outer.0 < length table = rw same (omega (arith, h)) in
-    let outer : condition_in (conditions_from more xs) x.outer.0 ≡ condition_in table x.outer.0 = from-keeps more xs x.outer.0 (omega (arith, one, below)) ∙ get_or_append_left table (condition_of table x ∷ []) top x.outer.0 below in
+    let outer : condition_in (conditions_from more xs) x.outer.0 ≡ condition_in table x.outer.0 = from-keeps more xs x.outer.0 (omega (arith, one, below))
+    ∙ get_or_append_left table (condition_of table x ∷ []) top x.outer.0 below in
     let place : length table + 0 ≡ length table = omega arith in
     rw (place, ← same) (here ∙ condition-same table (conditions_from more xs) x (sym outer))
 from-at table (x ∷ xs) (suc k) c e h =
@@ -85,7 +88,7 @@ pub conditions-past : (cs : List Context) (i : ℕ) → length cs < i → condit
 conditions-past cs i h = let all = conditions-length cs in get_or_past (conditions_of cs) i top (omega (arith, all, h))
 
 -- what is known of the context at a place, by its number
-pub step-at : (cs : List Context) (id : ℕ) (c : Context) → AreNested cs → KeepModes cs → 0 < id → slice_get cs (id - 1) ≡ Some c → IsStep (conditions_of cs) id c
+pub step-at : (cs : List Context) (id : ℕ) (c : Context) → AreNested cs → KeepModes cs → 0 < id → slice_get cs (id - 1) ≡ Some c → IsContextAt (conditions_of cs) id c
 step-at cs id c nested modes h e =
     let place : (id - 1) + 1 ≡ id = omega (arith, h) in
     let below = nested (id - 1) c e in
@@ -108,7 +111,8 @@ found_mode None = None
 found_mode (Some c) = mode_view c.now.mode
 
 -- what is known of what a look-up found
-pub context-found : (cs : List Context) (id : ℕ) (found : Option (Bor Context)) → AreNested cs → KeepModes cs → (id ≡ 0 → found ≡ None) → (0 < id → option_map (λ c. c.now) found ≡ slice_get cs (id - 1)) → IsContext (conditions_of cs) id found
+pub context-found : (cs : List Context) (id : ℕ) (found : Option (Bor Context)) → AreNested cs → KeepModes cs → (id ≡ 0 → found ≡ None) →
+    (0 < id → option_map (λ c. c.now) found ≡ slice_get cs (id - 1)) → IsContext (conditions_of cs) id found
 context-found cs zero None nested modes top_is at = conditions-top cs
 context-found cs zero (Some c) nested modes top_is at = absurd (let no : Some c ≡ None = top_is refl in cc)
 context-found cs (suc k) None nested modes top_is at = past (slice_get_cases cs k).1

@@ -4,14 +4,14 @@ use Rattle.std.specs.Borrow.{Bor}
 use Rattle.std.specs.List.{slice_get, filter_map, range_with_len}
 use Rattle.std.specs.Option.{option_map}
 use Rattle.std.proofs.lemmas.List.{append_assoc, length-append}
-use Rattle.kc_tree.specs.Heads.{IsHeadOf, AreChoicesOf, IsEntryOf, AreEntriesOf}
+use Rattle.kc_tree.specs.RowFacts.{IsSymbolRowOf, AreChoicesOf, IsEntryOf, AreEntriesOf}
 use Rattle.kc_tree.specs.Layouts.{facts_of, facts_at, symbols_in, choice_facts, shown_of}
 use Rattle.kc_tree.specs.declared.layout.Layout.{Layout}
 use Rattle.kc_tree.specs.declared.layout.Tables.{Tables}
-use Rattle.kc_tree.specs.declared.parts.Choice.{Choice}
-use Rattle.kc_tree.specs.declared.parts.Entry.{Entry}
-use Rattle.kc_tree.specs.declared.parts.Entry.TheVariants as entry
-use Rattle.kc_tree.specs.declared.parts.Symbol.{Symbol}
+use Rattle.kc_tree.specs.declared.rows.Choice.{Choice}
+use Rattle.kc_tree.specs.declared.rows.ShownEntry.{ShownEntry}
+use Rattle.kc_tree.specs.declared.rows.ShownEntry.TheVariants as entry
+use Rattle.kc_tree.specs.declared.rows.Symbol.{Symbol}
 
 module _ {X Y : Type 0} (f : ℕ → X → Y) where
   -- the elements of a list, each with its place
@@ -53,8 +53,8 @@ symbols-at l i =
     let zero_more : 0 + i ≡ i = omega arith in
     ap (λ fs. slice_get fs i) (numbered (facts_of l) [] l.symbols.items) ∙ from-at (facts_of l) 0 l.symbols.items i ∙ ap (λ k. option_map (facts_of l k) (slice_get l.symbols.items i)) zero_more
 
--- the row that was found has the head of its facts
-pub head-found : (l : Layout) (i : ℕ) (found : Option (Bor Symbol)) → option_map (λ s. s.now) found ≡ slice_get l.symbols.items i → IsHeadOf (slice_get (symbols_in l) i) found
+-- the row that was found has the type and the choice of its facts
+pub head-found : (l : Layout) (i : ℕ) (found : Option (Bor Symbol)) → option_map (λ s. s.now) found ≡ slice_get l.symbols.items i → IsSymbolRowOf (slice_get (symbols_in l) i) found
 head-found l i None e = symbols-at l i ∙ ap (option_map (facts_of l i)) (sym e)
 head-found l i (Some s) e = (facts_of l i s.now, symbols-at l i ∙ ap (option_map (facts_of l i)) (sym e), record { kind = refl; choice = refl })
 
@@ -62,12 +62,12 @@ pub choices-heads : (t : Tables) (cs : List Choice) → AreChoicesOf (map (choic
 choices-heads t [] = refl
 choices-heads t (c ∷ cs) = ap (λ ms. c.members.items ∷ ms) (choices-heads t cs)
 
-entry-head : (t : Tables) (e : Entry) → IsEntryOf (shown_of t e) e
+entry-head : (t : Tables) (e : ShownEntry) → IsEntryOf (shown_of t e) e
 entry-head t (entry.Symbol s) = refl
 entry-head t (entry.Menu id) = record {}
 entry-head t (entry.End menu) = refl
 entry-head t (entry.Comment id) = record {}
 
-pub entries-heads : (t : Tables) (es : List Entry) → AreEntriesOf (map (shown_of t) es) es
+pub entries-heads : (t : Tables) (es : List ShownEntry) → AreEntriesOf (map (shown_of t) es) es
 entries-heads t [] = record {}
 entries-heads t (e ∷ es) = (entry-head t e, entries-heads t es)

@@ -1,7 +1,7 @@
 -- Trusted: Lines that select or imply, each of which leads on to the one before it that names the same symbol.
 use Rattle.std.specs.Prelude.{◌≡◌, ◌<◌, ℕ, List, [], ◌∷◌, ◌++◌, length, Option, Some, None, slice_get, slice_index_or}
-use Rattle.kc_tree.specs.declared.parts.Reverse.{Reverse}
-use Rattle.kc_tree.specs.declared.parts.ReverseId.{ReverseId}
+use Rattle.kc_tree.specs.declared.rows.Reverse.{Reverse}
+use Rattle.kc_tree.specs.declared.rows.ReverseId.{ReverseId}
 
 -- the numbers of the lines from one on, that one first
 abbrev pub chain_of : List (List ℕ) → Option ReverseId → List ℕ

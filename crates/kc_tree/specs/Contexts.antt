@@ -3,8 +3,8 @@ use Rattle.std.specs.Prelude.{◌≡◌, ◌<◌, ◌≤◌, ℕ, List, [], ◌�
 use Rattle.std.specs.Borrow.{Bor}
 use Rattle.kc_expr.specs.Form.{Form}
 use Rattle.kc_expr.specs.When.{when_view}
-use Rattle.kc_tree.specs.declared.parts.ChoiceId.{ChoiceId}
-use Rattle.kc_tree.specs.declared.parts.Context.{Context}
+use Rattle.kc_tree.specs.declared.rows.ChoiceId.{ChoiceId}
+use Rattle.kc_tree.specs.declared.rows.Context.{Context}
 use Rattle.kc_tree.specs.Words.{listed}
 use Rattle.kc_tree.specs.TreeFacts.{Condition}
 
@@ -33,7 +33,7 @@ mode_view = option_map (λ (k : ChoiceId). k.0)
 
 -- the condition of one more context, by those before it
 abbrev pub condition_of : List Condition → Context → Condition
-condition_of conditions c = record { parts = (condition_in conditions c.outer.0).parts ++ listed (when_view c.asks); mode = mode_view c.mode }
+condition_of conditions c = record { parts = (condition_in conditions c.outer.0).parts ++ listed (when_view c.own_condition); mode = mode_view c.mode }
 
 -- these conditions, and those of the contexts behind them
 abbrev pub conditions_from : List Condition → List Context → List Condition
@@ -49,18 +49,18 @@ AreNested cs = (i : ℕ) (c : Context) → slice_get cs i ≡ Some c → c.outer
 
 -- a context that asks for nothing of its own is that of a choice's members; another one has the mode of the one outside it
 abbrev pub KeepsMode : List Condition → Context → Type 0
-KeepsMode conditions c = (e : Form) → when_view c.asks ≡ Some e → mode_view c.mode ≡ (condition_in conditions c.outer.0).mode
+KeepsMode conditions c = (e : Form) → when_view c.own_condition ≡ Some e → mode_view c.mode ≡ (condition_in conditions c.outer.0).mode
 
 -- and no mode counts outside that of a choice's members
 abbrev pub BeginsMode : List Condition → Context → Type 0
-BeginsMode conditions c = when_view c.asks ≡ None → IsPlain conditions c.outer.0
+BeginsMode conditions c = when_view c.own_condition ≡ None → IsPlain conditions c.outer.0
 
 -- each context does, by those before it
 abbrev pub KeepModes : List Context → Type 0
 KeepModes cs = (i : ℕ) (c : Context) → slice_get cs i ≡ Some c → KeepsMode (conditions_of (take i cs)) c × BeginsMode (conditions_of (take i cs)) c
 
 -- what is known of the context with a number
-pub record IsStep (conditions : List Condition) (i : ℕ) (c : Context) : Type 0 where
+pub record IsContextAt (conditions : List Condition) (i : ℕ) (c : Context) : Type 0 where
   pub smaller : c.outer.0 < i
   pub is : condition_in conditions i ≡ condition_of conditions c
   pub keeps : KeepsMode conditions c
@@ -68,4 +68,4 @@ pub record IsStep (conditions : List Condition) (i : ℕ) (c : Context) : Type 0
 
 abbrev pub IsContext : List Condition → ℕ → Option (Bor Context) → Type 0
 IsContext conditions i None = condition_in conditions i ≡ top
-IsContext conditions i (Some c) = IsStep conditions i c.now
+IsContext conditions i (Some c) = IsContextAt conditions i c.now

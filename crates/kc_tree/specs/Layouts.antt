@@ -8,24 +8,24 @@ use Rattle.kc_expr.specs.Form.{Form, form_of, leaf_of}
 use Rattle.kc_expr.specs.When.{when_view}
 use Rattle.kc_tree.specs.declared.layout.Layout.{Layout}
 use Rattle.kc_tree.specs.declared.layout.Tables.{Tables}
-use Rattle.kc_tree.specs.declared.parts.Choice.{Choice}
-use Rattle.kc_tree.specs.declared.parts.ChoiceDefault.{ChoiceDefault}
-use Rattle.kc_tree.specs.declared.parts.Definition.{Definition}
-use Rattle.kc_tree.specs.declared.parts.DefinitionId.{DefinitionId}
-use Rattle.kc_tree.specs.declared.parts.Entry.{Entry}
-use Rattle.kc_tree.specs.declared.parts.Entry.TheVariants as entry
-use Rattle.kc_tree.specs.declared.parts.Prompt.{Prompt}
-use Rattle.kc_tree.specs.declared.parts.Reverse.{Reverse}
-use Rattle.kc_tree.specs.declared.parts.ReverseId.{ReverseId}
-use Rattle.kc_tree.specs.declared.parts.Symbol.{Symbol}
-use Rattle.kc_tree.specs.declared.parts.SymbolDefault.{SymbolDefault}
-use Rattle.kc_tree.specs.declared.parts.SymbolRange.{SymbolRange}
-use Rattle.kc_tree.specs.declared.parts.Title.{Title}
-use Rattle.kc_tree.specs.declared.parts.TitleId.{TitleId}
+use Rattle.kc_tree.specs.declared.rows.Choice.{Choice}
+use Rattle.kc_tree.specs.declared.rows.ChoiceDefault.{ChoiceDefault}
+use Rattle.kc_tree.specs.declared.rows.Definition.{Definition}
+use Rattle.kc_tree.specs.declared.rows.DefinitionId.{DefinitionId}
+use Rattle.kc_tree.specs.declared.rows.ShownEntry.{ShownEntry}
+use Rattle.kc_tree.specs.declared.rows.ShownEntry.TheVariants as entry
+use Rattle.kc_tree.specs.declared.rows.Prompt.{Prompt}
+use Rattle.kc_tree.specs.declared.rows.Reverse.{Reverse}
+use Rattle.kc_tree.specs.declared.rows.ReverseId.{ReverseId}
+use Rattle.kc_tree.specs.declared.rows.Symbol.{Symbol}
+use Rattle.kc_tree.specs.declared.rows.SymbolDefault.{SymbolDefault}
+use Rattle.kc_tree.specs.declared.rows.SymbolRange.{SymbolRange}
+use Rattle.kc_tree.specs.declared.rows.Title.{Title}
+use Rattle.kc_tree.specs.declared.rows.TitleId.{TitleId}
 use Rattle.kc_tree.specs.Chains.{chain_of, chains_of}
 use Rattle.kc_tree.specs.Contexts.{condition_in, mode_view}
 use Rattle.kc_tree.specs.Words.{listed}
-use Rattle.kc_tree.specs.Parts.{part_of, definition_ids}
+use Rattle.kc_tree.specs.Spans.{slice_of, definition_ids}
 use Rattle.kc_tree.specs.TreeFacts.{Condition, Guarded, Bounds, SymbolFacts, ChoiceFacts, Shown, SymbolShown, MenuShown, EndShown, CommentShown, TreeFacts}
 
 -- a condition and an `if`; a condition and what another one asks for besides
@@ -36,23 +36,23 @@ abbrev pub with_parts : Condition → List Form → Condition
 with_parts c fs = record { parts = c.parts ++ fs; mode = c.mode }
 
 -- Under the conditions of the contexts and what an entry depends on.
-module _ (conditions : List Condition) (dep : Condition) where
+module _ (conditions : List Condition) (dependency : Condition) where
   abbrev pub prompt_view : Prompt → Condition
-  prompt_view p = with_when (with_parts dep (condition_in conditions p.visible.0).parts) (when_view p.when)
+  prompt_view p = with_when (with_parts dependency (condition_in conditions p.visible.0).parts) (when_view p.when)
 
   abbrev pub default_view : SymbolDefault → Guarded Form
-  default_view d = record { what = form_of d.value.value; when = with_when dep (when_view d.when) }
+  default_view d = record { what = form_of d.value.value; when = with_when dependency (when_view d.when) }
 
   abbrev pub range_view : SymbolRange → Guarded Bounds
-  range_view r = record { what = record { low = leaf_of r.low; high = leaf_of r.high }; when = with_when dep (when_view r.when) }
+  range_view r = record { what = record { low = leaf_of r.low; high = leaf_of r.high }; when = with_when dependency (when_view r.when) }
 
   abbrev pub choice_default_view : ChoiceDefault → Guarded SymId
-  choice_default_view d = record { what = d.member; when = with_when dep (when_view d.when) }
+  choice_default_view d = record { what = d.member; when = with_when dependency (when_view d.when) }
 
 -- What one `config` entry says.
 pub record DefinitionFacts : Type 0 where
   pub symbol : SymId
-  pub dep : Condition
+  pub dependency : Condition
   pub prompt : Option Condition
   pub defaults : List (Guarded Form)
   pub ranges : List (Guarded Bounds)
@@ -62,7 +62,7 @@ abbrev pub facts_by : Kind → Option ℕ → List DefinitionFacts → List (Gua
 facts_by kind choice ds selectors impliers = record {
   kind = kind;
   choice = choice;
-  deps = map (λ d. d.dep) ds;
+  dependencies = map (λ d. d.dependency) ds;
   prompts = filter_map (λ d. d.prompt) ds;
   defaults = flat_map (λ d. d.defaults) ds;
   ranges = flat_map (λ d. d.ranges) ds;
@@ -75,10 +75,10 @@ module _ (t : Tables) where
   abbrev pub definition_facts : Definition → DefinitionFacts
   definition_facts d = record {
     symbol = d.symbol;
-    dep = condition_in t.contexts d.within.0;
+    dependency = condition_in t.contexts d.within.0;
     prompt = option_map (prompt_view t.contexts (condition_in t.contexts d.within.0)) d.prompt;
-    defaults = map (default_view t.contexts (condition_in t.contexts d.within.0)) (part_of t.defaults.items d.defaults);
-    ranges = map (range_view t.contexts (condition_in t.contexts d.within.0)) (part_of t.ranges.items d.ranges);
+    defaults = map (default_view t.contexts (condition_in t.contexts d.within.0)) (slice_of t.defaults.items d.defaults);
+    ranges = map (range_view t.contexts (condition_in t.contexts d.within.0)) (slice_of t.ranges.items d.ranges);
   }
 
   abbrev pub definition_at : DefinitionId → Option DefinitionFacts
@@ -86,7 +86,7 @@ module _ (t : Tables) where
 
   -- a line that selects or implies: the symbol whose definition it stands in, and its condition
   abbrev pub reverse_facts : Reverse → Option (Guarded SymId)
-  reverse_facts r = option_map (λ (d : DefinitionFacts). record { what = d.symbol; when = with_when d.dep (when_view r.when) }) (definition_at r.source)
+  reverse_facts r = option_map (λ (d : DefinitionFacts). record { what = d.symbol; when = with_when d.dependency (when_view r.when) }) (definition_at r.source)
 
   abbrev pub reverse_at : ℕ → Option (Guarded SymId)
   reverse_at i = option_and_then reverse_facts (slice_get t.reverses.lines.items i)
@@ -124,7 +124,7 @@ module _ (t : Tables) where
   abbrev pub title_at : TitleId → Option Title
   title_at id = slice_get t.titles.items id.0
 
-  abbrev pub shown_of : Entry → Shown
+  abbrev pub shown_of : ShownEntry → Shown
   shown_of (entry.Symbol s) = SymbolShown s
   shown_of (entry.Menu id) = MenuShown (title_text (title_at id)) (shown_when (title_at id))
   shown_of (entry.End menu) = EndShown menu

@@ -2,9 +2,9 @@ pub mod Chains
 pub mod Contexts
 pub mod ContextsCode
 pub mod Empty
-pub mod Heads
+pub mod RowFacts
 pub mod Layouts
-pub mod Parts
+pub mod Spans
 pub mod Soundness
 pub mod TreeCode
 pub mod TreeFacts

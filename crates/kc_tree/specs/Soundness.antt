@@ -1,11 +1,12 @@
--- For proofs: What the tables of a tree keep: rows lead to contexts that are there, and prompts and titles to such in which no mode counts.
--- Each fact is a function to an inequality or an equation of truth values, so that a table may hold it as a ghost field.
+-- For proofs: What the tables of a tree keep: rows lead to contexts that are there, and prompts and titles to such in which
+-- no mode counts. Each fact is a function to an inequality or an equation of truth values, so that a table may hold it as a
+-- ghost field.
 use Rattle.std.specs.Prelude.{◌≡◌, ◌<◌, ℕ, List, length, Option, Some, None, slice_get}
 use Rattle.kc_tree.specs.TreeFacts.{Condition}
-use Rattle.kc_tree.specs.declared.parts.Choice.{Choice}
-use Rattle.kc_tree.specs.declared.parts.Definition.{Definition}
-use Rattle.kc_tree.specs.declared.parts.Prompt.{Prompt}
-use Rattle.kc_tree.specs.declared.parts.Title.{Title}
+use Rattle.kc_tree.specs.declared.rows.Choice.{Choice}
+use Rattle.kc_tree.specs.declared.rows.Definition.{Definition}
+use Rattle.kc_tree.specs.declared.rows.Prompt.{Prompt}
+use Rattle.kc_tree.specs.declared.rows.Title.{Title}
 use Rattle.kc_tree.specs.Contexts.{IsPlain, condition_in}
 
 -- what definitions depend on is there
@@ -32,7 +33,7 @@ AreChoicePromptsWithin conditions cs = (k : ℕ) (c : Choice) (p : Prompt) → s
 abbrev pub AreChoicePromptsPlain : List Condition → List Choice → Type 0
 AreChoicePromptsPlain conditions cs = (k : ℕ) (c : Choice) (p : Prompt) → slice_get cs k ≡ Some c → c.prompt ≡ Some p → IsPlain conditions p.visible.0
 
--- what the menus round a title ask of what is visible
+-- what the enclosing menus of a title ask of what is visible
 abbrev pub AreTitlesPlain : List Condition → List Title → Type 0
 AreTitlesPlain conditions ts = (i : ℕ) (t : Title) → slice_get ts i ≡ Some t → IsPlain conditions t.visible.0
 

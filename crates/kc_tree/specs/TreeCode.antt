@@ -62,11 +62,11 @@ lists_code =
 abbrev pub symbol_code : Coded SymbolFacts
 symbol_code =
     code_by ((Kind × Option ℕ) × Lists) (coded× (coded× kind_code (coded_option coded_ℕ)) lists_code)
-    (λ f. ((f.kind, f.choice), ((f.deps, f.prompts), ((f.defaults, f.ranges), (f.selectors, f.impliers)))))
+    (λ f. ((f.kind, f.choice), ((f.dependencies, f.prompts), ((f.defaults, f.ranges), (f.selectors, f.impliers)))))
     (λ p. record {
       kind = p.0.0;
       choice = p.0.1;
-      deps = p.1.0.0;
+      dependencies = p.1.0.0;
       prompts = p.1.0.1;
       defaults = p.1.1.0.0;
       ranges = p.1.1.0.1;
@@ -114,7 +114,8 @@ Facts = (List (List ℕ) × (List SymbolFacts × List ChoiceFacts)) × ((List Sh
 
 abbrev whole_code : Coded Facts
 whole_code =
-    coded× (coded× (coded_list bytes_code) (coded× (coded_list symbol_code) (coded_list choice_code))) (coded× (coded× (coded_list shown_code) (coded_list bytes_code)) (coded× bytes_code (coded_option sym_code)))
+    coded× (coded× (coded_list bytes_code) (coded× (coded_list symbol_code) (coded_list choice_code)))
+    (coded× (coded× (coded_list shown_code) (coded_list bytes_code)) (coded× bytes_code (coded_option sym_code)))
 
 abbrev pub tree_code : Coded TreeFacts
 tree_code =

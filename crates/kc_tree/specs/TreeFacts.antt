@@ -27,7 +27,7 @@ pub record Bounds : Type 0 where
 pub record SymbolFacts : Type 0 where
   pub kind : Kind
   pub choice : Option ℕ
-  pub deps : List Condition
+  pub dependencies : List Condition
   pub prompts : List Condition
   pub defaults : List (Guarded Form)
   pub ranges : List (Guarded Bounds)
@@ -75,7 +75,7 @@ IsDefined t s = s.0 < length t.symbols
 
 -- the lines of one symbol name only choices and symbols that there are
 pub record AreLinesSound (t : TreeFacts) (f : SymbolFacts) : Type 0 where
-  pub deps : All (IsModeBelow (length t.choices)) f.deps
+  pub dependencies : All (IsModeBelow (length t.choices)) f.dependencies
   pub prompts : All (IsModeBelow (length t.choices)) f.prompts
   pub defaults : All (λ (g : Guarded Form). IsModeBelow (length t.choices) g.when) f.defaults
   pub ranges : All (λ (g : Guarded Bounds). IsModeBelow (length t.choices) g.when) f.ranges

@@ -1,17 +1,17 @@
-//! The contexts of a tree: what the blocks round its entries ask for, and the entries themselves.
+//! The contexts of a tree: what the enclosing blocks of its entries ask for, and the entries themselves.
 
 ghost use Rattle.std.specs.Prelude.{◌≡◌, ◌<◌, ◌-◌, ◌^◌, ◌++◌, [], ◌∷◌, None, length, option_map, slice_get, IfOk, OnOk, OnErr};
 ghost use Rattle.kc_expr.specs.Form.{form_of};
 ghost use Rattle.kc_tree.specs.Contexts.{IsPlain, top, condition_in, and_also, in_choice, mode_view, IsContext};
 
-use crate::parts::{ChoiceId, Context, ContextId};
+use crate::rows::{ChoiceId, Context, ContextId};
 use kc_expr::expression::Expr;
 use std::alloc::{AllocError, Global};
 use std::marker::Model;
 use std::rc::Rc;
 
-/// What the blocks round the entries of a tree ask for, and the entries themselves, by number. Each context holds one
-/// expression, and shares the rest with those outside it; the one outside it has a smaller number.
+/// What the enclosing blocks of the entries of a tree ask for, and the entries themselves, by number. Each context holds
+/// one expression, and shares the rest with those outside it; the one outside it has a smaller number.
 #[derive(Debug, Drop)]
 pub struct Contexts {
     inner: Vec<Context>,
@@ -88,7 +88,7 @@ impl Contexts {
         let mode = self.mode(outer);
         self.inner.push(Context {
             outer,
-            asks: Some(condition),
+            own_condition: Some(condition),
             mode,
         })?;
         Ok(ContextId(self.inner.len() as u32))
@@ -109,7 +109,7 @@ impl Contexts {
     {
         self.inner.push(Context {
             outer,
-            asks: None,
+            own_condition: None,
             mode: Some(choice),
         })?;
         Ok(ContextId(self.inner.len() as u32))

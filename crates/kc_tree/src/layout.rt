@@ -2,15 +2,15 @@
 
 ghost use Rattle.std.specs.Prelude.{◌≡◌, ◌<◌, ◌+◌, ◌^◌, None, length, option_map, slice_get, slice_index_or, IfSome};
 ghost use Rattle.kc_tree.specs.Contexts.{condition_in, mode_view, IsContext};
-ghost use Rattle.kc_tree.specs.Parts.{part_of, definition_ids};
+ghost use Rattle.kc_tree.specs.Spans.{slice_of, definition_ids};
 ghost use Rattle.kc_tree.specs.Soundness.{AreChoicePromptsPlain, AreChoicePromptsWithin, AreChoicesPlain, AreChoicesWithin, AreModePromptsBehind, AreModesBehind, AreModesBelow, ArePromptsPlain, ArePromptsWithin, AreTitlesPlain, AreWithin};
 
 use crate::contexts::Contexts;
-use crate::parts::{
-    Choice, ChoiceId, Context, ContextId, Definition, DefinitionId, Entry, Reverse, ReverseId,
+use crate::reverses::Reverses;
+use crate::rows::{
+    Choice, ChoiceId, Context, ContextId, Definition, DefinitionId, Reverse, ReverseId, ShownEntry,
     Span, Symbol, SymbolDefault, SymbolRange, Title, TitleId,
 };
-use crate::reverses::Reverses;
 use kc_expr::expression::SymId;
 use std::alloc::{AllocError, Global};
 
@@ -24,7 +24,7 @@ pub struct Tables {
     pub reverses: Reverses,
     pub choices: Vec<Choice>,
     pub titles: Vec<Title>,
-    pub entries: Vec<Entry>,
+    pub entries: Vec<ShownEntry>,
     ghost within: { AreWithin contexts definitions.items },
     ghost prompts_within: { ArePromptsWithin contexts definitions.items },
     ghost prompts_plain: { ArePromptsPlain contexts definitions.items },
@@ -61,8 +61,8 @@ impl Tables {
     }
 }
 
-/// How a tree is laid out: what the facts of its symbols, choices and entries are made of. A context is what the blocks
-/// round an entry, and then the entry, ask for; it stands once, however many entries depend on it.
+/// How a tree is laid out: what the facts of its symbols, choices and entries are made of. A context is what the
+/// enclosing blocks of an entry, and then the entry, ask for; it stands once, however many entries depend on it.
 #[derive(Debug, Drop)]
 pub struct Layout {
     pub symbols: Vec<Symbol>,
@@ -79,9 +79,9 @@ pub struct TreeParts {
     pub modules: Option<SymId>,
 }
 
-// The part of a table that a span names; no part where it is not there.
+// The slice of a table that a span names; an empty one where it is not there.
 fn part<T>(table: &[T], span: Span) -> &[T]
-    ensures { result.now ≡ part_of table.now span }
+    ensures { result.now ≡ slice_of table.now span }
 {
     let (start, end) = (span.start as usize, span.end as usize);
     if start <= end && end <= table.len() {
@@ -107,7 +107,7 @@ impl Layout {
     }
 
     /// The entries, in order.
-    pub fn entries(&self) -> &[Entry]
+    pub fn entries(&self) -> &[ShownEntry]
         ensures { result.now ≡ self.now.tables.entries.items }
     {
         &self.tables.entries
@@ -157,14 +157,14 @@ impl Layout {
 
     /// The defaults of a definition, in the order of its lines.
     pub fn defaults(&self, definition: &Definition) -> &[SymbolDefault]
-        ensures { result.now ≡ part_of self.now.tables.defaults.items definition.now.defaults }
+        ensures { result.now ≡ slice_of self.now.tables.defaults.items definition.now.defaults }
     {
         part(&self.tables.defaults, definition.defaults)
     }
 
     /// The ranges of a definition, in the order of its lines.
     pub fn ranges(&self, definition: &Definition) -> &[SymbolRange]
-        ensures { result.now ≡ part_of self.now.tables.ranges.items definition.now.ranges }
+        ensures { result.now ≡ slice_of self.now.tables.ranges.items definition.now.ranges }
     {
         part(&self.tables.ranges, definition.ranges)
     }

@@ -3,6 +3,6 @@
 
 pub mod contexts;
 pub mod layout;
-pub mod parts;
 pub mod reverses;
+pub mod rows;
 pub mod tree;

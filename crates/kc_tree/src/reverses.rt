@@ -3,7 +3,7 @@
 ghost use Rattle.std.specs.Prelude.{◌≡◌, ◌<◌, [], None, option_map, replicate, slice_get, slice_index_or, IfOk, IfSome};
 ghost use Rattle.kc_tree.specs.Chains.{AreChained, AreHeads};
 
-use crate::parts::{Reverse, ReverseId};
+use crate::rows::{Reverse, ReverseId};
 use kc_expr::expression::SymId;
 use std::alloc::{AllocError, Global};
 

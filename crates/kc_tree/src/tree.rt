@@ -4,12 +4,12 @@ ghost use Rattle.std.specs.Prelude.{◌≡◌, ◌<◌, length, map, Some, slice
 ghost use Rattle.std.specs.Option.{option_map};
 ghost use Rattle.kc_expr.specs.Names.{symbol, same_name};
 ghost use Rattle.kc_tree.specs.Wholes.{tree_of};
-ghost use Rattle.kc_tree.specs.Heads.{IsHeadOf, AreChoicesOf, AreEntriesOf};
+ghost use Rattle.kc_tree.specs.RowFacts.{IsSymbolRowOf, AreChoicesOf, AreEntriesOf};
 ghost use Rattle.kc_tree.specs.Layouts.{IsLayoutOf};
 ghost use Rattle.kc_tree.specs.TreeFacts.{IsWellFormed};
 
 use crate::layout::{Layout, TreeParts};
-use crate::parts::{Choice, Entry, Symbol};
+use crate::rows::{Choice, ShownEntry, Symbol};
 use kc_expr::expression::SymId;
 use kc_expr::names::Names;
 use std::marker::Model;
@@ -108,7 +108,7 @@ impl Tree {
 
     /// The row of a symbol, with its type and its choice; `None` where the name is not defined (our own).
     pub fn facts(&self, id: SymId) -> Option<&Symbol>
-        ensures { IsHeadOf (slice_get self.now.symbols id.0) result }
+        ensures { IsSymbolRowOf (slice_get self.now.symbols id.0) result }
     {
         self.layout.symbol(id)
     }
@@ -123,7 +123,7 @@ impl Tree {
 
     /// What a configuration file shows, in order: the symbols, menus and comments among the menu entries of the kernel's
     /// kconfig-language document (kconfiglib's `node_iter` walks the same ones).
-    pub fn entries(&self) -> &[Entry]
+    pub fn entries(&self) -> &[ShownEntry]
         ensures shown { AreEntriesOf self.now.entries result.now }
         ensures formed { IsWellFormed self.now }
     {

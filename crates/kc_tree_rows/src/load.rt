@@ -10,7 +10,7 @@ use std::test::Fail;
 
 // Files by path, of which one may fail; the paths that were asked for, each followed by a blank.
 #[derive(Drop)]
-struct Shelf<'a> {
+struct MemoryFolder<'a> {
     files: FileMap,
     failing: &'a str,
     failures: u64,
@@ -18,7 +18,7 @@ struct Shelf<'a> {
     alloc: Global,
 }
 
-impl<'a> Folder for Shelf<'a> {
+impl<'a> Folder for MemoryFolder<'a> {
     ghost files = { λ s. Some (bytes_in s.files) };
 
     ghost failing = { λ s path. bytes_eq path s.failing.now };
@@ -69,12 +69,12 @@ fn files_of(alloc: Global, files: &[(&str, &[u8])]) -> Result<FileMap, AllocErro
     Ok(map)
 }
 
-fn shelf_of<'a>(
+fn folder_of<'a>(
     alloc: Global,
     files: &[(&str, &[u8])],
     failing: &'a str,
-) -> Result<Shelf<'a>, AllocError> {
-    Ok(Shelf {
+) -> Result<MemoryFolder<'a>, AllocError> {
+    Ok(MemoryFolder {
         files: files_of(alloc, files)?,
         failing,
         failures: 0,
@@ -83,9 +83,9 @@ fn shelf_of<'a>(
     })
 }
 
-fn shelf_was_asked(rt: &impl Abort, shelf: &Shelf, asked: &str, failures: u64) {
-    assert!(rt; shelf.asked.as_str() == asked, "asked: {}", shelf.asked);
-    assert!(rt; shelf.failures == failures, "failed: {}", shelf.failures);
+fn folder_was_asked(rt: &impl Abort, folder: &MemoryFolder, asked: &str, failures: u64) {
+    assert!(rt; folder.asked.as_str() == asked, "asked: {}", folder.asked);
+    assert!(rt; folder.failures == failures, "failed: {}", folder.failures);
 }
 
 fn names_are(rt: &impl Abort, map: &FileMap, names: &[(&str, bool)]) {
@@ -138,26 +138,26 @@ fn files_are_read_depth_first_and_once(rt: HostRuntime) -> Result<(), Fail> {
         ("c", false),
         ("d/K", false),
     ];
-    let mut shelf = shelf_of(rt.alloc(), &files, "-")?;
-    let outcome = load(rt.alloc(), &mut shelf, "d", "K");
-    shelf_was_asked(&rt, &shelf, "d/K d/a /c d/x d/b ", 0);
+    let mut folder = folder_of(rt.alloc(), &files, "-")?;
+    let outcome = load(rt.alloc(), &mut folder, "d", "K");
+    folder_was_asked(&rt, &folder, "d/K d/a /c d/x d/b ", 0);
     holds(&rt, &outcome, &names);
     gives(&rt, &outcome, "b", b"source \"a\"\nconfig B");
     // Dropped by calls, as the map above.
     drop(outcome);
-    drop(shelf);
+    drop(folder);
     Ok(())
 }
 
 #[test]
 fn a_file_that_sources_itself_is_read_once(rt: HostRuntime) -> Result<(), Fail> {
     let files = [("./Kconfig", b"source \"Kconfig\"\n".as_slice())];
-    let mut shelf = shelf_of(rt.alloc(), &files, "-")?;
-    let outcome = load(rt.alloc(), &mut shelf, ".", "Kconfig");
-    shelf_was_asked(&rt, &shelf, "./Kconfig ", 0);
+    let mut folder = folder_of(rt.alloc(), &files, "-")?;
+    let outcome = load(rt.alloc(), &mut folder, ".", "Kconfig");
+    folder_was_asked(&rt, &folder, "./Kconfig ", 0);
     gives(&rt, &outcome, "Kconfig", b"source \"Kconfig\"\n");
     drop(outcome);
-    drop(shelf);
+    drop(folder);
     Ok(())
 }
 
@@ -167,30 +167,30 @@ fn a_file_that_cannot_be_read_is_named(rt: HostRuntime) -> Result<(), Fail> {
         "d/Kconfig",
         b"source \"a\"\nsource \"/b\"\nsource \"c\"".as_slice(),
     )];
-    let mut shelf = shelf_of(rt.alloc(), &files, "/b")?;
-    let outcome = load(rt.alloc(), &mut shelf, "d", "Kconfig");
+    let mut folder = folder_of(rt.alloc(), &files, "/b")?;
+    let outcome = load(rt.alloc(), &mut folder, "d", "Kconfig");
     cannot_read(&rt, &outcome, "/b");
-    shelf_was_asked(&rt, &shelf, "d/Kconfig d/a /b ", 1);
+    folder_was_asked(&rt, &folder, "d/Kconfig d/a /b ", 1);
     drop(outcome);
-    drop(shelf);
+    drop(folder);
     Ok(())
 }
 
 #[test]
 fn a_root_that_is_not_there_gives_no_files(rt: HostRuntime) -> Result<(), Fail> {
-    let mut shelf = shelf_of(rt.alloc(), &[], "-")?;
-    let outcome = load(rt.alloc(), &mut shelf, "", "Kconfig");
-    shelf_was_asked(&rt, &shelf, "/Kconfig ", 0);
+    let mut folder = folder_of(rt.alloc(), &[], "-")?;
+    let outcome = load(rt.alloc(), &mut folder, "", "Kconfig");
+    folder_was_asked(&rt, &folder, "/Kconfig ", 0);
     holds(&rt, &outcome, &[("Kconfig", false)]);
     drop(outcome);
-    drop(shelf);
+    drop(folder);
     Ok(())
 }
 
-// A shelf with a root that sources `a`, of so many lines, and then `b`.
-fn long_shelf(alloc: Global, count: usize) -> Result<Shelf<'static>, AllocError> {
+// A folder with a root that sources `a`, of so many lines, and then `b`.
+fn long_folder(alloc: Global, count: usize) -> Result<MemoryFolder<'static>, AllocError> {
     let lines = vec![in alloc; b'\n'; count]?;
-    let shelf = shelf_of(
+    let folder = folder_of(
         alloc,
         &[
             ("./K", b"source \"a\"\nsource \"b\"\n".as_slice()),
@@ -199,16 +199,16 @@ fn long_shelf(alloc: Global, count: usize) -> Result<Shelf<'static>, AllocError>
         "-",
     );
     drop(lines);
-    shelf
+    folder
 }
 
 fn long_load_asks(rt: &impl Abort, alloc: Global, count: usize, asked: &str) -> Result<(), Fail> {
-    let mut shelf = long_shelf(alloc, count)?;
-    let outcome = load(alloc, &mut shelf, ".", "K");
-    shelf_was_asked(rt, &shelf, asked, 0);
+    let mut folder = long_folder(alloc, count)?;
+    let outcome = load(alloc, &mut folder, ".", "K");
+    folder_was_asked(rt, &folder, asked, 0);
     holds(rt, &outcome, &[("a", true)]);
     drop(outcome);
-    drop(shelf);
+    drop(folder);
     Ok(())
 }
 

@@ -1,4 +1,4 @@
-//! Worked trees: what is read, each refusal with its place, the order of the checks and the limits.
+//! Worked trees: what is read, each refusal with its location, the order of the checks and the limits.
 //!
 //! A row is `ROOT => WANT`, or `ROOT ++ A => WANT` beside a file `a`; in a file `~` stands for a line feed, `^` for a
 //! carriage return and `@` for a tab. What is wanted is a refusal, as `FILE:LINE CODE DETAIL`, or how much was read.
@@ -275,11 +275,11 @@ mainmenu m => +-+++
 
 // Each statement, where the modules symbol has the number 0.
 const STATEMENTS: &str = r#"mainmenu "D" => MainMenu([68])
-if A = m && m => If(All([Rel(Eq, Sides { left: Sym(SymId(1)), right: Letter(M) }), All([One(Letter(M)), One(Sym(SymId(0)))])]))
+if A = m && m => If(All([Rel(Eq, Sides { left: Sym(SymId(1)), right: TristateConstant(M) }), All([One(TristateConstant(M)), One(Sym(SymId(0)))])]))
 endif => EndIf
 menu 'a\'b' => Menu([97, 39, 98])
 visible if A => Visible(One(Sym(SymId(1))))
-depends on m => Depends(All([One(Letter(M)), One(Sym(SymId(0)))]))
+depends on m => Depends(All([One(TristateConstant(M)), One(Sym(SymId(0)))]))
 endmenu => EndMenu
 comment c => Comment([99])
 choice => Choice
@@ -291,13 +291,13 @@ tristate t if !A => Type(Tristate, Some(Prompt { when: Some(Not(One(Sym(SymId(1)
 string "" => Type(Str, Some(Prompt { when: None }))
 int => Type(Int, None)
 hex => Type(Hex, None)
-default m if m => Default(One(Letter(M)), Some(All([One(Letter(M)), One(Sym(SymId(0)))])))
+default m if m => Default(One(TristateConstant(M)), Some(All([One(TristateConstant(M)), One(Sym(SymId(0)))])))
 default (A) => Default(One(Sym(SymId(1))), None)
-def_bool y => Def(Bool, One(Letter(Y)), None)
+def_bool y => Def(Bool, One(TristateConstant(Y)), None)
 def_tristate A || C if B => Def(Tristate, Any([One(Sym(SymId(1))), One(Sym(SymId(3)))]), Some(One(Sym(SymId(2)))))
 select config => Select(SymId(4), None)
 imply A if C => Imply(SymId(1), Some(One(Sym(SymId(3)))))
-range -5 "9" if y => Range(Bounds { low: Sym(SymId(5)), high: Const([57]) }, Some(One(Letter(Y))))
+range -5 "9" if y => Range(Bounds { low: Sym(SymId(5)), high: Const([57]) }, Some(One(TristateConstant(Y))))
 help => Help
 option modules => Modules
 option allnoconfig_y => Ignored"#;
@@ -350,7 +350,7 @@ fn push_text(text: &mut String, more: String) -> Result<(), Fail> {
     Ok(())
 }
 
-// Adds the place as `FILE:LINE `.
+// Adds the location as `FILE:LINE `.
 fn push_place(alloc: Global, text: &mut String, file: &[u8], line: u32) -> Result<(), Fail> {
     push_bytes(text, file)?;
     push_text(text, format!(in alloc; ":{line} ")?)
@@ -367,7 +367,7 @@ fn push_detail(text: &mut String, detail: &[u8]) -> Result<(), Fail> {
 
 // Adds the refusal as `FILE:LINE CODE DETAIL`.
 fn push_refusal(alloc: Global, text: &mut String, refusal: &Refusal) -> Result<(), Fail> {
-    if let Some((file, line)) = &refusal.place {
+    if let Some((file, line)) = &refusal.location {
         push_place(alloc, text, file, *line)?;
     }
     push_text(text, format!(in alloc; "{:?}", refusal.code)?)?;
@@ -719,7 +719,7 @@ const ROOT: &[u8] = b"config B\nsource \"a\"\nconfig A\ndepends on m\n";
 const OTHER: &[u8] = b"\nconfig A\nmodules\nconfig\\\n C";
 
 const BOTH: &str =
-    "Kconfig:1 Config(SymId(0))\na:2 Config(SymId(1))\na:3 Modules\na:4 Config(SymId(2))\nKconfig:3 Config(SymId(1))\nKconfig:4 Depends(One(Letter(M)))\nSome(SymId(1)) 3";
+    "Kconfig:1 Config(SymId(0))\na:2 Config(SymId(1))\na:3 Modules\na:4 Config(SymId(2))\nKconfig:3 Config(SymId(1))\nKconfig:4 Depends(One(TristateConstant(M)))\nSome(SymId(1)) 3";
 
 // What comes of no file, and then of a root file alone.
 fn root_alone(rt: &impl Abort, alloc: Global, map: &mut FileMap) -> Result<(), Fail> {

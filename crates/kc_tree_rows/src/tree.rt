@@ -6,7 +6,9 @@ use kc_expr::expression::{Expr, SymId};
 use kc_read::file_map::FileMap;
 use kc_read::refusal::{Code, Refusal};
 use kc_tree::layout::Layout;
-use kc_tree::parts::{Choice, ContextId, Definition, Entry, Prompt, ReverseId, Symbol, TitleId};
+use kc_tree::rows::{
+    Choice, ContextId, Definition, Prompt, ReverseId, ShownEntry, Symbol, TitleId,
+};
 use kc_tree::tree::Tree;
 use std::alloc::{AllocError, Global};
 use std::process::Abort;
@@ -51,11 +53,14 @@ struct View<'l> {
 fn asked<'l>(view: View<'l>, id: ContextId) -> Result<Vec<&'l Expr>, AllocError> {
     let mut asked = Vec::new(view.alloc);
     let mut at = id;
-    while let Some(context) = view.layout.context(at) {
-        if let Some(e) = &context.asks {
-            asked.push(&**e)?;
+    // An outer context has a smaller number.
+    for _ in 0..id.0 {
+        if let Some(context) = view.layout.context(at) {
+            if let Some(e) = &context.own_condition {
+                asked.push(&**e)?;
+            }
+            at = context.outer;
         }
-        at = context.outer;
     }
     asked.reverse();
     Ok(asked)
@@ -146,12 +151,19 @@ fn reverses(
 ) -> Result<(), AllocError> {
     let mut lines = Vec::new(view.alloc);
     let mut at = last;
-    while let Some(id) = at {
-        let Some(line) = view.layout.reverse(id) else {
-            return Ok(());
-        };
-        lines.push(line)?;
-        at = line.next;
+    // A line leads on to one with a smaller number.
+    let most = match last {
+        Some(id) => id.0 as usize + 1,
+        None => 0,
+    };
+    for _ in 0..most {
+        if let Some(id) = at {
+            let Some(line) = view.layout.reverse(id) else {
+                return Ok(());
+            };
+            lines.push(line)?;
+            at = line.next;
+        }
     }
     lines.reverse();
     for line in &lines {
@@ -203,12 +215,12 @@ fn shown(out: &mut String, view: View<'_>, word: &str, title: TitleId) -> Result
     }
 }
 
-fn entry(out: &mut String, view: View<'_>, entry: &Entry) -> Result<(), AllocError> {
+fn entry(out: &mut String, view: View<'_>, entry: &ShownEntry) -> Result<(), AllocError> {
     match entry {
-        Entry::Symbol(id) => write!(out, "[{}]\n", id.0),
-        Entry::Menu(title) => shown(out, view, "menu", *title),
-        Entry::End(menu) => write!(out, "[end of {menu}]\n"),
-        Entry::Comment(title) => shown(out, view, "comment", *title),
+        ShownEntry::Symbol(id) => write!(out, "[{}]\n", id.0),
+        ShownEntry::Menu(title) => shown(out, view, "menu", *title),
+        ShownEntry::End(menu) => write!(out, "[end of {menu}]\n"),
+        ShownEntry::Comment(title) => shown(out, view, "comment", *title),
     }
 }
 
@@ -253,7 +265,7 @@ const PICTURES: &[(&str, &str, &str)] = &[
     (
         "config A\n\tbool \"a\"\n\tdefault y\n\nconfig B\n\tbool \"b\"\n\tdepends on A\n",
         "",
-        "Bool None\ndep []\nprompt []\ndefault One(Letter(Y)) []\nBool None\ndep [One(Sym(SymId(0)))]\nprompt [One(Sym(SymId(0)))]\n[0]\n[1]\n",
+        "Bool None\ndep []\nprompt []\ndefault One(TristateConstant(Y)) []\nBool None\ndep [One(Sym(SymId(0)))]\nprompt [One(Sym(SymId(0)))]\n[0]\n[1]\n",
     ),
     // a choice
     (
@@ -265,7 +277,7 @@ const PICTURES: &[(&str, &str, &str)] = &[
     (
         "config A\ndef_bool y\nselect B\nmenu \"hidden\"\nvisible if n\nconfig B\nbool \"b\"\nconfig C\nbool \"c\"\ndefault y\nendmenu\ncomment \"end\"\n",
         "",
-        "Bool None\ndep []\ndefault One(Letter(Y)) []\nBool None\ndep []\nprompt [One(Letter(N))]\nselected by 0 []\nBool None\ndep []\nprompt [One(Letter(N))]\ndefault One(Letter(Y)) []\n[0]\n[menu of 6] [One(Letter(N))]\n[1]\n[2]\n[end of 1]\n[comment of 3] []\n",
+        "Bool None\ndep []\ndefault One(TristateConstant(Y)) []\nBool None\ndep []\nprompt [One(TristateConstant(N))]\nselected by 0 []\nBool None\ndep []\nprompt [One(TristateConstant(N))]\ndefault One(TristateConstant(Y)) []\n[0]\n[menu of 6] [One(TristateConstant(N))]\n[1]\n[2]\n[end of 1]\n[comment of 3] []\n",
     ),
     // menus in a menu
     (
@@ -283,19 +295,19 @@ const PICTURES: &[(&str, &str, &str)] = &[
     (
         "config A\nbool \"a\"\nmenu \"m\"\ndepends on A\nconfig B\nbool \"b\"\nendmenu\nconfig B\nbool \"again\"\ndefault y\n",
         "",
-        "Bool None\ndep []\nprompt []\nBool None\ndep [One(Sym(SymId(0)))]\ndep []\nprompt [One(Sym(SymId(0)))]\nprompt []\ndefault One(Letter(Y)) []\n[0]\n[menu of 1] [One(Sym(SymId(0)))]\n[1]\n[end of 1]\n",
+        "Bool None\ndep []\nprompt []\nBool None\ndep [One(Sym(SymId(0)))]\ndep []\nprompt [One(Sym(SymId(0)))]\nprompt []\ndefault One(TristateConstant(Y)) []\n[0]\n[menu of 1] [One(Sym(SymId(0)))]\n[1]\n[end of 1]\n",
     ),
     // an imply
     (
         "config MODULES\ndef_bool y\nconfig FOO\ntristate \"foo\"\ndefault y\nimply BAZ\nconfig BAR\ntristate \"bar\"\ndefault m\nconfig BAZ\ntristate \"baz\"\ndepends on BAR\n",
         "",
-        "Bool None\ndep []\ndefault One(Letter(Y)) []\nTristate None\ndep []\nprompt []\ndefault One(Letter(Y)) []\nTristate None\ndep []\nprompt []\ndefault One(Letter(M)) []\nTristate None\ndep [One(Sym(SymId(2)))]\nprompt [One(Sym(SymId(2)))]\nimplied by 1 []\n[0]\n[1]\n[2]\n[3]\n",
+        "Bool None\ndep []\ndefault One(TristateConstant(Y)) []\nTristate None\ndep []\nprompt []\ndefault One(TristateConstant(Y)) []\nTristate None\ndep []\nprompt []\ndefault One(TristateConstant(M)) []\nTristate None\ndep [One(Sym(SymId(2)))]\nprompt [One(Sym(SymId(2)))]\nimplied by 1 []\n[0]\n[1]\n[2]\n[3]\n",
     ),
     // a select, and a prompt with a condition
     (
         "config MODULES\ndef_bool y\nconfig T\ntristate\ndefault m\nselect A\nconfig A\ntristate \"a\" if T\ndefault y\n",
         "",
-        "Bool None\ndep []\ndefault One(Letter(Y)) []\nTristate None\ndep []\ndefault One(Letter(M)) []\nTristate None\ndep []\nprompt [One(Sym(SymId(1)))]\ndefault One(Letter(Y)) []\nselected by 1 []\n[0]\n[1]\n[2]\n",
+        "Bool None\ndep []\ndefault One(TristateConstant(Y)) []\nTristate None\ndep []\ndefault One(TristateConstant(M)) []\nTristate None\ndep []\nprompt [One(Sym(SymId(1)))]\ndefault One(TristateConstant(Y)) []\nselected by 1 []\n[0]\n[1]\n[2]\n",
     ),
     // a range, and a default that is not defined
     (
@@ -307,19 +319,19 @@ const PICTURES: &[(&str, &str, &str)] = &[
     (
         "config A\nbool \"a\"\ndepends on m\n",
         "",
-        "Bool None\ndep [All([One(Letter(M)), One(Sym(SymId(1)))])]\nprompt [All([One(Letter(M)), One(Sym(SymId(1)))])]\n[0]\n",
+        "Bool None\ndep [All([One(TristateConstant(M)), One(Sym(SymId(1)))])]\nprompt [All([One(TristateConstant(M)), One(Sym(SymId(1)))])]\n[0]\n",
     ),
     // a plain m before the modules symbol
     (
         "config A\nbool \"a\"\ndepends on m\nconfig LKM\nbool \"l\"\nmodules\n",
         "",
-        "Bool None\ndep [All([One(Letter(M)), One(Sym(SymId(1)))])]\nprompt [All([One(Letter(M)), One(Sym(SymId(1)))])]\nBool None\ndep []\nprompt []\n[0]\n[1]\n",
+        "Bool None\ndep [All([One(TristateConstant(M)), One(Sym(SymId(1)))])]\nprompt [All([One(TristateConstant(M)), One(Sym(SymId(1)))])]\nBool None\ndep []\nprompt []\n[0]\n[1]\n",
     ),
     // m as a value and as a condition
     (
         "config A\ntristate\ndefault m if m\n",
         "",
-        "Tristate None\ndep []\ndefault One(Letter(M)) [All([One(Letter(M)), One(Sym(SymId(1)))])]\n[0]\n",
+        "Tristate None\ndep []\ndefault One(TristateConstant(M)) [All([One(TristateConstant(M)), One(Sym(SymId(1)))])]\n[0]\n",
     ),
     // relations
     (
@@ -331,13 +343,13 @@ const PICTURES: &[(&str, &str, &str)] = &[
     (
         "config A\n\tbool \"a\"\n\thelp\n\t  text\n\n\t  config Q\ndefault y\n",
         "",
-        "Bool None\ndep []\nprompt []\ndefault One(Letter(Y)) []\n[0]\n",
+        "Bool None\ndep []\nprompt []\ndefault One(TristateConstant(Y)) []\n[0]\n",
     ),
     // hidden menus, an if, and a second definition with two dependencies
     (
         "menu \"o\"\nvisible if A\nvisible if B\ndepends on C\nmenu \"i\"\nvisible if D\ncomment \"text\"\ndepends on E\nif F\nconfig X\nbool \"x\" if G\ndefault y if H\nendif\nendmenu\nendmenu\nif X\nconfig X\nprompt \"again\"\ndepends on I\ndepends on J\nendif\n",
         "",
-        "Bool None\ndep [One(Sym(SymId(4))), One(Sym(SymId(7)))]\ndep [One(Sym(SymId(0))), One(Sym(SymId(10))), One(Sym(SymId(11)))]\nprompt [One(Sym(SymId(4))), One(Sym(SymId(7))), One(Sym(SymId(2))), One(Sym(SymId(3))), One(Sym(SymId(5))), One(Sym(SymId(8)))]\nprompt [One(Sym(SymId(0))), One(Sym(SymId(10))), One(Sym(SymId(11)))]\ndefault One(Letter(Y)) [One(Sym(SymId(4))), One(Sym(SymId(7))), One(Sym(SymId(9)))]\n[menu of 1] [One(Sym(SymId(4))), One(Sym(SymId(2))), One(Sym(SymId(3)))]\n[menu of 1] [One(Sym(SymId(4))), One(Sym(SymId(2))), One(Sym(SymId(3))), One(Sym(SymId(5)))]\n[comment of 4] [One(Sym(SymId(4))), One(Sym(SymId(6)))]\n[0]\n[end of 1]\n[end of 0]\n",
+        "Bool None\ndep [One(Sym(SymId(4))), One(Sym(SymId(7)))]\ndep [One(Sym(SymId(0))), One(Sym(SymId(10))), One(Sym(SymId(11)))]\nprompt [One(Sym(SymId(4))), One(Sym(SymId(7))), One(Sym(SymId(2))), One(Sym(SymId(3))), One(Sym(SymId(5))), One(Sym(SymId(8)))]\nprompt [One(Sym(SymId(0))), One(Sym(SymId(10))), One(Sym(SymId(11)))]\ndefault One(TristateConstant(Y)) [One(Sym(SymId(4))), One(Sym(SymId(7))), One(Sym(SymId(9)))]\n[menu of 1] [One(Sym(SymId(4))), One(Sym(SymId(2))), One(Sym(SymId(3)))]\n[menu of 1] [One(Sym(SymId(4))), One(Sym(SymId(2))), One(Sym(SymId(3))), One(Sym(SymId(5)))]\n[comment of 4] [One(Sym(SymId(4))), One(Sym(SymId(6)))]\n[0]\n[end of 1]\n[end of 0]\n",
     ),
     // choices with conditions, and a member that selects
     (
@@ -349,7 +361,7 @@ const PICTURES: &[(&str, &str, &str)] = &[
     (
         "config A\nbool \"a\"\nstring \"s\"\nconfig B\nconfig C\ndef_bool y\nselect D\nimply D\nselect E\nconfig D\nint \"d\"\nchoice\nprompt \"ch\"\ndefault C\nconfig E\nbool \"e\"\nendchoice\n",
         "",
-        "Bool None\ndep []\nprompt []\nUndefined None\ndep []\nBool None\ndep []\ndefault One(Letter(Y)) []\nInt None\ndep []\nprompt []\nBool Some(ChoiceId(0))\ndep [] in 0\nprompt [] in 0\nchoice of [SymId(4)]\nprompt []\n[0]\n[1]\n[2]\n[3]\n[4]\n",
+        "Bool None\ndep []\nprompt []\nUndefined None\ndep []\nBool None\ndep []\ndefault One(TristateConstant(Y)) []\nInt None\ndep []\nprompt []\nBool Some(ChoiceId(0))\ndep [] in 0\nprompt [] in 0\nchoice of [SymId(4)]\nprompt []\n[0]\n[1]\n[2]\n[3]\n[4]\n",
     ),
     // two prompts, in one entry and in two
     (
@@ -642,7 +654,7 @@ const REFUSALS: &[(&str, &str, Code, &str, u32, &str)] = &[
 ];
 
 fn place_is(rt: &impl Abort, root: &str, refusal: &Refusal, file: &str, line: u32) {
-    match &refusal.place {
+    match &refusal.location {
         Some((name, number)) => {
             assert!(rt; name.as_slice() == file.as_bytes(), "{root}");
             assert!(rt; *number == line, "{root}");

@@ -9,7 +9,7 @@ use Rattle.kc_expr.specs.declared.expression.Kind.{Kind}
 use Rattle.kc_expr.specs.declared.expression.Kind.TheVariants as kind
 use Rattle.kc_text.specs.Escapes.{escape}
 use Rattle.kc_tree.specs.TreeFacts.{SymbolFacts}
-use Rattle.kc_user.specs.Given.{Typed}
+use Rattle.kc_user.specs.GivenValue.{GivenText}
 use Rattle.kc_user.proofs.UserLemmas.{length-escape}
 use Rattle.kc_user.specs.Laws.{EmptyArePlaces, SettingKeepsPlaces, SelectingKeepsPlaces, TextsAreShort}
 use Rattle.kc_user.specs.Places.{allowed, allowed_for, allowed_text, fits_quoted, is_short, members_of}
@@ -22,7 +22,8 @@ none_replicated {X} n i x e =
     ]
 
 -- what stands in a place after one is filled is what was put there, or what stood before
-after_set : {X : Type 0} (xs : List (Option X)) (i j : ℕ) (x y : X) (P : ℕ → X → Type 0) → ((k : ℕ) (z : X) → slice_index_or xs k None ≡ Some z → P k z) → P i x → slice_index_or (slice_set xs i (Some x)) j None ≡ Some y → P j y
+after_set : {X : Type 0} (xs : List (Option X)) (i j : ℕ) (x y : X) (P : ℕ → X → Type 0) → ((k : ℕ) (z : X) → slice_index_or xs k None ≡ Some z → P k z) →
+    P i x → slice_index_or (slice_set xs i (Some x)) j None ≡ Some y → P j y
 after_set {X} xs i j x y P old new e =
     elim (cases_eq j i) [
       | inl at ↦
@@ -80,9 +81,9 @@ short_by_kind kind.Str text e = short_quoted text e
 short_by_kind kind.Int text e = short_number text _ e
 short_by_kind kind.Hex text e = short_number text _ e
 
-short_by_facts : (facts : Option SymbolFacts) (text : List ℕ) → allowed_for facts (Typed text) ≡ true → length text ≤ 65000
+short_by_facts : (facts : Option SymbolFacts) (text : List ℕ) → allowed_for facts (GivenText text) ≡ true → length text ≤ 65000
 short_by_facts None text e = absurd (false≢true e)
 short_by_facts (Some f) text e = short_by_kind f.kind text e
 
 pub texts_short : TextsAreShort
-texts_short tree places i text are e = short_by_facts (slice_get tree.symbols i) text (are.allowed_all i (Typed text) e)
+texts_short tree places i text are e = short_by_facts (slice_get tree.symbols i) text (are.allowed_all i (GivenText text) e)

@@ -7,7 +7,7 @@ use Rattle.std.specs.Option.{option_map}
 use Rattle.kc_text.specs.Escapes.{escape, escape_byte}
 use Rattle.kc_expr.specs.declared.expression.SymId.{SymId}
 use Rattle.kc_tree.specs.TreeFacts.{TreeFacts}
-use Rattle.kc_user.specs.Given.{Given}
+use Rattle.kc_user.specs.GivenValue.{GivenValue}
 use Rattle.kc_user.specs.Places.{Places, is_special, no_places}
 use Rattle.kc_user.specs.ValueView.{given_of_value}
 use Rattle.kc_user.specs.declared.value.UserValue.{UserValue}
@@ -33,7 +33,7 @@ pub fills : (items : List (Option UserValue)) (choices : List (Option SymId)) (i
     let new : Places = record { symbols = map (option_map given_of_value) (slice_set items i (Some value)); choices = choices } in
     new ≡ record { symbols = slice_set (map (option_map given_of_value) items) i (Some (given_of_value value)); choices = choices }
 fills items choices i value =
-    ap (λ (s : List (Option Given)). let p : Places = record { symbols = s; choices = choices } in p) (map-set (option_map given_of_value) items i (Some value))
+    ap (λ (s : List (Option GivenValue)). let p : Places = record { symbols = s; choices = choices } in p) (map-set (option_map given_of_value) items i (Some value))
 
 one_byte : (b : ℕ) → length (escape_byte b) ≡ 1 + cond (is_special b) 1 0
 one_byte b = elim (cases_Bool (is_special b)) [

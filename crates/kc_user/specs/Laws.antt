@@ -4,7 +4,7 @@ use Rattle.std.specs.List.{Contains}
 use Rattle.kc_user.specs.Limits.{longest_value}
 use Rattle.kc_expr.specs.declared.expression.SymId.{SymId}
 use Rattle.kc_tree.specs.TreeFacts.{TreeFacts}
-use Rattle.kc_user.specs.Given.{Given, Typed}
+use Rattle.kc_user.specs.GivenValue.{GivenValue, GivenText}
 use Rattle.kc_user.specs.Places.{Places, ArePlaces, no_places, allowed, members_of}
 
 -- Empty places are places of the tree.
@@ -14,7 +14,7 @@ EmptyArePlaces = (tree : TreeFacts) → ArePlaces tree (no_places tree)
 -- With an allowed value in a symbol's place they are still such places.
 abbrev pub SettingKeepsPlaces : Type 0
 SettingKeepsPlaces =
-    (tree : TreeFacts) (places : Places) (s : SymId) (g : Given) → ArePlaces tree places → allowed tree s g ≡ true →
+    (tree : TreeFacts) (places : Places) (s : SymId) (g : GivenValue) → ArePlaces tree places → allowed tree s g ≡ true →
     ArePlaces tree (record { symbols = slice_set places.symbols s.0 (Some g); choices = places.choices })
 
 -- With a member of the choice in a choice's place they are still such places.
@@ -26,5 +26,5 @@ SelectingKeepsPlaces =
 -- No text in such places is longer than a value may be.
 abbrev pub TextsAreShort : Type 0
 TextsAreShort =
-    (tree : TreeFacts) (places : Places) (i : ℕ) (text : List ℕ) → ArePlaces tree places → slice_index_or places.symbols i None ≡ Some (Typed text) →
+    (tree : TreeFacts) (places : Places) (i : ℕ) (text : List ℕ) → ArePlaces tree places → slice_index_or places.symbols i None ≡ Some (GivenText text) →
     length text ≤ longest_value

@@ -1,4 +1,4 @@
-pub mod Given
+pub mod GivenValue
 pub mod Laws
 pub mod Limits
 pub mod Places

@@ -13,24 +13,24 @@ use Rattle.kc_expr.specs.declared.expression.Kind.TheVariants as kind
 use Rattle.kc_expr.specs.Names.{symbol}
 use Rattle.kc_tree.specs.TreeFacts.{TreeFacts, SymbolFacts, ChoiceFacts}
 use Rattle.kc_user.specs.Limits.{longest_value}
-use Rattle.kc_user.specs.Given.{Given, Chosen, Typed, Member, Slot, At, In}
+use Rattle.kc_user.specs.GivenValue.{GivenValue, GivenTruth, GivenText, Member, UserPlace, SymbolPlace, ChoicePlace}
 
 -- one place for each symbol and one for each choice, by their numbers
 pub record Places : Type 0 where
-  pub symbols : List (Option Given)
+  pub symbols : List (Option GivenValue)
   pub choices : List (Option SymId)
 
 -- the member in a choice's place
-abbrev pub member_place : Option SymId → Option Given
+abbrev pub member_place : Option SymId → Option GivenValue
 member_place None = None
 member_place (Some m) = Some (Member m)
 
-abbrev pub place_at : Places → Slot → Option Given
-place_at places (At i) = slice_index_or places.symbols i None
-place_at places (In c) = member_place (slice_index_or places.choices c None)
+abbrev pub place_at : Places → UserPlace → Option GivenValue
+place_at places (SymbolPlace i) = slice_index_or places.symbols i None
+place_at places (ChoicePlace c) = member_place (slice_index_or places.choices c None)
 
 -- the places are those of the tree: one a symbol, one a choice
-pub record IsUserOf (tree : TreeFacts) (places : Places) : Type 0 where
+pub record ArePlacesOf (tree : TreeFacts) (places : Places) : Type 0 where
   pub symbols : length places.symbols ≡ length tree.symbols
   pub choices : length places.choices ≡ length tree.choices
 
@@ -74,17 +74,17 @@ allowed_text kind.Str t = fits_quoted t
 allowed_text kind.Int t = is_short t && is_some (int_of t)
 allowed_text kind.Hex t = is_short t && is_some (hex_of t)
 
-abbrev pub allowed_by : Kind → Given → Bool
-allowed_by k (Chosen t) = allowed_truth k t
-allowed_by k (Typed t) = allowed_text k t
+abbrev pub allowed_by : Kind → GivenValue → Bool
+allowed_by k (GivenTruth t) = allowed_truth k t
+allowed_by k (GivenText t) = allowed_text k t
 allowed_by k (Member m) = false
 
-abbrev pub allowed_for : Option SymbolFacts → Given → Bool
+abbrev pub allowed_for : Option SymbolFacts → GivenValue → Bool
 allowed_for None given = false
 allowed_for (Some facts) given = allowed_by facts.kind given
 
 -- a value of a symbol's own place
-abbrev pub allowed : TreeFacts → SymId → Given → Bool
+abbrev pub allowed : TreeFacts → SymId → GivenValue → Bool
 allowed tree s given = allowed_for (slice_get tree.symbols s.0) given
 
 abbrev pub members_of : Option ChoiceFacts → List SymId
@@ -93,6 +93,6 @@ members_of (Some c) = c.members
 
 -- The places of a tree, where what was given is allowed, and a chosen symbol is a member of its choice.
 pub record ArePlaces (tree : TreeFacts) (places : Places) : Type 0 where
-  pub there : IsUserOf tree places
-  pub allowed_all : (i : ℕ) (g : Given) → slice_index_or places.symbols i None ≡ Some g → allowed tree (symbol i) g ≡ true
+  pub there : ArePlacesOf tree places
+  pub allowed_all : (i : ℕ) (g : GivenValue) → slice_index_or places.symbols i None ≡ Some g → allowed tree (symbol i) g ≡ true
   pub members : (c : ℕ) (m : SymId) → slice_index_or places.choices c None ≡ Some m → Contains (members_of (slice_get tree.choices c)) m

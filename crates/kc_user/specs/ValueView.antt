@@ -1,8 +1,8 @@
 -- Trusted: What a value stands for.
-use Rattle.kc_user.specs.Given.{Given, Chosen, Typed}
+use Rattle.kc_user.specs.GivenValue.{GivenValue, GivenTruth, GivenText}
 use Rattle.kc_user.specs.declared.value.UserValue.{UserValue}
 use Rattle.kc_user.specs.declared.value.UserValue.TheVariants.{Tri, Text}
 
-abbrev pub given_of_value : UserValue → Given
-given_of_value (Tri t) = Chosen t
-given_of_value (Text bytes) = Typed bytes.items
+abbrev pub given_of_value : UserValue → GivenValue
+given_of_value (Tri t) = GivenTruth t
+given_of_value (Text bytes) = GivenText bytes.items

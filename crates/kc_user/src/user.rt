@@ -6,7 +6,7 @@ ghost use Rattle.kc_user.specs.ValueView.{given_of_value};
 
 use crate::value::UserValue;
 use kc_expr::expression::SymId;
-use kc_tree::parts::ChoiceId;
+use kc_tree::rows::ChoiceId;
 use kc_tree::tree::Tree;
 use std::alloc::{AllocError, Global};
 use std::marker::Model;
@@ -31,7 +31,8 @@ impl Model for User {
 }
 
 impl User {
-    /// The places of a tree, every one empty. Its only error is to be out of memory, which leaves nothing; no other call takes memory.
+    /// The places of a tree, every one empty. Its only error is to be out of memory, which leaves nothing; no other call takes
+    /// memory.
     pub fn new(alloc: Global, tree: &Tree) -> Result<User, AllocError>
         ensures { IfOk result (λ user. user ≡ spec.no_places tree.now) }
     {

@@ -12,7 +12,7 @@ use kc_text::{read_hex, read_int};
 use kc_tree::tree::Tree;
 
 /// The most bytes that may stand right of a `.config` line's `=` (our own limit).
-pub const LONGEST: usize = 65000;
+pub const LONGEST_VALUE: usize = 65000;
 
 /// A value that a user gives for one symbol (kconfiglib's `user_value`).
 #[derive(Debug, Drop)]
@@ -64,8 +64,8 @@ fn is_allowed_text(kind: Kind, text: &[u8]) -> bool
 {
     match kind {
         Kind::Str => fits_quoted(text),
-        Kind::Int => text.len() <= LONGEST && read_int(text).is_some(),
-        Kind::Hex => text.len() <= LONGEST && read_hex(text).is_some(),
+        Kind::Int => text.len() <= LONGEST_VALUE && read_int(text).is_some(),
+        Kind::Hex => text.len() <= LONGEST_VALUE && read_hex(text).is_some(),
         Kind::Undefined | Kind::Bool | Kind::Tristate => false,
     }
 }
@@ -88,7 +88,7 @@ fn has_line_feed(text: &[u8]) -> bool
 fn is_short_quoted(text: &[u8]) -> bool
     ensures { result ≡ nat_le (length (escape text.now) + 2) longest_value }
 {
-    text.len() <= LONGEST && text.len() + special_count(text) + 2 <= LONGEST
+    text.len() <= LONGEST_VALUE && text.len() + special_count(text) + 2 <= LONGEST_VALUE
 }
 
 // Whether the text, quoted and escaped, may stand right of a line's `=`.

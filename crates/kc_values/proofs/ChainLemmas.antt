@@ -7,15 +7,15 @@ use Rattle.std.proofs.lemmas.List.{get_or_append_left, get_or_past}
 use Rattle.kc_expr.specs.declared.expression.SymId.{SymId}
 use Rattle.kc_expr.specs.declared.expression.Tri.{Tri}
 use Rattle.kc_expr.specs.declared.expression.Tri.TheVariants.{N}
-use Rattle.kc_expr.specs.Value.{Known, truth_of_known, lesser, greater}
+use Rattle.kc_expr.specs.Value.{SymbolValue, truth_of_value, lesser, greater}
 use Rattle.kc_tree.specs.declared.layout.Tables.{Tables}
-use Rattle.kc_tree.specs.declared.parts.Reverse.{Reverse}
-use Rattle.kc_tree.specs.declared.parts.ReverseId.{ReverseId}
+use Rattle.kc_tree.specs.declared.rows.Reverse.{Reverse}
+use Rattle.kc_tree.specs.declared.rows.ReverseId.{ReverseId}
 use Rattle.kc_tree.specs.Chains.{chain_of, chains_from, chains_of, AreChained}
 use Rattle.kc_tree.specs.Layouts.{reverse_at, reverse_facts, reverses_from}
 use Rattle.kc_tree.specs.TreeFacts.{Guarded, TreeFacts}
 use Rattle.kc_tree.specs.Words.{listed}
-use Rattle.kc_values.specs.Values.{condition, pulled}
+use Rattle.kc_values.specs.Values.{condition, reverse_values}
 use Rattle.kc_values.proofs.DefinitionLemmas.{greatest-cons}
 use Rattle.kc_values.proofs.TriLemmas.{greatest-reverse}
 
@@ -95,20 +95,20 @@ module _ (t : Tables) where
       past (x ∷ xs) (suc i) e = let h = past xs i e in omega (arith, h)
 
   -- the greatest of what they are worth
-  module _ (tree : TreeFacts) (known : SymId → Known) where
+  module _ (tree : TreeFacts) (known : SymId → SymbolValue) where
     abbrev pub worth : Guarded SymId → Tri
-    worth g = lesser (truth_of_known (known g.what)) (condition tree known g.when)
+    worth g = lesser (truth_of_value (known g.what)) (condition tree known g.when)
 
-    abbrev pub pulled_from : Option ReverseId → Tri
-    pulled_from last = pulled tree known (reverses_from t last)
+    abbrev pub reverse_values_from : Option ReverseId → Tri
+    reverse_values_from last = reverse_values tree known (reverses_from t last)
 
-    pub pulled-at : (id : ReverseId) (r : Reverse) → slice_get t.reverses.lines.items id.0 ≡ Some r → (at : Option ReverseId) → at ≡ Some id →
-        pulled_from at ≡ greater (pulled tree known (listed (reverse_facts t r))) (pulled_from r.next)
-    pulled-at id r e at is = ap pulled_from is ∙ ap (pulled tree known) (reverses-at id r e) ∙ greatest-cons worth (reverse_facts t r) (reverses_from t r.next)
+    pub reverse_values-at : (id : ReverseId) (r : Reverse) → slice_get t.reverses.lines.items id.0 ≡ Some r → (at : Option ReverseId) → at ≡ Some id →
+        reverse_values_from at ≡ greater (reverse_values tree known (listed (reverse_facts t r))) (reverse_values_from r.next)
+    reverse_values-at id r e at is = ap reverse_values_from is ∙ ap (reverse_values tree known) (reverses-at id r e) ∙ greatest-cons worth (reverse_facts t r) (reverses_from t r.next)
 
-    pub pulled-past : (id : ReverseId) → slice_get t.reverses.lines.items id.0 ≡ None → (at : Option ReverseId) → at ≡ Some id → pulled_from at ≡ N
-    pulled-past id e at is = ap pulled_from is ∙ ap (pulled tree known) (reverses-past id e)
+    pub reverse_values-past : (id : ReverseId) → slice_get t.reverses.lines.items id.0 ≡ None → (at : Option ReverseId) → at ≡ Some id → reverse_values_from at ≡ N
+    reverse_values-past id e at is = ap reverse_values_from is ∙ ap (reverse_values tree known) (reverses-past id e)
 
     -- in the order of the lines
-    pub pulled-reverse : (last : Option ReverseId) → pulled tree known (reverse (reverses_from t last)) ≡ pulled_from last
-    pulled-reverse last = greatest-reverse worth (reverses_from t last)
+    pub reverse_values-reverse : (last : Option ReverseId) → reverse_values tree known (reverse (reverses_from t last)) ≡ reverse_values_from last
+    reverse_values-reverse last = greatest-reverse worth (reverses_from t last)

@@ -7,16 +7,16 @@ use Rattle.std.proofs.lemmas.List.Folds.{find-append}
 use Rattle.std.proofs.lemmas.Option.{slice_get_cases}
 use Rattle.kc_expr.specs.declared.expression.SymId.{SymId}
 use Rattle.kc_expr.specs.declared.expression.Tri.{Tri}
-use Rattle.kc_expr.specs.Value.{Known, greater, greatest}
+use Rattle.kc_expr.specs.Value.{SymbolValue, greater, greatest}
 use Rattle.kc_tree.specs.declared.layout.Layout.{Layout}
-use Rattle.kc_tree.specs.declared.parts.Definition.{Definition}
-use Rattle.kc_tree.specs.declared.parts.DefinitionId.{DefinitionId}
-use Rattle.kc_tree.specs.declared.parts.Symbol.{Symbol}
+use Rattle.kc_tree.specs.declared.rows.Definition.{Definition}
+use Rattle.kc_tree.specs.declared.rows.DefinitionId.{DefinitionId}
+use Rattle.kc_tree.specs.declared.rows.Symbol.{Symbol}
 use Rattle.kc_tree.specs.Layouts.{DefinitionFacts, definition_at, definition_facts}
-use Rattle.kc_tree.specs.Parts.{definition_ids}
+use Rattle.kc_tree.specs.Spans.{definition_ids}
 use Rattle.kc_tree.specs.TreeFacts.{Guarded, TreeFacts}
 use Rattle.kc_tree.specs.Words.{listed}
-use Rattle.kc_values.specs.Values.{is_n, condition, conditions, first_open}
+use Rattle.kc_values.specs.Values.{is_n, condition, conditions, first_met}
 use Rattle.kc_values.proofs.TriLemmas.{greater_n}
 
 -- an option before what is taken the greatest of
@@ -63,12 +63,12 @@ module _ (l : Layout) (s : Symbol) where
   definitions-end i h = ap (filter_map (definition_at l.tables)) (drop_all i (definition_ids s) h)
 
 -- What is read of them, from one definition on.
-module _ (tree : TreeFacts) (known : SymId → Known) (l : Layout) (s : Symbol) where
+module _ (tree : TreeFacts) (known : SymId → SymbolValue) (l : Layout) (s : Symbol) where
   abbrev pub prompts_from : ℕ → Tri
   prompts_from i = conditions tree known (filter_map (λ (d : DefinitionFacts). d.prompt) (definitions_from l s i))
 
   abbrev pub deps_from : ℕ → Tri
-  deps_from i = conditions tree known (map (λ (d : DefinitionFacts). d.dep) (definitions_from l s i))
+  deps_from i = conditions tree known (map (λ (d : DefinitionFacts). d.dependency) (definitions_from l s i))
 
   abbrev Is : ℕ → Option Definition → Type 0
   Is i o = o ≡ option_and_then (λ (id : DefinitionId). slice_get l.tables.definitions.items id.0) (slice_get (definition_ids s) i)
@@ -81,21 +81,21 @@ module _ (tree : TreeFacts) (known : SymId → Known) (l : Layout) (s : Symbol) 
   pub prompts-none : (i : ℕ) → Is i None → prompts_from i ≡ prompts_from (i + 1)
   prompts-none i e = ap (λ ds. conditions tree known (filter_map (λ (d : DefinitionFacts). d.prompt) ds)) (definitions-none l s i e)
 
-  pub deps-some : (i : ℕ) (d : Definition) → Is i (Some d) → deps_from i ≡ greater (condition tree known (definition_facts l.tables d).dep) (deps_from (i + 1))
-  deps-some i d e = ap (λ ds. conditions tree known (map (λ (d : DefinitionFacts). d.dep) ds)) (definitions-some l s i d e)
+  pub dependencies-some : (i : ℕ) (d : Definition) → Is i (Some d) → deps_from i ≡ greater (condition tree known (definition_facts l.tables d).dependency) (deps_from (i + 1))
+  dependencies-some i d e = ap (λ ds. conditions tree known (map (λ (d : DefinitionFacts). d.dependency) ds)) (definitions-some l s i d e)
 
-  pub deps-none : (i : ℕ) → Is i None → deps_from i ≡ deps_from (i + 1)
-  deps-none i e = ap (λ ds. conditions tree known (map (λ (d : DefinitionFacts). d.dep) ds)) (definitions-none l s i e)
+  pub dependencies-none : (i : ℕ) → Is i None → deps_from i ≡ deps_from (i + 1)
+  dependencies-none i e = ap (λ ds. conditions tree known (map (λ (d : DefinitionFacts). d.dependency) ds)) (definitions-none l s i e)
 
   -- the first whose condition is not n, of defaults or ranges
   module _ {X : Type 0} (lines : DefinitionFacts → List (Guarded X)) where
-    abbrev pub open_from : ℕ → Option (Guarded X)
-    open_from i = first_open tree known (flat_map lines (definitions_from l s i))
+    abbrev pub met_from : ℕ → Option (Guarded X)
+    met_from i = first_met tree known (flat_map lines (definitions_from l s i))
 
-    pub open-some : (i : ℕ) (d : Definition) → Is i (Some d) → open_from i ≡ option_or (first_open tree known (lines (definition_facts l.tables d))) (open_from (i + 1))
-    open-some i d e =
-        ap (λ ds. first_open tree known (flat_map lines ds)) (definitions-some l s i d e)
+    pub met-some : (i : ℕ) (d : Definition) → Is i (Some d) → met_from i ≡ option_or (first_met tree known (lines (definition_facts l.tables d))) (met_from (i + 1))
+    met-some i d e =
+        ap (λ ds. first_met tree known (flat_map lines ds)) (definitions-some l s i d e)
         ∙ find-append (λ (g : Guarded X). not (is_n (condition tree known g.when))) (lines (definition_facts l.tables d)) (flat_map lines (definitions_from l s (i + 1)))
 
-    pub open-none : (i : ℕ) → Is i None → open_from i ≡ open_from (i + 1)
-    open-none i e = ap (λ ds. first_open tree known (flat_map lines ds)) (definitions-none l s i e)
+    pub met-none : (i : ℕ) → Is i None → met_from i ≡ met_from (i + 1)
+    met-none i e = ap (λ ds. first_met tree known (flat_map lines ds)) (definitions-none l s i e)

@@ -7,109 +7,108 @@ use Rattle.kc_expr.specs.declared.expression.Tri.TheVariants.{N, M, Y}
 use Rattle.kc_expr.specs.declared.expression.Kind.{Kind}
 use Rattle.kc_expr.specs.declared.expression.Kind.TheVariants.{Undefined, Bool as IsBool, Tristate, Str, Int, Hex}
 use Rattle.kc_expr.specs.Names.{symbol}
-use Rattle.kc_expr.specs.Value.{Known, Truth, Written}
+use Rattle.kc_expr.specs.Value.{SymbolValue, Truth, TextValue}
 use Rattle.kc_tree.specs.TreeFacts.{SymbolFacts, TreeFacts}
 use Rattle.kc_values.specs.declared.numbers.Interval.{Interval}
 use Rattle.kc_values.specs.Lookups.{facts}
 use Rattle.kc_values.specs.Numbers.{is_inside, if_inside, clamped}
 use Rattle.kc_values.specs.Values as v
-use Rattle.kc_user.specs.Given.{Given, Chosen, Typed, Member, At, In}
+use Rattle.kc_user.specs.GivenValue.{GivenValue, GivenTruth, GivenText, Member, SymbolPlace, ChoicePlace}
 use Rattle.kc_user.specs.Places.{allowed_truth, allowed_text, allowed_by, allowed_for, allowed}
 use Rattle.kc_tree.specs.Words.{is_symbol_of}
-use Rattle.kc_values.specs.Values.{is_n, up}
 use Rattle.kc_values.specs.Solution as sol
-use Rattle.kc_values.specs.Solution.{symbol_count, seen, rhs, slot, equations}
+use Rattle.kc_values.specs.Solution.{known_from, rhs}
 use Rattle.kc_values.specs.Differs.{given_of, default_selection}
 use Rattle.kc_values.specs.Laws.{MembersAreBools, DifferingAreAllowed}
 use Rattle.kc_values.proofs.FixedLines.{slot_cases, Sel, member_now, other_value, differs-member}
-use Rattle.kc_values.proofs.SettledLines.{up_allowed, is_truth_kind}
+use Rattle.kc_values.proofs.IdempotentLines.{upgrade_allowed, is_truth_kind}
 
 -- a text is the user's, which was allowed, or is the one without it
-text_allowed : (q : List ℕ → Bool) (u : Option Given) (vis : Tri) (d : List ℕ) → ((t : List ℕ) → u ≡ Some (Typed t) → q t ≡ true) →
-    (unwrap_or (v.typed u vis) d ≡ d) ⊎ (q (unwrap_or (v.typed u vis) d) ≡ true)
+text_allowed : (q : List ℕ → Bool) (u : Option GivenValue) (vis : Tri) (d : List ℕ) → ((t : List ℕ) → u ≡ Some (GivenText t) → q t ≡ true) →
+    (unwrap_or (v.visible_text u vis) d ≡ d) ⊎ (q (unwrap_or (v.visible_text u vis) d) ≡ true)
 text_allowed q None vis d given = inl refl
-text_allowed q (Some (Chosen t)) vis d given = inl refl
+text_allowed q (Some (GivenTruth t)) vis d given = inl refl
 text_allowed q (Some (Member m)) vis d given = inl refl
-text_allowed q (Some (Typed t)) N d given = inl refl
-text_allowed q (Some (Typed t)) M d given = inr (given t refl)
-text_allowed q (Some (Typed t)) Y d given = inr (given t refl)
+text_allowed q (Some (GivenText t)) N d given = inl refl
+text_allowed q (Some (GivenText t)) M d given = inr (given t refl)
+text_allowed q (Some (GivenText t)) Y d given = inr (given t refl)
 
 inside_allowed : (q : List ℕ → Bool) (b : Bool) (t d : List ℕ) → q t ≡ true → (unwrap_or (cond b (Some t) None) d ≡ d) ⊎ (q (unwrap_or (cond b (Some t) None) d) ≡ true)
 inside_allowed q true t d e = inr e
 inside_allowed q false t d e = inl refl
 
-number_allowed : (kind : Kind) (range : Option Interval) (q : List ℕ → Bool) (u : Option Given) (vis : Tri) (d : List ℕ) → ((t : List ℕ) → u ≡ Some (Typed t) → q t ≡ true) →
-    (unwrap_or (if_inside kind range (v.typed u vis)) d ≡ d) ⊎ (q (unwrap_or (if_inside kind range (v.typed u vis)) d) ≡ true)
+number_allowed : (kind : Kind) (range : Option Interval) (q : List ℕ → Bool) (u : Option GivenValue) (vis : Tri) (d : List ℕ) → ((t : List ℕ) → u ≡ Some (GivenText t) → q t ≡ true) →
+    (unwrap_or (if_inside kind range (v.visible_text u vis)) d ≡ d) ⊎ (q (unwrap_or (if_inside kind range (v.visible_text u vis)) d) ≡ true)
 number_allowed kind range q None vis d given = inl refl
-number_allowed kind range q (Some (Chosen t)) vis d given = inl refl
+number_allowed kind range q (Some (GivenTruth t)) vis d given = inl refl
 number_allowed kind range q (Some (Member m)) vis d given = inl refl
-number_allowed kind range q (Some (Typed t)) N d given = inl refl
-number_allowed kind range q (Some (Typed t)) M d given = inside_allowed q (is_inside kind range t) t d (given t refl)
-number_allowed kind range q (Some (Typed t)) Y d given = inside_allowed q (is_inside kind range t) t d (given t refl)
+number_allowed kind range q (Some (GivenText t)) N d given = inl refl
+number_allowed kind range q (Some (GivenText t)) M d given = inside_allowed q (is_inside kind range t) t d (given t refl)
+number_allowed kind range q (Some (GivenText t)) Y d given = inside_allowed q (is_inside kind range t) t d (given t refl)
 
-module _ (tree : TreeFacts) (k : SymId → Known) where
-  raised_allowed : (kind : Kind) (t : Tri) → is_truth_kind tree k kind ≡ true → allowed_truth kind (v.raised tree k kind t) ≡ true
-  raised_allowed IsBool t e = up_allowed tree k t
-  raised_allowed Tristate t e = refl
-  raised_allowed Undefined t e = absurd (true≢false (sym e))
-  raised_allowed Str t e = absurd (true≢false (sym e))
-  raised_allowed Int t e = absurd (true≢false (sym e))
-  raised_allowed Hex t e = absurd (true≢false (sym e))
+module _ (tree : TreeFacts) (k : SymId → SymbolValue) where
+  upgraded_allowed : (kind : Kind) (t : Tri) → is_truth_kind tree k kind ≡ true → allowed_truth kind (v.upgraded tree k kind t) ≡ true
+  upgraded_allowed IsBool t e = upgrade_allowed tree k t
+  upgraded_allowed Tristate t e = refl
+  upgraded_allowed Undefined t e = absurd (true≢false (sym e))
+  upgraded_allowed Str t e = absurd (true≢false (sym e))
+  upgraded_allowed Int t e = absurd (true≢false (sym e))
+  upgraded_allowed Hex t e = absurd (true≢false (sym e))
 
   -- the same as without the user's, or allowed
-  abbrev AllowedOr : (Option Given → Known) → (Given → Bool) → Option Given → Type 0
+  abbrev AllowedOr : (Option GivenValue → SymbolValue) → (GivenValue → Bool) → Option GivenValue → Type 0
   AllowedOr f allow u = (f u ≡ f None) ⊎ (allow (given_of (f u)) ≡ true)
 
-  module _ (s : SymId) (f : SymbolFacts) (u : Option Given) (given : (g : Given) → u ≡ Some g → allowed_by f.kind g ≡ true) where
+  module _ (s : SymId) (f : SymbolFacts) (u : Option GivenValue) (given : (g : GivenValue) → u ≡ Some g → allowed_by f.kind g ≡ true) where
     abbrev Default : List ℕ
-    Default = v.default_text k (v.first_open tree k f.defaults)
+    Default = v.default_text k (v.first_met tree k f.defaults)
 
     kind_allowed : (kind : Kind) → kind ≡ f.kind → AllowedOr (v.by_kind tree k s f kind) (allowed_by f.kind) u
     kind_allowed Undefined h = inl refl
-    kind_allowed IsBool h = inr (raised_allowed f.kind _ (ap (is_truth_kind tree k) (sym h)))
-    kind_allowed Tristate h = inr (raised_allowed f.kind _ (ap (is_truth_kind tree k) (sym h)))
+    kind_allowed IsBool h = inr (upgraded_allowed f.kind _ (ap (is_truth_kind tree k) (sym h)))
+    kind_allowed Tristate h = inr (upgraded_allowed f.kind _ (ap (is_truth_kind tree k) (sym h)))
     kind_allowed Str h =
-        elim (text_allowed (allowed_text f.kind) u (v.visibility tree k f) Default (λ t e. given (Typed t) e)) [
-          | inl e ↦ inl (ap (Written Str) e)
+        elim (text_allowed (allowed_text f.kind) u (v.visibility tree k f) Default (λ t e. given (GivenText t) e)) [
+          | inl e ↦ inl (ap (TextValue Str) e)
           | inr e ↦ inr e
         ]
     kind_allowed Int h =
-        elim (number_allowed f.kind (v.active_range tree k f) (allowed_text f.kind) u (v.visibility tree k f) (clamped f.kind (v.active_range tree k f) Default) (λ t e. given (Typed t) e)) [
-          | inl e ↦ inl (ap (Written Int) e)
+        elim (number_allowed f.kind (v.active_range tree k f) (allowed_text f.kind) u (v.visibility tree k f) (clamped f.kind (v.active_range tree k f) Default) (λ t e. given (GivenText t) e)) [
+          | inl e ↦ inl (ap (TextValue Int) e)
           | inr e ↦ inr e
         ]
     kind_allowed Hex h =
-        elim (number_allowed f.kind (v.active_range tree k f) (allowed_text f.kind) u (v.visibility tree k f) (clamped f.kind (v.active_range tree k f) Default) (λ t e. given (Typed t) e)) [
-          | inl e ↦ inl (ap (Written Hex) e)
+        elim (number_allowed f.kind (v.active_range tree k f) (allowed_text f.kind) u (v.visibility tree k f) (clamped f.kind (v.active_range tree k f) Default) (λ t e. given (GivenText t) e)) [
+          | inl e ↦ inl (ap (TextValue Hex) e)
           | inr e ↦ inr e
         ]
 
-    choice_allowed : (i : ℕ) (c : Option ℕ) → sol.slot_by i c ≡ At i → AllowedOr (v.by_choice tree k s f c) (allowed_by f.kind) u
+    choice_allowed : (i : ℕ) (c : Option ℕ) → sol.user_place_by i c ≡ SymbolPlace i → AllowedOr (v.by_choice tree k s f c) (allowed_by f.kind) u
     choice_allowed i None e = kind_allowed f.kind refl
     choice_allowed i (Some c) e = cc
 
-  facts_allowed : (s : SymId) (i : ℕ) (f : Option SymbolFacts) (u : Option Given) → sol.slot_of_facts i f ≡ At i → ((g : Given) → u ≡ Some g → allowed_for f g ≡ true) →
+  facts_allowed : (s : SymId) (i : ℕ) (f : Option SymbolFacts) (u : Option GivenValue) → sol.user_place_of i f ≡ SymbolPlace i → ((g : GivenValue) → u ≡ Some g → allowed_for f g ≡ true) →
       AllowedOr (v.equation tree k s f) (allowed_for f) u
   facts_allowed s i None u e given = inl refl
   facts_allowed s i (Some f) u e given = choice_allowed s f u given i f.choice e
 
 -- a member that is y
-member_choice : (f : SymbolFacts) (i c : ℕ) (o : Option ℕ) → sol.slot_by i o ≡ In c → o ≡ Some c
+member_choice : (f : SymbolFacts) (i c : ℕ) (o : Option ℕ) → sol.user_place_by i o ≡ ChoicePlace c → o ≡ Some c
 member_choice f i c None e = cc
 member_choice f i c (Some d) e = let h : d ≡ c = cc in ap Some h
 
-member_allowed : (tree : TreeFacts) (i c : ℕ) (f : Option SymbolFacts) → facts tree (symbol i) ≡ f → MembersAreBools tree → sol.slot_of_facts i f ≡ In c → allowed_for f (Chosen Y) ≡ true
+member_allowed : (tree : TreeFacts) (i c : ℕ) (f : Option SymbolFacts) → facts tree (symbol i) ≡ f → MembersAreBools tree → sol.user_place_of i f ≡ ChoicePlace c → allowed_for f (GivenTruth Y) ≡ true
 member_allowed tree i c None at bools e = cc
 member_allowed tree i c (Some f) at bools e =
     ap (λ kind. allowed_truth kind Y) (bools (symbol i) f c at (member_choice f i c f.choice e))
 
 pub differing_allowed : DifferingAreAllowed
 differing_allowed tree user V i l bools given solves t =
-    let K = seen tree V in
+    let K = known_from tree V in
     elim (slot_cases tree i) [
       | inl at ↦
           let e = solves i l ∙ ap (λ p. rhs tree i (user p) V) at in
-          elim (facts_allowed tree K (symbol i) i (facts tree (symbol i)) (user (At i)) at (given i)) [
+          elim (facts_allowed tree K (symbol i) i (facts tree (symbol i)) (user (SymbolPlace i)) at (given i)) [
             | inl same ↦ absurd (other_value tree user V solves i at t (e ∙ same))
             | inr ok ↦ ap (λ x. allowed tree (symbol i) (given_of x)) e ∙ ok
           ]

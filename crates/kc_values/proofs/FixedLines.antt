@@ -7,7 +7,7 @@ use Rattle.kc_expr.specs.declared.expression.Tri.{Tri}
 use Rattle.kc_expr.specs.declared.expression.Tri.TheVariants.{N, Y}
 use Rattle.kc_expr.specs.declared.expression.Kind.{Kind}
 use Rattle.kc_expr.specs.declared.expression.Kind.TheVariants.{Undefined, Bool as IsBool, Tristate, Str, Int, Hex}
-use Rattle.kc_expr.specs.Value.{Known, Truth, Written, greater}
+use Rattle.kc_expr.specs.Value.{SymbolValue, Truth, TextValue, greater}
 use Rattle.kc_expr.specs.Names.{symbol}
 use Rattle.kc_tree.specs.TreeFacts.{SymbolFacts, ChoiceFacts, TreeFacts}
 use Rattle.kc_values.specs.declared.numbers.Interval.{Interval}
@@ -16,62 +16,63 @@ use Rattle.kc_order.specs.Minimal.{KeepsWhatDiffers}
 use Rattle.kc_values.specs.Lookups.{facts, choice_at}
 use Rattle.kc_values.specs.Numbers.{is_inside, if_inside, clamped}
 use Rattle.kc_values.specs.Values as v
-use Rattle.kc_user.specs.Given.{Given, Chosen, Typed, Member, Slot, At, In}
+use Rattle.kc_user.specs.GivenValue.{GivenValue, GivenTruth, GivenText, Member, UserPlace, SymbolPlace, ChoicePlace}
 use Rattle.kc_tree.specs.Words.{is_symbol_of}
 use Rattle.kc_values.specs.Values.{is_n}
 use Rattle.kc_values.specs.Solution as sol
-use Rattle.kc_values.specs.Solution.{symbol_count, seen, rhs, slot, equations}
+use Rattle.kc_values.specs.Solution.{symbol_count, known_from, rhs, user_place, equations}
 use Rattle.kc_values.specs.Laws.{MembersAreTheirs}
-use Rattle.kc_values.specs.Differs.{same_value, given_of, selection, default_selection, differs, differs_at, line_of, TellsDiffering}
+use Rattle.kc_values.specs.Differs.{same_value, given_of, selection, default_selection, differs, differs_at, minimal_line, TellsDiffering}
 use Rattle.kc_values.proofs.SameValue.{same_value_itself, same_again}
 use Rattle.kc_values.proofs.Same.{same_symbol_itself, same_symbol-true}
-use Rattle.kc_values.proofs.TruthLines.{raise, line_fixed}
+use Rattle.kc_values.proofs.TruthLines.{upgrade_if, line_fixed}
 use Rattle.kc_values.proofs.Selection.{selected_again, none_selected, selected_member}
 
 -- the equation with e's own line is e, or the user's place does not matter
-abbrev Again : (Option Given → Known) → Known → Type 0
+abbrev Again : (Option GivenValue → SymbolValue) → SymbolValue → Type 0
 Again f e = (e ≡ f None) ⊎ (f (Some (given_of e)) ≡ e)
 
-module _ (tree : TreeFacts) (k : SymId → Known) where
-  truth_again : (b : Bool) (vis rev o : Tri) (user : Option Given) →
-      Again (λ u. Truth (raise b (greater (v.based u (raise b vis) o) (raise b rev)))) (Truth (raise b (greater (v.based user (raise b vis) o) (raise b rev))))
-  truth_again b vis rev o None = inl refl
-  truth_again b vis rev o (Some (Typed t)) = inl refl
-  truth_again b vis rev o (Some (Member m)) = inl refl
-  truth_again b vis rev o (Some (Chosen u)) =
-      elim (line_fixed b u vis rev o) [
+module _ (tree : TreeFacts) (k : SymId → SymbolValue) where
+  truth_again : (b : Bool) (vis reverse o : Tri) (user : Option GivenValue) →
+      Again (λ u. Truth (upgrade_if b (greater (v.user_or u (upgrade_if b vis) o) (upgrade_if b reverse))))
+      (Truth (upgrade_if b (greater (v.user_or user (upgrade_if b vis) o) (upgrade_if b reverse))))
+  truth_again b vis reverse o None = inl refl
+  truth_again b vis reverse o (Some (GivenText t)) = inl refl
+  truth_again b vis reverse o (Some (Member m)) = inl refl
+  truth_again b vis reverse o (Some (GivenTruth u)) =
+      elim (line_fixed b u vis reverse o) [
         | inl e ↦ inl (ap Truth e)
         | inr e ↦ inr (ap Truth e)
       ]
 
   module _ (f : SymbolFacts) where
-    truth_by_kind : (kind : Kind) (user : Option Given) (vis rev o : Tri) →
-        Again (λ u. Truth (v.raised tree k kind (greater (v.based u (v.raised tree k kind vis) o) (v.raised tree k kind rev))))
-        (Truth (v.raised tree k kind (greater (v.based user (v.raised tree k kind vis) o) (v.raised tree k kind rev))))
-    truth_by_kind Undefined user vis rev o = truth_again true vis rev o user
-    truth_by_kind IsBool user vis rev o = truth_again true vis rev o user
-    truth_by_kind Tristate user vis rev o = truth_again (is_n (v.modules_value k tree.modules)) vis rev o user
-    truth_by_kind Str user vis rev o = truth_again true vis rev o user
-    truth_by_kind Int user vis rev o = truth_again true vis rev o user
-    truth_by_kind Hex user vis rev o = truth_again true vis rev o user
+    truth_by_kind : (kind : Kind) (user : Option GivenValue) (vis reverse o : Tri) →
+        Again (λ u. Truth (v.upgraded tree k kind (greater (v.user_or u (v.upgraded tree k kind vis) o) (v.upgraded tree k kind reverse))))
+        (Truth (v.upgraded tree k kind (greater (v.user_or user (v.upgraded tree k kind vis) o) (v.upgraded tree k kind reverse))))
+    truth_by_kind Undefined user vis reverse o = truth_again true vis reverse o user
+    truth_by_kind IsBool user vis reverse o = truth_again true vis reverse o user
+    truth_by_kind Tristate user vis reverse o = truth_again (is_n (v.modules_value k tree.modules)) vis reverse o user
+    truth_by_kind Str user vis reverse o = truth_again true vis reverse o user
+    truth_by_kind Int user vis reverse o = truth_again true vis reverse o user
+    truth_by_kind Hex user vis reverse o = truth_again true vis reverse o user
 
-    truth_fixed : (user : Option Given) → Again (λ u. Truth (v.truth_equation tree k f u)) (Truth (v.truth_equation tree k f user))
+    truth_fixed : (user : Option GivenValue) → Again (λ u. Truth (v.truth_equation tree k f u)) (Truth (v.truth_equation tree k f user))
     truth_fixed user =
-        truth_by_kind f.kind user (v.conditions tree k f.prompts) (v.pulled tree k f.selectors)
-        (v.implied (v.default_value tree k (v.first_open tree k f.defaults)) (v.weak tree k f) (v.direct tree k f))
+        truth_by_kind f.kind user (v.conditions tree k f.prompts) (v.reverse_values tree k f.selectors)
+        (v.implied (v.default_value tree k (v.first_met tree k f.defaults)) (v.weak_reverse tree k f) (v.direct tree k f))
 
     text_again : (b : Bool) (t d : List ℕ) → (unwrap_or (cond b None (Some t)) d ≡ d) ⊎ (unwrap_or (cond b None (Some (unwrap_or (cond b None (Some t)) d))) d ≡ unwrap_or (cond b None (Some t)) d)
     text_again true t d = inl refl
     text_again false t d = inr refl
 
-    text_fixed : (user : Option Given) → Again (λ u. Written Str (v.text_equation tree k f u)) (Written Str (v.text_equation tree k f user))
+    text_fixed : (user : Option GivenValue) → Again (λ u. TextValue Str (v.text_equation tree k f u)) (TextValue Str (v.text_equation tree k f user))
     text_fixed None = inl refl
-    text_fixed (Some (Chosen t)) = inl refl
+    text_fixed (Some (GivenTruth t)) = inl refl
     text_fixed (Some (Member m)) = inl refl
-    text_fixed (Some (Typed t)) =
-        elim (text_again (is_n (v.visibility tree k f)) t (v.default_text k (v.first_open tree k f.defaults))) [
-          | inl e ↦ inl (ap (Written Str) e)
-          | inr e ↦ inr (ap (Written Str) e)
+    text_fixed (Some (GivenText t)) =
+        elim (text_again (is_n (v.visibility tree k f)) t (v.default_text k (v.first_met tree k f.defaults))) [
+          | inl e ↦ inl (ap (TextValue Str) e)
+          | inr e ↦ inr (ap (TextValue Str) e)
         ]
 
     number_again : (b : Bool) (kind : Kind) (range : Option Interval) (t d : List ℕ) →
@@ -85,18 +86,18 @@ module _ (tree : TreeFacts) (k : SymId → Known) where
           | inr n ↦ inl (ap (λ c. unwrap_or (cond c (Some t) None) d) n)
         ]
 
-    number_fixed : (kind : Kind) (user : Option Given) → Again (λ u. Written kind (v.number_equation tree k f u)) (Written kind (v.number_equation tree k f user))
+    number_fixed : (kind : Kind) (user : Option GivenValue) → Again (λ u. TextValue kind (v.number_equation tree k f u)) (TextValue kind (v.number_equation tree k f user))
     number_fixed kind None = inl refl
-    number_fixed kind (Some (Chosen t)) = inl refl
+    number_fixed kind (Some (GivenTruth t)) = inl refl
     number_fixed kind (Some (Member m)) = inl refl
-    number_fixed kind (Some (Typed t)) =
+    number_fixed kind (Some (GivenText t)) =
         let range = v.active_range tree k f in
-        elim (number_again (is_n (v.visibility tree k f)) f.kind range t (clamped f.kind range (v.default_text k (v.first_open tree k f.defaults)))) [
-          | inl e ↦ inl (ap (Written kind) e)
-          | inr e ↦ inr (ap (Written kind) e)
+        elim (number_again (is_n (v.visibility tree k f)) f.kind range t (clamped f.kind range (v.default_text k (v.first_met tree k f.defaults)))) [
+          | inl e ↦ inl (ap (TextValue kind) e)
+          | inr e ↦ inr (ap (TextValue kind) e)
         ]
 
-    fixed_by_kind : (s : SymId) (kind : Kind) (user : Option Given) → Again (v.by_kind tree k s f kind) (v.by_kind tree k s f kind user)
+    fixed_by_kind : (s : SymId) (kind : Kind) (user : Option GivenValue) → Again (v.by_kind tree k s f kind) (v.by_kind tree k s f kind user)
     fixed_by_kind s Undefined user = inl refl
     fixed_by_kind s IsBool user = truth_fixed user
     fixed_by_kind s Tristate user = truth_fixed user
@@ -104,16 +105,16 @@ module _ (tree : TreeFacts) (k : SymId → Known) where
     fixed_by_kind s Int user = number_fixed Int user
     fixed_by_kind s Hex user = number_fixed Hex user
 
-    fixed_by_choice : (s : SymId) (i : ℕ) (c : Option ℕ) (user : Option Given) → sol.slot_by i c ≡ At i → Again (v.by_choice tree k s f c) (v.by_choice tree k s f c user)
+    fixed_by_choice : (s : SymId) (i : ℕ) (c : Option ℕ) (user : Option GivenValue) → sol.user_place_by i c ≡ SymbolPlace i → Again (v.by_choice tree k s f c) (v.by_choice tree k s f c user)
     fixed_by_choice s i None user e = fixed_by_kind s f.kind user
     fixed_by_choice s i (Some c) user e = cc
 
-  fixed_facts : (s : SymId) (i : ℕ) (f : Option SymbolFacts) (user : Option Given) → sol.slot_of_facts i f ≡ At i → Again (v.equation tree k s f) (v.equation tree k s f user)
+  fixed_facts : (s : SymId) (i : ℕ) (f : Option SymbolFacts) (user : Option GivenValue) → sol.user_place_of i f ≡ SymbolPlace i → Again (v.equation tree k s f) (v.equation tree k s f user)
   fixed_facts s i None user e = inl refl
   fixed_facts s i (Some f) user e = fixed_by_choice f s i f.choice user e
 
   -- what solves is what its own line gives, or the user's place does not matter
-  pub fixed_at : (i : ℕ) (user : Option Given) (x : Known) → slot tree i ≡ At i → x ≡ v.equation tree k (symbol i) (facts tree (symbol i)) user →
+  pub fixed_at : (i : ℕ) (user : Option GivenValue) (x : SymbolValue) → user_place tree i ≡ SymbolPlace i → x ≡ v.equation tree k (symbol i) (facts tree (symbol i)) user →
       (x ≡ v.equation tree k (symbol i) (facts tree (symbol i)) None) ⊎ (x ≡ v.equation tree k (symbol i) (facts tree (symbol i)) (Some (given_of x)))
   fixed_at i user x at e =
       elim (fixed_facts (symbol i) i (facts tree (symbol i)) user at) [
@@ -122,40 +123,40 @@ module _ (tree : TreeFacts) (k : SymId → Known) where
       ]
 
   -- the equation of a member
-  member_choice : (s : SymId) (f : SymbolFacts) (i c : ℕ) (user : Option Given) (o : Option ℕ) → sol.slot_by i o ≡ In c →
+  member_choice : (s : SymId) (f : SymbolFacts) (i c : ℕ) (user : Option GivenValue) (o : Option ℕ) → sol.user_place_by i o ≡ ChoicePlace c →
       v.by_choice tree k s f o user ≡ Truth (cond (is_symbol_of s (v.selected tree k (choice_at tree c) user)) Y N)
   member_choice s f i c user None e = cc
   member_choice s f i c user (Some d) e = let h : d ≡ c = cc in ap (λ n. Truth (cond (is_symbol_of s (v.selected tree k (choice_at tree n) user)) Y N)) h
 
-  member_facts : (s : SymId) (f : Option SymbolFacts) (i c : ℕ) (user : Option Given) → sol.slot_of_facts i f ≡ In c →
+  member_facts : (s : SymId) (f : Option SymbolFacts) (i c : ℕ) (user : Option GivenValue) → sol.user_place_of i f ≡ ChoicePlace c →
       v.equation tree k s f user ≡ Truth (cond (is_symbol_of s (v.selected tree k (choice_at tree c) user)) Y N)
   member_facts s None i c user e = cc
   member_facts s (Some f) i c user e = member_choice s f i c user f.choice e
 
-  pub member_at : (i c : ℕ) (user : Option Given) → slot tree i ≡ In c →
+  pub member_at : (i c : ℕ) (user : Option GivenValue) → user_place tree i ≡ ChoicePlace c →
       v.equation tree k (symbol i) (facts tree (symbol i)) user ≡ Truth (cond (is_symbol_of (symbol i) (v.selected tree k (choice_at tree c) user)) Y N)
   member_at i c user e = member_facts (symbol i) (facts tree (symbol i)) i c user e
 
-  reselected_to : (o : Option ChoiceFacts) (u : Option Given) (r : Option SymId) → v.selected tree k o u ≡ r → v.selected tree k o (option_map Member r) ≡ r
+  reselected_to : (o : Option ChoiceFacts) (u : Option GivenValue) (r : Option SymId) → v.selected tree k o u ≡ r → v.selected tree k o (option_map Member r) ≡ r
   reselected_to o u None e = none_selected tree k o u e
   reselected_to o u (Some m) e = selected_again tree k o u m e
 
-  pub reselected : (o : Option ChoiceFacts) (u : Option Given) → v.selected tree k o (option_map Member (v.selected tree k o u)) ≡ v.selected tree k o u
+  pub reselected : (o : Option ChoiceFacts) (u : Option GivenValue) → v.selected tree k o (option_map Member (v.selected tree k o u)) ≡ v.selected tree k o u
   reselected o u = reselected_to o u (v.selected tree k o u) refl
 
-slot_cases_choice : (i : ℕ) (c : Option ℕ) → (sol.slot_by i c ≡ At i) ⊎ ((d : ℕ) × (sol.slot_by i c ≡ In d))
+slot_cases_choice : (i : ℕ) (c : Option ℕ) → (sol.user_place_by i c ≡ SymbolPlace i) ⊎ ((d : ℕ) × (sol.user_place_by i c ≡ ChoicePlace d))
 slot_cases_choice i None = inl refl
 slot_cases_choice i (Some c) = inr (c, refl)
 
-slot_cases_facts : (i : ℕ) (f : Option SymbolFacts) → (sol.slot_of_facts i f ≡ At i) ⊎ ((d : ℕ) × (sol.slot_of_facts i f ≡ In d))
+slot_cases_facts : (i : ℕ) (f : Option SymbolFacts) → (sol.user_place_of i f ≡ SymbolPlace i) ⊎ ((d : ℕ) × (sol.user_place_of i f ≡ ChoicePlace d))
 slot_cases_facts i None = inl refl
 slot_cases_facts i (Some f) = slot_cases_choice i f.choice
 
-pub slot_cases : (tree : TreeFacts) (i : ℕ) → (slot tree i ≡ At i) ⊎ ((d : ℕ) × (slot tree i ≡ In d))
+pub slot_cases : (tree : TreeFacts) (i : ℕ) → (user_place tree i ≡ SymbolPlace i) ⊎ ((d : ℕ) × (user_place tree i ≡ ChoicePlace d))
 slot_cases tree i = slot_cases_facts i (facts tree (symbol i))
 
-pub slot_of_member : (tree : TreeFacts) (m : SymId) (g : SymbolFacts) (c : ℕ) → facts tree m ≡ Some g → g.choice ≡ Some c → slot tree m.0 ≡ In c
-slot_of_member tree m g c e h = ap (sol.slot_of_facts m.0) e ∙ ap (sol.slot_by m.0) h
+pub slot_of_member : (tree : TreeFacts) (m : SymId) (g : SymbolFacts) (c : ℕ) → facts tree m ≡ Some g → g.choice ≡ Some c → user_place tree m.0 ≡ ChoicePlace c
+slot_of_member tree m g c e h = ap (sol.user_place_of m.0) e ∙ ap (sol.user_place_by m.0) h
 
 pub names_itself : (m : SymId) → is_symbol_of m (Some m) ≡ true
 names_itself m = same_symbol_itself m
@@ -165,56 +166,56 @@ named None m e = absurd (true≢false (sym e))
 named (Some x) m e = ap Some (sym (same_symbol-true m x e))
 
 -- a symbol's own place is no other's
-own_place : (p : Slot) (j i : ℕ) → (p ≡ At j) ⊎ ((d : ℕ) × (p ≡ In d)) → p ≡ At i → j ≡ i
-own_place p j i (inl e) at = let h : At j ≡ At i = sym e ∙ at in cc
-own_place p j i (inr e) at = let h : In e.0 ≡ At i = sym e.1 ∙ at in cc
+own_place : (p : UserPlace) (j i : ℕ) → (p ≡ SymbolPlace j) ⊎ ((d : ℕ) × (p ≡ ChoicePlace d)) → p ≡ SymbolPlace i → j ≡ i
+own_place p j i (inl e) at = let h : SymbolPlace j ≡ SymbolPlace i = sym e ∙ at in cc
+own_place p j i (inr e) at = let h : ChoicePlace e.0 ≡ SymbolPlace i = sym e.1 ∙ at in cc
 
 -- Under places and values that solve.
-module _ (tree : TreeFacts) (user : Slot → Option Given) (V : ℕ → Known) (solves : Solves (symbol_count tree) (equations tree user) V) where
+module _ (tree : TreeFacts) (user : UserPlace → Option GivenValue) (V : ℕ → SymbolValue) (solves : Solves (symbol_count tree) (equations tree user) V) where
   abbrev pub Sel : ℕ → Option SymId
   Sel c = selection tree user V c
 
   -- the value of a member
-  pub member_now : (i c : ℕ) → i < symbol_count tree → slot tree i ≡ In c → V i ≡ Truth (cond (is_symbol_of (symbol i) (Sel c)) Y N)
+  pub member_now : (i c : ℕ) → i < symbol_count tree → user_place tree i ≡ ChoicePlace c → V i ≡ Truth (cond (is_symbol_of (symbol i) (Sel c)) Y N)
   member_now i c l d =
       solves i l
-      ∙ member_at tree (seen tree V) i c (user (slot tree i)) d
-      ∙ ap (λ p. Truth (cond (is_symbol_of (symbol i) (v.selected tree (seen tree V) (choice_at tree c) (user p))) Y N)) d
+      ∙ member_at tree (known_from tree V) i c (user (user_place tree i)) d
+      ∙ ap (λ p. Truth (cond (is_symbol_of (symbol i) (v.selected tree (known_from tree V) (choice_at tree c) (user p))) Y N)) d
 
   -- the value of a member under its own line
-  member_line : (i c : ℕ) → slot tree i ≡ In c → rhs tree i (line_of tree user V (slot tree i)) V ≡ Truth (cond (is_symbol_of (symbol i) (Sel c)) Y N)
+  member_line : (i c : ℕ) → user_place tree i ≡ ChoicePlace c → rhs tree i (minimal_line tree user V (user_place tree i)) V ≡ Truth (cond (is_symbol_of (symbol i) (Sel c)) Y N)
   member_line i c d =
-      ap (λ p. rhs tree i (line_of tree user V p) V) d
-      ∙ member_at tree (seen tree V) i c (line_of tree user V (In c)) d
-      ∙ ap (λ r. Truth (cond (is_symbol_of (symbol i) r) Y N)) (reselected tree (seen tree V) (choice_at tree c) (user (In c)))
+      ap (λ p. rhs tree i (minimal_line tree user V p) V) d
+      ∙ member_at tree (known_from tree V) i c (minimal_line tree user V (ChoicePlace c)) d
+      ∙ ap (λ r. Truth (cond (is_symbol_of (symbol i) r) Y N)) (reselected tree (known_from tree V) (choice_at tree c) (user (ChoicePlace c)))
 
   -- a symbol outside a choice differs where its value is another
-  differs-own : (i : ℕ) → slot tree i ≡ At i → differs tree user V i ≡ not (same_value (V i) (rhs tree i None V))
+  differs-own : (i : ℕ) → user_place tree i ≡ SymbolPlace i → differs tree user V i ≡ not (same_value (V i) (rhs tree i None V))
   differs-own i at = ap (differs_at tree user V i) at
 
-  pub differs-member : (i c : ℕ) → slot tree i ≡ In c → differs tree user V i ≡ (is_symbol_of (symbol i) (Sel c) && not (is_symbol_of (symbol i) (default_selection tree V c)))
+  pub differs-member : (i c : ℕ) → user_place tree i ≡ ChoicePlace c → differs tree user V i ≡ (is_symbol_of (symbol i) (Sel c) && not (is_symbol_of (symbol i) (default_selection tree V c)))
   differs-member i c d = ap (differs_at tree user V i) d
 
-  pub other_value : (i : ℕ) → slot tree i ≡ At i → differs tree user V i ≡ true → V i ≡ rhs tree i None V → ⊥
+  pub other_value : (i : ℕ) → user_place tree i ≡ SymbolPlace i → differs tree user V i ≡ true → V i ≡ rhs tree i None V → ⊥
   other_value i at d e =
       both_ways (same_value (V i) (rhs tree i None V)) (not-true (same_value (V i) (rhs tree i None V)) (sym (differs-own i at) ∙ d))
       (sym (ap (same_value (V i)) e) ∙ same_value_itself (V i))
 
-  pub same_without : (i : ℕ) → i < symbol_count tree → slot tree i ≡ At i → differs tree user V i ≡ false → V i ≡ rhs tree i None V
+  pub same_without : (i : ℕ) → i < symbol_count tree → user_place tree i ≡ SymbolPlace i → differs tree user V i ≡ false → V i ≡ rhs tree i None V
   same_without i l at d =
       let e = solves i l in
       let same = not-false (same_value (V i) (rhs tree i None V)) (sym (differs-own i at) ∙ d) in
-      let told : same_value (rhs tree i (user (slot tree i)) V) (rhs tree i None V) ≡ true = sym (ap (λ x. same_value x (rhs tree i None V)) e) ∙ same in
-      e ∙ same_again tree (seen tree V) (symbol i) (facts tree (symbol i)) (user (slot tree i)) None told
+      let told : same_value (rhs tree i (user (user_place tree i)) V) (rhs tree i None V) ≡ true = sym (ap (λ x. same_value x (rhs tree i None V)) e) ∙ same in
+      e ∙ same_again tree (known_from tree V) (symbol i) (facts tree (symbol i)) (user (user_place tree i)) None told
 
   -- a value that its own line gives again
-  pub line_fixed_at : (i : ℕ) → i < symbol_count tree → differs tree user V i ≡ true → V i ≡ rhs tree i (line_of tree user V (slot tree i)) V
+  pub line_fixed_at : (i : ℕ) → i < symbol_count tree → differs tree user V i ≡ true → V i ≡ rhs tree i (minimal_line tree user V (user_place tree i)) V
   line_fixed_at i l t =
       elim (slot_cases tree i) [
         | inl at ↦
-            elim (fixed_at tree (seen tree V) i (user (slot tree i)) (V i) at (solves i l)) [
+            elim (fixed_at tree (known_from tree V) i (user (user_place tree i)) (V i) at (solves i l)) [
               | inl a ↦ absurd (other_value i at t a)
-              | inr b ↦ b ∙ ap (λ p. rhs tree i (line_of tree user V p) V) (sym at)
+              | inr b ↦ b ∙ ap (λ p. rhs tree i (minimal_line tree user V p) V) (sym at)
             ]
         | inr d ↦ member_now i d.0 l d.1 ∙ sym (member_line i d.0 d.1)
       ]
@@ -224,18 +225,18 @@ module _ (tree : TreeFacts) (user : Slot → Option Given) (V : ℕ → Known) (
   settled_member i c None d none some = ap (λ x. is_symbol_of (symbol i) x) (sym (none refl))
   settled_member i c (Some m) d none some = ap (λ x. is_symbol_of (symbol i) x) (sym (named d m (some m refl)))
 
-  module _ (theirs : MembersAreTheirs tree) (keep : Slot → Bool) (tells : TellsDiffering tree user V keep) where
-    unkept : (i : ℕ) → i < symbol_count tree → keep (slot tree i) ≡ false → differs tree user V i ≡ false
+  module _ (theirs : MembersAreTheirs tree) (keep : UserPlace → Bool) (tells : TellsDiffering tree user V keep) where
+    unkept : (i : ℕ) → i < symbol_count tree → keep (user_place tree i) ≡ false → differs tree user V i ≡ false
     unkept i l f =
         elim (cases_Bool (differs tree user V i)) [
-          | inl t ↦ absurd (both_ways (keep (slot tree i)) f (tells.every i l t))
+          | inl t ↦ absurd (both_ways (keep (user_place tree i)) f (tells.every i l t))
           | inr n ↦ n
         ]
 
     -- the selected member does not differ where the choice is not kept, so it is the default one
-    default_too : (c : ℕ) (m : SymId) → keep (In c) ≡ false → Sel c ≡ Some m → is_symbol_of m (default_selection tree V c) ≡ true
+    default_too : (c : ℕ) (m : SymId) → keep (ChoicePlace c) ≡ false → Sel c ≡ Some m → is_symbol_of m (default_selection tree V c) ≡ true
     default_too c m f e =
-        let at = selected_member tree (seen tree V) (choice_at tree c) (user (In c)) m e in
+        let at = selected_member tree (known_from tree V) (choice_at tree c) (user (ChoicePlace c)) m e in
         let mine = theirs c at.0 m at.1 at.2 in
         let place = slot_of_member tree m mine.1.0 c mine.1.1 mine.1.2 in
         let same = sym (differs-member m.0 c place) ∙ unkept m.0 mine.0 (ap keep place ∙ f) in
@@ -243,22 +244,23 @@ module _ (tree : TreeFacts) (user : Slot → Option Given) (V : ℕ → Known) (
         not-false (is_symbol_of m (default_selection tree V c))
         (sym (ap (λ b. b && not (is_symbol_of m (default_selection tree V c))) sel) ∙ same)
 
-    same_for_member : (i c : ℕ) → i < symbol_count tree → slot tree i ≡ In c → keep (In c) ≡ false → V i ≡ rhs tree i None V
+    same_for_member : (i c : ℕ) → i < symbol_count tree → user_place tree i ≡ ChoicePlace c → keep (ChoicePlace c) ≡ false → V i ≡ rhs tree i None V
     same_for_member i c l d f =
         member_now i c l d
-        ∙ ap (λ b. Truth (cond b Y N)) (settled_member i c (Sel c) (default_selection tree V c) (none_selected tree (seen tree V) (choice_at tree c) (user (In c))) (λ m e. default_too c m f e))
-        ∙ sym (member_at tree (seen tree V) i c None d)
+        ∙ ap (λ b. Truth (cond b Y N)) (settled_member i c (Sel c) (default_selection tree V c)
+        (none_selected tree (known_from tree V) (choice_at tree c) (user (ChoicePlace c))) (λ m e. default_too c m f e))
+        ∙ sym (member_at tree (known_from tree V) i c None d)
 
     -- a member that differs is y, and without the user's n
-    member_other : (i c : ℕ) → i < symbol_count tree → slot tree i ≡ In c → differs tree user V i ≡ true → V i ≡ rhs tree i None V → ⊥
+    member_other : (i c : ℕ) → i < symbol_count tree → user_place tree i ≡ ChoicePlace c → differs tree user V i ≡ true → V i ≡ rhs tree i None V → ⊥
     member_other i c l d t e =
         let both = and_parts (is_symbol_of (symbol i) (Sel c)) (not (is_symbol_of (symbol i) (default_selection tree V c))) (sym (differs-member i c d) ∙ t) in
         let now = member_now i c l d ∙ ap (λ b. Truth (cond b Y N)) both.0 in
-        let then_ = member_at tree (seen tree V) i c None d ∙ ap (λ b. Truth (cond b Y N)) (not-true (is_symbol_of (symbol i) (default_selection tree V c)) both.1) in
+        let then_ = member_at tree (known_from tree V) i c None d ∙ ap (λ b. Truth (cond b Y N)) (not-true (is_symbol_of (symbol i) (default_selection tree V c)) both.1) in
         let z : Truth Y ≡ Truth N = sym now ∙ e ∙ then_ in
         cc
 
-    pub is_minimal : KeepsWhatDiffers (symbol_count tree) (slot tree) (rhs tree) (line_of tree user V) V keep
+    pub is_minimal : KeepsWhatDiffers (symbol_count tree) (user_place tree) (rhs tree) (minimal_line tree user V) V keep
     is_minimal = record {
       given = λ i l t. fixed_of i l t;
       same = λ i l f.
@@ -279,12 +281,12 @@ module _ (tree : TreeFacts) (user : Slot → Option Given) (V : ℕ → Known) (
           );
     }
       where
-        fixed_of : (i : ℕ) → i < symbol_count tree → keep (slot tree i) ≡ true → V i ≡ rhs tree i (line_of tree user V (slot tree i)) V
+        fixed_of : (i : ℕ) → i < symbol_count tree → keep (user_place tree i) ≡ true → V i ≡ rhs tree i (minimal_line tree user V (user_place tree i)) V
         fixed_of i l t =
             elim (slot_cases tree i) [
               | inl at ↦
-                  let o = tells.differing (slot tree i) t in
-                  let same : o.0 ≡ i = own_place (slot tree o.0) o.0 i (slot_cases tree o.0) (o.2 ∙ at) in
+                  let o = tells.differing (user_place tree i) t in
+                  let same : o.0 ≡ i = own_place (user_place tree o.0) o.0 i (slot_cases tree o.0) (o.2 ∙ at) in
                   line_fixed_at i l (sym (ap (differs tree user V) same) ∙ o.3)
               | inr d ↦ member_now i d.0 l d.1 ∙ sym (member_line i d.0 d.1)
             ]

@@ -9,17 +9,17 @@ use Rattle.std.proofs.lemmas.List.FromFn.{length-map-range_with_len, get_or-map-
 use Rattle.std.proofs.lemmas.Option.{slice_get-get_or, slice_get_cases}
 use Rattle.kc_order.specs.Graph.{IsGraph, Nodes}
 use Rattle.kc_order.specs.Needs.{needs_in}
-use Rattle.kc_tree.specs.Contexts.{IsStep, condition_in, mode_view}
+use Rattle.kc_tree.specs.Contexts.{IsContextAt, condition_in, mode_view}
 use Rattle.kc_tree.specs.Layouts.{IsLayoutOf, choice_facts, facts_of}
 use Rattle.kc_tree.specs.TreeFacts.{Condition, IsWellFormed, TreeFacts}
 use Rattle.kc_tree.specs.declared.layout.Layout.{Layout}
-use Rattle.kc_tree.specs.declared.parts.Choice.{Choice}
-use Rattle.kc_tree.specs.declared.parts.ChoiceId.{ChoiceId}
-use Rattle.kc_tree.specs.declared.parts.Context.{Context}
-use Rattle.kc_tree.specs.declared.parts.Prompt.{Prompt}
-use Rattle.kc_tree.specs.declared.parts.Symbol.{Symbol}
+use Rattle.kc_tree.specs.declared.rows.Choice.{Choice}
+use Rattle.kc_tree.specs.declared.rows.ChoiceId.{ChoiceId}
+use Rattle.kc_tree.specs.declared.rows.Context.{Context}
+use Rattle.kc_tree.specs.declared.rows.Prompt.{Prompt}
+use Rattle.kc_tree.specs.declared.rows.Symbol.{Symbol}
 use Rattle.kc_values.specs.NeedRows as rows
-use Rattle.kc_values.specs.NeedRows.{AreChoicesThere, AreContextRows, AreNodeRows, IsContextRow, asks_nothing, asks_this}
+use Rattle.kc_values.specs.NeedRows.{AreChoicesThere, AreNodeRows, IsContextRow, asks_nothing, asks_this}
 use Rattle.kc_values.specs.Nodes.{choice_number, first_choice, node_count}
 use Rattle.kc_values.proofs.Laid.{choices_laid, facts_laid}
 use Rattle.kc_values.proofs.NodesBelow.{asked_below, below, choice_below, far, none, symbol_below}
@@ -37,9 +37,6 @@ choices_there tree l laid formed i s k e c =
 module _ (tree : TreeFacts) (l : Layout) (g : Nodes) (made : AreNodeRows tree l g) where
   abbrev n : ℕ
   n = length l.symbols.items
-
-  abbrev some_rows : List (List ℕ)
-  some_rows = rows.symbol_rows tree l
 
   symbol_length : length (rows.symbol_rows tree l) ≡ length l.symbols.items
   symbol_length = length-map-range_with_len (λ i. rows.symbol_row tree l i (slice_get l.symbols.items i)) 0 (length l.symbols.items)
@@ -75,7 +72,7 @@ module _ (tree : TreeFacts) (l : Layout) (g : Nodes) (made : AreNodeRows tree l 
       ∙ ap (rows.choice_row_of l) is
 
   -- a choice whose mode counts in a context depends on those before it
-  pub behind : (i : ℕ) (c : Context) → IsStep l.tables.contexts i c → (k : Choice) → rows.choice_row l c.mode ≡ Some k →
+  pub behind : (i : ℕ) (c : Context) → IsContextAt l.tables.contexts i c → (k : Choice) → rows.choice_row l c.mode ≡ Some k →
       (k.within.0 < i) × ((p : Prompt) → k.prompt ≡ Some p → p.visible.0 < i)
   behind i c step k e = by_mode c.mode refl e
     where

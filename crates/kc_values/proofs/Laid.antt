@@ -6,8 +6,8 @@ use Rattle.std.proofs.lemmas.Option.{slice_get-map}
 use Rattle.kc_expr.specs.declared.expression.Kind.{Kind}
 use Rattle.kc_expr.specs.declared.expression.Kind.TheVariants.{Undefined}
 use Rattle.kc_tree.specs.declared.layout.Layout.{Layout}
-use Rattle.kc_tree.specs.declared.parts.Choice.{Choice}
-use Rattle.kc_tree.specs.declared.parts.Symbol.{Symbol}
+use Rattle.kc_tree.specs.declared.rows.Choice.{Choice}
+use Rattle.kc_tree.specs.declared.rows.Symbol.{Symbol}
 use Rattle.kc_tree.specs.Layouts.{IsLayoutOf, facts_of, facts_at, choice_facts}
 use Rattle.kc_tree.specs.TreeFacts.{SymbolFacts, ChoiceFacts, TreeFacts}
 use Rattle.kc_tree.proofs.TreeLemmas.{symbols-at, symbols-length}

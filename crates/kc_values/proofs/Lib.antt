@@ -7,7 +7,7 @@ pub mod Uncounted
 pub mod TruthLines
 pub mod Selection
 pub mod FixedLines
-pub mod SettledLines
+pub mod IdempotentLines
 pub mod DifferingLines
 pub mod ModeLaws
 pub mod Trees
@@ -19,7 +19,7 @@ pub mod ConditionLemmas
 pub mod Laid
 pub mod ChainLemmas
 pub mod DefinitionLemmas
-pub mod OpenLemmas
+pub mod MetLemmas
 pub mod SmallNumbers
 pub mod RowSteps
 pub mod RowsMade

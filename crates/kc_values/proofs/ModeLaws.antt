@@ -6,7 +6,7 @@ use Rattle.kc_expr.specs.declared.expression.Tri.{Tri}
 use Rattle.kc_expr.specs.declared.expression.Tri.TheVariants.{N, M, Y}
 use Rattle.kc_expr.specs.Value.{lesser}
 use Rattle.kc_tree.specs.TreeFacts.{SymbolFacts, IsMemberOf}
-use Rattle.kc_values.specs.Values.{all_hold, mode_value}
+use Rattle.kc_values.specs.Values.{and_value, mode_value}
 use Rattle.kc_values.specs.Laws.{ModeIsPromptCondition, WellFormedHaveMembers}
 
 least-y : (a : Tri) → lesser a Y ≡ a
@@ -16,7 +16,7 @@ least-y Y = refl
 
 pub mode_is_prompt : ModeIsPromptCondition
 mode_is_prompt tree known c e =
-    sym (least-y (all_hold known c.parts)) ∙ ap (λ m. lesser (all_hold known c.parts) (mode_value tree known m)) (sym e)
+    sym (least-y (and_value known c.parts)) ∙ ap (λ m. lesser (and_value known c.parts) (mode_value tree known m)) (sym e)
 
 some_same : {X : Type 0} (a b : X) → Some a ≡ Some b → a ≡ b
 some_same a b e = cc

@@ -22,9 +22,9 @@ use Rattle.kc_tree.specs.Layouts.{IsLayoutOf, choice_facts, facts_of}
 use Rattle.kc_tree.specs.TreeFacts.{TreeFacts}
 use Rattle.kc_tree.specs.Words.{listed}
 use Rattle.kc_tree.specs.declared.layout.Layout.{Layout}
-use Rattle.kc_tree.specs.declared.parts.Choice.{Choice}
-use Rattle.kc_tree.specs.declared.parts.ChoiceId.{ChoiceId}
-use Rattle.kc_tree.specs.declared.parts.Prompt.{Prompt}
+use Rattle.kc_tree.specs.declared.rows.Choice.{Choice}
+use Rattle.kc_tree.specs.declared.rows.ChoiceId.{ChoiceId}
+use Rattle.kc_tree.specs.declared.rows.Prompt.{Prompt}
 use Rattle.kc_values.specs.Lookups.{choice_at, facts, is_defined}
 use Rattle.kc_values.specs.NeedRows as rows
 use Rattle.kc_values.specs.NeedRows.{AreChoicesThere, AreNodeRows, IsContextRow, asks_nothing, asks_this}
@@ -124,8 +124,8 @@ module _ (tree : TreeFacts) (l : Layout) (laid : IsLayoutOf tree l) (g : Nodes) 
   context_row : (i : ℕ) (row : List ℕ) → IsContextRow l i row → Told i → list_any st row ≡ asks tree l v (condition_in l.tables.contexts i)
   context_row i row (asks_nothing e r) told = ap (list_any st) r ∙ sym (ap (asks tree l v) e)
   context_row i row (asks_this c step r) told =
-      ap (list_any st) r ∙ of_row (rows.asked_nodes l c) (rows.asked_names l c)
-      ∙ asked_needs i told c.outer.0 c.asks c.mode step.smaller step.keeps step.begins (behind tree l g made i c step)
+      ap (list_any st) r ∙ of_row (rows.context_row_nodes l c) (rows.context_row_names l c)
+      ∙ asked_needs i told c.outer.0 c.own_condition c.mode step.smaller step.keeps step.begins (behind tree l g made i c step)
       ∙ sym (ap (asks tree l v) step.is)
 
   nothing_first : (row : List ℕ) → IsContextRow l 0 row → false ≡ asks tree l v (condition_in l.tables.contexts 0)

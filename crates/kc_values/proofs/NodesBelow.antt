@@ -7,17 +7,17 @@ use Rattle.std.proofs.lemmas.List.Folds.{list_any-append, list_any_at}
 use Rattle.kc_expr.specs.declared.expression.Kind.{Kind}
 use Rattle.kc_expr.specs.declared.expression.Kind.TheVariants.{Undefined, Bool as IsBool, Tristate, Str, Int, Hex}
 use Rattle.kc_expr.specs.declared.expression.SymId.{SymId}
-use Rattle.kc_tree.specs.Parts.{definition_ids}
+use Rattle.kc_tree.specs.Spans.{definition_ids}
 use Rattle.kc_tree.specs.declared.layout.Layout.{Layout}
-use Rattle.kc_tree.specs.declared.parts.Choice.{Choice}
-use Rattle.kc_tree.specs.declared.parts.ChoiceId.{ChoiceId}
-use Rattle.kc_tree.specs.declared.parts.Context.{Context}
-use Rattle.kc_tree.specs.declared.parts.Definition.{Definition}
-use Rattle.kc_tree.specs.declared.parts.DefinitionId.{DefinitionId}
-use Rattle.kc_tree.specs.declared.parts.Prompt.{Prompt}
-use Rattle.kc_tree.specs.declared.parts.Reverse.{Reverse}
-use Rattle.kc_tree.specs.declared.parts.ReverseId.{ReverseId}
-use Rattle.kc_tree.specs.declared.parts.Symbol.{Symbol}
+use Rattle.kc_tree.specs.declared.rows.Choice.{Choice}
+use Rattle.kc_tree.specs.declared.rows.ChoiceId.{ChoiceId}
+use Rattle.kc_tree.specs.declared.rows.Context.{Context}
+use Rattle.kc_tree.specs.declared.rows.Definition.{Definition}
+use Rattle.kc_tree.specs.declared.rows.DefinitionId.{DefinitionId}
+use Rattle.kc_tree.specs.declared.rows.Prompt.{Prompt}
+use Rattle.kc_tree.specs.declared.rows.Reverse.{Reverse}
+use Rattle.kc_tree.specs.declared.rows.ReverseId.{ReverseId}
+use Rattle.kc_tree.specs.declared.rows.Symbol.{Symbol}
 use Rattle.kc_values.specs.NeedRows as rows
 use Rattle.kc_values.specs.Nodes.{choice_number, context_number}
 use Rattle.kc_values.proofs.AnyLemmas.{any_flat, any_map, any_filter, any_none, found_same}
@@ -98,12 +98,12 @@ module _ (l : Layout) (b m : ℕ) (fits : length l.symbols.items + m ≤ b) wher
   mode_below (Some c) h = let there = h c refl in choice_prompt_below c there.0 there.1
 
   pub asked_below : (c : Context) → c.outer.0 < m → ((k : Choice) → rows.choice_row l c.mode ≡ Some k → (k.within.0 < m) × ((p : Prompt) → k.prompt ≡ Some p → p.visible.0 < m)) →
-      none b (rows.asked_nodes l c ++ rows.defined l (rows.asked_names l c))
+      none b (rows.context_row_nodes l c ++ rows.defined l (rows.context_row_names l c))
   asked_below c outer h =
-      none_both b (rows.asked_nodes l c) (rows.defined l (rows.asked_names l c))
-      (none_both b (rows.context_nodes l c.outer.0) (cond (is_some c.asks) [] (rows.mode_nodes l c.mode)) (context_below c.outer.0 outer)
-      (none_unless b (is_some c.asks) (rows.mode_nodes l c.mode) (mode_below (rows.choice_row l c.mode) h)))
-      (names_below (rows.asked_names l c))
+      none_both b (rows.context_row_nodes l c) (rows.defined l (rows.context_row_names l c))
+      (none_both b (rows.context_nodes l c.outer.0) (cond (is_some c.own_condition) [] (rows.mode_nodes l c.mode)) (context_below c.outer.0 outer)
+      (none_unless b (is_some c.own_condition) (rows.mode_nodes l c.mode) (mode_below (rows.choice_row l c.mode) h)))
+      (names_below (rows.context_row_names l c))
 
 -- Where all contexts do.
 module _ (l : Layout) (b : ℕ) (fits : length l.symbols.items + length l.tables.contexts ≤ b) where

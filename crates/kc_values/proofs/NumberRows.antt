@@ -8,9 +8,9 @@ use Rattle.kc_expr.specs.declared.expression.Tri.TheVariants.{N, Y}
 use Rattle.kc_expr.specs.declared.expression.Kind.TheVariants.{Bool as IsBool, Str, Int, Hex}
 use Rattle.kc_expr.specs.Form.{Form, Related, Negated, Text, Symbol}
 use Rattle.kc_expr.specs.Names.{symbol}
-use Rattle.kc_expr.specs.Value.{Known, Truth, Written}
+use Rattle.kc_expr.specs.Value.{SymbolValue, Truth, TextValue}
 use Rattle.kc_tree.specs.TreeFacts.{SymbolFacts, TreeFacts}
-use Rattle.kc_user.specs.Given.{Typed}
+use Rattle.kc_user.specs.GivenValue.{GivenText}
 use Rattle.kc_values.specs.Solution.{rhs}
 use Rattle.kc_values.proofs.Trees.{tree, plain, always, named, constant, line, from_to, nothing, at_place, given_by, written_now, differing, warned}
 
@@ -21,39 +21,39 @@ ranged =
     (record (plain Int (always ∷ []) (line (constant (codes "20")) ∷ [])) { ranges = from_to (Text (codes "5")) (Text (codes "10")) ∷ [] } ∷ [])
     [] None
 
-abbrev ten : List Known
-ten = Written Int (codes "10") ∷ []
+abbrev ten : List SymbolValue
+ten = TextValue Int (codes "10") ∷ []
 
-ranged_values : given_by ranged (at_place (Some (Typed (codes "3")) ∷ [])) ten ≡ ten
+ranged_values : given_by ranged (at_place (Some (GivenText (codes "3")) ∷ [])) ten ≡ ten
 unfolding natural_of digits
 ranged_values = refl
 
-ranged_differ : differing ranged (at_place (Some (Typed (codes "3")) ∷ [])) ten ≡ false ∷ []
+ranged_differ : differing ranged (at_place (Some (GivenText (codes "3")) ∷ [])) ten ≡ false ∷ []
 unfolding natural_of digits
 ranged_differ = refl
 
-ranged_warned : warned ranged (at_place (Some (Typed (codes "3")) ∷ [])) ten ≡ codes "warning K12: user value 3 of N is outside 5 to 10" ∷
+ranged_warned : warned ranged (at_place (Some (GivenText (codes "3")) ∷ [])) ten ≡ codes "warning K12: user value 3 of N is outside 5 to 10" ∷
     (codes "warning K13: default 20 of N is outside 5 to 10, 10 is used" ∷ [])
 unfolding natural_of digits
 ranged_warned = refl
 
 -- the user's 10 is what the default gives; 010 is another text
-ranged_ten : given_by ranged (at_place (Some (Typed (codes "10")) ∷ [])) ten ≡ ten
+ranged_ten : given_by ranged (at_place (Some (GivenText (codes "10")) ∷ [])) ten ≡ ten
 unfolding natural_of digits
 ranged_ten = refl
 
-ranged_ten_differ : differing ranged (at_place (Some (Typed (codes "10")) ∷ [])) ten ≡ false ∷ []
+ranged_ten_differ : differing ranged (at_place (Some (GivenText (codes "10")) ∷ [])) ten ≡ false ∷ []
 unfolding natural_of digits
 ranged_ten_differ = refl
 
-abbrev octal : List Known
-octal = Written Int (codes "010") ∷ []
+abbrev octal : List SymbolValue
+octal = TextValue Int (codes "010") ∷ []
 
-ranged_octal : given_by ranged (at_place (Some (Typed (codes "010")) ∷ [])) octal ≡ octal
+ranged_octal : given_by ranged (at_place (Some (GivenText (codes "010")) ∷ [])) octal ≡ octal
 unfolding natural_of digits
 ranged_octal = refl
 
-ranged_octal_differ : differing ranged (at_place (Some (Typed (codes "010")) ∷ [])) octal ≡ true ∷ []
+ranged_octal_differ : differing ranged (at_place (Some (GivenText (codes "010")) ∷ [])) octal ≡ true ∷ []
 unfolding natural_of digits
 ranged_octal_differ = refl
 
@@ -64,15 +64,15 @@ hex_ranged =
     (record (plain Hex (always ∷ []) []) { ranges = from_to (Text (codes "0x10")) (Text (codes "0x1F")) ∷ [] } ∷ [])
     [] None
 
-hex_low : given_by hex_ranged nothing (Written Hex (codes "0x10") ∷ []) ≡ Written Hex (codes "0x10") ∷ []
+hex_low : given_by hex_ranged nothing (TextValue Hex (codes "0x10") ∷ []) ≡ TextValue Hex (codes "0x10") ∷ []
 unfolding natural_of digits
 hex_low = refl
 
-hex_high : rhs hex_ranged 0 (Some (Typed (codes "0X1f"))) (λ i. Truth N) ≡ Written Hex (codes "0X1f")
+hex_high : rhs hex_ranged 0 (Some (GivenText (codes "0X1f"))) (λ i. Truth N) ≡ TextValue Hex (codes "0X1f")
 unfolding natural_of digits
 hex_high = refl
 
-hex_over : warned hex_ranged (at_place (Some (Typed (codes "20")) ∷ [])) (Written Hex (codes "0x10") ∷ []) ≡ codes "warning K12: user value 20 of X is outside 0x10 to 0x1f" ∷ []
+hex_over : warned hex_ranged (at_place (Some (GivenText (codes "20")) ∷ [])) (TextValue Hex (codes "0x10") ∷ []) ≡ codes "warning K12: user value 20 of X is outside 0x10 to 0x1f" ∷ []
 unfolding natural_of digits
 hex_over = refl
 
@@ -83,19 +83,19 @@ below_zero d =
     (record (plain Int (always ∷ []) (line d ∷ [])) { ranges = from_to (Text (codes "-5")) (Text (codes "-2")) ∷ [] } ∷ [])
     [] None
 
-word_clamped : given_by (below_zero (named 1)) nothing (Written Int (codes "-2") ∷ []) ≡ Written Int (codes "-2") ∷ []
+word_clamped : given_by (below_zero (named 1)) nothing (TextValue Int (codes "-2") ∷ []) ≡ TextValue Int (codes "-2") ∷ []
 unfolding natural_of digits
 word_clamped = refl
 
-word_warned : warned (below_zero (named 1)) nothing (Written Int (codes "-2") ∷ []) ≡ codes "warning K13: default FOO of I is outside -5 to -2, -2 is used" ∷ []
+word_warned : warned (below_zero (named 1)) nothing (TextValue Int (codes "-2") ∷ []) ≡ codes "warning K13: default FOO of I is outside -5 to -2, -2 is used" ∷ []
 unfolding natural_of digits
 word_warned = refl
 
-low_clamped : given_by (below_zero (constant (codes "-9"))) nothing (Written Int (codes "-5") ∷ []) ≡ Written Int (codes "-5") ∷ []
+low_clamped : given_by (below_zero (constant (codes "-9"))) nothing (TextValue Int (codes "-5") ∷ []) ≡ TextValue Int (codes "-5") ∷ []
 unfolding natural_of digits
 low_clamped = refl
 
-low_warned : warned (below_zero (constant (codes "-9"))) nothing (Written Int (codes "-5") ∷ []) ≡ codes "warning K13: default -9 of I is outside -5 to -2, -5 is used" ∷ []
+low_warned : warned (below_zero (constant (codes "-9"))) nothing (TextValue Int (codes "-5") ∷ []) ≡ codes "warning K13: default -9 of I is outside -5 to -2, -5 is used" ∷ []
 unfolding natural_of digits
 low_warned = refl
 
@@ -103,20 +103,20 @@ low_warned = refl
 abbrev around : List ℕ → List ℕ → SymbolFacts → TreeFacts
 around a b f = tree (codes "I" ∷ (codes "FOO" ∷ [])) (record f { ranges = from_to (Text a) (Text b) ∷ [] } ∷ []) [] None
 
-keeps_word : given_by (around (codes "-5") (codes "5") (plain Int (always ∷ []) (line (named 1) ∷ []))) nothing (Written Int (codes "FOO") ∷ []) ≡ Written Int (codes "FOO") ∷ []
+keeps_word : given_by (around (codes "-5") (codes "5") (plain Int (always ∷ []) (line (named 1) ∷ []))) nothing (TextValue Int (codes "FOO") ∷ []) ≡ TextValue Int (codes "FOO") ∷ []
 unfolding natural_of digits
 keeps_word = refl
 
-keeps_empty : given_by (around (codes "0") (codes "9") (plain Int (always ∷ []) [])) nothing (Written Int [] ∷ []) ≡ Written Int [] ∷ []
+keeps_empty : given_by (around (codes "0") (codes "9") (plain Int (always ∷ []) [])) nothing (TextValue Int [] ∷ []) ≡ TextValue Int [] ∷ []
 unfolding natural_of digits
 keeps_empty = refl
 
 -- A low bound above the high one: below the low goes first.
-turned_low : given_by (around (codes "10") (codes "5") (plain Int (always ∷ []) (line (constant (codes "7")) ∷ []))) nothing (Written Int (codes "10") ∷ []) ≡ Written Int (codes "10") ∷ []
+turned_low : given_by (around (codes "10") (codes "5") (plain Int (always ∷ []) (line (constant (codes "7")) ∷ []))) nothing (TextValue Int (codes "10") ∷ []) ≡ TextValue Int (codes "10") ∷ []
 unfolding natural_of digits
 turned_low = refl
 
-turned_high : given_by (around (codes "10") (codes "5") (plain Int (always ∷ []) (line (constant (codes "11")) ∷ []))) nothing (Written Int (codes "5") ∷ []) ≡ Written Int (codes "5") ∷ []
+turned_high : given_by (around (codes "10") (codes "5") (plain Int (always ∷ []) (line (constant (codes "11")) ∷ []))) nothing (TextValue Int (codes "5") ∷ []) ≡ TextValue Int (codes "5") ∷ []
 unfolding natural_of digits
 turned_high = refl
 
@@ -132,8 +132,8 @@ relations =
     ∷ (plain IsBool [] (line (Negated (Related Eq (Symbol (symbol 0)) (Text (codes "9")))) ∷ []) ∷ []))))))
     [] None
 
-abbrev relations_V : List Known
-relations_V = Written Int (codes "10") ∷ (Written Str (codes "FOO") ∷ (Truth Y ∷ (Truth N ∷ (Truth Y ∷ (Truth Y ∷ [])))))
+abbrev relations_V : List SymbolValue
+relations_V = TextValue Int (codes "10") ∷ (TextValue Str (codes "FOO") ∷ (Truth Y ∷ (Truth N ∷ (Truth Y ∷ (Truth Y ∷ [])))))
 
 relations_values : given_by relations nothing relations_V ≡ relations_V
 unfolding natural_of digits
@@ -148,6 +148,6 @@ abbrev empty_int : TreeFacts
 empty_int =
     tree (codes "I" ∷ (codes "A" ∷ [])) (plain Int [] [] ∷ (plain IsBool [] (line (Related Eq (Symbol (symbol 0)) (Text (codes "0"))) ∷ []) ∷ [])) [] None
 
-pub empty_values : given_by empty_int nothing (Written Int [] ∷ (Truth N ∷ [])) ≡ Written Int [] ∷ (Truth N ∷ [])
+pub empty_values : given_by empty_int nothing (TextValue Int [] ∷ (Truth N ∷ [])) ≡ TextValue Int [] ∷ (Truth N ∷ [])
 unfolding natural_of digits
 empty_values = refl

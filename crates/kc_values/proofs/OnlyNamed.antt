@@ -9,24 +9,24 @@ use Rattle.kc_expr.specs.declared.expression.Tri.TheVariants.{N, M, Y}
 use Rattle.kc_expr.specs.declared.expression.Kind.{Kind}
 use Rattle.kc_expr.specs.declared.expression.Kind.TheVariants.{Undefined, Bool as IsBool, Tristate, Str, Int, Hex}
 use Rattle.kc_expr.specs.Form.{Form, Leaf, Text, Symbol, Single, Related, Negated, Every, Some_of, symbols, leaf_symbols}
-use Rattle.kc_expr.specs.Value.{Known, Truth, Written, value, text, least, greatest, lesser, greater, truth_of_known, text_of_known, DependsOnSymbols}
+use Rattle.kc_expr.specs.Value.{SymbolValue, Truth, TextValue, value, text, least, greatest, lesser, greater, truth_of_value, text_of_value, DependsOnSymbols}
 use Rattle.kc_tree.specs.TreeFacts.{Condition, Guarded, Bounds, SymbolFacts, ChoiceFacts, TreeFacts}
 use Rattle.kc_expr.specs.Names.{symbol}
 use Rattle.kc_values.specs.declared.numbers.Interval.{Interval}
 use Rattle.kc_values.specs.Lookups.{facts, name, choice_at, is_defined}
-use Rattle.kc_values.specs.Numbers.{counted}
+use Rattle.kc_values.specs.Numbers.{number_or_zero}
 use Rattle.kc_values.specs.Values as v
-use Rattle.kc_user.specs.Given.{Given, Chosen, Typed, Member, Slot}
+use Rattle.kc_user.specs.GivenValue.{GivenValue, GivenTruth, GivenText, Member, UserPlace}
 use Rattle.kc_tree.specs.Words.{same_symbol, is_symbol_of}
-use Rattle.kc_values.specs.Values.{is_n, up}
+use Rattle.kc_values.specs.Values.{is_n, upgrade}
 use Rattle.kc_values.specs.Needs as n
 use Rattle.kc_values.specs.Needs.{needs_of}
-use Rattle.kc_values.specs.Solution.{slot, seen, equations}
+use Rattle.kc_values.specs.Solution.{user_place, known_from, equations}
 use Rattle.kc_order.specs.Solution.{ReadsNeeds}
 use Rattle.kc_values.proofs.Once.{has_once}
 use Rattle.kc_values.proofs.Same.{front_of, back_of, map_same, found_same, same_symbol-true}
 
-module _ (law : DependsOnSymbols) (tree : TreeFacts) (k l : SymId → Known) where
+module _ (law : DependsOnSymbols) (tree : TreeFacts) (k l : SymId → SymbolValue) where
   abbrev Same : SymId → Type 0
   Same s = k s ≡ l s
 
@@ -44,18 +44,18 @@ module _ (law : DependsOnSymbols) (tree : TreeFacts) (k l : SymId → Known) whe
 
   same_text : (o : Leaf) → Sames (leaf_symbols o) → text k o ≡ text l o
   same_text (Text bytes) h = refl
-  same_text (Symbol s) h = ap text_of_known h.0
+  same_text (Symbol s) h = ap text_of_value h.0
 
-  same_all_hold : (parts : List Form) → Sames (flat_map symbols parts) → v.all_hold k parts ≡ v.all_hold l parts
-  same_all_hold parts h = ap least (map_same Same symbols (value k) (value l) same_value parts h)
+  same_and_value : (parts : List Form) → Sames (flat_map symbols parts) → v.and_value k parts ≡ v.and_value l parts
+  same_and_value parts h = ap least (map_same Same symbols (value k) (value l) same_value parts h)
 
   same_prompt : (p : Option Condition) → Sames (n.parts_names p) → v.prompt_value k p ≡ v.prompt_value l p
   same_prompt None h = refl
-  same_prompt (Some c) h = same_all_hold c.parts h
+  same_prompt (Some c) h = same_and_value c.parts h
 
   same_mode : (c : Option ChoiceFacts) → Sames (n.prompt_names c) → v.mode_of k c ≡ v.mode_of l c
   same_mode None h = refl
-  same_mode (Some c) h = ap up (same_prompt c.prompt h)
+  same_mode (Some c) h = ap upgrade (same_prompt c.prompt h)
 
   same_mode_value : (m : Option ℕ) → Sames (n.mode_names tree m) → v.mode_value tree k m ≡ v.mode_value tree l m
   same_mode_value None h = refl
@@ -63,7 +63,7 @@ module _ (law : DependsOnSymbols) (tree : TreeFacts) (k l : SymId → Known) whe
 
   pub same_condition : (c : Condition) → Sames (n.condition_names tree c) → v.condition tree k c ≡ v.condition tree l c
   same_condition c h =
-      let a = same_all_hold c.parts (front (flat_map symbols c.parts) (n.mode_names tree c.mode) h) in
+      let a = same_and_value c.parts (front (flat_map symbols c.parts) (n.mode_names tree c.mode) h) in
       let b = same_mode_value c.mode (back (flat_map symbols c.parts) (n.mode_names tree c.mode) h) in
       cc
 
@@ -73,7 +73,7 @@ module _ (law : DependsOnSymbols) (tree : TreeFacts) (k l : SymId → Known) whe
   -- what is made of the first whose condition is not n
   same_first : {X Z : Type 0} (names : X → List SymId) (F G : Option (Guarded X) → Z) → F None ≡ G None →
       ((g : Guarded X) → Sames (names g.what) → Sames (n.condition_names tree g.when) → F (Some g) ≡ G (Some g)) → (gs : List (Guarded X)) → Sames (n.guarded_names tree names gs) →
-      F (v.first_open tree k gs) ≡ G (v.first_open tree l gs)
+      F (v.first_met tree k gs) ≡ G (v.first_met tree l gs)
   same_first {X} names F G none each gs h =
       let both = λ (g : Guarded X). names g.what ++ n.condition_names tree g.when in
       found_same Same both (λ g. not (is_n (v.condition tree k g.when))) (λ g. not (is_n (v.condition tree l g.when))) F G none
@@ -83,55 +83,56 @@ module _ (law : DependsOnSymbols) (tree : TreeFacts) (k l : SymId → Known) whe
 
   same_modules : (m : Option SymId) → Sames (n.modules_names m) → v.modules_value k m ≡ v.modules_value l m
   same_modules None h = refl
-  same_modules (Some m) h = ap truth_of_known h.0
+  same_modules (Some m) h = ap truth_of_value h.0
 
-  same_raised : (kind : Kind) → Sames (n.kind_names tree kind) → (t u : Tri) → t ≡ u → v.raised tree k kind t ≡ v.raised tree l kind u
-  same_raised Undefined h t u e = ap up e
-  same_raised IsBool h t u e = ap up e
-  same_raised Tristate h t u e = let m = same_modules tree.modules h in cc
-  same_raised Str h t u e = ap up e
-  same_raised Int h t u e = ap up e
-  same_raised Hex h t u e = ap up e
+  same_upgraded : (kind : Kind) → Sames (n.kind_names tree kind) → (t u : Tri) → t ≡ u → v.upgraded tree k kind t ≡ v.upgraded tree l kind u
+  same_upgraded Undefined h t u e = ap upgrade e
+  same_upgraded IsBool h t u e = ap upgrade e
+  same_upgraded Tristate h t u e = let m = same_modules tree.modules h in cc
+  same_upgraded Str h t u e = ap upgrade e
+  same_upgraded Int h t u e = ap upgrade e
+  same_upgraded Hex h t u e = ap upgrade e
 
-  -- raising does not change whether a value is n
-  is_n-up : (t : Tri) → is_n (up t) ≡ is_n t
-  is_n-up N = refl
-  is_n-up M = refl
-  is_n-up Y = refl
+  -- the tristate upgrade does not change whether a value is n
+  is_n-upgrade : (t : Tri) → is_n (upgrade t) ≡ is_n t
+  is_n-upgrade N = refl
+  is_n-upgrade M = refl
+  is_n-upgrade Y = refl
 
-  is_n-if : (b : Bool) (t : Tri) → is_n (cond b (up t) t) ≡ is_n t
-  is_n-if true t = is_n-up t
+  is_n-if : (b : Bool) (t : Tri) → is_n (cond b (upgrade t) t) ≡ is_n t
+  is_n-if true t = is_n-upgrade t
   is_n-if false t = refl
 
-  is_n-raised : (known : SymId → Known) (kind : Kind) (t : Tri) → is_n (v.raised tree known kind t) ≡ is_n t
-  is_n-raised known Undefined t = is_n-up t
-  is_n-raised known IsBool t = is_n-up t
-  is_n-raised known Tristate t = is_n-if (is_n (v.modules_value known tree.modules)) t
-  is_n-raised known Str t = is_n-up t
-  is_n-raised known Int t = is_n-up t
-  is_n-raised known Hex t = is_n-up t
+  is_n-upgraded : (known : SymId → SymbolValue) (kind : Kind) (t : Tri) → is_n (v.upgraded tree known kind t) ≡ is_n t
+  is_n-upgraded known Undefined t = is_n-upgrade t
+  is_n-upgraded known IsBool t = is_n-upgrade t
+  is_n-upgraded known Tristate t = is_n-if (is_n (v.modules_value known tree.modules)) t
+  is_n-upgraded known Str t = is_n-upgrade t
+  is_n-upgraded known Int t = is_n-upgrade t
+  is_n-upgraded known Hex t = is_n-upgrade t
 
-  typed-is_n : (user : Option Given) (t u : Tri) → is_n t ≡ is_n u → v.typed user t ≡ v.typed user u
-  typed-is_n None t u e = refl
-  typed-is_n (Some (Chosen x)) t u e = refl
-  typed-is_n (Some (Member m)) t u e = refl
-  typed-is_n (Some (Typed bytes)) t u e = ap (λ b. cond b None (Some bytes)) e
+  visible_text-is_n : (user : Option GivenValue) (t u : Tri) → is_n t ≡ is_n u → v.visible_text user t ≡ v.visible_text user u
+  visible_text-is_n None t u e = refl
+  visible_text-is_n (Some (GivenTruth x)) t u e = refl
+  visible_text-is_n (Some (Member m)) t u e = refl
+  visible_text-is_n (Some (GivenText bytes)) t u e = ap (λ b. cond b None (Some bytes)) e
 
-  same_typed : (f : SymbolFacts) (user : Option Given) → Sames (flat_map (n.condition_names tree) f.prompts) → v.typed user (v.visibility tree k f) ≡ v.typed user (v.visibility tree l f)
-  same_typed f user h =
-      typed-is_n user (v.visibility tree k f) (v.visibility tree l f)
-      (is_n-raised k f.kind (v.conditions tree k f.prompts) ∙ ap is_n (same_conditions f.prompts h) ∙ sym (is_n-raised l f.kind (v.conditions tree l f.prompts)))
+  same_visible_text : (f : SymbolFacts) (user : Option GivenValue) → Sames (flat_map (n.condition_names tree) f.prompts) →
+      v.visible_text user (v.visibility tree k f) ≡ v.visible_text user (v.visibility tree l f)
+  same_visible_text f user h =
+      visible_text-is_n user (v.visibility tree k f) (v.visibility tree l f)
+      (is_n-upgraded k f.kind (v.conditions tree k f.prompts) ∙ ap is_n (same_conditions f.prompts h) ∙ sym (is_n-upgraded l f.kind (v.conditions tree l f.prompts)))
 
-  same_pulled : (gs : List (Guarded SymId)) → Sames (n.guarded_names tree (n.one_name) gs) → v.pulled tree k gs ≡ v.pulled tree l gs
-  same_pulled gs h =
+  same_reverse_values : (gs : List (Guarded SymId)) → Sames (n.guarded_names tree (n.one_name) gs) → v.reverse_values tree k gs ≡ v.reverse_values tree l gs
+  same_reverse_values gs h =
       ap greatest
       (map_same Same (λ (g : Guarded SymId). n.one_name g.what ++ n.condition_names tree g.when)
-      (λ g. lesser (truth_of_known (k g.what)) (v.condition tree k g.when))
-      (λ g. lesser (truth_of_known (l g.what)) (v.condition tree l g.when))
-      (λ g hs. let a = ap truth_of_known hs.0 in let b = same_condition g.when hs.1 in cc)
+      (λ g. lesser (truth_of_value (k g.what)) (v.condition tree k g.when))
+      (λ g. lesser (truth_of_value (l g.what)) (v.condition tree l g.when))
+      (λ g hs. let a = ap truth_of_value hs.0 in let b = same_condition g.when hs.1 in cc)
       gs h)
 
-  same_default : (f : SymbolFacts) → Sames (n.guarded_names tree symbols f.defaults) → v.default_value tree k (v.first_open tree k f.defaults) ≡ v.default_value tree l (v.first_open tree l f.defaults)
+  same_default : (f : SymbolFacts) → Sames (n.guarded_names tree symbols f.defaults) → v.default_value tree k (v.first_met tree k f.defaults) ≡ v.default_value tree l (v.first_met tree l f.defaults)
   same_default f h =
       same_first symbols (v.default_value tree k) (v.default_value tree l) refl
       (λ g a b. let x = same_value g.what a in let y = same_condition g.when b in cc)
@@ -144,22 +145,22 @@ module _ (law : DependsOnSymbols) (tree : TreeFacts) (k l : SymId → Known) whe
   same_single (Every fs) h = refl
   same_single (Some_of fs) h = refl
 
-  same_default_text : (f : SymbolFacts) → Sames (n.guarded_names tree symbols f.defaults) → v.default_text k (v.first_open tree k f.defaults) ≡ v.default_text l (v.first_open tree l f.defaults)
+  same_default_text : (f : SymbolFacts) → Sames (n.guarded_names tree symbols f.defaults) → v.default_text k (v.first_met tree k f.defaults) ≡ v.default_text l (v.first_met tree l f.defaults)
   same_default_text f h =
       same_first symbols (v.default_text k) (v.default_text l) refl (λ g a b. same_single g.what a) f.defaults h
 
-  same_base : (user : Option Given) (vis vis' d d' weak weak' dir dir' rev rev' : Tri) → vis ≡ vis' → d ≡ d' → weak ≡ weak' → dir ≡ dir' → rev ≡ rev' →
-      greater (v.based user vis (v.implied d weak dir)) rev ≡ greater (v.based user vis' (v.implied d' weak' dir')) rev'
-  same_base None vis vis' d d' weak weak' dir dir' rev rev' a b c e g = cc
-  same_base (Some (Chosen u)) vis vis' d d' weak weak' dir dir' rev rev' a b c e g = cc
-  same_base (Some (Typed t)) vis vis' d d' weak weak' dir dir' rev rev' a b c e g = cc
-  same_base (Some (Member m)) vis vis' d d' weak weak' dir dir' rev rev' a b c e g = cc
+  same_base : (user : Option GivenValue) (vis vis' d d' weak_reverse weak' dir dir' reverse rev' : Tri) → vis ≡ vis' → d ≡ d' → weak_reverse ≡ weak' → dir ≡ dir' → reverse ≡ rev' →
+      greater (v.user_or user vis (v.implied d weak_reverse dir)) reverse ≡ greater (v.user_or user vis' (v.implied d' weak' dir')) rev'
+  same_base None vis vis' d d' weak_reverse weak' dir dir' reverse rev' a b c e g = cc
+  same_base (Some (GivenTruth u)) vis vis' d d' weak_reverse weak' dir dir' reverse rev' a b c e g = cc
+  same_base (Some (GivenText t)) vis vis' d d' weak_reverse weak' dir dir' reverse rev' a b c e g = cc
+  same_base (Some (Member m)) vis vis' d d' weak_reverse weak' dir dir' reverse rev' a b c e g = cc
 
   same_interval : (kind : Kind) (g : Guarded Bounds) → Sames (n.bounds_names g.what) → v.interval k kind (Some g) ≡ v.interval l kind (Some g)
   same_interval kind g h =
       let a = same_text g.what.low (front (leaf_symbols g.what.low) (leaf_symbols g.what.high) h) in
       let b = same_text g.what.high (back (leaf_symbols g.what.low) (leaf_symbols g.what.high) h) in
-      let made : List ℕ → List ℕ → Option Interval = λ x y. Some (record { low = counted kind x; high = counted kind y }) in
+      let made : List ℕ → List ℕ → Option Interval = λ x y. Some (record { low = number_or_zero kind x; high = number_or_zero kind y }) in
       ap (λ x. made x (text k g.what.high)) a ∙ ap (made (text l g.what.low)) b
 
   same_active : (f : SymbolFacts) → Sames (n.guarded_names tree n.bounds_names f.ranges) → v.active_range tree k f ≡ v.active_range tree l f
@@ -174,7 +175,7 @@ module _ (law : DependsOnSymbols) (tree : TreeFacts) (k l : SymId → Known) whe
     Defaults = n.guarded_names tree symbols f.defaults
 
     abbrev Deps : List SymId
-    Deps = flat_map (n.condition_names tree) f.deps
+    Deps = flat_map (n.condition_names tree) f.dependencies
 
     abbrev Selectors : List SymId
     Selectors = n.guarded_names tree (n.one_name) f.selectors
@@ -188,30 +189,30 @@ module _ (law : DependsOnSymbols) (tree : TreeFacts) (k l : SymId → Known) whe
     abbrev Ranges : List SymId
     Ranges = n.guarded_names tree (n.bounds_names) f.ranges
 
-    same_text_equation : (user : Option Given) → Sames (n.names_of_all tree f) → v.text_equation tree k f user ≡ v.text_equation tree l f user
+    same_text_equation : (user : Option GivenValue) → Sames (n.names_of_all tree f) → v.text_equation tree k f user ≡ v.text_equation tree l f user
     same_text_equation user h =
-        let a = same_typed f user (front Prompts Defaults h) in
+        let a = same_visible_text f user (front Prompts Defaults h) in
         let b = same_default_text f (back Prompts Defaults h) in
         cc
 
-    same_truth_equation : (user : Option Given) → Sames (n.names_of_truth tree f) → v.truth_equation tree k f user ≡ v.truth_equation tree l f user
+    same_truth_equation : (user : Option GivenValue) → Sames (n.names_of_truth tree f) → v.truth_equation tree k f user ≡ v.truth_equation tree l f user
     same_truth_equation user h =
         let all = front (Prompts ++ Defaults) (Deps ++ (Selectors ++ (Impliers ++ Own))) h in
         let more1 = back (Prompts ++ Defaults) (Deps ++ (Selectors ++ (Impliers ++ Own))) h in
         let more2 = back Deps (Selectors ++ (Impliers ++ Own)) more1 in
         let more3 = back Selectors (Impliers ++ Own) more2 in
         let own = back Impliers Own more3 in
-        let vis = same_raised f.kind own _ _ (same_conditions f.prompts (front Prompts Defaults all)) in
-        let dir = same_raised f.kind own _ _ (same_conditions f.deps (front Deps (Selectors ++ (Impliers ++ Own)) more1)) in
-        let rev = same_raised f.kind own _ _ (same_pulled f.selectors (front Selectors (Impliers ++ Own) more2)) in
-        let weak = same_raised f.kind own _ _ (same_pulled f.impliers (front Impliers Own more3)) in
+        let vis = same_upgraded f.kind own _ _ (same_conditions f.prompts (front Prompts Defaults all)) in
+        let dir = same_upgraded f.kind own _ _ (same_conditions f.dependencies (front Deps (Selectors ++ (Impliers ++ Own)) more1)) in
+        let reverse = same_upgraded f.kind own _ _ (same_reverse_values f.selectors (front Selectors (Impliers ++ Own) more2)) in
+        let weak_reverse = same_upgraded f.kind own _ _ (same_reverse_values f.impliers (front Impliers Own more3)) in
         let d = same_default f (back Prompts Defaults all) in
-        same_raised f.kind own _ _ (same_base user _ _ _ _ _ _ _ _ _ _ vis d weak dir rev)
+        same_upgraded f.kind own _ _ (same_base user _ _ _ _ _ _ _ _ _ _ vis d weak_reverse dir reverse)
 
-    pub same_number_equation : (user : Option Given) → Sames (n.names_of_number tree f) → v.number_equation tree k f user ≡ v.number_equation tree l f user
+    pub same_number_equation : (user : Option GivenValue) → Sames (n.names_of_number tree f) → v.number_equation tree k f user ≡ v.number_equation tree l f user
     same_number_equation user h =
         let all = front (Prompts ++ Defaults) Ranges h in
-        let a = same_typed f user (front Prompts Defaults all) in
+        let a = same_visible_text f user (front Prompts Defaults all) in
         let b = same_default_text f (back Prompts Defaults all) in
         let r = same_active f (back (Prompts ++ Defaults) Ranges h) in
         cc
@@ -263,13 +264,13 @@ module _ (law : DependsOnSymbols) (tree : TreeFacts) (k l : SymId → Known) whe
         in
         cc
 
-    same_chosen_member : Sames Shown → (user : Option Given) → v.chosen_member tree k c user ≡ v.chosen_member tree l c user
+    same_chosen_member : Sames Shown → (user : Option GivenValue) → v.chosen_member tree k c user ≡ v.chosen_member tree l c user
     same_chosen_member h None = refl
-    same_chosen_member h (Some (Chosen t)) = refl
-    same_chosen_member h (Some (Typed t)) = refl
+    same_chosen_member h (Some (GivenTruth t)) = refl
+    same_chosen_member h (Some (GivenText t)) = refl
     same_chosen_member h (Some (Member m)) = ap (λ b. cond b (Some m) None) (same_visible_member h m)
 
-  pub same_selected : (c : Option ChoiceFacts) (user : Option Given) → Sames (n.names_of_choice tree c) → v.selected tree k c user ≡ v.selected tree l c user
+  pub same_selected : (c : Option ChoiceFacts) (user : Option GivenValue) → Sames (n.names_of_choice tree c) → v.selected tree k c user ≡ v.selected tree l c user
   same_selected None user h = refl
   same_selected (Some c) user h =
       let Own = n.parts_names c.prompt in
@@ -281,25 +282,25 @@ module _ (law : DependsOnSymbols) (tree : TreeFacts) (k l : SymId → Known) whe
       let ch = same_chosen_member c shown user in
       cc
 
-  same_by_kind : (s : SymId) (f : SymbolFacts) (kind : Kind) (user : Option Given) → Sames (n.names_by_kind tree f kind) → v.by_kind tree k s f kind user ≡ v.by_kind tree l s f kind user
+  same_by_kind : (s : SymId) (f : SymbolFacts) (kind : Kind) (user : Option GivenValue) → Sames (n.names_by_kind tree f kind) → v.by_kind tree k s f kind user ≡ v.by_kind tree l s f kind user
   same_by_kind s f Undefined user h = refl
   same_by_kind s f IsBool user h = ap Truth (same_truth_equation f user h)
   same_by_kind s f Tristate user h = ap Truth (same_truth_equation f user h)
-  same_by_kind s f Str user h = ap (Written Str) (same_text_equation f user h)
-  same_by_kind s f Int user h = ap (Written Int) (same_number_equation f user h)
-  same_by_kind s f Hex user h = ap (Written Hex) (same_number_equation f user h)
+  same_by_kind s f Str user h = ap (TextValue Str) (same_text_equation f user h)
+  same_by_kind s f Int user h = ap (TextValue Int) (same_number_equation f user h)
+  same_by_kind s f Hex user h = ap (TextValue Hex) (same_number_equation f user h)
 
-  same_by_choice : (s : SymId) (f : SymbolFacts) (c : Option ℕ) (user : Option Given) → Sames (n.names_by_choice tree f c) → v.by_choice tree k s f c user ≡ v.by_choice tree l s f c user
+  same_by_choice : (s : SymId) (f : SymbolFacts) (c : Option ℕ) (user : Option GivenValue) → Sames (n.names_by_choice tree f c) → v.by_choice tree k s f c user ≡ v.by_choice tree l s f c user
   same_by_choice s f None user h = same_by_kind s f f.kind user h
   same_by_choice s f (Some c) user h =
       ap (λ o. Truth (cond (is_symbol_of s o) Y N)) (same_selected (choice_at tree c) user h)
 
-  pub same_equation : (s : SymId) (f : Option SymbolFacts) (user : Option Given) → Sames (n.names_of tree f) → v.equation tree k s f user ≡ v.equation tree l s f user
+  pub same_equation : (s : SymId) (f : Option SymbolFacts) (user : Option GivenValue) → Sames (n.names_of tree f) → v.equation tree k s f user ≡ v.equation tree l s f user
   same_equation s None user h = refl
   same_equation s (Some f) user h = same_by_choice s f f.choice user h
 
 -- names that are not defined are known alike
-seen_defined : (b : Bool) (x y u : Known) → (b ≡ true → x ≡ y) → cond b x u ≡ cond b y u
+seen_defined : (b : Bool) (x y u : SymbolValue) → (b ≡ true → x ≡ y) → cond b x u ≡ cond b y u
 seen_defined true x y u h = h refl
 seen_defined false x y u h = refl
 
@@ -312,21 +313,21 @@ kept_more : {X : Type 0} (g : X → ℕ) (b : Bool) (x : X) (t : ℕ) (r : List 
 kept_more g false x t r c = c
 kept_more g true x t r c = (suc c.0, omega (arith, c.1), c.2)
 
-module _ (tree : TreeFacts) (V W : ℕ → Known) where
+module _ (tree : TreeFacts) (V W : ℕ → SymbolValue) where
   abbrev numbers : List SymId → List ℕ
   numbers all = map (λ (s : SymId). s.0) (filter (is_defined tree) all)
 
-  seen_alike : (all : List SymId) → ((t : ℕ) → Contains (numbers all) t → V t ≡ W t) → AllByRecursion (λ s. seen tree V s ≡ seen tree W s) all
+  seen_alike : (all : List SymId) → ((t : ℕ) → Contains (numbers all) t → V t ≡ W t) → AllByRecursion (λ s. known_from tree V s ≡ known_from tree W s) all
   seen_alike [] h = tt
   seen_alike (s ∷ all) h =
       let number = λ (x : SymId). x.0 in (
-        seen_defined (is_defined tree s) (V s.0) (W s.0) (Written Undefined (name tree s)) (λ d. h s.0 (kept_first number (is_defined tree s) s (filter (is_defined tree) all) d)),
+        seen_defined (is_defined tree s) (V s.0) (W s.0) (TextValue Undefined (name tree s)) (λ d. h s.0 (kept_first number (is_defined tree s) s (filter (is_defined tree) all) d)),
         seen_alike all (λ t i. h t (kept_more number (is_defined tree s) s t (filter (is_defined tree) all) i)),
       )
 
-  pub same_seen : (all : List SymId) → ((t : ℕ) → Contains (n.defined_numbers tree all) t → V t ≡ W t) → AllByRecursion (λ s. seen tree V s ≡ seen tree W s) all
+  pub same_seen : (all : List SymId) → ((t : ℕ) → Contains (n.defined_numbers tree all) t → V t ≡ W t) → AllByRecursion (λ s. known_from tree V s ≡ known_from tree W s) all
   same_seen all h = seen_alike all (λ t c. h t (has_once (numbers all) t c))
 
-pub reads_needs : DependsOnSymbols → (tree : TreeFacts) (user : Slot → Option Given) → ReadsNeeds (needs_of tree) (equations tree user)
+pub reads_needs : DependsOnSymbols → (tree : TreeFacts) (user : UserPlace → Option GivenValue) → ReadsNeeds (needs_of tree) (equations tree user)
 reads_needs law tree user s V W h =
-    same_equation law tree (seen tree V) (seen tree W) (symbol s) (facts tree (symbol s)) (user (slot tree s)) (same_seen tree V W (n.names_of tree (facts tree (symbol s))) h)
+    same_equation law tree (known_from tree V) (known_from tree W) (symbol s) (facts tree (symbol s)) (user (user_place tree s)) (same_seen tree V W (n.names_of tree (facts tree (symbol s))) h)

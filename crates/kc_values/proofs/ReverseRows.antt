@@ -3,8 +3,8 @@ use Rattle.std.proofs.Common.{◌≡◌, ◌≤◌, ℕ, List, [], ◌∷◌, �
 use Rattle.std.specs.List.{slice_get, filter_map, flat_map, cons_option}
 use Rattle.std.proofs.lemmas.Option.{slice_get_cases}
 use Rattle.kc_tree.specs.declared.layout.Layout.{Layout}
-use Rattle.kc_tree.specs.declared.parts.Reverse.{Reverse}
-use Rattle.kc_tree.specs.declared.parts.ReverseId.{ReverseId}
+use Rattle.kc_tree.specs.declared.rows.Reverse.{Reverse}
+use Rattle.kc_tree.specs.declared.rows.ReverseId.{ReverseId}
 use Rattle.kc_values.specs.NeedRows.{definition_at, lines_from, reverse_row, reverses_names, reverses_nodes, source_names, source_nodes}
 use Rattle.kc_values.proofs.ChainLemmas.{chain-at, chain-past}
 

@@ -1,4 +1,5 @@
--- What the nodes and names of a row stand for: a symbol is among them where the equation of the row's symbol, or a condition, names it.
+-- What the nodes and names of a row stand for: a symbol is among them where the equation of the row's symbol, or a condition,
+-- names it.
 use Rattle.std.proofs.Common.{◌≡◌, ◌==◌, ℕ, ◌<◌, Bool, true, false, ◌||◌, ◌&&◌, cond, List, [], ◌∷◌, ◌++◌, suc, length, Option, Some, None, map, reverse, refl, sym, ap, ◌∙◌, arith, nat_lt, append-nil}
 use Rattle.std.specs.Prelude.{slice_get, is_some}
 use Rattle.std.specs.Option.{option_map, option_and_then}
@@ -15,21 +16,21 @@ use Rattle.kc_tree.specs.Chains.{chain_of, chains_of}
 use Rattle.kc_tree.specs.Contexts.{IsPlain, condition_in, mode_view}
 use Rattle.kc_tree.specs.Layouts as laid
 use Rattle.kc_tree.specs.Layouts.{DefinitionFacts, IsLayoutOf, choice_facts, definition_facts, facts_of, prompt_view, default_view, range_view, choice_default_view, with_parts, with_when, reverse_at, reverse_facts, reverses_from}
-use Rattle.kc_tree.specs.Parts.{definition_ids}
+use Rattle.kc_tree.specs.Spans.{definition_ids}
 use Rattle.kc_tree.specs.TreeFacts.{Condition, Guarded, TreeFacts}
 use Rattle.kc_tree.specs.Words.{listed}
 use Rattle.kc_tree.specs.declared.layout.Layout.{Layout}
-use Rattle.kc_tree.specs.declared.parts.Choice.{Choice}
-use Rattle.kc_tree.specs.declared.parts.ChoiceDefault.{ChoiceDefault}
-use Rattle.kc_tree.specs.declared.parts.ChoiceId.{ChoiceId}
-use Rattle.kc_tree.specs.declared.parts.Definition.{Definition}
-use Rattle.kc_tree.specs.declared.parts.DefinitionId.{DefinitionId}
-use Rattle.kc_tree.specs.declared.parts.Prompt.{Prompt}
-use Rattle.kc_tree.specs.declared.parts.Reverse.{Reverse}
-use Rattle.kc_tree.specs.declared.parts.ReverseId.{ReverseId}
-use Rattle.kc_tree.specs.declared.parts.Symbol.{Symbol}
-use Rattle.kc_tree.specs.declared.parts.SymbolDefault.{SymbolDefault}
-use Rattle.kc_tree.specs.declared.parts.SymbolRange.{SymbolRange}
+use Rattle.kc_tree.specs.declared.rows.Choice.{Choice}
+use Rattle.kc_tree.specs.declared.rows.ChoiceDefault.{ChoiceDefault}
+use Rattle.kc_tree.specs.declared.rows.ChoiceId.{ChoiceId}
+use Rattle.kc_tree.specs.declared.rows.Definition.{Definition}
+use Rattle.kc_tree.specs.declared.rows.DefinitionId.{DefinitionId}
+use Rattle.kc_tree.specs.declared.rows.Prompt.{Prompt}
+use Rattle.kc_tree.specs.declared.rows.Reverse.{Reverse}
+use Rattle.kc_tree.specs.declared.rows.ReverseId.{ReverseId}
+use Rattle.kc_tree.specs.declared.rows.Symbol.{Symbol}
+use Rattle.kc_tree.specs.declared.rows.SymbolDefault.{SymbolDefault}
+use Rattle.kc_tree.specs.declared.rows.SymbolRange.{SymbolRange}
 use Rattle.kc_values.specs.Lookups.{choice_at, facts}
 use Rattle.kc_values.specs.NeedRows as rows
 use Rattle.kc_values.specs.Needs as spec
@@ -49,10 +50,6 @@ some_length (x ∷ xs) = lt-ltb 0 (suc (length xs)) (omega arith)
 any_where : {X : Type 0} (p : ℕ → Bool) (xs : List X) (ns : List ℕ) → list_any p (rows.where_some xs ns) ≡ (has_some xs && list_any p ns)
 any_where p [] ns = refl
 any_where p (x ∷ xs) ns = refl
-
-passes_mapped : {X Y : Type 0} (p : Y → Bool) (f : X → Y) (o : Option X) → passes p (option_map f o) ≡ passes (λ x. p (f x)) o
-passes_mapped p f None = refl
-passes_mapped p f (Some x) = refl
 
 -- what is found, seen by a function
 one_mapped : {Y Z : Type 0} (f : Y → Z) (o : Option Y) (zs : List Z) (ys : List Y) → zs ≡ map f ys → cons_option (option_map f o) zs ≡ map f (cons_option o ys)
@@ -238,7 +235,7 @@ module _ (tree : TreeFacts) (l : Layout) (v : ℕ) (st : ℕ → Bool) (bound : 
     entry_needs = prompt_needs d.within.0 d.prompt within prompt
 
     definition_needs : (kind : Kind) → (known (rows.definition_nodes l kind d) || names tree l v (rows.definition_names l kind d)) ≡
-        ((rows.is_truth kind && asks tree l v (definition_facts l.tables d).dep)
+        ((rows.is_truth kind && asks tree l v (definition_facts l.tables d).dependency)
         || ((passes (asks tree l v) (definition_facts l.tables d).prompt || names tree l v (spec.guarded_names tree symbols (definition_facts l.tables d).defaults))
         || (rows.is_number kind && names tree l v (spec.guarded_names tree spec.bounds_names (definition_facts l.tables d).ranges))))
     definition_needs kind =
@@ -285,7 +282,7 @@ module _ (tree : TreeFacts) (l : Layout) (v : ℕ) (st : ℕ → Bool)
   prompt_of d = passes (asks tree l v) (definition_facts l.tables d).prompt
 
   abbrev dep_of : Definition → Bool
-  dep_of d = asks tree l v (definition_facts l.tables d).dep
+  dep_of d = asks tree l v (definition_facts l.tables d).dependency
 
   abbrev defaults_of : Definition → Bool
   defaults_of d = names tree l v (spec.guarded_names tree symbols (definition_facts l.tables d).defaults)
@@ -305,13 +302,13 @@ module _ (tree : TreeFacts) (l : Layout) (v : ℕ) (st : ℕ → Bool)
       ∙ any_map (λ d. passes (asks tree l v) d.prompt) (definition_facts l.tables) (rows.definitions_of l ids)
 
   deps_seen : (ids : List DefinitionId) →
-      names tree l v (flat_map (spec.condition_names tree) (map (λ (d : DefinitionFacts). d.dep) (filter_map (laid.definition_at l.tables) ids))) ≡ list_any dep_of (rows.definitions_of l ids)
+      names tree l v (flat_map (spec.condition_names tree) (map (λ (d : DefinitionFacts). d.dependency) (filter_map (laid.definition_at l.tables) ids))) ≡ list_any dep_of (rows.definitions_of l ids)
   deps_seen ids =
-      let dep : DefinitionFacts → Condition = λ d. d.dep in
-      ap (λ fs. names tree l v (flat_map (spec.condition_names tree) (map dep fs))) (facts_list ids)
-      ∙ any_flat (hit tree l v) (spec.condition_names tree) (map dep (map (definition_facts l.tables) (rows.definitions_of l ids)))
-      ∙ any_map (asks tree l v) dep (map (definition_facts l.tables) (rows.definitions_of l ids))
-      ∙ any_map (λ d. asks tree l v d.dep) (definition_facts l.tables) (rows.definitions_of l ids)
+      let dependency : DefinitionFacts → Condition = λ d. d.dependency in
+      ap (λ fs. names tree l v (flat_map (spec.condition_names tree) (map dependency fs))) (facts_list ids)
+      ∙ any_flat (hit tree l v) (spec.condition_names tree) (map dependency (map (definition_facts l.tables) (rows.definitions_of l ids)))
+      ∙ any_map (asks tree l v) dependency (map (definition_facts l.tables) (rows.definitions_of l ids))
+      ∙ any_map (λ d. asks tree l v d.dependency) (definition_facts l.tables) (rows.definitions_of l ids)
 
   -- things that each definition has several of
   several : {X : Type 0} (what : X → List SymId) (of : DefinitionFacts → List (Guarded X)) (ids : List DefinitionId) →
@@ -362,7 +359,7 @@ module _ (tree : TreeFacts) (l : Layout) (v : ℕ) (st : ℕ → Bool)
 
   source_needs : (r : Reverse) (o : Option Definition) → rows.definition_at l r.source ≡ o →
       (list_any st (rows.source_nodes l o) || names tree l v (rows.source_names l r o)) ≡
-      passes line (option_map (λ (d : DefinitionFacts). record { what = d.symbol; when = with_when d.dep (when_view r.when) }) (option_map (definition_facts l.tables) o))
+      passes line (option_map (λ (d : DefinitionFacts). record { what = d.symbol; when = with_when d.dependency (when_view r.when) }) (option_map (definition_facts l.tables) o))
   source_needs r None e = refl
   source_needs r (Some d) e =
       let w = names tree l v (rows.when_names (when_view r.when)) in
@@ -450,29 +447,29 @@ module _ (tree : TreeFacts) (l : Layout) (v : ℕ) (st : ℕ → Bool)
         let sw = rows.reverses_names l (rows.last_select l i) in
         let iw = rows.reverses_names l (rows.last_imply l i) in
         let kw = spec.kind_names tree s.kind in
-        let deps = flat_map (spec.condition_names tree) f.deps in
+        let dependencies = flat_map (spec.condition_names tree) f.dependencies in
         let sel = spec.guarded_names tree spec.one_name f.selectors in
         let imp = spec.guarded_names tree spec.one_name f.impliers in
         let nodes : list_any st (rows.truth_nodes l i s) ≡ ((list_any st dn || list_any st sn) || list_any st in') =
         list_any-append st (dn ++ sn) in' ∙ ap (λ b. b || list_any st in') (list_any-append st dn sn) in
         let own : name (rows.truth_names tree l i s) ≡ (((name dw || name sw) || name iw) || name kw) =
         name_both ((dw ++ sw) ++ iw) kw ∙ ap (λ b. b || name kw) (name_both (dw ++ sw) iw ∙ ap (λ b. b || name iw) (name_both dw sw)) in
-        let seen : name (spec.names_of_truth tree f) ≡ (name (spec.names_of_all tree f) || (name deps || (name sel || (name imp || name kw)))) =
-        name_both (spec.names_of_all tree f) (deps ++ (sel ++ (imp ++ kw)))
+        let seen : name (spec.names_of_truth tree f) ≡ (name (spec.names_of_all tree f) || (name dependencies || (name sel || (name imp || name kw)))) =
+        name_both (spec.names_of_all tree f) (dependencies ++ (sel ++ (imp ++ kw)))
         ∙ ap (λ b. name (spec.names_of_all tree f) || b)
-        (name_both deps (sel ++ (imp ++ kw)) ∙ ap (λ b. name deps || b) (name_both sel (imp ++ kw) ∙ ap (λ b. name sel || b) (name_both imp kw))) in
+        (name_both dependencies (sel ++ (imp ++ kw)) ∙ ap (λ b. name dependencies || b) (name_both sel (imp ++ kw) ∙ ap (λ b. name sel || b) (name_both imp kw))) in
         close (rows.is_truth s.kind) (rows.is_number s.kind) (list_any dep_of (rows.definitions_of l (definition_ids s))) (list_any prompt_of (rows.definitions_of l (definition_ids s)))
         (list_any defaults_of (rows.definitions_of l (definition_ids s))) (list_any ranges_of (rows.definitions_of l (definition_ids s)))
-        (list_any st dn) (list_any st sn) (list_any st in') (name dw) (name sw) (name iw) (name kw) (name (spec.names_of_all tree f)) (name deps) (name sel) (name imp)
+        (list_any st dn) (list_any st sn) (list_any st in') (name dw) (name sw) (name iw) (name kw) (name (spec.names_of_all tree f)) (name dependencies) (name sel) (name imp)
         (list_any st (rows.truth_nodes l i s)) (name (rows.truth_names tree l i s)) (name (spec.names_of_truth tree f))
         t n nodes own seen (definitions_needs s.kind (definition_ids s)) common_seen (deps_seen (definition_ids s))
         (reverses_needs (rows.last_select l i) ∙ sym (guarded_reverse spec.one_name (reverses_from l.tables (rows.last_select l i))))
         (reverses_needs (rows.last_imply l i) ∙ sym (guarded_reverse spec.one_name (reverses_from l.tables (rows.last_imply l i))))
       where
-        close : (t n de p df r dn sn in' dw sw iw kw all deps sel imp ns ow want : Bool) → t ≡ true → n ≡ false → ns ≡ ((dn || sn) || in') → ow ≡ (((dw || sw) || iw) || kw) →
-            want ≡ (all || (deps || (sel || (imp || kw)))) → (dn || dw) ≡ ((t && de) || ((p || df) || (n && r))) → all ≡ (p || df) → deps ≡ de →
+        close : (t n de p df r dn sn in' dw sw iw kw all dependencies sel imp ns ow want : Bool) → t ≡ true → n ≡ false → ns ≡ ((dn || sn) || in') → ow ≡ (((dw || sw) || iw) || kw) →
+            want ≡ (all || (dependencies || (sel || (imp || kw)))) → (dn || dw) ≡ ((t && de) || ((p || df) || (n && r))) → all ≡ (p || df) → dependencies ≡ de →
             (sn || sw) ≡ sel → (in' || iw) ≡ imp → (ns || ow) ≡ want
-        close t n de p df r dn sn in' dw sw iw kw all deps sel imp ns ow want e1 e2 e3 e4 e5 e6 e7 e8 e9 e10 = grind arith
+        close t n de p df r dn sn in' dw sw iw kw all dependencies sel imp ns ow want e1 e2 e3 e4 e5 e6 e7 e8 e9 e10 = grind arith
 
     by_kind_needs : (kind : Kind) → s.kind ≡ kind →
         (list_any st (rows.nodes_by_kind l i s kind) || name (rows.names_by_kind tree l i s kind)) ≡ name (spec.names_by_kind tree (facts_of l i s) kind)
@@ -519,7 +516,7 @@ module _ (tree : TreeFacts) (l : Layout) (v : ℕ) (st : ℕ → Bool)
     pub choice_needs : (k : ℕ) (c : Choice) → slice_get l.tables.choices.items k ≡ Some c →
         (list_any st (rows.choice_nodes l c) || name (rows.choice_names l c)) ≡ name (spec.names_of_choice tree (Some (choice_facts l.tables c)))
     choice_needs k c e =
-        let dep = condition_in l.tables.contexts c.within.0 in
+        let dependency = condition_in l.tables.contexts c.within.0 in
         let within = l.tables.choices_within k c e in
         let below : IsBelow tree l v st (length l.tables.contexts) at c.prompt = λ p h. (l.tables.choice_prompts_within k c p e h, l.tables.choice_prompts_plain k c p e h) in
         let mn = rows.members_nodes l c.members.items in
@@ -535,12 +532,12 @@ module _ (tree : TreeFacts) (l : Layout) (v : ℕ) (st : ℕ → Bool)
         list_any-append st (mn ++ pn) dn ∙ ap (λ b. b || list_any st dn) (list_any-append st mn pn) in
         let own : name (rows.choice_names l c) ≡ ((name mw || name pw) || name dw) = name_both (mw ++ pw) dw ∙ ap (λ b. b || name dw) (name_both mw pw) in
         let seen : name (spec.names_of_choice tree (Some (choice_facts l.tables c))) ≡ (name m || (name p || name d)) = name_both m (p ++ d) ∙ ap (λ b. name m || b) (name_both p d) in
-        let defaults : list_any st dn ≡ (has_some c.defaults.items && asks tree l v dep) =
+        let defaults : list_any st dn ≡ (has_some c.defaults.items && asks tree l v dependency) =
         any_where st c.defaults.items (rows.context_nodes l c.within.0) ∙ ap (λ b. has_some c.defaults.items && b) (at c.within.0 within) in
-        close (list_any st mn) (list_any st pn) (list_any st dn) (name mw) (name pw) (name dw) (name m) (name p) (name d) (has_some c.defaults.items && asks tree l v dep)
+        close (list_any st mn) (list_any st pn) (list_any st dn) (name mw) (name pw) (name dw) (name m) (name p) (name d) (has_some c.defaults.items && asks tree l v dependency)
         (list_any st (rows.choice_nodes l c)) (name (rows.choice_names l c)) (name (spec.names_of_choice tree (Some (choice_facts l.tables c))))
         nodes own seen (members_needs c.members.items) (choice_prompt_needs tree l v st (length l.tables.contexts) at c.within.0 c.prompt within (l.tables.choices_plain k c e) below)
-        defaults (choice_defaults_names tree l v dep c.defaults.items)
+        defaults (choice_defaults_names tree l v dependency c.defaults.items)
       where
         close : (mn pn dn mw pw dw m p d h ns ow want : Bool) → ns ≡ ((mn || pn) || dn) → ow ≡ ((mw || pw) || dw) → want ≡ (m || (p || d)) → (mn || mw) ≡ m →
             (pn || pw) ≡ p → dn ≡ h → d ≡ (h || dw) →

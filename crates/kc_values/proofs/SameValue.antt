@@ -8,10 +8,10 @@ use Rattle.kc_expr.specs.declared.expression.Tri.{Tri}
 use Rattle.kc_expr.specs.declared.expression.Tri.TheVariants.{N, M, Y}
 use Rattle.kc_expr.specs.declared.expression.Kind.{Kind}
 use Rattle.kc_expr.specs.declared.expression.Kind.TheVariants.{Undefined, Bool as IsBool, Tristate, Str, Int, Hex}
-use Rattle.kc_expr.specs.Value.{Known, Truth, Written}
+use Rattle.kc_expr.specs.Value.{SymbolValue, Truth, TextValue}
 use Rattle.kc_tree.specs.TreeFacts.{SymbolFacts, TreeFacts}
 use Rattle.kc_values.specs.Values as v
-use Rattle.kc_user.specs.Given.{Given}
+use Rattle.kc_user.specs.GivenValue.{GivenValue}
 use Rattle.kc_values.specs.Differs.{same_tri, same_value}
 
 pub same_tri-true : (t u : Tri) → same_tri t u ≡ true → t ≡ u
@@ -34,18 +34,18 @@ same_text_itself : (t : List ℕ) → pointwise nat_eq t t ≡ true
 same_text_itself [] = refl
 same_text_itself (b ∷ t) = and_from (nat_eq b b) (pointwise nat_eq t t) (eq-eqb b b refl) (same_text_itself t)
 
-pub same_value_itself : (x : Known) → same_value x x ≡ true
+pub same_value_itself : (x : SymbolValue) → same_value x x ≡ true
 same_value_itself (Truth t) = same_tri_itself t
-same_value_itself (Written k t) = same_text_itself t
+same_value_itself (TextValue k t) = same_text_itself t
 
 same_truth : (t u : Tri) → same_value (Truth t) (Truth u) ≡ true → Truth t ≡ Truth u
 same_truth t u e = ap Truth (same_tri-true t u e)
 
-same_written : (k : Kind) (t u : List ℕ) → same_value (Written k t) (Written k u) ≡ true → Written k t ≡ Written k u
-same_written k t u e = ap (Written k) (same_text t u (sym e))
+same_written : (k : Kind) (t u : List ℕ) → same_value (TextValue k t) (TextValue k u) ≡ true → TextValue k t ≡ TextValue k u
+same_written k t u e = ap (TextValue k) (same_text t u (sym e))
 
-module _ (tree : TreeFacts) (known : SymId → Known) where
-  same_by_kind : (s : SymId) (f : SymbolFacts) (kind : Kind) (user other : Option Given) →
+module _ (tree : TreeFacts) (known : SymId → SymbolValue) where
+  same_by_kind : (s : SymId) (f : SymbolFacts) (kind : Kind) (user other : Option GivenValue) →
       same_value (v.by_kind tree known s f kind user) (v.by_kind tree known s f kind other) ≡ true → v.by_kind tree known s f kind user ≡ v.by_kind tree known s f kind other
   same_by_kind s f Undefined user other e = refl
   same_by_kind s f IsBool user other e = same_truth _ _ e
@@ -54,13 +54,13 @@ module _ (tree : TreeFacts) (known : SymId → Known) where
   same_by_kind s f Int user other e = same_written Int _ _ e
   same_by_kind s f Hex user other e = same_written Hex _ _ e
 
-  same_by_choice : (s : SymId) (f : SymbolFacts) (c : Option ℕ) (user other : Option Given) →
+  same_by_choice : (s : SymId) (f : SymbolFacts) (c : Option ℕ) (user other : Option GivenValue) →
       same_value (v.by_choice tree known s f c user) (v.by_choice tree known s f c other) ≡ true → v.by_choice tree known s f c user ≡ v.by_choice tree known s f c other
   same_by_choice s f None user other e = same_by_kind s f f.kind user other e
   same_by_choice s f (Some c) user other e = same_truth _ _ e
 
   -- an equation's values under two places
-  pub same_again : (s : SymId) (f : Option SymbolFacts) (user other : Option Given) → same_value (v.equation tree known s f user) (v.equation tree known s f other) ≡ true →
+  pub same_again : (s : SymId) (f : Option SymbolFacts) (user other : Option GivenValue) → same_value (v.equation tree known s f user) (v.equation tree known s f other) ≡ true →
       v.equation tree known s f user ≡ v.equation tree known s f other
   same_again s None user other e = refl
   same_again s (Some f) user other e = same_by_choice s f f.choice user other e

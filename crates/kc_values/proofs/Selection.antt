@@ -4,11 +4,11 @@ use Rattle.std.specs.List.{Contains, find, list_any}
 use Rattle.std.proofs.lemmas.Bool.{and_parts, and_from}
 use Rattle.std.proofs.lemmas.List.Folds.{list_any_at}
 use Rattle.kc_expr.specs.declared.expression.SymId.{SymId}
-use Rattle.kc_expr.specs.Value.{Known}
+use Rattle.kc_expr.specs.Value.{SymbolValue}
 use Rattle.std.specs.Option.{option_or}
 use Rattle.kc_tree.specs.TreeFacts.{Guarded, ChoiceFacts, TreeFacts}
 use Rattle.kc_values.specs.Values as v
-use Rattle.kc_user.specs.Given.{Given, Chosen, Typed, Member}
+use Rattle.kc_user.specs.GivenValue.{GivenValue, GivenTruth, GivenText, Member}
 use Rattle.kc_tree.specs.Words.{same_symbol}
 use Rattle.kc_values.specs.Values.{is_n}
 use Rattle.kc_values.proofs.Same.{same_symbol_itself}
@@ -26,7 +26,7 @@ found p (x ∷ xs) y e = found_at p (p x) x y xs refl (found p xs y) e
 pub in_list : (m : SymId) (ms : List SymId) → Contains ms m → list_any (same_symbol m) ms ≡ true
 in_list m ms c = list_any_at (same_symbol m) ms c.0 m c.1 (ap (same_symbol m) c.2 ∙ same_symbol_itself m)
 
-module _ (tree : TreeFacts) (k : SymId → Known) where
+module _ (tree : TreeFacts) (k : SymId → SymbolValue) where
   either_some : (a b : Option SymId) (m : SymId) → option_or a b ≡ Some m → (a ≡ Some m) ⊎ (b ≡ Some m)
   either_some None b m e = inr e
   either_some (Some x) b m e = inl e
@@ -43,10 +43,10 @@ module _ (tree : TreeFacts) (k : SymId → Known) where
   chosen_if true x m e = (refl, cc)
   chosen_if false x m e = cc
 
-  chosen_visible : (c : ChoiceFacts) (user : Option Given) (m : SymId) → v.chosen_member tree k c user ≡ Some m → v.visible_member tree k c m ≡ true
+  chosen_visible : (c : ChoiceFacts) (user : Option GivenValue) (m : SymId) → v.chosen_member tree k c user ≡ Some m → v.visible_member tree k c m ≡ true
   chosen_visible c None m e = cc
-  chosen_visible c (Some (Chosen t)) m e = cc
-  chosen_visible c (Some (Typed t)) m e = cc
+  chosen_visible c (Some (GivenTruth t)) m e = cc
+  chosen_visible c (Some (GivenText t)) m e = cc
   chosen_visible c (Some (Member x)) m e = let h = chosen_if (v.visible_member tree k c x) x m e in sym (ap (v.visible_member tree k c) h.1) ∙ h.0
 
   what_some : (o : Option (Guarded SymId)) (m : SymId) → v.what_of o ≡ Some m → (g : Guarded SymId) × (o ≡ Some g) × (g.what ≡ m)
@@ -67,7 +67,7 @@ module _ (tree : TreeFacts) (k : SymId → Known) where
       ]
 
   -- what is selected is a visible member
-  pub selected_visible : (c : ChoiceFacts) (user : Option Given) (m : SymId) → v.selected tree k (Some c) user ≡ Some m → v.visible_member tree k c m ≡ true
+  pub selected_visible : (c : ChoiceFacts) (user : Option GivenValue) (m : SymId) → v.selected tree k (Some c) user ≡ Some m → v.visible_member tree k c m ≡ true
   selected_visible c user m e =
       let h = unlock (is_n (v.mode_of k (Some c))) _ m e in
       elim (either_some (v.chosen_member tree k c user) (v.unselected tree k c) m h.1) [
@@ -76,7 +76,7 @@ module _ (tree : TreeFacts) (k : SymId → Known) where
       ]
 
   -- what is selected is selected again where it is the user's
-  pub selected_again : (o : Option ChoiceFacts) (user : Option Given) (m : SymId) → v.selected tree k o user ≡ Some m → v.selected tree k o (Some (Member m)) ≡ Some m
+  pub selected_again : (o : Option ChoiceFacts) (user : Option GivenValue) (m : SymId) → v.selected tree k o user ≡ Some m → v.selected tree k o (Some (Member m)) ≡ Some m
   selected_again None user m e = e
   selected_again (Some c) user m e =
       let h = unlock (is_n (v.mode_of k (Some c))) _ m e in
@@ -89,14 +89,14 @@ module _ (tree : TreeFacts) (k : SymId → Known) where
   locked false x y h e = h e
 
   -- where nothing is selected, nothing is without the user's
-  pub none_selected : (o : Option ChoiceFacts) (user : Option Given) → v.selected tree k o user ≡ None → v.selected tree k o None ≡ None
+  pub none_selected : (o : Option ChoiceFacts) (user : Option GivenValue) → v.selected tree k o user ≡ None → v.selected tree k o None ≡ None
   none_selected None user e = e
   none_selected (Some c) user e =
       locked (is_n (v.mode_of k (Some c))) (option_or (v.chosen_member tree k c user) (v.unselected tree k c)) (v.unselected tree k c)
       (neither (v.chosen_member tree k c user) (v.unselected tree k c)) e
 
   -- what is selected is a member of a choice that is there
-  pub selected_member : (o : Option ChoiceFacts) (user : Option Given) (m : SymId) → v.selected tree k o user ≡ Some m → (c : ChoiceFacts) × (o ≡ Some c) × Contains c.members m
+  pub selected_member : (o : Option ChoiceFacts) (user : Option GivenValue) (m : SymId) → v.selected tree k o user ≡ Some m → (c : ChoiceFacts) × (o ≡ Some c) × Contains c.members m
   selected_member None user m e = cc
   selected_member (Some c) user m e =
       let s = selected_visible c user m e in

@@ -7,7 +7,7 @@ use Rattle.std.proofs.lemmas.Bool.{and_parts, ltb-true}
 use Rattle.kc_text.specs.Numbers.{natural_of, is_numeral, negated, without_hex_prefix}
 use Rattle.kc_expr.specs.declared.expression.Kind.{Kind}
 use Rattle.kc_expr.specs.declared.expression.Kind.TheVariants.{Undefined, Bool as IsBool, Tristate, Str, Int, Hex}
-use Rattle.kc_values.specs.Numbers.{counted}
+use Rattle.kc_values.specs.Numbers.{number_or_zero}
 
 below_if : (b : Bool) (n limit : ℕ) → 0 < limit → (b ≡ true → n < limit) → unwrap_or (cond b (Some n) None) 0 < limit
 below_if true n limit l h = h refl
@@ -39,13 +39,13 @@ int_below false text =
     let e = of_pos (natural_of 10 (2 ^ 63) text) in
     omega (arith, l, e)
 
-pub counted_below : (kind : Kind) (text : List ℕ) → unsigned_abs (counted kind text) < 2 ^ 64
-counted_below Int text = int_below (starts_with_minus text) text
-counted_below Hex text =
+pub number_or_zero_below : (kind : Kind) (text : List ℕ) → unsigned_abs (number_or_zero kind text) < 2 ^ 64
+number_or_zero_below Int text = int_below (starts_with_minus text) text
+number_or_zero_below Hex text =
     let l = natural_below 16 (2 ^ 64) (without_hex_prefix text) (omega arith) in
     let e = of_pos (natural_of 16 (2 ^ 64) (without_hex_prefix text)) in
     omega (arith, l, e)
-counted_below Undefined text = omega arith
-counted_below IsBool text = omega arith
-counted_below Tristate text = omega arith
-counted_below Str text = omega arith
+number_or_zero_below Undefined text = omega arith
+number_or_zero_below IsBool text = omega arith
+number_or_zero_below Tristate text = omega arith
+number_or_zero_below Str text = omega arith

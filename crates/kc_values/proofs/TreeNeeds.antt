@@ -7,11 +7,11 @@ use Rattle.std.proofs.lemmas.List.{get_or_past}
 use Rattle.std.proofs.lemmas.Option.{slice_get_past}
 use Rattle.kc_expr.specs.Value.{DependsOnSymbols}
 use Rattle.kc_expr.specs.declared.expression.SymId.{SymId}
-use Rattle.kc_order.specs.Needs.{needs_in, AreWithin, NeedsBelow, NothingStuck, IsAccepted}
+use Rattle.kc_order.specs.Needs.{needs_in, AreWithin, NeedsBelow, NothingUnordered, IsAccepted}
 use Rattle.kc_order.specs.Solution.{ReadsNeeds}
 use Rattle.kc_tree.specs.TreeFacts.{TreeFacts}
 use Rattle.kc_values.specs.Lookups.{is_defined}
-use Rattle.kc_user.specs.Given.{Slot, Given}
+use Rattle.kc_user.specs.GivenValue.{UserPlace, GivenValue}
 use Rattle.kc_values.specs.Solution.{symbol_count, equations}
 use Rattle.kc_tree.specs.Words.{same_symbol}
 use Rattle.kc_values.specs.Needs.{needs, needs_of, names_of, defined_numbers}
@@ -56,10 +56,10 @@ needs_within tree s t l c =
 pub below_count : (tree : TreeFacts) → AreWithin (needs tree) → NeedsBelow (symbol_count tree) (needs_in (needs tree))
 below_count tree within = subst (λ n. NeedsBelow n (needs_in (needs tree))) (needs_length tree) within
 
-pub free_count : (tree : TreeFacts) → IsAccepted (needs tree) → NothingStuck (symbol_count tree) (needs_in (needs tree))
-free_count tree free = subst (λ n. NothingStuck n (needs_in (needs tree))) (needs_length tree) free
+pub free_count : (tree : TreeFacts) → IsAccepted (needs tree) → NothingUnordered (symbol_count tree) (needs_in (needs tree))
+free_count tree free = subst (λ n. NothingUnordered n (needs_in (needs tree))) (needs_length tree) free
 
-pub reads_rows : DependsOnSymbols → (tree : TreeFacts) (user : Slot → Option Given) → ReadsNeeds (needs_in (needs tree)) (equations tree user)
+pub reads_rows : DependsOnSymbols → (tree : TreeFacts) (user : UserPlace → Option GivenValue) → ReadsNeeds (needs_in (needs tree)) (equations tree user)
 reads_rows law tree user s V W h =
     reads_needs law tree user s V W (λ t c. h t (subst (λ row. Contains row t) (sym (needs_at tree s)) c))
 

@@ -8,12 +8,12 @@ use Rattle.kc_expr.specs.declared.expression.Kind.{Kind}
 use Rattle.kc_expr.specs.declared.expression.Kind.TheVariants.{Bool as IsBool}
 use Rattle.kc_expr.specs.Form.{Form, Leaf, Single, Text, Symbol}
 use Rattle.kc_expr.specs.Names.{symbol}
-use Rattle.kc_expr.specs.Value.{Known, Truth}
+use Rattle.kc_expr.specs.Value.{SymbolValue, Truth}
 use Rattle.kc_tree.specs.TreeFacts.{Condition, Guarded, Bounds, SymbolFacts, ChoiceFacts, TreeFacts}
-use Rattle.kc_user.specs.Given.{Given, Member, Slot, At, In}
+use Rattle.kc_user.specs.GivenValue.{GivenValue, Member, UserPlace, SymbolPlace, ChoicePlace}
 use Rattle.kc_values.specs.Needs.{needs}
-use Rattle.kc_values.specs.Solution.{equations, seen}
-use Rattle.kc_values.specs.Written.{written}
+use Rattle.kc_values.specs.Solution.{equations, known_from}
+use Rattle.kc_values.specs.WrittenSymbols.{written}
 use Rattle.kc_values.specs.Differs.{differs}
 use Rattle.kc_values.specs.Warnings.{value_warnings}
 
@@ -44,39 +44,39 @@ by i = line (symbol i)
 
 -- of a type, with prompts and defaults
 abbrev pub plain : Kind → List Condition → List (Guarded Form) → SymbolFacts
-plain k ps ds = record { kind = k; choice = None; deps = always ∷ []; prompts = ps; defaults = ds; ranges = []; selectors = []; impliers = [] }
+plain k ps ds = record { kind = k; choice = None; dependencies = always ∷ []; prompts = ps; defaults = ds; ranges = []; selectors = []; impliers = [] }
 
 abbrev pub member : List Condition → SymbolFacts
-member ps = record { kind = IsBool; choice = Some 0; deps = in_choice [] ∷ []; prompts = ps; defaults = []; ranges = []; selectors = []; impliers = [] }
+member ps = record { kind = IsBool; choice = Some 0; dependencies = in_choice [] ∷ []; prompts = ps; defaults = []; ranges = []; selectors = []; impliers = [] }
 
 abbrev pub tree : List (List ℕ) → List SymbolFacts → List ChoiceFacts → Option SymId → TreeFacts
 tree ns ss cs m = record { names = ns; symbols = ss; choices = cs; entries = []; warnings = []; main_menu = []; modules = m }
 
 -- nothing was given
-abbrev pub nothing : Slot → Option Given
+abbrev pub nothing : UserPlace → Option GivenValue
 nothing p = None
 
-abbrev pub at_place : List (Option Given) → Slot → Option Given
-at_place given (At i) = slice_index_or given i None
-at_place given (In c) = None
+abbrev pub at_place : List (Option GivenValue) → UserPlace → Option GivenValue
+at_place given (SymbolPlace i) = slice_index_or given i None
+at_place given (ChoicePlace c) = None
 
-abbrev pub in_first : SymId → Slot → Option Given
-in_first m (At i) = None
-in_first m (In c) = Some (Member m)
+abbrev pub in_first : SymId → UserPlace → Option GivenValue
+in_first m (SymbolPlace i) = None
+in_first m (ChoicePlace c) = Some (Member m)
 
-module _ (t : TreeFacts) (user : Slot → Option Given) (values : List Known) where
-  abbrev pub V : ℕ → Known
+module _ (t : TreeFacts) (user : UserPlace → Option GivenValue) (values : List SymbolValue) where
+  abbrev pub V : ℕ → SymbolValue
   V i = slice_index_or values i (Truth N)
 
   abbrev pub All : List ℕ
   All = range_with_len 0 (length values)
 
   -- what the equations give under the values: the values, where they solve
-  abbrev pub given_by : List Known
+  abbrev pub given_by : List SymbolValue
   given_by = map (λ i. equations t user i V) All
 
   abbrev pub written_now : List Bool
-  written_now = map (λ i. written t (seen t V) (symbol i)) All
+  written_now = map (λ i. written t (known_from t V) (symbol i)) All
 
   abbrev pub differing : List Bool
   differing = map (differs t user V) All

@@ -7,7 +7,7 @@ use Rattle.kc_expr.specs.declared.expression.Tri.{Tri}
 use Rattle.kc_expr.specs.declared.expression.Tri.TheVariants.{N, M, Y}
 use Rattle.kc_expr.specs.contracts.expression.Tri as tri
 use Rattle.kc_expr.specs.Value.{lesser, greater, least, greatest}
-use Rattle.kc_values.specs.Settled.{rank}
+use Rattle.kc_values.specs.Computed.{rank}
 
 -- two truths are the same in one way at most
 pub one_way : (a b : Tri) → IsProp (a ≡ b)

@@ -4,22 +4,24 @@ use Rattle.std.proofs.lemmas.Bool.{true≢false}
 use Rattle.kc_expr.specs.declared.expression.Tri.{Tri}
 use Rattle.kc_expr.specs.declared.expression.Tri.TheVariants.{N, M, Y}
 use Rattle.kc_expr.specs.Value.{lesser, greater}
-use Rattle.kc_values.specs.Values.{is_n, up}
-use Rattle.kc_values.specs.Written.{above}
+use Rattle.kc_values.specs.Values.{is_n, upgrade}
+use Rattle.kc_values.specs.WrittenSymbols.{above}
 
--- m as y, under a test
-abbrev pub raise : Bool → Tri → Tri
-raise b t = cond b (up t) t
+-- the tristate upgrade, under a test
+abbrev pub upgrade_if : Bool → Tri → Tri
+upgrade_if b t = cond b (upgrade t) t
 
 abbrev pub base_of : Tri → Tri → Tri → Tri
 base_of u vis otherwise = cond (is_n vis) otherwise (lesser u vis)
 
 abbrev pub outcome : Bool → Tri → Tri → Tri
-outcome b base rev = raise b (greater base (raise b rev))
+outcome b base reverse = upgrade_if b (greater base (upgrade_if b reverse))
 
 -- either the user's is not read, or the value as the user's gives it again
-pub line_fixed : (b : Bool) (u vis rev o : Tri) →
-    (outcome b (base_of u (raise b vis) o) rev ≡ outcome b o rev) ⊎ (outcome b (base_of (outcome b (base_of u (raise b vis) o) rev) (raise b vis) o) rev ≡ outcome b (base_of u (raise b vis) o) rev)
+pub line_fixed : (b : Bool) (u vis reverse o : Tri) →
+    (outcome b (base_of u (upgrade_if b vis) o) reverse ≡ outcome b o reverse) ⊎
+    (outcome b (base_of (outcome b (base_of u (upgrade_if b vis) o) reverse) (upgrade_if b vis) o) reverse ≡ outcome b (base_of u (upgrade_if b vis) o)
+    reverse)
 line_fixed true N N N o = inl refl
 line_fixed true N N M o = inl refl
 line_fixed true N N Y o = inl refl
@@ -76,62 +78,62 @@ line_fixed false Y Y M o = inr refl
 line_fixed false Y Y Y o = inr refl
 
 -- where it is visible, the value of any base gives itself again unless it is over both
-pub line_settles : (b : Bool) (base vis rev o : Tri) → is_n (raise b vis) ≡ false →
-    ((outcome b base rev ≡ outcome b (base_of (outcome b base rev) (raise b vis) o) rev) ×
-    ((not b && (above (outcome b base rev) (raise b vis) && above (outcome b base rev) (raise b rev))) ≡ false)) ⊎
-    (((outcome b base rev ≡ outcome b (base_of (outcome b base rev) (raise b vis) o) rev) → ⊥) ×
-    ((not b && (above (outcome b base rev) (raise b vis) && above (outcome b base rev) (raise b rev))) ≡ true))
-line_settles true N N N o e = absurd (true≢false e)
-line_settles true N N M o e = absurd (true≢false e)
-line_settles true N N Y o e = absurd (true≢false e)
-line_settles true N M N o e = inl (refl, refl)
-line_settles true N M M o e = inl (refl, refl)
-line_settles true N M Y o e = inl (refl, refl)
-line_settles true N Y N o e = inl (refl, refl)
-line_settles true N Y M o e = inl (refl, refl)
-line_settles true N Y Y o e = inl (refl, refl)
-line_settles true M N N o e = absurd (true≢false e)
-line_settles true M N M o e = absurd (true≢false e)
-line_settles true M N Y o e = absurd (true≢false e)
-line_settles true M M N o e = inl (refl, refl)
-line_settles true M M M o e = inl (refl, refl)
-line_settles true M M Y o e = inl (refl, refl)
-line_settles true M Y N o e = inl (refl, refl)
-line_settles true M Y M o e = inl (refl, refl)
-line_settles true M Y Y o e = inl (refl, refl)
-line_settles true Y N N o e = absurd (true≢false e)
-line_settles true Y N M o e = absurd (true≢false e)
-line_settles true Y N Y o e = absurd (true≢false e)
-line_settles true Y M N o e = inl (refl, refl)
-line_settles true Y M M o e = inl (refl, refl)
-line_settles true Y M Y o e = inl (refl, refl)
-line_settles true Y Y N o e = inl (refl, refl)
-line_settles true Y Y M o e = inl (refl, refl)
-line_settles true Y Y Y o e = inl (refl, refl)
-line_settles false N N N o e = absurd (true≢false e)
-line_settles false N N M o e = absurd (true≢false e)
-line_settles false N N Y o e = absurd (true≢false e)
-line_settles false N M N o e = inl (refl, refl)
-line_settles false N M M o e = inl (refl, refl)
-line_settles false N M Y o e = inl (refl, refl)
-line_settles false N Y N o e = inl (refl, refl)
-line_settles false N Y M o e = inl (refl, refl)
-line_settles false N Y Y o e = inl (refl, refl)
-line_settles false M N N o e = absurd (true≢false e)
-line_settles false M N M o e = absurd (true≢false e)
-line_settles false M N Y o e = absurd (true≢false e)
-line_settles false M M N o e = inl (refl, refl)
-line_settles false M M M o e = inl (refl, refl)
-line_settles false M M Y o e = inl (refl, refl)
-line_settles false M Y N o e = inl (refl, refl)
-line_settles false M Y M o e = inl (refl, refl)
-line_settles false M Y Y o e = inl (refl, refl)
-line_settles false Y N N o e = absurd (true≢false e)
-line_settles false Y N M o e = absurd (true≢false e)
-line_settles false Y N Y o e = absurd (true≢false e)
-line_settles false Y M N o e = inr (λ d. cc, refl)
-line_settles false Y M M o e = inr (λ d. cc, refl)
-line_settles false Y M Y o e = inl (refl, refl)
-line_settles false Y Y N o e = inl (refl, refl)
-line_settles false Y Y M o e = inl (refl, refl)
-line_settles false Y Y Y o e = inl (refl, refl)
+pub line_keeps : (b : Bool) (base vis reverse o : Tri) → is_n (upgrade_if b vis) ≡ false →
+    ((outcome b base reverse ≡ outcome b (base_of (outcome b base reverse) (upgrade_if b vis) o) reverse) ×
+    ((not b && (above (outcome b base reverse) (upgrade_if b vis) && above (outcome b base reverse) (upgrade_if b reverse))) ≡ false)) ⊎
+    (((outcome b base reverse ≡ outcome b (base_of (outcome b base reverse) (upgrade_if b vis) o) reverse) → ⊥) ×
+    ((not b && (above (outcome b base reverse) (upgrade_if b vis) && above (outcome b base reverse) (upgrade_if b reverse))) ≡ true))
+line_keeps true N N N o e = absurd (true≢false e)
+line_keeps true N N M o e = absurd (true≢false e)
+line_keeps true N N Y o e = absurd (true≢false e)
+line_keeps true N M N o e = inl (refl, refl)
+line_keeps true N M M o e = inl (refl, refl)
+line_keeps true N M Y o e = inl (refl, refl)
+line_keeps true N Y N o e = inl (refl, refl)
+line_keeps true N Y M o e = inl (refl, refl)
+line_keeps true N Y Y o e = inl (refl, refl)
+line_keeps true M N N o e = absurd (true≢false e)
+line_keeps true M N M o e = absurd (true≢false e)
+line_keeps true M N Y o e = absurd (true≢false e)
+line_keeps true M M N o e = inl (refl, refl)
+line_keeps true M M M o e = inl (refl, refl)
+line_keeps true M M Y o e = inl (refl, refl)
+line_keeps true M Y N o e = inl (refl, refl)
+line_keeps true M Y M o e = inl (refl, refl)
+line_keeps true M Y Y o e = inl (refl, refl)
+line_keeps true Y N N o e = absurd (true≢false e)
+line_keeps true Y N M o e = absurd (true≢false e)
+line_keeps true Y N Y o e = absurd (true≢false e)
+line_keeps true Y M N o e = inl (refl, refl)
+line_keeps true Y M M o e = inl (refl, refl)
+line_keeps true Y M Y o e = inl (refl, refl)
+line_keeps true Y Y N o e = inl (refl, refl)
+line_keeps true Y Y M o e = inl (refl, refl)
+line_keeps true Y Y Y o e = inl (refl, refl)
+line_keeps false N N N o e = absurd (true≢false e)
+line_keeps false N N M o e = absurd (true≢false e)
+line_keeps false N N Y o e = absurd (true≢false e)
+line_keeps false N M N o e = inl (refl, refl)
+line_keeps false N M M o e = inl (refl, refl)
+line_keeps false N M Y o e = inl (refl, refl)
+line_keeps false N Y N o e = inl (refl, refl)
+line_keeps false N Y M o e = inl (refl, refl)
+line_keeps false N Y Y o e = inl (refl, refl)
+line_keeps false M N N o e = absurd (true≢false e)
+line_keeps false M N M o e = absurd (true≢false e)
+line_keeps false M N Y o e = absurd (true≢false e)
+line_keeps false M M N o e = inl (refl, refl)
+line_keeps false M M M o e = inl (refl, refl)
+line_keeps false M M Y o e = inl (refl, refl)
+line_keeps false M Y N o e = inl (refl, refl)
+line_keeps false M Y M o e = inl (refl, refl)
+line_keeps false M Y Y o e = inl (refl, refl)
+line_keeps false Y N N o e = absurd (true≢false e)
+line_keeps false Y N M o e = absurd (true≢false e)
+line_keeps false Y N Y o e = absurd (true≢false e)
+line_keeps false Y M N o e = inr (λ d. cc, refl)
+line_keeps false Y M M o e = inr (λ d. cc, refl)
+line_keeps false Y M Y o e = inl (refl, refl)
+line_keeps false Y Y N o e = inl (refl, refl)
+line_keeps false Y Y M o e = inl (refl, refl)
+line_keeps false Y Y Y o e = inl (refl, refl)

@@ -2,56 +2,57 @@
 use Rattle.std.proofs.Common.{◌≡◌, ◌&&◌, not, false, Option, Some, None, refl, ap, unwrap_or}
 use Rattle.std.specs.Option.{is_some}
 use Rattle.std.proofs.lemmas.Bool.{true≢false}
-use Rattle.kc_expr.specs.Value.{Known, Truth, Written, greater}
+use Rattle.kc_expr.specs.Value.{SymbolValue, Truth, TextValue, greater}
 use Rattle.kc_expr.specs.declared.expression.SymId.{SymId}
 use Rattle.kc_expr.specs.declared.expression.Tri.{Tri}
 use Rattle.kc_expr.specs.declared.expression.Tri.TheVariants.{N, M, Y}
 use Rattle.kc_expr.specs.declared.expression.Kind.{Kind}
 use Rattle.kc_expr.specs.declared.expression.Kind.TheVariants.{Undefined, Bool as IsBool, Tristate, Str, Int, Hex}
 use Rattle.kc_tree.specs.TreeFacts.{SymbolFacts, TreeFacts}
-use Rattle.kc_user.specs.Given.{Given, Chosen, Typed, Member}
+use Rattle.kc_user.specs.GivenValue.{GivenValue, GivenTruth, GivenText, Member}
 use Rattle.kc_values.specs.Numbers.{if_inside, clamped}
 use Rattle.kc_values.specs.Values as v
 
-based_uncounted : (user : Option Given) (vis other : Tri) → (is_some user && not (v.is_n vis)) ≡ false → v.based user vis other ≡ v.based None vis other
-based_uncounted None vis other e = refl
-based_uncounted (Some (Typed t)) vis other e = refl
-based_uncounted (Some (Member m)) vis other e = refl
-based_uncounted (Some (Chosen u)) N other e = refl
-based_uncounted (Some (Chosen u)) M other e = absurd (true≢false e)
-based_uncounted (Some (Chosen u)) Y other e = absurd (true≢false e)
+user_or_uncounted : (user : Option GivenValue) (vis other : Tri) → (is_some user && not (v.is_n vis)) ≡ false → v.user_or user vis other ≡ v.user_or None vis other
+user_or_uncounted None vis other e = refl
+user_or_uncounted (Some (GivenText t)) vis other e = refl
+user_or_uncounted (Some (Member m)) vis other e = refl
+user_or_uncounted (Some (GivenTruth u)) N other e = refl
+user_or_uncounted (Some (GivenTruth u)) M other e = absurd (true≢false e)
+user_or_uncounted (Some (GivenTruth u)) Y other e = absurd (true≢false e)
 
-typed_uncounted : (user : Option Given) (vis : Tri) → (is_some user && not (v.is_n vis)) ≡ false → v.typed user vis ≡ v.typed None vis
-typed_uncounted None vis e = refl
-typed_uncounted (Some (Chosen u)) vis e = refl
-typed_uncounted (Some (Member m)) vis e = refl
-typed_uncounted (Some (Typed t)) N e = refl
-typed_uncounted (Some (Typed t)) M e = absurd (true≢false e)
-typed_uncounted (Some (Typed t)) Y e = absurd (true≢false e)
+visible_text_uncounted : (user : Option GivenValue) (vis : Tri) → (is_some user && not (v.is_n vis)) ≡ false → v.visible_text user vis ≡ v.visible_text None vis
+visible_text_uncounted None vis e = refl
+visible_text_uncounted (Some (GivenTruth u)) vis e = refl
+visible_text_uncounted (Some (Member m)) vis e = refl
+visible_text_uncounted (Some (GivenText t)) N e = refl
+visible_text_uncounted (Some (GivenText t)) M e = absurd (true≢false e)
+visible_text_uncounted (Some (GivenText t)) Y e = absurd (true≢false e)
 
-module _ (tree : TreeFacts) (known : SymId → Known) where
-  truth_uncounted : (f : SymbolFacts) (user : Option Given) → (is_some user && not (v.is_n (v.visibility tree known f))) ≡ false →
+module _ (tree : TreeFacts) (known : SymId → SymbolValue) where
+  truth_uncounted : (f : SymbolFacts) (user : Option GivenValue) → (is_some user && not (v.is_n (v.visibility tree known f))) ≡ false →
       v.truth_equation tree known f user ≡ v.truth_equation tree known f None
   truth_uncounted f user e =
-      ap (λ b. v.raised tree known f.kind (greater b (v.rev tree known f)))
-      (based_uncounted user (v.visibility tree known f) (v.implied (v.default_value tree known (v.first_open tree known f.defaults)) (v.weak tree known f) (v.direct tree known f)) e)
+      ap (λ b. v.upgraded tree known f.kind (greater b (v.reverse tree known f)))
+      (user_or_uncounted user (v.visibility tree known f) (v.implied (v.default_value tree known (v.first_met tree known f.defaults)) (v.weak_reverse tree known f) (v.direct tree known f)) e)
 
-  text_uncounted : (f : SymbolFacts) (user : Option Given) → (is_some user && not (v.is_n (v.visibility tree known f))) ≡ false → v.text_equation tree known f user ≡ v.text_equation tree known f None
+  text_uncounted : (f : SymbolFacts) (user : Option GivenValue) → (is_some user && not (v.is_n (v.visibility tree known f))) ≡ false →
+      v.text_equation tree known f user ≡ v.text_equation tree known f None
   text_uncounted f user e =
-      ap (λ t. unwrap_or t (v.default_text known (v.first_open tree known f.defaults))) (typed_uncounted user (v.visibility tree known f) e)
+      ap (λ t. unwrap_or t (v.default_text known (v.first_met tree known f.defaults))) (visible_text_uncounted user (v.visibility tree known f) e)
 
-  number_uncounted : (f : SymbolFacts) (user : Option Given) → (is_some user && not (v.is_n (v.visibility tree known f))) ≡ false →
+  number_uncounted : (f : SymbolFacts) (user : Option GivenValue) → (is_some user && not (v.is_n (v.visibility tree known f))) ≡ false →
       v.number_equation tree known f user ≡ v.number_equation tree known f None
   number_uncounted f user e =
-      ap (λ t. unwrap_or (if_inside f.kind (v.active_range tree known f) t) (clamped f.kind (v.active_range tree known f) (v.default_text known (v.first_open tree known f.defaults))))
-      (typed_uncounted user (v.visibility tree known f) e)
+      ap (λ t. unwrap_or (if_inside f.kind (v.active_range tree known f) t) (clamped f.kind (v.active_range tree known f) (v.default_text known (v.first_met tree known f.defaults))))
+      (visible_text_uncounted user (v.visibility tree known f) e)
 
   -- the equation of a symbol outside a choice gives the same without it
-  pub uncounted : (s : SymId) (f : SymbolFacts) (kind : Kind) (user : Option Given) → (is_some user && not (v.is_n (v.visibility tree known f))) ≡ false →
+  pub uncounted : (s : SymId) (f : SymbolFacts) (kind : Kind) (user : Option GivenValue) → (is_some user && not (v.is_n (v.visibility tree known f))) ≡ false →
       v.by_kind tree known s f kind user ≡ v.by_kind tree known s f kind None
   uncounted s f Undefined user e = refl
   uncounted s f IsBool user e = ap Truth (truth_uncounted f user e)
   uncounted s f Tristate user e = ap Truth (truth_uncounted f user e)
-  uncounted s f Str user e = ap (Written Str) (text_uncounted f user e)
-  uncounted s f Int user e = ap (Written Int) (number_uncounted f user e)
-  uncounted s f Hex user e = ap (Written Hex) (number_uncounted f user e)
+  uncounted s f Str user e = ap (TextValue Str) (text_uncounted f user e)
+  uncounted s f Int user e = ap (TextValue Int) (number_uncounted f user e)
+  uncounted s f Hex user e = ap (TextValue Hex) (number_uncounted f user e)

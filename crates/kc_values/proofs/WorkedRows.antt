@@ -7,13 +7,13 @@ use Rattle.kc_expr.specs.declared.expression.Kind.{Kind}
 use Rattle.kc_expr.specs.declared.expression.Kind.TheVariants.{Undefined, Bool as IsBool, Tristate, Str}
 use Rattle.kc_expr.specs.Form.{Form}
 use Rattle.kc_expr.specs.Names.{symbol}
-use Rattle.kc_expr.specs.Value.{Known, Truth, Written}
+use Rattle.kc_expr.specs.Value.{SymbolValue, Truth, TextValue}
 use Rattle.kc_tree.specs.TreeFacts.{Guarded, SymbolFacts, ChoiceFacts, TreeFacts}
-use Rattle.kc_user.specs.Given.{Given, Chosen, At}
+use Rattle.kc_user.specs.GivenValue.{GivenValue, GivenTruth, SymbolPlace}
 use Rattle.kc_values.specs.Solution.{rhs}
-use Rattle.kc_values.specs.Differs.{is_unsettled, again, default_selection}
+use Rattle.kc_values.specs.Differs.{changes_on_reread, reread_places, default_selection}
 use Rattle.kc_values.proofs.Trees as t
-use Rattle.kc_values.proofs.Trees.{tree, plain, member, always, if_of, in_choice, named, constant, line, from_to, by, nothing, at_place, in_first, given_by, written_now, differing, warned, needed}
+use Rattle.kc_values.proofs.Trees.{tree, plain, member, always, if_of, in_choice, named, constant, line, by, nothing, at_place, in_first, given_by, written_now, differing, warned, needed}
 
 abbrev y : Form
 y = constant (codes "y")
@@ -39,11 +39,11 @@ abbrev selects : TreeFacts
 selects =
     tree (codes "A" ∷ (codes "B" ∷ (codes "C" ∷ [])))
     (plain IsBool (always ∷ []) (line y ∷ [])
-    ∷ (record (plain IsBool (if_of (named 2) ∷ []) []) { deps = if_of (named 2) ∷ []; selectors = by 0 ∷ [] }
+    ∷ (record (plain IsBool (if_of (named 2) ∷ []) []) { dependencies = if_of (named 2) ∷ []; selectors = by 0 ∷ [] }
     ∷ (plain IsBool (always ∷ []) [] ∷ [])))
     [] None
 
-abbrev selects_V : List Known
+abbrev selects_V : List SymbolValue
 selects_V = Truth Y ∷ (Truth Y ∷ (Truth N ∷ []))
 
 selects_values : given_by selects nothing selects_V ≡ selects_V
@@ -68,10 +68,10 @@ implies =
     (plain IsBool [] (line y ∷ [])
     ∷ (plain Tristate (always ∷ []) (line y ∷ [])
     ∷ (plain Tristate (always ∷ []) (line m ∷ [])
-    ∷ (record (plain Tristate (if_of (named 2) ∷ []) []) { deps = if_of (named 2) ∷ []; impliers = by 1 ∷ [] } ∷ []))))
+    ∷ (record (plain Tristate (if_of (named 2) ∷ []) []) { dependencies = if_of (named 2) ∷ []; impliers = by 1 ∷ [] } ∷ []))))
     [] (Some (symbol 0))
 
-abbrev implies_V : List Known
+abbrev implies_V : List SymbolValue
 implies_V = Truth Y ∷ (Truth Y ∷ (Truth M ∷ (Truth M ∷ [])))
 
 implies_values : given_by implies nothing implies_V ≡ implies_V
@@ -84,13 +84,13 @@ implies_written = refl
 abbrev no_modules : TreeFacts
 no_modules = tree (codes "A" ∷ (codes "B" ∷ [])) (plain Tristate (always ∷ []) (line m ∷ []) ∷ (plain Tristate (always ∷ []) [] ∷ [])) [] None
 
-abbrev no_modules_V : List Known
+abbrev no_modules_V : List SymbolValue
 no_modules_V = Truth Y ∷ (Truth Y ∷ [])
 
-no_modules_values : given_by no_modules (at_place (None ∷ (Some (Chosen M) ∷ []))) no_modules_V ≡ no_modules_V
+no_modules_values : given_by no_modules (at_place (None ∷ (Some (GivenTruth M) ∷ []))) no_modules_V ≡ no_modules_V
 no_modules_values = refl
 
-no_modules_differ : differing no_modules (at_place (None ∷ (Some (Chosen M) ∷ []))) no_modules_V ≡ false ∷ (true ∷ [])
+no_modules_differ : differing no_modules (at_place (None ∷ (Some (GivenTruth M) ∷ []))) no_modules_V ≡ false ∷ (true ∷ [])
 no_modules_differ = refl
 
 -- The user's member counts where it is visible, else the default of the choice.
@@ -104,7 +104,7 @@ abbrev choosing : TreeFacts
 choosing =
     tree (codes "A" ∷ (codes "B" ∷ (codes "C" ∷ []))) (visible_member ∷ (visible_member ∷ (visible_member ∷ []))) (choice_BC 0 1 2 ∷ []) None
 
-abbrev chosen_C : List Known
+abbrev chosen_C : List SymbolValue
 chosen_C = Truth N ∷ (Truth N ∷ (Truth Y ∷ []))
 
 choosing_values : given_by choosing (in_first (symbol 2)) chosen_C ≡ chosen_C
@@ -123,7 +123,7 @@ hiding =
     (plain IsBool (always ∷ []) [] ∷ (visible_member ∷ (visible_member ∷ (member (in_choice (named 0 ∷ []) ∷ []) ∷ []))))
     (choice_BC 1 2 3 ∷ []) None
 
-abbrev chosen_B : List Known
+abbrev chosen_B : List SymbolValue
 chosen_B = Truth N ∷ (Truth N ∷ (Truth Y ∷ (Truth N ∷ [])))
 
 hiding_values : given_by hiding (in_first (symbol 3)) chosen_B ≡ chosen_B
@@ -155,7 +155,7 @@ closed_written = refl
 abbrev leaning : TreeFacts
 leaning =
     tree (codes "A" ∷ (codes "B" ∷ []))
-    (visible_member ∷ (record (member []) { deps = in_choice (named 0 ∷ []) ∷ [] } ∷ []))
+    (visible_member ∷ (record (member []) { dependencies = in_choice (named 0 ∷ []) ∷ [] } ∷ []))
     (record { prompt = Some always; defaults = []; members = symbol 0 ∷ (symbol 1 ∷ []) } ∷ []) None
 
 leaning_needs : needed leaning nothing (Truth Y ∷ (Truth N ∷ [])) ≡ [] ∷ ([] ∷ [])
@@ -173,7 +173,7 @@ hidden_menu =
     ∷ (plain IsBool (if_of n ∷ []) (line y ∷ []) ∷ [])))
     [] None
 
-abbrev all_y : List Known
+abbrev all_y : List SymbolValue
 all_y = Truth Y ∷ (Truth Y ∷ (Truth Y ∷ []))
 
 hidden_values : given_by hidden_menu nothing all_y ≡ all_y
@@ -191,11 +191,11 @@ modular selectors =
     ∷ (record (plain Tristate (if_of (named 1) ∷ []) (line y ∷ [])) { selectors = selectors } ∷ [])))
     [] (Some (symbol 0))
 
-abbrev with_m : List Known
+abbrev with_m : List SymbolValue
 with_m = Truth Y ∷ (Truth M ∷ (Truth M ∷ []))
 
-abbrev gave_m : List (Option Given)
-gave_m = None ∷ (None ∷ (Some (Chosen M) ∷ []))
+abbrev gave_m : List (Option GivenValue)
+gave_m = None ∷ (None ∷ (Some (GivenTruth M) ∷ []))
 
 selected_m : given_by (modular (by 1 ∷ [])) (at_place gave_m) with_m ≡ with_m
 selected_m = refl
@@ -204,7 +204,7 @@ selected_m_differs : differing (modular (by 1 ∷ [])) (at_place gave_m) with_m 
 selected_m_differs = refl
 
 -- without the select its default y stands above its visibility m: as the user's it is cut to m
-abbrev with_y : List Known
+abbrev with_y : List SymbolValue
 with_y = Truth Y ∷ (Truth M ∷ (Truth Y ∷ []))
 
 first_run : given_by (modular []) nothing with_y ≡ with_y
@@ -213,10 +213,10 @@ first_run = refl
 first_run_differs : differing (modular []) nothing with_y ≡ false ∷ (false ∷ (false ∷ []))
 first_run_differs = refl
 
-unsettled : is_unsettled (modular []) (t.V (modular []) nothing with_y) 2 ≡ true
+unsettled : changes_on_reread (modular []) (t.V (modular []) nothing with_y) 2 ≡ true
 unsettled = refl
 
-second_run : rhs (modular []) 2 (again (modular []) (t.V (modular []) nothing with_y) (At 2)) (t.V (modular []) nothing with_m) ≡ Truth M
+second_run : rhs (modular []) 2 (reread_places (modular []) (t.V (modular []) nothing with_y) (SymbolPlace 2)) (t.V (modular []) nothing with_m) ≡ Truth M
 second_run = refl
 
 second_run_differs : differing (modular []) (at_place gave_m) with_m ≡ false ∷ (false ∷ (true ∷ []))
@@ -232,7 +232,7 @@ loadable =
 loadable_values : given_by loadable nothing (Truth Y ∷ (Truth M ∷ (Truth Y ∷ []))) ≡ Truth Y ∷ (Truth M ∷ (Truth Y ∷ []))
 loadable_values = refl
 
-loadable_off : given_by loadable (at_place (Some (Chosen N) ∷ [])) (Truth N ∷ (Truth Y ∷ (Truth Y ∷ []))) ≡ Truth N ∷ (Truth Y ∷ (Truth Y ∷ []))
+loadable_off : given_by loadable (at_place (Some (GivenTruth N) ∷ [])) (Truth N ∷ (Truth Y ∷ (Truth Y ∷ []))) ≡ Truth N ∷ (Truth Y ∷ (Truth Y ∷ []))
 loadable_off = refl
 
 loadable_needs : needed loadable nothing (Truth Y ∷ (Truth M ∷ (Truth Y ∷ []))) ≡ [] ∷ ((0 ∷ []) ∷ ([] ∷ []))
@@ -242,7 +242,7 @@ loadable_needs = refl
 abbrev odd_modules : TreeFacts
 odd_modules = tree (codes "S" ∷ (codes "A" ∷ [])) (plain Str [] (line (constant (codes "y")) ∷ []) ∷ (plain Tristate (always ∷ []) (line m ∷ []) ∷ [])) [] (Some (symbol 0))
 
-odd_values : given_by odd_modules nothing (Written Str (codes "y") ∷ (Truth Y ∷ [])) ≡ Written Str (codes "y") ∷ (Truth Y ∷ [])
+odd_values : given_by odd_modules nothing (TextValue Str (codes "y") ∷ (Truth Y ∷ [])) ≡ TextValue Str (codes "y") ∷ (Truth Y ∷ [])
 odd_values = refl
 
 -- A select written in a string adds n, and its target needs it; an untyped symbol takes no select and needs nothing.
@@ -250,14 +250,14 @@ abbrev text_selects : Kind → TreeFacts
 text_selects k =
     tree (codes "S" ∷ (codes "A" ∷ [])) (plain Str [] (line (constant (codes "y")) ∷ []) ∷ (record (plain k [] []) { selectors = by 0 ∷ [] } ∷ [])) [] None
 
-text_selects_values : given_by (text_selects IsBool) nothing (Written Str (codes "y") ∷ (Truth N ∷ [])) ≡ Written Str (codes "y") ∷ (Truth N ∷ [])
+text_selects_values : given_by (text_selects IsBool) nothing (TextValue Str (codes "y") ∷ (Truth N ∷ [])) ≡ TextValue Str (codes "y") ∷ (Truth N ∷ [])
 text_selects_values = refl
 
-text_selects_needs : needed (text_selects IsBool) nothing (Written Str (codes "y") ∷ (Truth N ∷ [])) ≡ [] ∷ ((0 ∷ []) ∷ [])
+text_selects_needs : needed (text_selects IsBool) nothing (TextValue Str (codes "y") ∷ (Truth N ∷ [])) ≡ [] ∷ ((0 ∷ []) ∷ [])
 text_selects_needs = refl
 
-untyped_values : given_by (text_selects Undefined) nothing (Written Str (codes "y") ∷ (Written Undefined (codes "A") ∷ [])) ≡ Written Str (codes "y") ∷ (Written Undefined (codes "A") ∷ [])
+untyped_values : given_by (text_selects Undefined) nothing (TextValue Str (codes "y") ∷ (TextValue Undefined (codes "A") ∷ [])) ≡ TextValue Str (codes "y") ∷ (TextValue Undefined (codes "A") ∷ [])
 untyped_values = refl
 
-pub untyped_needs : needed (text_selects Undefined) nothing (Written Str (codes "y") ∷ (Written Undefined (codes "A") ∷ [])) ≡ [] ∷ ([] ∷ [])
+pub untyped_needs : needed (text_selects Undefined) nothing (TextValue Str (codes "y") ∷ (TextValue Undefined (codes "A") ∷ [])) ≡ [] ∷ ([] ∷ [])
 untyped_needs = refl

@@ -5,18 +5,18 @@ use Rattle.std.specs.Option.{option_map}
 use Rattle.std.specs.Cmp.Lexicographic.{pointwise}
 use Rattle.std.specs.Prelude.{nat_eq}
 use Rattle.kc_expr.specs.Names.{symbol}
-use Rattle.kc_expr.specs.Value.{Known, Truth, Written, truth_of_known}
+use Rattle.kc_expr.specs.Value.{SymbolValue, Truth, TextValue, truth_of_value}
 use Rattle.kc_expr.specs.declared.expression.SymId.{SymId}
 use Rattle.kc_expr.specs.declared.expression.Tri.{Tri}
 use Rattle.kc_expr.specs.declared.expression.Tri.TheVariants.{N, M, Y}
 use Rattle.kc_tree.specs.TreeFacts.{TreeFacts}
 use Rattle.kc_values.specs.Lookups.{facts, choice_at}
-use Rattle.kc_user.specs.Given.{Given, Chosen, Typed, Member, Slot, At, In}
+use Rattle.kc_user.specs.GivenValue.{GivenValue, GivenTruth, GivenText, Member, UserPlace, SymbolPlace, ChoicePlace}
 use Rattle.kc_user.specs.Places.{allowed, members_of}
 use Rattle.kc_tree.specs.Words.{is_symbol_of}
 use Rattle.kc_values.specs.Values.{selected}
-use Rattle.kc_values.specs.Solution.{symbol_count, seen, slot, rhs}
-use Rattle.kc_values.specs.Written.{written, unsettled_facts}
+use Rattle.kc_values.specs.Solution.{symbol_count, known_from, user_place, rhs}
+use Rattle.kc_values.specs.WrittenSymbols.{written, changes_on_reread_facts}
 
 abbrev pub same_tri : Tri → Tri → Bool
 same_tri N N = true
@@ -30,67 +30,67 @@ same_tri Y M = false
 same_tri Y Y = true
 
 -- Values of one symbol are compared as truths, or as texts: `ff` and `0xff` are two values.
-abbrev pub same_value : Known → Known → Bool
+abbrev pub same_value : SymbolValue → SymbolValue → Bool
 same_value (Truth t) (Truth u) = same_tri t u
-same_value (Truth t) (Written k bytes) = false
-same_value (Written k bytes) (Truth t) = false
-same_value (Written k bytes) (Written l more) = pointwise nat_eq bytes more
+same_value (Truth t) (TextValue k bytes) = false
+same_value (TextValue k bytes) (Truth t) = false
+same_value (TextValue k bytes) (TextValue l more) = pointwise nat_eq bytes more
 
 -- a value as its line gives it to the user
-abbrev pub given_of : Known → Given
-given_of (Truth t) = Chosen t
-given_of (Written k bytes) = Typed bytes
+abbrev pub given_of : SymbolValue → GivenValue
+given_of (Truth t) = GivenTruth t
+given_of (TextValue k bytes) = GivenText bytes
 
-abbrev pub is_yes : Known → Bool
+abbrev pub is_yes : SymbolValue → Bool
 is_yes (Truth N) = false
 is_yes (Truth M) = false
 is_yes (Truth Y) = true
-is_yes (Written k bytes) = false
+is_yes (TextValue k bytes) = false
 
 -- What was given was allowed.
-abbrev pub AllowedPlaces : TreeFacts → (Slot → Option Given) → Type 0
-AllowedPlaces tree user = (i : ℕ) (g : Given) → user (At i) ≡ Some g → allowed tree (symbol i) g ≡ true
+abbrev pub AllowedPlaces : TreeFacts → (UserPlace → Option GivenValue) → Type 0
+AllowedPlaces tree user = (i : ℕ) (g : GivenValue) → user (SymbolPlace i) ≡ Some g → allowed tree (symbol i) g ≡ true
 
 -- The selection of a choice under values V, without the user's member.
-abbrev pub default_selection : TreeFacts → (ℕ → Known) → ℕ → Option SymId
-default_selection tree V c = selected tree (seen tree V) (choice_at tree c) None
+abbrev pub default_selection : TreeFacts → (ℕ → SymbolValue) → ℕ → Option SymId
+default_selection tree V c = selected tree (known_from tree V) (choice_at tree c) None
 
 -- Under the user's places and values V.
-module _ (tree : TreeFacts) (user : Slot → Option Given) (V : ℕ → Known) where
+module _ (tree : TreeFacts) (user : UserPlace → Option GivenValue) (V : ℕ → SymbolValue) where
   -- The selection of a choice.
   abbrev pub selection : ℕ → Option SymId
-  selection c = selected tree (seen tree V) (choice_at tree c) (user (In c))
+  selection c = selected tree (known_from tree V) (choice_at tree c) (user (ChoicePlace c))
 
-  abbrev pub differs_at : ℕ → Slot → Bool
-  differs_at i (At j) = not (same_value (V i) (rhs tree i None V))
-  differs_at i (In c) = is_symbol_of (symbol i) (selection c) && not (is_symbol_of (symbol i) (default_selection tree V c))
+  abbrev pub differs_at : ℕ → UserPlace → Bool
+  differs_at i (SymbolPlace j) = not (same_value (V i) (rhs tree i None V))
+  differs_at i (ChoicePlace c) = is_symbol_of (symbol i) (selection c) && not (is_symbol_of (symbol i) (default_selection tree V c))
 
   -- Whether a symbol differs: its value is not what its equation gives without its user value; a member is selected and is
   -- not the default selection (our own).
   abbrev pub differs : ℕ → Bool
-  differs i = differs_at i (slot tree i)
+  differs i = differs_at i (user_place tree i)
 
   -- a test that tells exactly the places of the symbols that differ
-  pub record TellsDiffering (keep : Slot → Bool) : Type 0 where
-    pub differing : (p : Slot) → keep p ≡ true → (i : ℕ) × (i < symbol_count tree) × (slot tree i ≡ p) × (differs i ≡ true)
-    pub every : (i : ℕ) → i < symbol_count tree → differs i ≡ true → keep (slot tree i) ≡ true
+  pub record TellsDiffering (keep : UserPlace → Bool) : Type 0 where
+    pub differing : (p : UserPlace) → keep p ≡ true → (i : ℕ) × (i < symbol_count tree) × (user_place tree i ≡ p) × (differs i ≡ true)
+    pub every : (i : ℕ) → i < symbol_count tree → differs i ≡ true → keep (user_place tree i) ≡ true
 
   -- the minimal file's lines: the values, and the selected members
-  abbrev pub line_of : Slot → Option Given
-  line_of (At i) = Some (given_of (V i))
-  line_of (In c) = option_map Member (selection c)
+  abbrev pub minimal_line : UserPlace → Option GivenValue
+  minimal_line (SymbolPlace i) = Some (given_of (V i))
+  minimal_line (ChoicePlace c) = option_map Member (selection c)
 
 -- Under values V alone.
-module _ (tree : TreeFacts) (V : ℕ → Known) where
-  abbrev pub line_again : ℕ → Option Given
-  line_again i =
-      if written tree (seen tree V) (symbol i) && allowed tree (symbol i) (given_of (V i)) then Some (given_of (V i)) else None
+module _ (tree : TreeFacts) (V : ℕ → SymbolValue) where
+  abbrev pub reread_value : ℕ → Option GivenValue
+  reread_value i =
+      if written tree (known_from tree V) (symbol i) && allowed tree (symbol i) (given_of (V i)) then Some (given_of (V i)) else None
 
   -- The places that the written lines give, where `allowed` accepts their values.
-  abbrev pub again : Slot → Option Given
-  again (At i) = line_again i
-  again (In c) = option_map Member (find (λ m. written tree (seen tree V) m && is_yes (V m.0)) (members_of (choice_at tree c)))
+  abbrev pub reread_places : UserPlace → Option GivenValue
+  reread_places (SymbolPlace i) = reread_value i
+  reread_places (ChoicePlace c) = option_map Member (find (λ m. written tree (known_from tree V) m && is_yes (V m.0)) (members_of (choice_at tree c)))
 
   -- Outside a choice, of type tristate, visible, and greater than both its visibility and its reverse dependency.
-  abbrev pub is_unsettled : ℕ → Bool
-  is_unsettled i = unsettled_facts tree (seen tree V) (facts tree (symbol i)) (truth_of_known (V i))
+  abbrev pub changes_on_reread : ℕ → Bool
+  changes_on_reread i = changes_on_reread_facts tree (known_from tree V) (facts tree (symbol i)) (truth_of_value (V i))

@@ -1,7 +1,7 @@
 -- Trusted: What holds of the equations of a tree.
 use Rattle.std.specs.Prelude.{◌≡◌, ℕ, ◌<◌, ◌↔◌, Option, Some, None, Bool, true, false}
 use Rattle.std.specs.List.{Contains}
-use Rattle.kc_expr.specs.Value.{Known}
+use Rattle.kc_expr.specs.Value.{SymbolValue}
 use Rattle.kc_expr.specs.Names.{symbol}
 use Rattle.kc_expr.specs.declared.expression.SymId.{SymId}
 use Rattle.kc_expr.specs.declared.expression.Kind.TheVariants.{Bool as IsBool}
@@ -10,14 +10,14 @@ use Rattle.kc_order.specs.Needs.{needs_in, AreWithin, IsAccepted as AreAccepted}
 use Rattle.kc_order.specs.Solution.{Solves, IsOnlySolution, HasOneSolution, ReadsNeeds}
 use Rattle.kc_order.specs.Minimal.{Restores, NothingCanGo}
 use Rattle.kc_values.specs.Lookups.{facts, choice_at}
-use Rattle.kc_user.specs.Given.{Given, Slot}
+use Rattle.kc_user.specs.GivenValue.{GivenValue, UserPlace}
 use Rattle.kc_user.specs.Places.{allowed}
 use Rattle.kc_values.specs.Values.{prompt_value, condition}
 use Rattle.kc_values.specs.Needs.{needs}
-use Rattle.kc_values.specs.Solution.{symbol_count, equations, rhs, slot}
-use Rattle.kc_values.specs.Differs.{TellsDiffering, differs, line_of, given_of, again, is_unsettled, AllowedPlaces}
+use Rattle.kc_values.specs.Solution.{symbol_count, equations, rhs, user_place}
+use Rattle.kc_values.specs.Differs.{TellsDiffering, differs, minimal_line, given_of, reread_places, changes_on_reread, AllowedPlaces}
 
--- no symbol is stuck
+-- no symbol is unordered
 abbrev pub IsAccepted : TreeFacts → Type 0
 IsAccepted tree = AreAccepted (needs tree)
 
@@ -33,7 +33,7 @@ MembersAreBools tree = (s : SymId) (g : SymbolFacts) (c : ℕ) → facts tree s 
 
 -- An equation reads only what its symbol needs, whatever the places.
 abbrev pub EquationsReadNeeds : Type 0
-EquationsReadNeeds = (tree : TreeFacts) (user : Slot → Option Given) → ReadsNeeds (needs_in (needs tree)) (equations tree user)
+EquationsReadNeeds = (tree : TreeFacts) (user : UserPlace → Option GivenValue) → ReadsNeeds (needs_in (needs tree)) (equations tree user)
 
 -- Each need is the number of a defined symbol.
 abbrev pub NeedsAreDefined : Type 0
@@ -42,53 +42,53 @@ NeedsAreDefined = (tree : TreeFacts) → AreWithin (needs tree)
 -- Every accepted tree has one solution, whatever the places.
 abbrev pub AcceptedHaveOneSolution : Type 0
 AcceptedHaveOneSolution =
-    (tree : TreeFacts) (user : Slot → Option Given) → IsAccepted tree → HasOneSolution (symbol_count tree) (equations tree user)
+    (tree : TreeFacts) (user : UserPlace → Option GivenValue) → IsAccepted tree → HasOneSolution (symbol_count tree) (equations tree user)
 
 -- Any two solutions agree at every defined symbol.
 abbrev pub SolutionsAgree : Type 0
 SolutionsAgree =
-    (tree : TreeFacts) (user : Slot → Option Given) → IsAccepted tree →
-    (V : ℕ → Known) → Solves (symbol_count tree) (equations tree user) V → IsOnlySolution (symbol_count tree) (equations tree user) V
+    (tree : TreeFacts) (user : UserPlace → Option GivenValue) → IsAccepted tree →
+    (V : ℕ → SymbolValue) → Solves (symbol_count tree) (equations tree user) V → IsOnlySolution (symbol_count tree) (equations tree user) V
 
 -- A value taken from a user place is a fixed point of its own line: without it the symbol has the same value, or with its
 -- own line it has it again.
 abbrev pub LinesAreFixed : Type 0
 LinesAreFixed =
-    (tree : TreeFacts) (user : Slot → Option Given) (V : ℕ → Known) (i : ℕ) → i < symbol_count tree →
-    Solves (symbol_count tree) (equations tree user) V → differs tree user V i ≡ true → V i ≡ rhs tree i (line_of tree user V (slot tree i)) V
+    (tree : TreeFacts) (user : UserPlace → Option GivenValue) (V : ℕ → SymbolValue) (i : ℕ) → i < symbol_count tree →
+    Solves (symbol_count tree) (equations tree user) V → differs tree user V i ≡ true → V i ≡ rhs tree i (minimal_line tree user V (user_place tree i)) V
 
 -- The lines of the symbols that differ give the values again, and no others.
 abbrev pub MinimalRestores : Type 0
 MinimalRestores =
-    (tree : TreeFacts) (user : Slot → Option Given) (V : ℕ → Known) (keep : Slot → Bool) →
+    (tree : TreeFacts) (user : UserPlace → Option GivenValue) (V : ℕ → SymbolValue) (keep : UserPlace → Bool) →
     IsAccepted tree → MembersAreTheirs tree → Solves (symbol_count tree) (equations tree user) V → TellsDiffering tree user V keep →
-    Restores (symbol_count tree) (slot tree) (rhs tree) (line_of tree user V) V keep
+    Restores (symbol_count tree) (user_place tree) (rhs tree) (minimal_line tree user V) V keep
 
 -- With any nonempty set of those lines left out, what solves is another valuation.
 abbrev pub MinimalHasNothingToSpare : Type 0
 MinimalHasNothingToSpare =
-    (tree : TreeFacts) (user : Slot → Option Given) (V : ℕ → Known) (keep : Slot → Bool) →
+    (tree : TreeFacts) (user : UserPlace → Option GivenValue) (V : ℕ → SymbolValue) (keep : UserPlace → Bool) →
     MembersAreTheirs tree → Solves (symbol_count tree) (equations tree user) V → TellsDiffering tree user V keep →
-    NothingCanGo (symbol_count tree) (slot tree) (rhs tree) (line_of tree user V) V keep
+    NothingCanGo (symbol_count tree) (user_place tree) (rhs tree) (minimal_line tree user V) V keep
 
 -- The value of a symbol that differs is one that `allowed` accepts.
 abbrev pub DifferingAreAllowed : Type 0
 DifferingAreAllowed =
-    (tree : TreeFacts) (user : Slot → Option Given) (V : ℕ → Known) (i : ℕ) → i < symbol_count tree →
+    (tree : TreeFacts) (user : UserPlace → Option GivenValue) (V : ℕ → SymbolValue) (i : ℕ) → i < symbol_count tree →
     MembersAreBools tree → AllowedPlaces tree user → Solves (symbol_count tree) (equations tree user) V →
     differs tree user V i ≡ true → allowed tree (symbol i) (given_of (V i)) ≡ true
 
--- With the written values as the user's, the values solve again exactly where no symbol is unsettled.
-abbrev pub SettledWhere : Type 0
-SettledWhere =
-    (tree : TreeFacts) (user : Slot → Option Given) (V : ℕ → Known) →
+-- With the written values as the user's, the values solve again exactly where no symbol changes on rereading.
+abbrev pub IdempotentWhere : Type 0
+IdempotentWhere =
+    (tree : TreeFacts) (user : UserPlace → Option GivenValue) (V : ℕ → SymbolValue) →
     MembersAreTheirs tree → AllowedPlaces tree user → Solves (symbol_count tree) (equations tree user) V →
-    Solves (symbol_count tree) (equations tree (again tree V)) V ↔ ((i : ℕ) → i < symbol_count tree → is_unsettled tree V i ≡ false)
+    Solves (symbol_count tree) (equations tree (reread_places tree V)) V ↔ ((i : ℕ) → i < symbol_count tree → changes_on_reread tree V i ≡ false)
 
 -- Choices don't nest: the prompt of a choice has no mode of another, so its mode is y exactly where its prompt is visible.
 abbrev pub ModeIsPromptCondition : Type 0
 ModeIsPromptCondition =
-    (tree : TreeFacts) (known : SymId → Known) (c : Condition) → c.mode ≡ None →
+    (tree : TreeFacts) (known : SymId → SymbolValue) (c : Condition) → c.mode ≡ None →
     prompt_value known (Some c) ≡ condition tree known c
 
 -- In a well-formed tree members are theirs, and bools; the prompt of a choice asks for no mode.

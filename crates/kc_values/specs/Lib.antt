@@ -3,7 +3,7 @@ pub mod Numbers
 pub mod Values
 pub mod Needs
 pub mod Solution
-pub mod Written
+pub mod WrittenSymbols
 pub mod Differs
 pub mod Warnings
 pub mod Laws
@@ -12,6 +12,6 @@ pub mod Small
 pub mod Selections
 pub mod Table
 pub mod NeedRows
-pub mod Settled
-pub mod Known
+pub mod Computed
+pub mod TableFacts
 pub mod Nodes

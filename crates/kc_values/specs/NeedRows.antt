@@ -9,21 +9,21 @@ use Rattle.kc_expr.specs.declared.expression.SymId.{SymId}
 use Rattle.kc_order.specs.Graph.{Nodes}
 use Rattle.kc_expr.specs.When.{when_view}
 use Rattle.kc_tree.specs.declared.layout.Layout.{Layout}
-use Rattle.kc_tree.specs.declared.parts.Choice.{Choice}
-use Rattle.kc_tree.specs.declared.parts.ChoiceDefault.{ChoiceDefault}
-use Rattle.kc_tree.specs.declared.parts.ChoiceId.{ChoiceId}
-use Rattle.kc_tree.specs.declared.parts.Context.{Context}
-use Rattle.kc_tree.specs.declared.parts.Definition.{Definition}
-use Rattle.kc_tree.specs.declared.parts.DefinitionId.{DefinitionId}
-use Rattle.kc_tree.specs.declared.parts.Prompt.{Prompt}
-use Rattle.kc_tree.specs.declared.parts.Reverse.{Reverse}
-use Rattle.kc_tree.specs.declared.parts.ReverseId.{ReverseId}
-use Rattle.kc_tree.specs.declared.parts.Symbol.{Symbol}
-use Rattle.kc_tree.specs.declared.parts.SymbolDefault.{SymbolDefault}
-use Rattle.kc_tree.specs.declared.parts.SymbolRange.{SymbolRange}
+use Rattle.kc_tree.specs.declared.rows.Choice.{Choice}
+use Rattle.kc_tree.specs.declared.rows.ChoiceDefault.{ChoiceDefault}
+use Rattle.kc_tree.specs.declared.rows.ChoiceId.{ChoiceId}
+use Rattle.kc_tree.specs.declared.rows.Context.{Context}
+use Rattle.kc_tree.specs.declared.rows.Definition.{Definition}
+use Rattle.kc_tree.specs.declared.rows.DefinitionId.{DefinitionId}
+use Rattle.kc_tree.specs.declared.rows.Prompt.{Prompt}
+use Rattle.kc_tree.specs.declared.rows.Reverse.{Reverse}
+use Rattle.kc_tree.specs.declared.rows.ReverseId.{ReverseId}
+use Rattle.kc_tree.specs.declared.rows.Symbol.{Symbol}
+use Rattle.kc_tree.specs.declared.rows.SymbolDefault.{SymbolDefault}
+use Rattle.kc_tree.specs.declared.rows.SymbolRange.{SymbolRange}
 use Rattle.kc_tree.specs.Chains.{chain_of, chains_of}
-use Rattle.kc_tree.specs.Contexts.{IsStep, condition_in, top}
-use Rattle.kc_tree.specs.Parts.{definition_ids, part_of}
+use Rattle.kc_tree.specs.Contexts.{IsContextAt, condition_in, top}
+use Rattle.kc_tree.specs.Spans.{definition_ids, slice_of}
 use Rattle.kc_tree.specs.TreeFacts.{TreeFacts}
 use Rattle.kc_values.specs.declared.needs.Row.{Row}
 use Rattle.kc_values.specs.Needs.{kind_names}
@@ -111,11 +111,11 @@ module _ (l : Layout) where
   mode_names o = names_of_choice (choice_row o)
 
   -- what a context asks for besides the one outside it
-  abbrev pub asked_nodes : Context → List ℕ
-  asked_nodes c = context_nodes c.outer.0 ++ (if is_some c.asks then [] else mode_nodes c.mode)
+  abbrev pub context_row_nodes : Context → List ℕ
+  context_row_nodes c = context_nodes c.outer.0 ++ (if is_some c.own_condition then [] else mode_nodes c.mode)
 
-  abbrev pub asked_names : Context → List SymId
-  asked_names c = if is_some c.asks then when_names (when_view c.asks) else mode_names c.mode
+  abbrev pub context_row_names : Context → List SymId
+  context_row_names c = if is_some c.own_condition then when_names (when_view c.own_condition) else mode_names c.mode
 
   -- the definitions of a symbol
   abbrev pub definition_at : DefinitionId → Option Definition
@@ -128,10 +128,10 @@ module _ (l : Layout) where
   definitions_of ids = filter_map definition_at ids
 
   abbrev pub defaults_of : Definition → List SymbolDefault
-  defaults_of d = part_of l.tables.defaults.items d.defaults
+  defaults_of d = slice_of l.tables.defaults.items d.defaults
 
   abbrev pub ranges_of : Definition → List SymbolRange
-  ranges_of d = part_of l.tables.ranges.items d.ranges
+  ranges_of d = slice_of l.tables.ranges.items d.ranges
 
   -- of their prompts alone
   abbrev pub entry_nodes : Definition → List ℕ
@@ -275,10 +275,11 @@ module _ (tree : TreeFacts) (l : Layout) where
 abbrev pub AreChoicesThere : Layout → Type 0
 AreChoicesThere l = (i : ℕ) (s : Symbol) (k : ChoiceId) → slice_get l.symbols.items i ≡ Some s → s.choice ≡ Some k → k.0 < length l.tables.choices.items
 
--- a row of a context: of one that asks for nothing, as the top, none; else there is a context of that number that asks for what the row has
+-- a row of a context: of one that asks for nothing, as the top, none; else there is a context of that number that asks for
+-- what the row has
 pub data IsContextRow (l : Layout) (i : ℕ) (row : List ℕ) : Type 0 where
   asks_nothing : condition_in l.tables.contexts i ≡ top → row ≡ [] → IsContextRow l i row
-  asks_this : (c : Context) → IsStep l.tables.contexts i c → row ≡ asked_nodes l c ++ defined l (asked_names l c) → IsContextRow l i row
+  asks_this : (c : Context) → IsContextAt l.tables.contexts i c → row ≡ context_row_nodes l c ++ defined l (context_row_names l c) → IsContextRow l i row
 
 -- the rows of the contexts: of each what a context of that number asks for
 abbrev pub AreContextRows : Layout → List (List ℕ) → Type 0

@@ -32,9 +32,9 @@ modules_names None = []
 modules_names (Some m) = m ∷ []
 
 -- each number once, where it stands first
-abbrev pub once : List ℕ → List ℕ
-once [] = []
-once (n ∷ ns) = n ∷ filter (λ m. not (n == m)) (once ns)
+abbrev pub deduplicated : List ℕ → List ℕ
+deduplicated [] = []
+deduplicated (n ∷ ns) = n ∷ filter (λ m. not (n == m)) (deduplicated ns)
 
 module _ (tree : TreeFacts) where
   abbrev pub mode_names : Option ℕ → List SymId
@@ -67,7 +67,7 @@ module _ (tree : TreeFacts) where
   -- bool and tristate: also the dependencies, and each symbol that selects or implies it with the condition of that line
   abbrev pub names_of_truth : SymbolFacts → List SymId
   names_of_truth f =
-      names_of_all f ++ (flat_map condition_names f.deps ++ (guarded_names one_name f.selectors ++ (guarded_names one_name f.impliers ++ kind_names f.kind)))
+      names_of_all f ++ (flat_map condition_names f.dependencies ++ (guarded_names one_name f.selectors ++ (guarded_names one_name f.impliers ++ kind_names f.kind)))
 
   -- int and hex: also the bounds and conditions of its ranges
   abbrev pub names_of_number : SymbolFacts → List SymId
@@ -98,7 +98,7 @@ module _ (tree : TreeFacts) where
 
   -- the numbers of the defined symbols in a list, each once
   abbrev pub defined_numbers : List SymId → List ℕ
-  defined_numbers ss = once (map (λ (s : SymId). s.0) (filter (is_defined tree) ss))
+  defined_numbers ss = deduplicated (map (λ (s : SymId). s.0) (filter (is_defined tree) ss))
 
   -- What the symbol of a number needs: the defined symbols among what its equation names, each once.
   abbrev pub needs_of : ℕ → List ℕ

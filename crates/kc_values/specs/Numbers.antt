@@ -16,8 +16,8 @@ number_as Tristate bytes = None
 number_as Str bytes = None
 
 -- what is no number counts as 0 (our own)
-abbrev pub counted : Kind → List ℕ → ℤ
-counted k bytes = unwrap_or (number_as k bytes) (pos 0)
+abbrev pub number_or_zero : Kind → List ℕ → ℤ
+number_or_zero k bytes = unwrap_or (number_as k bytes) (pos 0)
 
 -- `0x` and lower-case digits; the number of a hex is never negative
 abbrev pub hexadecimal : ℤ → List ℕ
@@ -35,14 +35,14 @@ number_text Str n = signed_decimal n
 -- Inside the active range, or no range is active.
 abbrev pub is_inside : Kind → Option Interval → List ℕ → Bool
 is_inside kind None t = true
-is_inside kind (Some r) t = not (int_lt (counted kind t) r.low) && not (int_lt r.high (counted kind t))
+is_inside kind (Some r) t = not (int_lt (number_or_zero kind t) r.low) && not (int_lt r.high (number_or_zero kind t))
 
 -- Below the low bound it becomes that bound, otherwise above the high bound that one; what is inside keeps its text.
 abbrev pub clamped : Kind → Option Interval → List ℕ → List ℕ
 clamped kind None t = t
 clamped kind (Some r) t =
-    if int_lt (counted kind t) r.low then number_text kind r.low
-    else (if int_lt r.high (counted kind t) then number_text kind r.high else t)
+    if int_lt (number_or_zero kind t) r.low then number_text kind r.low
+    else (if int_lt r.high (number_or_zero kind t) then number_text kind r.high else t)
 
 abbrev pub if_inside : Kind → Option Interval → Option (List ℕ) → Option (List ℕ)
 if_inside kind range None = None

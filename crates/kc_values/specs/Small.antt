@@ -4,6 +4,6 @@ use Rattle.kc_text.specs.Limits.{hex_limit}
 use Rattle.kc_values.specs.declared.numbers.Interval.{Interval}
 
 -- both bounds are hexes without their sign
-pub record IsSmall (r : Interval) : Type 0 where
+pub record HasSmallBounds (r : Interval) : Type 0 where
   pub low : unsigned_abs r.low < hex_limit
   pub high : unsigned_abs r.high < hex_limit

@@ -1,7 +1,7 @@
 -- Trusted: A table of values by the numbers of the symbols, of which some places may be empty.
 use Rattle.std.specs.Prelude.{ℕ, List, Option, Some, None, slice_index_or}
 use Rattle.std.specs.Borrow.{Bor}
-use Rattle.kc_expr.specs.Value.{Known, Truth, Written, known_of}
+use Rattle.kc_expr.specs.Value.{SymbolValue, Truth, TextValue, value_by_kind}
 use Rattle.kc_expr.specs.declared.expression.SymId.{SymId}
 use Rattle.kc_expr.specs.declared.expression.Tri.TheVariants.{N}
 use Rattle.kc_expr.specs.declared.expression.Tri as tri
@@ -35,10 +35,10 @@ text_in (Some (value.Truth t)) name = name
 text_in (Some (value.Text v)) name = v.items
 
 -- what a value of the code is, at a type
-abbrev pub known_value : Kind → Value → Known
+abbrev pub known_value : Kind → Value → SymbolValue
 known_value kind (value.Truth t) = Truth t
-known_value kind (value.Text v) = Written kind v.items
+known_value kind (value.Text v) = TextValue kind v.items
 
 -- what values tell of each symbol
-abbrev pub known_in : TreeFacts → List (Option Value) → SymId → Known
-known_in tree values s = known_of (kind_in (facts tree s)) (tri_in (value_in values s)) (text_in (value_in values s) (name tree s))
+abbrev pub known_in : TreeFacts → List (Option Value) → SymId → SymbolValue
+known_in tree values s = value_by_kind (kind_in (facts tree s)) (tri_in (value_in values s)) (text_in (value_in values s) (name tree s))

@@ -5,7 +5,7 @@ use Rattle.std.specs.Prelude.{ℕ, ◌&&◌, Bool, true, false, not, if◌then�
 use Rattle.std.specs.List.{find, list_any}
 use Rattle.std.specs.Option.{option_or}
 use Rattle.kc_expr.specs.Form.{Form, Single, Related, Negated, Every, Some_of}
-use Rattle.kc_expr.specs.Value.{Known, Truth, Written, value, text, least, greatest, lesser, greater, truth_of_known}
+use Rattle.kc_expr.specs.Value.{SymbolValue, Truth, TextValue, value, text, least, greatest, lesser, greater, truth_of_value}
 use Rattle.kc_expr.specs.declared.expression.SymId.{SymId}
 use Rattle.kc_expr.specs.declared.expression.Tri.{Tri}
 use Rattle.kc_expr.specs.declared.expression.Tri.TheVariants.{N, M, Y}
@@ -13,9 +13,9 @@ use Rattle.kc_expr.specs.declared.expression.Kind.{Kind}
 use Rattle.kc_expr.specs.declared.expression.Kind.TheVariants.{Undefined, Bool as IsBool, Tristate, Str, Int, Hex}
 use Rattle.kc_tree.specs.Words.{same_symbol, is_symbol_of}
 use Rattle.kc_tree.specs.TreeFacts.{Condition, Guarded, Bounds, SymbolFacts, ChoiceFacts, TreeFacts}
-use Rattle.kc_user.specs.Given.{Given, Chosen, Typed, Member}
+use Rattle.kc_user.specs.GivenValue.{GivenValue, GivenTruth, GivenText, Member}
 use Rattle.kc_values.specs.Lookups.{facts, name, choice_at}
-use Rattle.kc_values.specs.Numbers.{counted, clamped, if_inside}
+use Rattle.kc_values.specs.Numbers.{number_or_zero, clamped, if_inside}
 use Rattle.kc_values.specs.declared.numbers.Interval.{Interval}
 
 abbrev pub is_n : Tri → Bool
@@ -23,33 +23,33 @@ is_n N = true
 is_n M = false
 is_n Y = false
 
--- m as y
-abbrev pub up : Tri → Tri
-up N = N
-up M = Y
-up Y = Y
+-- the tristate upgrade: m as y
+abbrev pub upgrade : Tri → Tri
+upgrade N = N
+upgrade M = Y
+upgrade Y = Y
 
 abbrev pub what_of : Option (Guarded SymId) → Option SymId
 what_of None = None
 what_of (Some g) = Some g.what
 
 -- A visible user value counts up to the visibility (kconfiglib).
-abbrev pub based : Option Given → Tri → Tri → Tri
-based (Some (Chosen u)) vis otherwise = if is_n vis then otherwise else lesser u vis
-based (Some (Typed t)) vis otherwise = otherwise
-based (Some (Member m)) vis otherwise = otherwise
-based None vis otherwise = otherwise
+abbrev pub user_or : Option GivenValue → Tri → Tri → Tri
+user_or (Some (GivenTruth u)) vis otherwise = if is_n vis then otherwise else lesser u vis
+user_or (Some (GivenText t)) vis otherwise = otherwise
+user_or (Some (Member m)) vis otherwise = otherwise
+user_or None vis otherwise = otherwise
 
 -- An `imply` raises the default, up to the direct dependency (the order is our own).
 abbrev pub implied : Tri → Tri → Tri → Tri
-implied d weak direct = if is_n weak then d else lesser (greater d weak) direct
+implied d weak_reverse direct = if is_n weak_reverse then d else lesser (greater d weak_reverse) direct
 
 -- a visible user text
-abbrev pub typed : Option Given → Tri → Option (List ℕ)
-typed (Some (Typed t)) vis = if is_n vis then None else Some t
-typed (Some (Chosen u)) vis = None
-typed (Some (Member m)) vis = None
-typed None vis = None
+abbrev pub visible_text : Option GivenValue → Tri → Option (List ℕ)
+visible_text (Some (GivenText t)) vis = if is_n vis then None else Some t
+visible_text (Some (GivenTruth u)) vis = None
+visible_text (Some (Member m)) vis = None
+visible_text None vis = None
 
 -- a choice that is not there has no prompt
 abbrev pub prompt_of : Option ChoiceFacts → Option Condition
@@ -57,17 +57,17 @@ prompt_of None = None
 prompt_of (Some c) = c.prompt
 
 -- Under what is known of the symbols alone.
-module _ (known : SymId → Known) where
-  abbrev pub all_hold : List Form → Tri
-  all_hold parts = least (map (value known) parts)
+module _ (known : SymId → SymbolValue) where
+  abbrev pub and_value : List Form → Tri
+  and_value parts = least (map (value known) parts)
 
   abbrev pub prompt_value : Option Condition → Tri
   prompt_value None = N
-  prompt_value (Some c) = all_hold c.parts
+  prompt_value (Some c) = and_value c.parts
 
   -- The mode of a choice: y where its prompt's condition is not n (a choice of bools; kconfiglib's `tri_value` of a choice).
   abbrev pub mode_of : Option ChoiceFacts → Tri
-  mode_of c = up (prompt_value (prompt_of c))
+  mode_of c = upgrade (prompt_value (prompt_of c))
 
   -- the text of a default that is one operand
   abbrev pub single_text : Form → List ℕ
@@ -77,7 +77,7 @@ module _ (known : SymId → Known) where
   single_text (Every fs) = []
   single_text (Some_of fs) = []
 
-  -- the text of the default that counts, or nothing
+  -- the text of the met default, or nothing
   abbrev pub default_text : Option (Guarded Form) → List ℕ
   default_text None = []
   default_text (Some g) = single_text g.what
@@ -85,85 +85,86 @@ module _ (known : SymId → Known) where
   -- the value of the modules symbol
   abbrev pub modules_value : Option SymId → Tri
   modules_value None = N
-  modules_value (Some m) = truth_of_known (known m)
+  modules_value (Some m) = truth_of_value (known m)
 
   -- the bounds of a range as numbers
   abbrev pub interval : Kind → Option (Guarded Bounds) → Option Interval
   interval kind None = None
-  interval kind (Some r) = Some (record { low = counted kind (text known r.what.low); high = counted kind (text known r.what.high) })
+  interval kind (Some r) = Some (record { low = number_or_zero kind (text known r.what.low); high = number_or_zero kind (text known r.what.high) })
 
 -- Under a tree and what is known of its symbols.
-module _ (tree : TreeFacts) (known : SymId → Known) where
+module _ (tree : TreeFacts) (known : SymId → SymbolValue) where
   abbrev pub mode_value : Option ℕ → Tri
   mode_value None = Y
   mode_value (Some c) = mode_of known (choice_at tree c)
 
   -- The `&&` of the parts and of the mode (the document's "Menu dependencies").
   abbrev pub condition : Condition → Tri
-  condition c = lesser (all_hold known c.parts) (mode_value c.mode)
+  condition c = lesser (and_value known c.parts) (mode_value c.mode)
 
   abbrev pub conditions : List Condition → Tri
   conditions cs = greatest (map condition cs)
 
   -- The first whose condition is not n (the document: "the first default whose condition is met").
-  abbrev pub first_open : {X : Type 0} → List (Guarded X) → Option (Guarded X)
-  first_open gs = find (λ g. not (is_n (condition g.when))) gs
+  abbrev pub first_met : {X : Type 0} → List (Guarded X) → Option (Guarded X)
+  first_met gs = find (λ g. not (is_n (condition g.when))) gs
 
-  -- m counts as y where the type is not tristate under the values: bool, or the modules symbol is n (kconfiglib).
-  abbrev pub raised : Kind → Tri → Tri
-  raised Undefined t = up t
-  raised IsBool t = up t
-  raised Tristate t = if is_n (modules_value known tree.modules) then up t else t
-  raised Str t = up t
-  raised Int t = up t
-  raised Hex t = up t
+  -- The tristate upgrade: m counts as y where the type is not tristate under the values: bool, or the modules symbol is n
+  -- (kconfiglib).
+  abbrev pub upgraded : Kind → Tri → Tri
+  upgraded Undefined t = upgrade t
+  upgraded IsBool t = upgrade t
+  upgraded Tristate t = if is_n (modules_value known tree.modules) then upgrade t else t
+  upgraded Str t = upgrade t
+  upgraded Int t = upgrade t
+  upgraded Hex t = upgrade t
 
   -- Visibility: the greatest condition of its prompts (kconfiglib's `visibility`).
   abbrev pub visibility : SymbolFacts → Tri
-  visibility f = raised f.kind (conditions f.prompts)
+  visibility f = upgraded f.kind (conditions f.prompts)
 
   -- The direct dependency: the greatest `depends on` of its definitions (kconfiglib's `direct_dep`).
   abbrev pub direct : SymbolFacts → Tri
-  direct f = raised f.kind (conditions f.deps)
+  direct f = upgraded f.kind (conditions f.dependencies)
 
   -- the greatest of min(the other symbol's value, condition)
-  abbrev pub pulled : List (Guarded SymId) → Tri
-  pulled gs = greatest (map (λ g. lesser (truth_of_known (known g.what)) (condition g.when)) gs)
+  abbrev pub reverse_values : List (Guarded SymId) → Tri
+  reverse_values gs = greatest (map (λ g. lesser (truth_of_value (known g.what)) (condition g.when)) gs)
 
   -- The reverse dependency, of the `select` lines that name it (the document's "reverse dependencies").
-  abbrev pub rev : SymbolFacts → Tri
-  rev f = raised f.kind (pulled f.selectors)
+  abbrev pub reverse : SymbolFacts → Tri
+  reverse f = upgraded f.kind (reverse_values f.selectors)
 
   -- The weak reverse dependency, of the `imply` lines that name it (the document's "weak reverse dependencies").
-  abbrev pub weak : SymbolFacts → Tri
-  weak f = raised f.kind (pulled f.impliers)
+  abbrev pub weak_reverse : SymbolFacts → Tri
+  weak_reverse f = upgraded f.kind (reverse_values f.impliers)
 
-  -- min(value, condition) of the default that counts, or n
+  -- min(value, condition) of the met default, or n
   abbrev pub default_value : Option (Guarded Form) → Tri
   default_value None = N
   default_value (Some g) = lesser (value known g.what) (condition g.when)
 
   -- Bool and tristate outside a choice: the user's value or the default, at least the reverse dependency, even against
   -- its direct dependency (the document: "select should be used with care").
-  abbrev pub truth_equation : SymbolFacts → Option Given → Tri
+  abbrev pub truth_equation : SymbolFacts → Option GivenValue → Tri
   truth_equation f user =
-      let d = default_value (first_open f.defaults) in
-      raised f.kind (greater (based user (visibility f) (implied d (weak f) (direct f))) (rev f))
+      let d = default_value (first_met f.defaults) in
+      upgraded f.kind (greater (user_or user (visibility f) (implied d (weak_reverse f) (direct f))) (reverse f))
 
   -- String: the visible user text, else the text of the default, else nothing (kconfiglib's `str_value`).
-  abbrev pub text_equation : SymbolFacts → Option Given → List ℕ
-  text_equation f user = unwrap_or (typed user (visibility f)) (default_text known (first_open f.defaults))
+  abbrev pub text_equation : SymbolFacts → Option GivenValue → List ℕ
+  text_equation f user = unwrap_or (visible_text user (visibility f)) (default_text known (first_met f.defaults))
 
   -- The active range: the first whose condition is not n.
   abbrev pub active_range : SymbolFacts → Option Interval
-  active_range f = interval known f.kind (first_open f.ranges)
+  active_range f = interval known f.kind (first_met f.ranges)
 
   -- Int and hex: the visible user text where it is inside the active range, else the default's, clamped (kconfiglib's
   -- `str_value`; the number 0 of what is no number is our own).
-  abbrev pub number_equation : SymbolFacts → Option Given → List ℕ
+  abbrev pub number_equation : SymbolFacts → Option GivenValue → List ℕ
   number_equation f user =
-      unwrap_or (if_inside f.kind (active_range f) (typed user (visibility f)))
-      (clamped f.kind (active_range f) (default_text known (first_open f.defaults)))
+      unwrap_or (if_inside f.kind (active_range f) (visible_text user (visibility f)))
+      (clamped f.kind (active_range f) (default_text known (first_met f.defaults)))
 
   abbrev pub visible_facts : Option SymbolFacts → Bool
   visible_facts None = false
@@ -187,35 +188,35 @@ module _ (tree : TreeFacts) (known : SymId → Known) where
   abbrev pub unselected : ChoiceFacts → Option SymId
   unselected c = option_or (first_default c c.defaults) (first_visible c.members)
 
-  abbrev pub chosen_member : ChoiceFacts → Option Given → Option SymId
+  abbrev pub chosen_member : ChoiceFacts → Option GivenValue → Option SymId
   chosen_member c (Some (Member m)) = if visible_member c m then Some m else None
-  chosen_member c (Some (Chosen t)) = None
-  chosen_member c (Some (Typed t)) = None
+  chosen_member c (Some (GivenTruth t)) = None
+  chosen_member c (Some (GivenText t)) = None
   chosen_member c None = None
 
   -- The selection: with the mode y the user's member where it is visible, else the default selection (kconfiglib's `selection`).
-  abbrev pub selected : Option ChoiceFacts → Option Given → Option SymId
+  abbrev pub selected : Option ChoiceFacts → Option GivenValue → Option SymId
   selected None user = None
   selected (Some c) user =
       if is_n (mode_of known (Some c)) then None else option_or (chosen_member c user) (unselected c)
 
   -- A member is y where it is selected, which is visible, else n; its own defaults have no effect.
-  abbrev pub member_equation : SymId → ℕ → Option Given → Tri
+  abbrev pub member_equation : SymId → ℕ → Option GivenValue → Tri
   member_equation s c user = if is_symbol_of s (selected (choice_at tree c) user) then Y else N
 
   -- The equation of one symbol; without a type it is worth its own name.
-  abbrev pub by_kind : SymId → SymbolFacts → Kind → Option Given → Known
-  by_kind s f Undefined user = Written Undefined (name tree s)
+  abbrev pub by_kind : SymId → SymbolFacts → Kind → Option GivenValue → SymbolValue
+  by_kind s f Undefined user = TextValue Undefined (name tree s)
   by_kind s f IsBool user = Truth (truth_equation f user)
   by_kind s f Tristate user = Truth (truth_equation f user)
-  by_kind s f Str user = Written Str (text_equation f user)
-  by_kind s f Int user = Written Int (number_equation f user)
-  by_kind s f Hex user = Written Hex (number_equation f user)
+  by_kind s f Str user = TextValue Str (text_equation f user)
+  by_kind s f Int user = TextValue Int (number_equation f user)
+  by_kind s f Hex user = TextValue Hex (number_equation f user)
 
-  abbrev pub by_choice : SymId → SymbolFacts → Option ℕ → Option Given → Known
+  abbrev pub by_choice : SymId → SymbolFacts → Option ℕ → Option GivenValue → SymbolValue
   by_choice s f (Some c) user = Truth (member_equation s c user)
   by_choice s f None user = by_kind s f f.kind user
 
-  abbrev pub equation : SymId → Option SymbolFacts → Option Given → Known
-  equation s None user = Written Undefined (name tree s)
+  abbrev pub equation : SymId → Option SymbolFacts → Option GivenValue → SymbolValue
+  equation s None user = TextValue Undefined (name tree s)
   equation s (Some f) user = by_choice s f f.choice user

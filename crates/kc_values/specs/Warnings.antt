@@ -3,7 +3,7 @@ use Rattle.std.specs.Prelude.{ℕ, if◌then◌else◌, List, [], ◌∷◌, ◌
 use Rattle.std.specs.List.{flat_map, range_with_len}
 use Rattle.kc_expr.specs.Form.{Form}
 use Rattle.kc_expr.specs.Names.{symbol}
-use Rattle.kc_expr.specs.Value.{Known, tri_text}
+use Rattle.kc_expr.specs.Value.{SymbolValue, tri_text}
 use Rattle.kc_expr.specs.declared.expression.SymId.{SymId}
 use Rattle.kc_expr.specs.declared.expression.Tri.{Tri}
 use Rattle.kc_expr.specs.declared.expression.Kind.{Kind}
@@ -11,16 +11,16 @@ use Rattle.kc_expr.specs.declared.expression.Kind.TheVariants.{Undefined, Bool a
 use Rattle.kc_tree.specs.TreeFacts.{Guarded, SymbolFacts, TreeFacts}
 use Rattle.kc_values.specs.Lookups.{facts, name}
 use Rattle.kc_values.specs.Numbers.{number_text, is_inside, clamped, if_inside}
-use Rattle.kc_user.specs.Given.{Given, Slot, At}
-use Rattle.kc_values.specs.Values.{first_open, direct, rev, visibility, typed, single_text, active_range}
-use Rattle.kc_values.specs.Written.{above}
-use Rattle.kc_values.specs.Solution.{seen, symbol_count}
+use Rattle.kc_user.specs.GivenValue.{GivenValue, UserPlace, SymbolPlace}
+use Rattle.kc_values.specs.Values.{first_met, direct, reverse, visibility, visible_text, single_text, active_range}
+use Rattle.kc_values.specs.WrittenSymbols.{above}
+use Rattle.kc_values.specs.Solution.{known_from, symbol_count}
 use Rattle.kc_values.specs.declared.numbers.Interval.{Interval}
 
 -- `NAME is selected to REV while its dependency is DIRECT`
 abbrev pub selected_line : List ℕ → Tri → Tri → List ℕ
-selected_line name rev direct =
-    codes "warning K11: " ++ name ++ codes " is selected to " ++ tri_text rev ++ codes " while its dependency is " ++ tri_text direct
+selected_line name reverse direct =
+    codes "warning K11: " ++ name ++ codes " is selected to " ++ tri_text reverse ++ codes " while its dependency is " ++ tri_text direct
 
 -- ` of NAME is outside LOW to HIGH` after what stands before it
 abbrev pub outside_line : List ℕ → Kind → Interval → List ℕ → List ℕ
@@ -49,26 +49,26 @@ default_warnings kind name None None d = []
 default_warnings kind name (Some r) None None = []
 default_warnings kind name (Some r) None (Some t) = if is_inside kind (Some r) t then [] else default_line kind r name t ∷ []
 
--- the text of the default that counts, if there is one
-abbrev pub open_text : (SymId → Known) → Option (Guarded Form) → Option (List ℕ)
-open_text known None = None
-open_text known (Some g) = Some (single_text known g.what)
+-- the text of the met default, if there is one
+abbrev pub met_text : (SymId → SymbolValue) → Option (Guarded Form) → Option (List ℕ)
+met_text known None = None
+met_text known (Some g) = Some (single_text known g.what)
 
 -- Under a tree and what is known of its symbols.
-module _ (tree : TreeFacts) (known : SymId → Known) where
+module _ (tree : TreeFacts) (known : SymId → SymbolValue) where
   -- selected above its dependency
   abbrev pub select_warnings : List ℕ → SymbolFacts → List (List ℕ)
   select_warnings name f =
-      if above (rev tree known f) (direct tree known f) then selected_line name (rev tree known f) (direct tree known f) ∷ [] else []
+      if above (reverse tree known f) (direct tree known f) then selected_line name (reverse tree known f) (direct tree known f) ∷ [] else []
 
-  abbrev pub range_warnings : List ℕ → SymbolFacts → Option Given → List (List ℕ)
+  abbrev pub range_warnings : List ℕ → SymbolFacts → Option GivenValue → List (List ℕ)
   range_warnings name f user =
       let range = active_range tree known f in
-      let given = typed user (visibility tree known f) in
+      let given = visible_text user (visibility tree known f) in
       user_warnings f.kind name range given
-      ++ default_warnings f.kind name range (if_inside f.kind range given) (open_text known (first_open tree known f.defaults))
+      ++ default_warnings f.kind name range (if_inside f.kind range given) (met_text known (first_met tree known f.defaults))
 
-  abbrev pub warnings_by_kind : List ℕ → SymbolFacts → Kind → Option Given → List (List ℕ)
+  abbrev pub warnings_by_kind : List ℕ → SymbolFacts → Kind → Option GivenValue → List (List ℕ)
   warnings_by_kind name f Undefined user = []
   warnings_by_kind name f IsBool user = select_warnings name f
   warnings_by_kind name f Tristate user = select_warnings name f
@@ -77,18 +77,18 @@ module _ (tree : TreeFacts) (known : SymId → Known) where
   warnings_by_kind name f Hex user = range_warnings name f user
 
   -- a member is not warned of
-  abbrev pub warnings_by_choice : List ℕ → SymbolFacts → Option ℕ → Option Given → List (List ℕ)
+  abbrev pub warnings_by_choice : List ℕ → SymbolFacts → Option ℕ → Option GivenValue → List (List ℕ)
   warnings_by_choice name f (Some c) user = []
   warnings_by_choice name f None user = warnings_by_kind name f f.kind user
 
   -- The warnings of one symbol, by number.
-  abbrev pub warnings_of : List ℕ → Option SymbolFacts → Option Given → List (List ℕ)
+  abbrev pub warnings_of : List ℕ → Option SymbolFacts → Option GivenValue → List (List ℕ)
   warnings_of name None user = []
   warnings_of name (Some f) user = warnings_by_choice name f f.choice user
 
-module _ (tree : TreeFacts) (user : Slot → Option Given) (V : ℕ → Known) where
+module _ (tree : TreeFacts) (user : UserPlace → Option GivenValue) (V : ℕ → SymbolValue) where
   abbrev pub warnings_at : ℕ → List (List ℕ)
-  warnings_at i = warnings_of tree (seen tree V) (name tree (symbol i)) (facts tree (symbol i)) (user (At i))
+  warnings_at i = warnings_of tree (known_from tree V) (name tree (symbol i)) (facts tree (symbol i)) (user (SymbolPlace i))
 
   -- In order of first definition.
   abbrev pub value_warnings : List (List ℕ)

@@ -5,16 +5,16 @@ ghost use Rattle.std.specs.List.{list_any};
 ghost use Rattle.kc_tree.specs.Words.{same_symbol};
 ghost use Rattle.kc_tree.specs.Layouts.{choice_facts};
 ghost use Rattle.kc_user.specs.Places.{member_place};
-ghost use Rattle.kc_values.specs.Known.{known_at};
+ghost use Rattle.kc_values.specs.TableFacts.{known_at};
 ghost use Rattle.kc_values.specs.Lookups.{choice_at};
-ghost use Rattle.kc_values.specs.Known.{IsSelected};
+ghost use Rattle.kc_values.specs.TableFacts.{IsSelected};
 ghost use Rattle.kc_values.specs.Values as spec;
 
 use crate::conditions::{condition, is_n, mode_of};
 use crate::table::Table;
 use crate::truths::prompts_condition;
 use kc_expr::expression::{SymId, Tri};
-use kc_tree::parts::{Choice, ChoiceId};
+use kc_tree::rows::{Choice, ChoiceId};
 
 /// Whether a prompt of the symbol has a condition that is not n; a name that is not defined has none (kconfiglib's
 /// `visibility`).
@@ -103,12 +103,12 @@ pub fn selected_in(table: &Table<'_>, choice: ChoiceId, user: Option<SymId>) -> 
 }
 
 /// The value of a member: y where it is selected, else n; its own defaults count for nothing (the kernel's kconfig-language
-/// document on choices). A selection that is settled is not found again; `user` is the member that was given for the choice.
+/// document on choices). A selection that is computed is not found again; `user` is the member that was given for the choice.
 pub fn member_equation(table: &Table<'_>, id: SymId, choice: ChoiceId, user: Option<SymId>) -> Tri
     requires { IsSelected table.now choice.0 user }
     ensures { result ≡ spec.member_equation table.now.tree.now (known_at table.now) id choice.0 (member_place user) }
 {
-    let selection = match table.settled_selection(choice) {
+    let selection = match table.computed_selection(choice) {
         Some(settled) => settled,
         None => selected_in(table, choice, user),
     };

@@ -6,20 +6,20 @@ ghost use Rattle.kc_expr.specs.When.{when_view};
 ghost use Rattle.kc_tree.specs.Contexts.{IsPlain, mode_view};
 ghost use Rattle.kc_tree.specs.Layouts.{choice_facts, prompt_view, title_condition, with_when};
 ghost use Rattle.kc_tree.specs.Soundness.{IsChoiceThere};
-ghost use Rattle.kc_values.specs.Known.{known_at, condition_at};
+ghost use Rattle.kc_values.specs.TableFacts.{known_at, condition_at};
 ghost use Rattle.kc_values.specs.Lookups.{choice_at};
-ghost use Rattle.kc_values.specs.Settled.{when_value};
+ghost use Rattle.kc_values.specs.Computed.{when_value};
 ghost use Rattle.kc_values.specs.Values as spec;
 
 use crate::table::Table;
 use kc_expr::expression::{Expr, Tri};
 use kc_expr::values::{eval, lesser};
-use kc_tree::parts::{Choice, ChoiceId, ContextId, Prompt, Title};
+use kc_tree::rows::{Choice, ChoiceId, ContextId, Prompt, Title};
 use std::rc::Rc;
 
-/// m as y: what counts where m can't be (kconfiglib, of symbols that are not tristate).
-pub fn up(value: Tri) -> Tri
-    ensures { result ≡ spec.up value }
+/// The tristate upgrade: m as y, which counts where m can't be (kconfiglib, of symbols that are not tristate).
+pub fn upgrade(value: Tri) -> Tri
+    ensures { result ≡ spec.upgrade value }
 {
     match value {
         Tri::N => Tri::N,
@@ -38,7 +38,7 @@ pub fn is_n(value: Tri) -> bool
 }
 
 /// The value of an `if`, y where there is none.
-pub fn own(when: &Option<Rc<Expr>>, table: &Table<'_>) -> Tri
+pub fn if_value(when: &Option<Rc<Expr>>, table: &Table<'_>) -> Tri
     ensures { result ≡ when_value (known_at table.now) (when_view when.now) }
 {
     match when {
@@ -47,18 +47,18 @@ pub fn own(when: &Option<Rc<Expr>>, table: &Table<'_>) -> Tri
     }
 }
 
-// The least of a value and of what the contexts from this one outwards ask for, up to one that is settled.
-fn asked(table: &Table<'_>, within: ContextId, first: Tri) -> Tri
+// The least of a value and of what the contexts from this one outwards ask for, up to one that is computed.
+fn enclosing_least(table: &Table<'_>, within: ContextId, first: Tri) -> Tri
     requires { lesser first (spec.mode_value table.now.tree.now (known_at table.now) (condition_at table.now within.0).mode) ≡ first }
-    ensures { result ≡ lesser first (spec.all_hold (known_at table.now) (condition_at table.now within.0).parts) }
+    ensures { result ≡ lesser first (spec.and_value (known_at table.now) (condition_at table.now within.0).parts) }
 {
     let mut least = first;
     let mut at = within;
     'contexts: while let Some(context) = table.layout.context(at) {
-        if let Some(value) = table.settled_context(at) {
+        if let Some(value) = table.computed_context(at) {
             return lesser(least, value);
         }
-        least = lesser(least, own(&context.asks, table));
+        least = lesser(least, if_value(&context.own_condition, table));
         at = context.outer;
     }
     least
@@ -71,8 +71,8 @@ fn choice_prompt(table: &Table<'_>, choice: &Choice) -> Tri
 {
     match &choice.prompt {
         Some(prompt) => {
-            let shown = asked(table, prompt.visible, own(&prompt.when, table));
-            asked(table, choice.within, shown)
+            let shown = enclosing_least(table, prompt.visible, if_value(&prompt.when, table));
+            enclosing_least(table, choice.within, shown)
         }
         None => Tri::N,
     }
@@ -84,7 +84,7 @@ pub fn mode_of(table: &Table<'_>, id: ChoiceId) -> Tri
     ensures { result ≡ spec.mode_of (known_at table.now) (choice_at table.now.tree.now id.0) }
 {
     match table.layout.choice(id) {
-        Some(choice) => up(choice_prompt(table, choice)),
+        Some(choice) => upgrade(choice_prompt(table, choice)),
         None => Tri::N,
     }
 }
@@ -99,14 +99,14 @@ fn mode_value(table: &Table<'_>, mode: Option<ChoiceId>) -> Tri
     }
 }
 
-/// What a context is worth: the `&&` of what it and those outside ask for, and of the mode of the choice round it (the
+/// What a context is worth: the `&&` of what it and those outside ask for, and of the mode of the enclosing choice (the
 /// kernel's kconfig-language document, "Menu dependencies").
 pub fn context(table: &Table<'_>, within: ContextId) -> Tri
     ensures { result ≡ spec.condition table.now.tree.now (known_at table.now) (condition_at table.now within.0) }
 {
-    match table.settled_context(within) {
+    match table.computed_context(within) {
         Some(value) => value,
-        None => asked(table, within, mode_value(table, table.layout.mode(within))),
+        None => enclosing_least(table, within, mode_value(table, table.layout.mode(within))),
     }
 }
 
@@ -117,7 +117,7 @@ fn guarded(first: Tri, when: &Option<Rc<Expr>>, table: &Table<'_>) -> Tri
     if is_n(first) {
         Tri::N
     } else {
-        lesser(first, own(when, table))
+        lesser(first, if_value(when, table))
     }
 }
 

@@ -5,8 +5,8 @@ ghost use Rattle.std.specs.Option.{is_some};
 ghost use Rattle.kc_tree.specs.Words.{is_symbol_of};
 ghost use Rattle.kc_tree.specs.Layouts.{facts_of};
 ghost use Rattle.kc_values.specs.Differs.{same_value};
-ghost use Rattle.kc_values.specs.Known.{known_at, IsRowOf};
-ghost use Rattle.kc_values.specs.User.{place};
+ghost use Rattle.kc_values.specs.TableFacts.{known_at, IsRowOf};
+ghost use Rattle.kc_values.specs.User.{given_in};
 ghost use Rattle.kc_values.specs.Values as value;
 
 use crate::conditions::is_n;
@@ -17,7 +17,7 @@ use crate::texts::text_equation;
 use crate::truths::truth_equation;
 use kc_expr::expression::{Kind, SymId, Tri};
 use kc_expr::values::Values;
-use kc_tree::parts::Symbol;
+use kc_tree::rows::Symbol;
 use kc_user::value::UserValue;
 use std::alloc::{AllocError, Global};
 
@@ -54,7 +54,7 @@ pub fn own_differs(
 /// Whether what the user gave for a symbol of this visibility can count: it is visible, and something was given. Where it
 /// can't, the equation gives the same value without it, so that the symbol does not differ (kconfiglib's `visibility`).
 pub fn can_count(user: Option<&UserValue>, shown: Tri) -> bool
-    ensures { result ≡ (is_some (place user.entry) && not (value.is_n shown)) }
+    ensures { result ≡ (is_some (given_in user.entry) && not (value.is_n shown)) }
 {
     user.is_some() && !is_n(shown)
 }

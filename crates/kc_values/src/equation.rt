@@ -2,11 +2,11 @@
 
 ghost use Rattle.std.specs.Prelude.{◌≡◌, None, slice_index_or, IfOk};
 ghost use Rattle.kc_tree.specs.Layouts.{facts_of};
-ghost use Rattle.kc_values.specs.Known.{known_at};
+ghost use Rattle.kc_values.specs.TableFacts.{known_at};
 ghost use Rattle.kc_values.specs.Selections.{given_for};
-ghost use Rattle.kc_values.specs.Known.{AreSelected};
+ghost use Rattle.kc_values.specs.TableFacts.{AreSelected};
 ghost use Rattle.kc_values.specs.Table.{known_value};
-ghost use Rattle.kc_values.specs.User.{place};
+ghost use Rattle.kc_values.specs.User.{given_in};
 ghost use Rattle.kc_values.specs.Values as spec;
 
 use crate::choices::member_equation;
@@ -16,7 +16,7 @@ use crate::table::{Table, Value};
 use crate::texts::text_equation;
 use crate::truths::truth_equation;
 use kc_expr::expression::{Kind, SymId};
-use kc_tree::parts::{ChoiceId, Symbol};
+use kc_tree::rows::{ChoiceId, Symbol};
 use kc_user::value::UserValue;
 use std::alloc::{AllocError, Global};
 
@@ -30,7 +30,7 @@ pub fn own_equation(
     symbol: &Symbol,
     user: Option<&UserValue>,
 ) -> Result<Value, AllocError>
-    ensures { IfOk result (λ x. known_value symbol.now.kind x ≡ spec.by_kind table.now.tree.now (known_at table.now) id (facts_of table.now.layout.now id.0 symbol.now) symbol.now.kind (place user.entry)) }
+    ensures { IfOk result (λ x. known_value symbol.now.kind x ≡ spec.by_kind table.now.tree.now (known_at table.now) id (facts_of table.now.layout.now id.0 symbol.now) symbol.now.kind (given_in user.entry)) }
 {
     match symbol.kind {
         Kind::Bool => Ok(Value::Truth(truth_equation(table, id, symbol, user))),
@@ -66,7 +66,7 @@ fn given_member(users: &[Option<SymId>], choice: ChoiceId) -> Option<SymId>
 
 /// The value that the equation of a defined symbol gives: `user` is what was given for it, `users` what was given for
 /// each choice (the kernel's kconfig-language document; where that is vague, kconfiglib's documented rules). What the table has
-/// settled is not found again. Fails only when it is out of memory.
+/// computed is not found again. Fails only when it is out of memory.
 pub fn equation(
     alloc: Global,
     table: &Table<'_>,
@@ -76,7 +76,7 @@ pub fn equation(
     users: &[Option<SymId>],
 ) -> Result<Value, AllocError>
     requires selected { AreSelected table.now users.now }
-    ensures { IfOk result (λ x. known_value symbol.now.kind x ≡ spec.by_choice table.now.tree.now (known_at table.now) id (facts_of table.now.layout.now id.0 symbol.now) (facts_of table.now.layout.now id.0 symbol.now).choice (given_for symbol.now.choice (place user.entry) users.now)) }
+    ensures { IfOk result (λ x. known_value symbol.now.kind x ≡ spec.by_choice table.now.tree.now (known_at table.now) id (facts_of table.now.layout.now id.0 symbol.now) (facts_of table.now.layout.now id.0 symbol.now).choice (given_for symbol.now.choice (given_in user.entry) users.now)) }
 {
     match symbol.choice {
         Some(choice) => {

@@ -1,6 +1,6 @@
 //! What holds of the equations of every tree.
 
-ghost use Rattle.kc_values.specs.Laws.{EquationsReadNeeds, NeedsAreDefined, AcceptedHaveOneSolution, SolutionsAgree, LinesAreFixed, MinimalRestores, MinimalHasNothingToSpare, SettledWhere, DifferingAreAllowed, ModeIsPromptCondition, WellFormedHaveMembers};
+ghost use Rattle.kc_values.specs.Laws.{EquationsReadNeeds, NeedsAreDefined, AcceptedHaveOneSolution, SolutionsAgree, LinesAreFixed, MinimalRestores, MinimalHasNothingToSpare, IdempotentWhere, DifferingAreAllowed, ModeIsPromptCondition, WellFormedHaveMembers};
 
 use kc_expr::values::value_depends_on_symbols;
 
@@ -42,10 +42,11 @@ pub fn minimal_restores()
     needs_are_defined();
 }
 
-/// The written lines that `allowed` accepts give the values again exactly where no symbol is unsettled: outside a choice, of
-/// type tristate, visible, and greater than both its visibility and its reverse dependency (our own).
-pub fn settled_where()
-    ensures { SettledWhere }
+/// The written lines that `allowed` accepts give the values again exactly where no symbol changes on rereading: where none
+/// outside a choice has the type tristate, is visible, and is greater than both its visibility and its reverse dependency
+/// (our own).
+pub fn idempotent_where()
+    ensures { IdempotentWhere }
 {}
 
 /// The value of a symbol that differs is one that `allowed` accepts (our own).

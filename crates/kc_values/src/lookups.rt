@@ -1,16 +1,16 @@
 //! What a tree says of a symbol.
 
 ghost use Rattle.std.specs.Prelude.{◌≡◌};
-ghost use Rattle.kc_tree.specs.Heads.{IsHeadOf};
+ghost use Rattle.kc_tree.specs.RowFacts.{IsSymbolRowOf};
 ghost use Rattle.kc_values.specs.Lookups as spec;
 
 use kc_expr::expression::SymId;
-use kc_tree::parts::Symbol;
+use kc_tree::rows::Symbol;
 use kc_tree::tree::Tree;
 
 /// The row of a defined symbol, with its type and its choice; nothing of a name that is not defined (our own).
 pub fn facts(tree: &Tree, id: SymId) -> Option<&Symbol>
-    ensures { IsHeadOf (spec.facts tree.now id) result }
+    ensures { IsSymbolRowOf (spec.facts tree.now id) result }
 {
     tree.facts(id)
 }

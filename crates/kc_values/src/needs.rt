@@ -15,10 +15,10 @@ ghost use Rattle.kc_values.specs.NeedRows.{Adds, IsRow};
 
 use crate::nodes::{choice_number, context_number, node_count};
 use kc_expr::expression::{Expr, Kind, Operand, SymId};
-use kc_expr::values::names_into;
+use kc_expr::values::symbols_into;
 use kc_order::Graph;
 use kc_tree::layout::Layout;
-use kc_tree::parts::{
+use kc_tree::rows::{
     Choice, ChoiceId, Context, ContextId, Definition, Prompt, ReverseId, Symbol, SymbolDefault,
     SymbolRange,
 };
@@ -34,11 +34,11 @@ struct Row {
 }
 
 // Adds the names in an `if`.
-fn own_into(when: &Option<Rc<Expr>>, out: &mut Row) -> Result<(), AllocError>
+fn if_names_into(when: &Option<Rc<Expr>>, out: &mut Row) -> Result<(), AllocError>
     ensures { OnOk result (Adds out.old out.new [] (rows.when_names (when_view when.now))) }
 {
     match when {
-        Some(e) => names_into(e, &mut out.names),
+        Some(e) => symbols_into(e, &mut out.names),
         None => Ok(()),
     }
 }
@@ -62,7 +62,7 @@ fn prompt_into(layout: &Layout, prompt: &Option<Prompt>, out: &mut Row) -> Resul
     match prompt {
         Some(prompt) => {
             context_into(layout, prompt.visible, out)?;
-            own_into(&prompt.when, out)
+            if_names_into(&prompt.when, out)
         }
         None => Ok(()),
     }
@@ -94,13 +94,13 @@ fn mode_into(layout: &Layout, mode: Option<ChoiceId>, out: &mut Row) -> Result<(
 
 // Adds what a context asks for besides the one outside it, and that one: a context that asks for nothing of its own is that of
 // a choice's members, which asks for its mode.
-fn asked_into(layout: &Layout, context: &Context, out: &mut Row) -> Result<(), AllocError>
+fn context_row_into(layout: &Layout, context: &Context, out: &mut Row) -> Result<(), AllocError>
     requires there { context.now.outer.0 < length layout.now.tables.contexts }
-    ensures { OnOk result (Adds out.old out.new (rows.asked_nodes layout.now context.now) (rows.asked_names layout.now context.now)) }
+    ensures { OnOk result (Adds out.old out.new (rows.context_row_nodes layout.now context.now) (rows.context_row_names layout.now context.now)) }
 {
     context_into(layout, context.outer, out)?;
-    match &context.asks {
-        Some(e) => names_into(e, &mut out.names),
+    match &context.own_condition {
+        Some(e) => symbols_into(e, &mut out.names),
         None => mode_into(layout, context.mode, out),
     }
 }
@@ -135,8 +135,8 @@ fn defaults_into(defaults: &[SymbolDefault], out: &mut Row) -> Result<(), AllocE
     ensures { OnOk result (Adds out.old out.new [] (flat_map rows.default_names defaults.now)) }
 {
     for default in defaults {
-        names_into(&default.value, &mut out.names)?;
-        own_into(&default.when, out)?;
+        symbols_into(&default.value, &mut out.names)?;
+        if_names_into(&default.when, out)?;
     }
     Ok(())
 }
@@ -160,7 +160,7 @@ fn range_into(range: &SymbolRange, out: &mut Row) -> Result<(), AllocError>
 {
     bound_into(&range.low, out)?;
     bound_into(&range.high, out)?;
-    own_into(&range.when, out)
+    if_names_into(&range.when, out)
 }
 
 // Adds the ranges of a definition, but for what it depends on.
@@ -236,7 +236,7 @@ fn reverses_into(layout: &Layout, last: Option<ReverseId>, out: &mut Row) -> Res
         if let Some(source) = layout.definition(line.source) {
             out.names.push(source.symbol)?;
             context_into(layout, source.within, out)?;
-            own_into(&line.when, out)?;
+            if_names_into(&line.when, out)?;
         }
         at = line.next;
     }
@@ -309,7 +309,7 @@ fn choice_defaults_into(layout: &Layout, choice: &Choice, out: &mut Row) -> Resu
         context_into(layout, choice.within, out)?;
     }
     for default in &choice.defaults {
-        own_into(&default.when, out)?;
+        if_names_into(&default.when, out)?;
     }
     Ok(())
 }
@@ -374,7 +374,7 @@ fn add_contexts(layout: &Layout, row: &mut Row, graph: &mut Graph) -> Result<(),
     let defined = layout.symbols().len();
     for i in 0..layout.context_count() {
         if let Some(context) = layout.context(ContextId(i as u32)) {
-            asked_into(layout, context, row)?;
+            context_row_into(layout, context, row)?;
         }
         close_row(defined, row, graph)?;
     }

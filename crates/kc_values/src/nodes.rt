@@ -6,7 +6,7 @@ ghost use Rattle.kc_values.specs.Nodes.{IsNode};
 
 use kc_expr::expression::SymId;
 use kc_tree::layout::Layout;
-use kc_tree::parts::{ChoiceId, ContextId};
+use kc_tree::rows::{ChoiceId, ContextId};
 
 /// A node of the graph of what symbols need: a symbol, or what many of them need alike: a context with what it asks for, or the
 /// selection of a choice (our own).

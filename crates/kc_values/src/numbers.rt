@@ -3,20 +3,20 @@
 ghost use Rattle.std.specs.Prelude.{◌≡◌, ◌<◌, ◌^◌, Some, IfOk, IfSome, unsigned_abs};
 ghost use Rattle.kc_tree.specs.Layouts.{definition_facts, facts_of, range_view};
 ghost use Rattle.kc_tree.specs.Contexts.{condition_in};
-ghost use Rattle.kc_values.specs.Known.{known_at, IsOpenRange};
+ghost use Rattle.kc_values.specs.TableFacts.{known_at, IsMetRange};
 ghost use Rattle.kc_values.specs.Numbers as digits;
-ghost use Rattle.kc_values.specs.Small.{IsSmall};
-ghost use Rattle.kc_values.specs.User.{place, text_at};
+ghost use Rattle.kc_values.specs.Small.{HasSmallBounds};
+ghost use Rattle.kc_values.specs.User.{given_in, text_at};
 ghost use Rattle.kc_values.specs.Values as spec;
 
 use crate::conditions::{condition, is_n};
 use crate::table::Table;
-use crate::texts::{default_text, typed_in};
+use crate::texts::{default_text, visible_text_of};
 use crate::truths::definition;
 use kc_expr::expression::Kind;
 use kc_expr::values::text;
 use kc_text::{read_hex, read_int};
-use kc_tree::parts::{Definition, Symbol, SymbolRange};
+use kc_tree::rows::{Definition, Symbol, SymbolRange};
 use kc_user::value::UserValue;
 use std::alloc::{AllocError, Global};
 
@@ -43,9 +43,9 @@ pub fn number_as(kind: Kind, text: &[u8]) -> Option<i128>
 }
 
 // The number of a text, or 0.
-#[tactic(auto, using(crate::proofs::SmallNumbers::counted_below))]
-fn counted(kind: Kind, text: &[u8]) -> i128
-    ensures number { result ≡ digits.counted kind text.now }
+#[tactic(auto, using(crate::proofs::SmallNumbers::number_or_zero_below))]
+fn number_or_zero(kind: Kind, text: &[u8]) -> i128
+    ensures number { result ≡ digits.number_or_zero kind text.now }
     ensures small { unsigned_abs result < 2 ^ 64 }
 {
     number_as(kind, text).unwrap_or(0)
@@ -54,17 +54,17 @@ fn counted(kind: Kind, text: &[u8]) -> i128
 // The bounds of a range.
 fn bounds_of(table: &Table<'_>, kind: Kind, range: &SymbolRange) -> Interval
     ensures range { Some result ≡ spec.interval (known_at table.now) kind (Some (range_view table.now.layout.now.tables.contexts (condition_in table.now.layout.now.tables.contexts 0) range.now)) }
-    ensures small { IsSmall result }
+    ensures small { HasSmallBounds result }
 {
     Interval {
-        low: counted(kind, text(&range.low, table)),
-        high: counted(kind, text(&range.high, table)),
+        low: number_or_zero(kind, text(&range.low, table)),
+        high: number_or_zero(kind, text(&range.high, table)),
     }
 }
 
 // The first range of a definition whose condition is not n.
-fn first_open<'t>(table: &Table<'t>, definition: &Definition) -> Option<&'t SymbolRange>
-    ensures { IsOpenRange table.now (spec.first_open table.now.tree.now (known_at table.now) (definition_facts table.now.layout.now.tables definition.now).ranges) result }
+fn first_met<'t>(table: &Table<'t>, definition: &Definition) -> Option<&'t SymbolRange>
+    ensures { IsMetRange table.now (spec.first_met table.now.tree.now (known_at table.now) (definition_facts table.now.layout.now.tables definition.now).ranges) result }
 {
     for range in table.layout.ranges(definition) {
         if !is_n(condition(table, definition.within, &range.when)) {
@@ -78,11 +78,11 @@ fn first_open<'t>(table: &Table<'t>, definition: &Definition) -> Option<&'t Symb
 /// attributes": numerical ranges). A bound that is no number counts as 0 (our own).
 pub fn active_range(table: &Table<'_>, symbol: &Symbol) -> Option<Interval>
     ensures range { result ≡ spec.active_range table.now.tree.now (known_at table.now) (facts_of table.now.layout.now 0 symbol.now) }
-    ensures small { IfSome result IsSmall }
+    ensures small { IfSome result HasSmallBounds }
 {
     for i in 0..symbol.definition_count() {
         if let Some(definition) = definition(table, symbol, i) {
-            if let Some(range) = first_open(table, definition) {
+            if let Some(range) = first_met(table, definition) {
                 return Some(bounds_of(table, symbol.kind, range));
             }
         }
@@ -97,7 +97,7 @@ pub fn is_inside(kind: Kind, range: Option<Interval>, text: &[u8]) -> bool
 {
     match range {
         Some(bounds) => {
-            let number = counted(kind, text);
+            let number = number_or_zero(kind, text);
             bounds.low <= number && number <= bounds.high
         }
         None => true,
@@ -114,8 +114,8 @@ pub fn if_inside(kind: Kind, range: Option<Interval>, given: Option<&[u8]>) -> O
     }
 }
 
-/// A number as it is written: decimal for int, `0x` and lower-case digits for hex (kconfiglib's `str_value`). Fails only when it is
-/// out of memory.
+/// A number as it is written: decimal for int, `0x` and lower-case digits for hex (kconfiglib's `str_value`). Fails only when
+/// it is out of memory.
 pub fn number_text(alloc: Global, kind: Kind, number: i128) -> Result<Vec<u8>, AllocError>
     requires { unsigned_abs number < 2 ^ 64 }
     ensures { IfOk result (λ v. v.items ≡ digits.number_text kind number) }
@@ -138,11 +138,11 @@ pub fn clamped(
     range: Option<Interval>,
     text: &[u8],
 ) -> Result<Vec<u8>, AllocError>
-    requires { IfSome range IsSmall }
+    requires { IfSome range HasSmallBounds }
     ensures { IfOk result (λ v. v.items ≡ digits.clamped kind range text.now) }
 {
     if let Some(bounds) = range {
-        let number = counted(kind, text);
+        let number = number_or_zero(kind, text);
         if number < bounds.low {
             let low = number_text(alloc, kind, bounds.low)?;
             return Ok(low);
@@ -165,10 +165,10 @@ pub fn number_equation(
     symbol: &Symbol,
     user: Option<&UserValue>,
 ) -> Result<Vec<u8>, AllocError>
-    ensures { IfOk result (λ v. v.items ≡ spec.number_equation table.now.tree.now (known_at table.now) (facts_of table.now.layout.now 0 symbol.now) (place user.entry)) }
+    ensures { IfOk result (λ v. v.items ≡ spec.number_equation table.now.tree.now (known_at table.now) (facts_of table.now.layout.now 0 symbol.now) (given_in user.entry)) }
 {
     let range = active_range(table, symbol);
-    let given = typed_in(table, symbol, user);
+    let given = visible_text_of(table, symbol, user);
     if let Some(bytes) = if_inside(symbol.kind, range, given) {
         let copy = Vec::from_slice(alloc, bytes)?;
         return Ok(copy);

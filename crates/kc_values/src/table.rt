@@ -4,14 +4,14 @@ ghost use Rattle.std.specs.Prelude.{◌≡◌, None, length, replicate, slice_in
 ghost use Rattle.kc_tree.specs.Layouts.{IsLayoutOf};
 ghost use Rattle.kc_tree.specs.TreeFacts.{IsWellFormed};
 ghost use Rattle.kc_values.specs.Lookups as lookup;
-ghost use Rattle.kc_values.specs.Settled.{AreContextsSettled};
+ghost use Rattle.kc_values.specs.Computed.{AreContextsComputed};
 ghost use Rattle.kc_values.specs.Table.{kind_in, value_at, value_in, tri_in, text_in};
 
 use crate::lookups::name;
 use kc_expr::expression::{Kind, SymId, Tri};
 use kc_expr::values::Values;
 use kc_tree::layout::Layout;
-use kc_tree::parts::{ChoiceId, ContextId};
+use kc_tree::rows::{ChoiceId, ContextId};
 use kc_tree::tree::Tree;
 use std::alloc::{AllocError, Global};
 
@@ -26,8 +26,8 @@ pub enum Value {
 
 /// The values of the symbols of a tree, of which some places may still be empty. As `Values` an empty place is n, and
 /// as a text the symbol's name, which is also what a name that is not defined is worth (kconfiglib). Beside them stand the
-/// values of its contexts and the selections of its choices that are settled, so that each is found once, whoever asks for it;
-/// one that is not settled is found anew.
+/// values of its contexts and the selections of its choices that are computed, so that each is found once, whoever asks for
+/// it; one that is not computed is found anew.
 #[derive(Drop)]
 pub struct Table<'t> {
     /// The tree that the symbols are of.
@@ -36,13 +36,13 @@ pub struct Table<'t> {
     pub layout: &'t Layout,
     /// A place for each symbol, by number.
     pub values: Vec<Option<Value>>,
-    /// What each context is worth, if that is settled.
+    /// What each context is worth, if that is computed.
     pub contexts: Vec<Option<Tri>>,
-    /// What each choice selects, if that is settled; no member can be selected too.
+    /// What each choice selects, if that is computed; no member can be selected too.
     pub selections: Vec<Option<Option<SymId>>>,
     ghost laid: { ∥ IsLayoutOf tree.now layout.now ∥₁ },
     ghost formed: { ∥ IsWellFormed tree.now ∥₁ },
-    ghost settled: { AreContextsSettled tree.now layout.now values.items contexts.items },
+    ghost computed: { AreContextsComputed tree.now layout.now values.items contexts.items },
 }
 
 // So many empty places.
@@ -57,8 +57,8 @@ fn empty_places(alloc: Global, count: usize) -> Result<Vec<Option<Value>>, Alloc
 }
 
 impl<'t> Table<'t> {
-    /// A table of empty places, where nothing is settled. The caller owes the layout of that tree. Fails only when it is out of
-    /// memory.
+    /// A table of empty places, where nothing is computed. The caller owes the layout of that tree. Fails only when it is out
+    /// of memory.
     pub fn empty(alloc: Global, tree: &'t Tree, layout: &'t Layout) -> Result<Table<'t>, AllocError>
         requires { IsLayoutOf tree.now layout.now }
         ensures tree { IfOk result (λ t. t.tree.now ≡ tree.now) }
@@ -79,29 +79,29 @@ impl<'t> Table<'t> {
         })
     }
 
-    /// What a context is worth, if that is settled.
-    pub fn settled_context(&self, id: ContextId) -> Option<Tri>
+    /// What a context is worth, if that is computed.
+    pub fn computed_context(&self, id: ContextId) -> Option<Tri>
         ensures { result ≡ slice_index_or self.now.contexts.items id.0 None }
     {
         match self.contexts.get(id.0 as usize) {
-            Some(settled) => *settled,
+            Some(computed) => *computed,
             None => None,
         }
     }
 
-    /// What a choice selects, if that is settled.
-    pub fn settled_selection(&self, id: ChoiceId) -> Option<Option<SymId>>
+    /// What a choice selects, if that is computed.
+    pub fn computed_selection(&self, id: ChoiceId) -> Option<Option<SymId>>
         ensures { result ≡ slice_index_or self.now.selections.items id.0 None }
     {
         match self.selections.get(id.0) {
-            Some(settled) => *settled,
+            Some(computed) => *computed,
             None => None,
         }
     }
 }
 
 /// The value in a place, if it is there and filled (our own).
-pub fn found(values: &[Option<Value>], id: SymId) -> Option<&Value>
+pub fn filled_value(values: &[Option<Value>], id: SymId) -> Option<&Value>
     ensures { value_at result ≡ value_in values.now id }
 {
     match values.get(id.0) {
@@ -118,14 +118,14 @@ impl<'t> Values for Table<'t> {
     ghost kind_of = { λ t s. kind_in (lookup.facts t.tree.now s) };
 
     fn tri(&self, id: SymId) -> Tri {
-        match found(&self.values, id) {
+        match filled_value(&self.values, id) {
             Some(Value::Truth(tri)) => *tri,
             _ => Tri::N,
         }
     }
 
     fn text(&self, id: SymId) -> &[u8] {
-        match found(&self.values, id) {
+        match filled_value(&self.values, id) {
             Some(Value::Text(text)) => text,
             _ => name(self.tree, id),
         }

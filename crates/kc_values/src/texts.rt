@@ -2,26 +2,26 @@
 
 ghost use Rattle.std.specs.Prelude.{◌≡◌, IfOk};
 ghost use Rattle.kc_expr.specs.Form.{form_of};
-ghost use Rattle.kc_expr.specs.Value.{known_by};
+ghost use Rattle.kc_expr.specs.Value.{values_by};
 ghost use Rattle.kc_tree.specs.Layouts.{facts_of};
-ghost use Rattle.kc_values.specs.Known.{known_at};
-ghost use Rattle.kc_values.specs.User.{place, text_at};
+ghost use Rattle.kc_values.specs.TableFacts.{known_at};
+ghost use Rattle.kc_values.specs.User.{given_in, text_at};
 ghost use Rattle.kc_values.specs.Values as spec;
-ghost use Rattle.kc_values.specs.Warnings.{open_text};
+ghost use Rattle.kc_values.specs.Warnings.{met_text};
 
 use crate::conditions::is_n;
 use crate::table::Table;
-use crate::truths::{open_default, visibility};
+use crate::truths::{met_default, visibility};
 use kc_expr::expression::{Expr, Tri};
 use kc_expr::values::{Values, text};
-use kc_tree::parts::Symbol;
+use kc_tree::rows::Symbol;
 use kc_user::value::UserValue;
 use std::alloc::{AllocError, Global};
 
 /// The text of a default that is one operand, no byte of any other (the kernel's kconfig-language document, "Menu
 /// attributes"; that it must be one operand is our own).
 pub fn single_text<'a, V: Values>(expr: &'a Expr, values: &'a V) -> &'a [u8]
-    ensures { result.now ≡ spec.single_text (known_by (V.kind_of values.now) (V.tri_of values.now) (V.text_of values.now)) (form_of expr.now) }
+    ensures { result.now ≡ spec.single_text (values_by (V.kind_of values.now) (V.tri_of values.now) (V.text_of values.now)) (form_of expr.now) }
 {
     match expr {
         Expr::One(operand) => text(operand, values),
@@ -30,10 +30,10 @@ pub fn single_text<'a, V: Values>(expr: &'a Expr, values: &'a V) -> &'a [u8]
 }
 
 /// The text of the first default whose condition is not n, if there is one.
-pub fn open_text<'a>(table: &'a Table<'_>, symbol: &Symbol) -> Option<&'a [u8]>
-    ensures { text_at result ≡ open_text (known_at table.now) (spec.first_open table.now.tree.now (known_at table.now) (facts_of table.now.layout.now 0 symbol.now).defaults) }
+pub fn met_text<'a>(table: &'a Table<'_>, symbol: &Symbol) -> Option<&'a [u8]>
+    ensures { text_at result ≡ met_text (known_at table.now) (spec.first_met table.now.tree.now (known_at table.now) (facts_of table.now.layout.now 0 symbol.now).defaults) }
 {
-    match open_default(table, symbol) {
+    match met_default(table, symbol) {
         Some((default, _)) => Some(single_text(&default.value, table)),
         None => None,
     }
@@ -42,14 +42,14 @@ pub fn open_text<'a>(table: &'a Table<'_>, symbol: &Symbol) -> Option<&'a [u8]>
 /// The text of the first default whose condition is not n, or nothing (the kernel's kconfig-language document, "Menu
 /// attributes": default value).
 pub fn default_text<'a>(table: &'a Table<'_>, symbol: &Symbol) -> &'a [u8]
-    ensures { result.now ≡ spec.default_text (known_at table.now) (spec.first_open table.now.tree.now (known_at table.now) (facts_of table.now.layout.now 0 symbol.now).defaults) }
+    ensures { result.now ≡ spec.default_text (known_at table.now) (spec.first_met table.now.tree.now (known_at table.now) (facts_of table.now.layout.now 0 symbol.now).defaults) }
 {
-    open_text(table, symbol).unwrap_or(b"")
+    met_text(table, symbol).unwrap_or(b"")
 }
 
 /// The user's text where the symbol is visible (kconfiglib's `str_value`).
-pub fn typed(user: Option<&UserValue>, visibility: Tri) -> Option<&[u8]>
-    ensures { text_at result ≡ spec.typed (place user.entry) visibility }
+pub fn visible_text(user: Option<&UserValue>, visibility: Tri) -> Option<&[u8]>
+    ensures { text_at result ≡ spec.visible_text (given_in user.entry) visibility }
 {
     if is_n(visibility) {
         return None;
@@ -61,15 +61,15 @@ pub fn typed(user: Option<&UserValue>, visibility: Tri) -> Option<&[u8]>
 }
 
 /// The same of a symbol, whose visibility is looked at only where the user gave a text (kconfiglib's `str_value`).
-pub fn typed_in<'a>(
+pub fn visible_text_of<'a>(
     table: &Table<'_>,
     symbol: &Symbol,
     user: Option<&'a UserValue>,
 ) -> Option<&'a [u8]>
-    ensures { text_at result ≡ spec.typed (place user.entry) (spec.visibility table.now.tree.now (known_at table.now) (facts_of table.now.layout.now 0 symbol.now)) }
+    ensures { text_at result ≡ spec.visible_text (given_in user.entry) (spec.visibility table.now.tree.now (known_at table.now) (facts_of table.now.layout.now 0 symbol.now)) }
 {
     match user {
-        Some(UserValue::Text(_)) => typed(user, visibility(table, symbol)),
+        Some(UserValue::Text(_)) => visible_text(user, visibility(table, symbol)),
         _ => None,
     }
 }
@@ -82,9 +82,9 @@ pub fn text_equation(
     symbol: &Symbol,
     user: Option<&UserValue>,
 ) -> Result<Vec<u8>, AllocError>
-    ensures { IfOk result (λ v. v.items ≡ spec.text_equation table.now.tree.now (known_at table.now) (facts_of table.now.layout.now 0 symbol.now) (place user.entry)) }
+    ensures { IfOk result (λ v. v.items ≡ spec.text_equation table.now.tree.now (known_at table.now) (facts_of table.now.layout.now 0 symbol.now) (given_in user.entry)) }
 {
-    if let Some(bytes) = typed_in(table, symbol, user) {
+    if let Some(bytes) = visible_text_of(table, symbol, user) {
         let copy = Vec::from_slice(alloc, bytes)?;
         return Ok(copy);
     }

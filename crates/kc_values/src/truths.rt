@@ -1,24 +1,24 @@
 //! The equation of a bool or tristate symbol outside a choice.
 
 ghost use Rattle.std.specs.Prelude.{◌≡◌};
-ghost use Rattle.kc_expr.specs.Value.{known_by, truth_of_known};
+ghost use Rattle.kc_expr.specs.Value.{values_by, truth_of_value};
 ghost use Rattle.kc_tree.specs.Words.{listed};
 ghost use Rattle.kc_tree.specs.Layouts.{definition_facts, facts_of, reverse_facts, reverses_from};
-ghost use Rattle.kc_values.specs.Known.{known_at, IsDefinitionAt, IsDefinitionOf, IsOpenDefault};
-ghost use Rattle.kc_values.specs.User.{place};
+ghost use Rattle.kc_values.specs.TableFacts.{known_at, IsDefinitionAt, IsDefinitionOf, IsMetDefault};
+ghost use Rattle.kc_values.specs.User.{given_in};
 ghost use Rattle.kc_values.specs.Values as spec;
 
-use crate::conditions::{condition, context, is_n, prompt_condition, up};
+use crate::conditions::{condition, context, is_n, prompt_condition, upgrade};
 use crate::table::Table;
 use kc_expr::expression::{Kind, SymId, Tri};
 use kc_expr::values::{Values, eval, greater, lesser};
-use kc_tree::parts::{Definition, Reverse, ReverseId, Symbol, SymbolDefault};
+use kc_tree::rows::{Definition, Reverse, ReverseId, Symbol, SymbolDefault};
 use kc_user::value::UserValue;
 
 /// The value of a symbol as a truth: n where it is no bool or tristate (the kernel's kconfig-language document, "Menu
 /// dependencies").
 pub fn truth_of<V: Values>(id: SymId, values: &V) -> Tri
-    ensures { result ≡ truth_of_known (known_by (V.kind_of values.now) (V.tri_of values.now) (V.text_of values.now) id) }
+    ensures { result ≡ truth_of_value (values_by (V.kind_of values.now) (V.tri_of values.now) (V.text_of values.now) id) }
 {
     match values.kind(id) {
         Kind::Bool | Kind::Tristate => values.tri(id),
@@ -26,20 +26,20 @@ pub fn truth_of<V: Values>(id: SymId, values: &V) -> Tri
     }
 }
 
-/// m as y where the type is not tristate under the values: where it is written as another one, or where the modules symbol
-/// is n, or is no bool or tristate, or is not there (kconfiglib's `tri_value`).
+/// The tristate upgrade: m as y where the type is not tristate under the values: where it is written as another one, or
+/// where the modules symbol is n, or is no bool or tristate, or is not there (kconfiglib's `tri_value`).
 pub fn upgraded(table: &Table<'_>, kind: Kind, value: Tri) -> Tri
-    ensures { result ≡ spec.raised table.now.tree.now (known_at table.now) kind value }
+    ensures { result ≡ spec.upgraded table.now.tree.now (known_at table.now) kind value }
 {
     if kind != Kind::Tristate {
-        return up(value);
+        return upgrade(value);
     }
     let modules = match table.tree.modules_symbol() {
         Some(id) => truth_of(id, table),
         None => Tri::N,
     };
     match modules {
-        Tri::N => up(value),
+        Tri::N => upgrade(value),
         _ => value,
     }
 }
@@ -87,8 +87,8 @@ pub fn visibility(table: &Table<'_>, symbol: &Symbol) -> Tri
 }
 
 // The first default of a definition whose condition is not n, and that condition.
-fn first_open<'t>(table: &Table<'t>, definition: &Definition) -> Option<(&'t SymbolDefault, Tri)>
-    ensures { IsOpenDefault table.now (spec.first_open table.now.tree.now (known_at table.now) (definition_facts table.now.layout.now.tables definition.now).defaults) result }
+fn first_met<'t>(table: &Table<'t>, definition: &Definition) -> Option<(&'t SymbolDefault, Tri)>
+    ensures { IsMetDefault table.now (spec.first_met table.now.tree.now (known_at table.now) (definition_facts table.now.layout.now.tables definition.now).defaults) result }
 {
     for default in table.layout.defaults(definition) {
         let when = condition(table, definition.within, &default.when);
@@ -100,12 +100,12 @@ fn first_open<'t>(table: &Table<'t>, definition: &Definition) -> Option<(&'t Sym
 }
 
 /// The first default of a symbol whose condition is not n, and that condition.
-pub fn open_default<'t>(table: &Table<'t>, symbol: &Symbol) -> Option<(&'t SymbolDefault, Tri)>
-    ensures { IsOpenDefault table.now (spec.first_open table.now.tree.now (known_at table.now) (facts_of table.now.layout.now 0 symbol.now).defaults) result }
+pub fn met_default<'t>(table: &Table<'t>, symbol: &Symbol) -> Option<(&'t SymbolDefault, Tri)>
+    ensures { IsMetDefault table.now (spec.first_met table.now.tree.now (known_at table.now) (facts_of table.now.layout.now 0 symbol.now).defaults) result }
 {
     for i in 0..symbol.definition_count() {
         if let Some(definition) = definition(table, symbol, i) {
-            if let Some(found) = first_open(table, definition) {
+            if let Some(found) = first_met(table, definition) {
                 return Some(found);
             }
         }
@@ -116,9 +116,9 @@ pub fn open_default<'t>(table: &Table<'t>, symbol: &Symbol) -> Option<(&'t Symbo
 /// min(value, condition) of the first default whose condition is not n, or n (the kernel's kconfig-language document, "Menu
 /// attributes": default value).
 pub fn default_truth(table: &Table<'_>, symbol: &Symbol) -> Tri
-    ensures { result ≡ spec.default_value table.now.tree.now (known_at table.now) (spec.first_open table.now.tree.now (known_at table.now) (facts_of table.now.layout.now 0 symbol.now).defaults) }
+    ensures { result ≡ spec.default_value table.now.tree.now (known_at table.now) (spec.first_met table.now.tree.now (known_at table.now) (facts_of table.now.layout.now 0 symbol.now).defaults) }
 {
-    match open_default(table, symbol) {
+    match met_default(table, symbol) {
         Some((default, when)) => lesser(eval(&default.value, table), when),
         None => Tri::N,
     }
@@ -126,7 +126,7 @@ pub fn default_truth(table: &Table<'_>, symbol: &Symbol) -> Tri
 
 // min(value of the other symbol, condition) of a line that selects or implies.
 fn reverse_value(table: &Table<'_>, line: &Reverse) -> Tri
-    ensures { result ≡ spec.pulled table.now.tree.now (known_at table.now) (listed (reverse_facts table.now.layout.now.tables line.now)) }
+    ensures { result ≡ spec.reverse_values table.now.tree.now (known_at table.now) (listed (reverse_facts table.now.layout.now.tables line.now)) }
 {
     let Some(source) = table.layout.definition(line.source) else {
         return Tri::N;
@@ -140,7 +140,7 @@ fn reverse_value(table: &Table<'_>, line: &Reverse) -> Tri
 
 // The greatest of them, from the last line on.
 fn reverse_values(table: &Table<'_>, last: Option<ReverseId>) -> Tri
-    ensures { result ≡ spec.pulled table.now.tree.now (known_at table.now) (reverses_from table.now.layout.now.tables last) }
+    ensures { result ≡ spec.reverse_values table.now.tree.now (known_at table.now) (reverses_from table.now.layout.now.tables last) }
 {
     let mut greatest = Tri::N;
     let mut at = last;
@@ -171,7 +171,7 @@ pub fn direct(table: &Table<'_>, symbol: &Symbol) -> Tri
 /// The reverse dependency of a symbol: the greatest min(value of the selecting symbol, condition), m being y where the symbol
 /// can't be m (the kernel's kconfig-language document, "Menu attributes": reverse dependencies).
 pub fn reverse(table: &Table<'_>, id: SymId, symbol: &Symbol) -> Tri
-    ensures { result ≡ spec.rev table.now.tree.now (known_at table.now) (facts_of table.now.layout.now id.0 symbol.now) }
+    ensures { result ≡ spec.reverse table.now.tree.now (known_at table.now) (facts_of table.now.layout.now id.0 symbol.now) }
 {
     let selected = reverse_values(table, table.layout.last_select(id));
     upgraded(table, symbol.kind, selected)
@@ -179,8 +179,8 @@ pub fn reverse(table: &Table<'_>, id: SymId, symbol: &Symbol) -> Tri
 
 /// The weak reverse dependency of a symbol: the same over what implies it (the kernel's kconfig-language document, "Menu
 /// attributes": weak reverse dependencies).
-pub fn weak(table: &Table<'_>, id: SymId, symbol: &Symbol) -> Tri
-    ensures { result ≡ spec.weak table.now.tree.now (known_at table.now) (facts_of table.now.layout.now id.0 symbol.now) }
+pub fn weak_reverse(table: &Table<'_>, id: SymId, symbol: &Symbol) -> Tri
+    ensures { result ≡ spec.weak_reverse table.now.tree.now (known_at table.now) (facts_of table.now.layout.now id.0 symbol.now) }
 {
     let implied = reverse_values(table, table.layout.last_imply(id));
     upgraded(table, symbol.kind, implied)
@@ -188,19 +188,19 @@ pub fn weak(table: &Table<'_>, id: SymId, symbol: &Symbol) -> Tri
 
 // The default, which an imply raises up to the direct dependency. That is looked at only where something implies the symbol.
 fn implied(table: &Table<'_>, id: SymId, symbol: &Symbol) -> Tri
-    ensures { result ≡ spec.implied (spec.default_value table.now.tree.now (known_at table.now) (spec.first_open table.now.tree.now (known_at table.now) (facts_of table.now.layout.now id.0 symbol.now).defaults)) (spec.weak table.now.tree.now (known_at table.now) (facts_of table.now.layout.now id.0 symbol.now)) (spec.direct table.now.tree.now (known_at table.now) (facts_of table.now.layout.now id.0 symbol.now)) }
+    ensures { result ≡ spec.implied (spec.default_value table.now.tree.now (known_at table.now) (spec.first_met table.now.tree.now (known_at table.now) (facts_of table.now.layout.now id.0 symbol.now).defaults)) (spec.weak_reverse table.now.tree.now (known_at table.now) (facts_of table.now.layout.now id.0 symbol.now)) (spec.direct table.now.tree.now (known_at table.now) (facts_of table.now.layout.now id.0 symbol.now)) }
 {
     let default = default_truth(table, symbol);
-    let weak = weak(table, id, symbol);
-    match weak {
+    let weak_reverse = weak_reverse(table, id, symbol);
+    match weak_reverse {
         Tri::N => default,
-        _ => lesser(greater(default, weak), direct(table, symbol)),
+        _ => lesser(greater(default, weak_reverse), direct(table, symbol)),
     }
 }
 
 // The user's truth up to the visibility, where the symbol is visible, and else its default. Only what counts is looked at.
 fn given_or_implied(table: &Table<'_>, id: SymId, symbol: &Symbol, user: Option<&UserValue>) -> Tri
-    ensures { result ≡ spec.based (place user.entry) (spec.visibility table.now.tree.now (known_at table.now) (facts_of table.now.layout.now id.0 symbol.now)) (spec.implied (spec.default_value table.now.tree.now (known_at table.now) (spec.first_open table.now.tree.now (known_at table.now) (facts_of table.now.layout.now id.0 symbol.now).defaults)) (spec.weak table.now.tree.now (known_at table.now) (facts_of table.now.layout.now id.0 symbol.now)) (spec.direct table.now.tree.now (known_at table.now) (facts_of table.now.layout.now id.0 symbol.now))) }
+    ensures { result ≡ spec.user_or (given_in user.entry) (spec.visibility table.now.tree.now (known_at table.now) (facts_of table.now.layout.now id.0 symbol.now)) (spec.implied (spec.default_value table.now.tree.now (known_at table.now) (spec.first_met table.now.tree.now (known_at table.now) (facts_of table.now.layout.now id.0 symbol.now).defaults)) (spec.weak_reverse table.now.tree.now (known_at table.now) (facts_of table.now.layout.now id.0 symbol.now)) (spec.direct table.now.tree.now (known_at table.now) (facts_of table.now.layout.now id.0 symbol.now))) }
 {
     match user {
         Some(UserValue::Tri(given)) => match visibility(table, symbol) {
@@ -221,7 +221,7 @@ pub fn truth_equation(
     symbol: &Symbol,
     user: Option<&UserValue>,
 ) -> Tri
-    ensures { result ≡ spec.truth_equation table.now.tree.now (known_at table.now) (facts_of table.now.layout.now id.0 symbol.now) (place user.entry) }
+    ensures { result ≡ spec.truth_equation table.now.tree.now (known_at table.now) (facts_of table.now.layout.now id.0 symbol.now) (given_in user.entry) }
 {
     let value = given_or_implied(table, id, symbol, user);
     let selected = reverse(table, id, symbol);

@@ -2,23 +2,23 @@
 
 ghost use Rattle.std.specs.Prelude.{◌≡◌, ◌++◌, codes, Some, map, IfOk, IfSome, OnOk};
 ghost use Rattle.kc_tree.specs.Layouts.{facts_of};
-ghost use Rattle.kc_values.specs.Known.{known_at};
+ghost use Rattle.kc_values.specs.TableFacts.{known_at};
 ghost use Rattle.kc_values.specs.Lookups as lookup;
 ghost use Rattle.kc_values.specs.Numbers.{number_text};
-ghost use Rattle.kc_values.specs.Small.{IsSmall};
-ghost use Rattle.kc_values.specs.User.{place, text_at};
+ghost use Rattle.kc_values.specs.Small.{HasSmallBounds};
+ghost use Rattle.kc_values.specs.User.{given_in, text_at};
 ghost use Rattle.kc_values.specs.Values as value;
 ghost use Rattle.kc_values.specs.Warnings as spec;
-ghost use Rattle.kc_values.specs.Written.{above};
+ghost use Rattle.kc_values.specs.WrittenSymbols.{above};
 
 use crate::lookups::name;
 use crate::numbers::{Interval, active_range, clamped, if_inside, is_inside, number_text};
 use crate::table::Table;
-use crate::texts::{open_text, typed};
+use crate::texts::{met_text, visible_text};
 use crate::truths::{direct, reverse};
 use kc_expr::expression::{Kind, SymId, Tri};
 use kc_expr::values::tri_text;
-use kc_tree::parts::Symbol;
+use kc_tree::rows::Symbol;
 use kc_user::value::UserValue;
 use std::alloc::{AllocError, Global};
 
@@ -55,7 +55,7 @@ fn selected_line(
 
 // The low bound as it is written.
 fn low_text(alloc: Global, kind: Kind, range: Interval) -> Result<Vec<u8>, AllocError>
-    requires { IsSmall range }
+    requires { HasSmallBounds range }
     ensures { IfOk result (λ v. v.items ≡ number_text kind range.low) }
 {
     let text = number_text(alloc, kind, range.low)?;
@@ -64,7 +64,7 @@ fn low_text(alloc: Global, kind: Kind, range: Interval) -> Result<Vec<u8>, Alloc
 
 // The high bound as it is written.
 fn high_text(alloc: Global, kind: Kind, range: Interval) -> Result<Vec<u8>, AllocError>
-    requires { IsSmall range }
+    requires { HasSmallBounds range }
     ensures { IfOk result (λ v. v.items ≡ number_text kind range.high) }
 {
     let text = number_text(alloc, kind, range.high)?;
@@ -89,7 +89,7 @@ fn outside_into(
     name: &[u8],
     line: &mut Vec<u8>,
 ) -> Result<(), AllocError>
-    requires { IsSmall range }
+    requires { HasSmallBounds range }
     ensures { OnOk result (line.new.items ≡ spec.outside_line line.old.items kind range name.now) }
 {
     let low = low_text(alloc, kind, range)?;
@@ -109,7 +109,7 @@ fn user_line(
     name: &[u8],
     text: &[u8],
 ) -> Result<Vec<u8>, AllocError>
-    requires { IsSmall range }
+    requires { HasSmallBounds range }
     ensures { IfOk result (λ v. v.items ≡ spec.user_line kind range name.now text.now) }
 {
     let mut line = Vec::from_slice(alloc, b"warning K12: user value ")?;
@@ -126,7 +126,7 @@ fn default_line(
     name: &[u8],
     text: &[u8],
 ) -> Result<Vec<u8>, AllocError>
-    requires { IsSmall range }
+    requires { HasSmallBounds range }
     ensures { IfOk result (λ v. v.items ≡ spec.default_line kind range name.now text.now) }
 {
     let used = clamped(alloc, kind, Some(range), text)?;
@@ -148,7 +148,7 @@ fn user_warning(
     given: Option<&[u8]>,
     out: &mut Vec<Vec<u8>>,
 ) -> Result<(), AllocError>
-    requires { IfSome range IsSmall }
+    requires { IfSome range HasSmallBounds }
     ensures { OnOk result (map (λ w. w.items) out.new.items ≡ map (λ w. w.items) out.old.items ++ spec.user_warnings kind name.now range (text_at given.entry)) }
 {
     let Some(bounds) = range else {
@@ -175,7 +175,7 @@ fn default_warning(
     default: Option<&[u8]>,
     out: &mut Vec<Vec<u8>>,
 ) -> Result<(), AllocError>
-    requires { IfSome range IsSmall }
+    requires { IfSome range HasSmallBounds }
     ensures { OnOk result (map (λ w. w.items) out.new.items ≡ map (λ w. w.items) out.old.items ++ spec.default_warnings kind name.now range (text_at used.entry) (text_at default.entry)) }
 {
     if used.is_some() {
@@ -206,12 +206,12 @@ fn range_warnings(
     out: &mut Vec<Vec<u8>>,
 ) -> Result<(), AllocError>
     requires { shown ≡ value.visibility table.now.tree.now (known_at table.now) (facts_of table.now.layout.now 0 symbol.now) }
-    ensures { OnOk result (map (λ w. w.items) out.new.items ≡ map (λ w. w.items) out.old.items ++ spec.range_warnings table.now.tree.now (known_at table.now) name.now (facts_of table.now.layout.now 0 symbol.now) (place user.entry)) }
+    ensures { OnOk result (map (λ w. w.items) out.new.items ≡ map (λ w. w.items) out.old.items ++ spec.range_warnings table.now.tree.now (known_at table.now) name.now (facts_of table.now.layout.now 0 symbol.now) (given_in user.entry)) }
 {
     let range = active_range(table, symbol);
-    let given = typed(user, shown);
+    let given = visible_text(user, shown);
     let used = if_inside(symbol.kind, range, given);
-    let default = open_text(table, symbol);
+    let default = met_text(table, symbol);
     user_warning(alloc, symbol.kind, name, range, given, out)?;
     default_warning(alloc, symbol.kind, name, range, used, default, out)?;
     Ok(())
@@ -256,7 +256,7 @@ pub fn warnings_into(
     out: &mut Vec<Vec<u8>>,
 ) -> Result<(), AllocError>
     requires { shown ≡ value.visibility table.now.tree.now (known_at table.now) (facts_of table.now.layout.now id.0 symbol.now) }
-    ensures { OnOk result (map (λ w. w.items) out.new.items ≡ map (λ w. w.items) out.old.items ++ spec.warnings_of table.now.tree.now (known_at table.now) (lookup.name table.now.tree.now id) (Some (facts_of table.now.layout.now id.0 symbol.now)) (place user.entry)) }
+    ensures { OnOk result (map (λ w. w.items) out.new.items ≡ map (λ w. w.items) out.old.items ++ spec.warnings_of table.now.tree.now (known_at table.now) (lookup.name table.now.tree.now id) (Some (facts_of table.now.layout.now id.0 symbol.now)) (given_in user.entry)) }
 {
     if symbol.choice.is_some() {
         return Ok(());

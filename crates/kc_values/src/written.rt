@@ -2,15 +2,15 @@
 
 ghost use Rattle.std.specs.Prelude.{◌≡◌, Some};
 ghost use Rattle.kc_tree.specs.Layouts.{facts_of};
-ghost use Rattle.kc_values.specs.Known.{known_at};
+ghost use Rattle.kc_values.specs.TableFacts.{known_at};
 ghost use Rattle.kc_values.specs.Values as value;
-ghost use Rattle.kc_values.specs.Written as spec;
+ghost use Rattle.kc_values.specs.WrittenSymbols as spec;
 
 use crate::conditions::is_n;
 use crate::table::Table;
-use crate::truths::{default_truth, direct, open_default, reverse, weak};
+use crate::truths::{default_truth, direct, met_default, reverse, weak_reverse};
 use kc_expr::expression::{Kind, SymId, Tri};
-use kc_tree::parts::Symbol;
+use kc_tree::rows::Symbol;
 
 // Whether a bool or tristate symbol outside a choice is written.
 fn truth_is_written(table: &Table<'_>, id: SymId, symbol: &Symbol, shown: Tri) -> bool
@@ -20,7 +20,7 @@ fn truth_is_written(table: &Table<'_>, id: SymId, symbol: &Symbol, shown: Tri) -
     !is_n(shown)
         || !is_n(default_truth(table, symbol))
         || !is_n(reverse(table, id, symbol))
-        || (!is_n(weak(table, id, symbol)) && !is_n(direct(table, symbol)))
+        || (!is_n(weak_reverse(table, id, symbol)) && !is_n(direct(table, symbol)))
 }
 
 // Whether a string, int or hex symbol is written.
@@ -28,7 +28,7 @@ fn text_is_written(table: &Table<'_>, symbol: &Symbol, shown: Tri) -> bool
     requires { shown ≡ value.visibility table.now.tree.now (known_at table.now) (facts_of table.now.layout.now 0 symbol.now) }
     ensures { result ≡ spec.written_text table.now.tree.now (known_at table.now) (facts_of table.now.layout.now 0 symbol.now) }
 {
-    !is_n(shown) || open_default(table, symbol).is_some()
+    !is_n(shown) || met_default(table, symbol).is_some()
 }
 
 // Whether a symbol outside a choice is written, by its type.

@@ -1,6 +1,6 @@
 -- How clap's faults and a prefix that is none are told.
 use Rattle.std.proofs.Common.{◌≡◌, ◌⊎◌, inl, inr, List, [], ap, sym, subst, ◌∙◌, true, false}
-use Rattle.clap.specs.Words.{App, HasMatchesOf, IsAmong, Kinds, Text, fault_of, kind_of}
+use Rattle.clap.specs.Words.{App, IsAmong, Kinds, Text, fault_of}
 use Rattle.clap.specs.Kinds.{HasKind}
 use Rattle.clap.specs.Faults.{is_simple_and_free}
 use Rattle.clap.specs.declared.error.Error.{Error}
@@ -9,8 +9,8 @@ use Rattle.clap.specs.declared.error.kind.ErrorKind.TheVariants as kind
 use Rattle.kc_dot.specs.Prefixes.{is_prefix}
 use Rattle.kc_words.specs.Kconf.{kconf_app}
 use Rattle.kc_words.specs.Refusals.{IsKindOf, IsNoPrefix, IsRefused}
-use Rattle.kc_words.specs.declared.usage.Usage.{Usage}
-use Rattle.kc_words.specs.declared.usage.Usage.TheVariants as usage
+use Rattle.kc_words.specs.declared.usage.UsageError.{UsageError}
+use Rattle.kc_words.specs.declared.usage.UsageError.TheVariants as usage
 use Rattle.kc_words.proofs.RowLemmas.{kconf_app-free}
 
 -- the command's faults are those of the words
@@ -20,19 +20,19 @@ no_fault app words is h = ap (λ a. fault_of a words) (sym is) ∙ h (ap is_simp
 pub has_kind : (app : App) (words : List Text) (e : Error) → app ≡ kconf_app → (is_simple_and_free app ≡ true → HasKind (fault_of app words) e) → HasKind (fault_of kconf_app words) e
 has_kind app words e is h = subst (λ (a : App). HasKind (fault_of a words) e) is (h (ap is_simple_and_free is ∙ kconf_app-free))
 
-pub refused_prefix : (kinds : Kinds) (p q : Text) → kinds ≡ [] → p ≡ q → (u : Usage) → IsNoPrefix p u → IsRefused kinds q u
+pub refused_prefix : (kinds : Kinds) (p q : Text) → kinds ≡ [] → p ≡ q → (u : UsageError) → IsNoPrefix p u → IsRefused kinds q u
 refused_prefix kinds p q none same (usage.Help t) h = absurd h
 refused_prefix kinds p q none same (usage.Version t) h = absurd h
 refused_prefix kinds p q none same (usage.Bad t) h = inr (none, ap is_prefix (sym same) ∙ h)
 refused_prefix kinds p q none same usage.Memory h = tt
 
-pub only_memory : (p q : Text) → p ≡ q → is_prefix q ≡ true → (u : Usage) → IsNoPrefix p u → u ≡ usage.Memory
+pub only_memory : (p q : Text) → p ≡ q → is_prefix q ≡ true → (u : UsageError) → IsNoPrefix p u → u ≡ usage.Memory
 only_memory p q same good (usage.Help t) h = absurd h
 only_memory p q same good (usage.Version t) h = absurd h
 only_memory p q same good (usage.Bad t) h = absurd (let e : true ≡ false = sym good ∙ ap is_prefix (sym same) ∙ h in cc)
 only_memory p q same good usage.Memory h = λ i. usage.Memory
 
-pub refused_words : (kinds : Kinds) (prefix : Text) (k : ErrorKind) (u : Usage) → (k ≡ kind.OutOfMemory) ⊎ IsAmong k kinds → IsKindOf k u → IsRefused kinds prefix u
+pub refused_words : (kinds : Kinds) (prefix : Text) (k : ErrorKind) (u : UsageError) → (k ≡ kind.OutOfMemory) ⊎ IsAmong k kinds → IsKindOf k u → IsRefused kinds prefix u
 refused_words kinds prefix k (usage.Help t) (inl m) is = absurd (let e : kind.OutOfMemory ≡ kind.DisplayHelp = sym m ∙ is in cc)
 refused_words kinds prefix k (usage.Help t) (inr among) is = subst (λ (x : ErrorKind). IsAmong x kinds) is among
 refused_words kinds prefix k (usage.Version t) (inl m) is = absurd (let e : kind.OutOfMemory ≡ kind.DisplayVersion = sym m ∙ is in cc)

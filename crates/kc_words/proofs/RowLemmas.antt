@@ -1,6 +1,6 @@
 -- From what clap's getters answer to what clap's matches are.
 use Rattle.std.proofs.Common.{◌≡◌, List, [], refl, ap, ◌∙◌, true, ◌∷◌, codes, false, Some}
-use Rattle.clap.specs.Words.{App, HasMatchesOf, Row, Text, found_of, is_simple, matches_of, rows_of, takes, first_of, all_of}
+use Rattle.clap.specs.Words.{App, HasMatchesOf, Text, found_of, is_simple, matches_of, rows_of, takes, first_of, all_of}
 use Rattle.clap.specs.Faults.{is_simple_and_free}
 use Rattle.clap.specs.declared.parser.matches.ArgMatches.{ArgMatches}
 use Rattle.clap.proofs.WalkLemmas.{first_value-rows, raw_values-rows}

@@ -4,15 +4,15 @@ use Rattle.clap.specs.Words.{Row, Text, all_of, first_of}
 use Rattle.kc_conf.specs.declared.options.Options.{Options}
 
 -- the prefix that is asked for
-abbrev pub prefix_word : List Row → Text
-prefix_word rows = unwrap_or (first_of (codes "prefix") rows) (codes "CONFIG_")
+abbrev pub asked_prefix : List Row → Text
+asked_prefix rows = unwrap_or (first_of (codes "prefix") rows) (codes "CONFIG_")
 
 -- a flag stands among the words: its value is then `true`, and else `false`
 abbrev pub is_given : Text → List Row → Bool
 is_given id rows = bytes_eq (unwrap_or (first_of id rows) []) (codes "true")
 
 -- each field is the value of its argument among what the words gave, or what an absent argument means
-pub record Holds (rows : List Row) (options : Options) : Type 0 where
+pub record AreOptionsOf (rows : List Row) (options : Options) : Type 0 where
   pub root : string_bytes options.root ≡ unwrap_or (first_of (codes "root") rows) (codes ".")
   pub config : string_bytes options.config ≡ unwrap_or (first_of (codes "config") rows) (codes ".config")
   pub out : string_bytes options.out ≡ unwrap_or (first_of (codes "out") rows) (string_bytes options.config)
@@ -21,7 +21,7 @@ pub record Holds (rows : List Row) (options : Options) : Type 0 where
   pub minimal : option_map string_bytes options.minimal ≡ first_of (codes "savedefconfig") rows
   pub depfile : option_map string_bytes options.depfile ≡ first_of (codes "depfile") rows
   pub fragments : map string_bytes options.fragments.items ≡ unwrap_or (all_of (codes "FRAGMENT") rows) []
-  pub prefix : options.prefix ≡ prefix_word rows
+  pub prefix : options.prefix ≡ asked_prefix rows
   pub must_exist : options.must_exist ≡ is_given (codes "must-exist") rows
   pub strict : options.strict ≡ is_given (codes "strict") rows
   pub warn_lost : options.warn_lost ≡ is_given (codes "warn-lost") rows

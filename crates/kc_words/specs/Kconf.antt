@@ -22,10 +22,11 @@ abbrev pub fragment_rule : Rule
 fragment_rule = record (new_rule (codes "FRAGMENT")) { action = Some Append }
 
 -- the first of the words is no name of a program, and --version is there beside --help
-abbrev pub bare_app : App
-bare_app = on_top (λ s. record s { no_binary_name = true; has_version = true }) (new_app (codes "kconf"))
+abbrev pub empty_app : App
+empty_app = on_top (λ s. record s { no_binary_name = true; has_version = true }) (new_app (codes "kconf"))
 
--- [--root DIR] [--config FILE] [--out FILE] [--header FILE] [--savedefconfig FILE] [--depfile FILE] [--prefix TEXT] [--must-exist] [--strict] [--warn-lost] [--replace]
+-- [--root DIR] [--config FILE] [--out FILE] [--header FILE] [--savedefconfig FILE] [--depfile FILE] [--prefix TEXT]
+-- [--must-exist] [--strict] [--warn-lost] [--replace]
 unfoldable pub with_options : App → App
 with_options app =
     with_rule (with_rule (with_rule (with_rule (with_rule (with_rule (with_rule (with_rule (with_rule (with_rule (with_rule app
@@ -43,7 +44,7 @@ with_options app =
 
 -- the options, and then KCONFIG [FRAGMENT ..]
 unfoldable pub kconf_app : App
-kconf_app = with_rule (with_rule (with_options bare_app) kconfig_rule) fragment_rule
+kconf_app = with_rule (with_rule (with_options empty_app) kconfig_rule) fragment_rule
 
 -- the words as text
 abbrev pub words_of : List (String Global) → List Text

@@ -4,25 +4,25 @@ use Rattle.clap.specs.Words.{Kinds, IsAmong, Text}
 use Rattle.clap.specs.declared.error.kind.ErrorKind.{ErrorKind}
 use Rattle.clap.specs.declared.error.kind.ErrorKind.TheVariants as kind
 use Rattle.kc_dot.specs.Prefixes.{is_prefix}
-use Rattle.kc_words.specs.declared.usage.Usage.{Usage}
-use Rattle.kc_words.specs.declared.usage.Usage.TheVariants as usage
+use Rattle.kc_words.specs.declared.usage.UsageError.{UsageError}
+use Rattle.kc_words.specs.declared.usage.UsageError.TheVariants as usage
 
 -- the text to print
-abbrev pub text_of : Usage → Text
+abbrev pub text_of : UsageError → Text
 text_of (usage.Help text) = string_bytes text
 text_of (usage.Version text) = string_bytes text
 text_of (usage.Bad text) = string_bytes text
 text_of usage.Memory = codes "error E20: out of memory\n"
 
 -- what an error of this kind is told as; any may be told as out of memory, since its text needs some
-abbrev pub IsKindOf : ErrorKind → Usage → Type 0
+abbrev pub IsKindOf : ErrorKind → UsageError → Type 0
 IsKindOf k (usage.Help text) = k ≡ kind.DisplayHelp
 IsKindOf k (usage.Version text) = k ≡ kind.DisplayVersion
 IsKindOf k (usage.Bad text) = (k ≢ kind.DisplayHelp) × (k ≢ kind.DisplayVersion) × (k ≢ kind.OutOfMemory)
 IsKindOf k usage.Memory = Unit {0}
 
 -- memory was refused, or the text is no prefix
-abbrev pub IsNoPrefix : Text → Usage → Type 0
+abbrev pub IsNoPrefix : Text → UsageError → Type 0
 IsNoPrefix text (usage.Help _) = ⊥
 IsNoPrefix text (usage.Version _) = ⊥
 IsNoPrefix text (usage.Bad _) = is_prefix text ≡ false
@@ -33,7 +33,7 @@ abbrev pub HasOther : Kinds → Type 0
 HasOther kinds = (k : ErrorKind) × (k ≢ kind.DisplayHelp) × (k ≢ kind.DisplayVersion) × IsAmong k kinds
 
 -- words with these faults, which ask for this prefix, are refused so
-abbrev pub IsRefused : Kinds → Text → Usage → Type 0
+abbrev pub IsRefused : Kinds → Text → UsageError → Type 0
 IsRefused kinds prefix (usage.Help _) = IsAmong kind.DisplayHelp kinds
 IsRefused kinds prefix (usage.Version _) = IsAmong kind.DisplayVersion kinds
 IsRefused kinds prefix (usage.Bad _) = HasOther kinds ⊎ ((kinds ≡ []) × (is_prefix prefix ≡ false))

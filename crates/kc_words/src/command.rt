@@ -2,7 +2,7 @@
 
 ghost use Rattle.std.specs.Prelude.{◌≡◌, IfOk};
 ghost use Rattle.clap.specs.Words.{app_of, with_rule};
-ghost use Rattle.kc_words.specs.Kconf.{bare_app, flag_rule, fragment_rule, kconf_app, kconfig_rule, option_rule, with_options};
+ghost use Rattle.kc_words.specs.Kconf.{empty_app, flag_rule, fragment_rule, kconf_app, kconfig_rule, option_rule, with_options};
 
 use clap::{Arg, ArgAction, Command};
 use std::alloc::{AllocError, Global};
@@ -25,42 +25,42 @@ Read on: man kconf; docs/formats.md has each message, its cause and what to do";
 
 // What help says of an option's value and of the option.
 #[derive(Clone, Copy)]
-struct Said {
+struct OptionTexts {
     value: &'static str,
     help: &'static str,
 }
 
-const ROOT: Said = Said {
+const ROOT: OptionTexts = OptionTexts {
     value: "DIR",
     help: "Where the Kconfig files are [default: .]",
 };
 
-const CONFIG: Said = Said {
+const CONFIG: OptionTexts = OptionTexts {
     value: "FILE",
     help: "The .config to read [default: .config]",
 };
 
-const OUT: Said = Said {
+const OUT: OptionTexts = OptionTexts {
     value: "FILE",
     help: "The full .config to write [default: the file of --config]",
 };
 
-const HEADER: Said = Said {
+const HEADER: OptionTexts = OptionTexts {
     value: "FILE",
     help: "The C header to write",
 };
 
-const MINIMAL: Said = Said {
+const MINIMAL: OptionTexts = OptionTexts {
     value: "FILE",
     help: "The minimal .config to write",
 };
 
-const DEPFILE: Said = Said {
+const DEPFILE: OptionTexts = OptionTexts {
     value: "FILE",
     help: "The rule for make to write: what the file of --out was made of",
 };
 
-const PREFIX: Said = Said {
+const PREFIX: OptionTexts = OptionTexts {
     value: "TEXT",
     help: "What stands before each symbol's name [default: CONFIG_]",
 };
@@ -78,15 +78,15 @@ fn with_option<'a>(
     alloc: Global,
     command: Command<'a>,
     name: &'a str,
-    said: Said,
+    texts: OptionTexts,
 ) -> Result<Command<'a>, AllocError>
     ensures { IfOk result (λ longer. app_of longer ≡ with_rule (app_of command.entry) (option_rule name.entry.now)) }
 {
     command.arg(
         Arg::new(alloc, name)
             .long(name)
-            .value_name(said.value)
-            .help(said.help),
+            .value_name(texts.value)
+            .help(texts.help),
     )
 }
 
@@ -130,8 +130,8 @@ fn with_fragments<'a>(alloc: Global, command: Command<'a>) -> Result<Command<'a>
 }
 
 // The command without its arguments.
-fn bare_command<'a>(alloc: Global) -> Command<'a>
-    ensures { app_of result ≡ bare_app }
+fn empty_command<'a>(alloc: Global) -> Command<'a>
+    ensures { app_of result ≡ empty_app }
 {
     Command::new(alloc, "kconf")
         .no_binary_name(true)
@@ -163,7 +163,7 @@ fn with_options<'a>(alloc: Global, command: Command<'a>) -> Result<Command<'a>, 
 pub(crate) fn command<'a>(alloc: Global) -> Result<Command<'a>, AllocError>
     ensures { IfOk result (λ command. app_of command ≡ kconf_app) }
 {
-    let command = with_options(alloc, bare_command(alloc))?;
+    let command = with_options(alloc, empty_command(alloc))?;
     let command = with_kconfig(alloc, command)?;
     with_fragments(alloc, command)
 }

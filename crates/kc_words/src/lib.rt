@@ -6,4 +6,4 @@ mod options;
 mod usage;
 
 pub use options::options_of;
-pub use usage::Usage;
+pub use usage::UsageError;

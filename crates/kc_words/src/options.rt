@@ -3,12 +3,12 @@
 ghost use Rattle.std.specs.Prelude.{◌≡◌, [], IfOk, IfErr, map, option_map, string_bytes, unwrap_or, codes, true};
 ghost use Rattle.clap.specs.Words.{takes, rows_of, found_of, kind_of, first_of, all_of, fault_of};
 ghost use Rattle.kc_dot.specs.Prefixes.{is_prefix};
-ghost use Rattle.kc_words.specs.Fields.{Holds, is_given, prefix_word};
+ghost use Rattle.kc_words.specs.Fields.{AreOptionsOf, is_given, asked_prefix};
 ghost use Rattle.kc_words.specs.Kconf.{kconf_app, words_of, rows_for};
 ghost use Rattle.kc_words.specs.Refusals.{IsKindOf, IsRefused, IsNoPrefix};
 
 use crate::command::command;
-use crate::usage::Usage;
+use crate::usage::UsageError;
 use clap::error::ErrorKind;
 use clap::{ArgMatches, Error};
 use kc_conf::Options;
@@ -70,22 +70,22 @@ fn texts_of(alloc: Global, matches: &ArgMatches<'_>, id: &str) -> Result<Vec<Str
 }
 
 // The text as a prefix.
-fn prefix_of(alloc: Global, text: &str) -> Result<Prefix, Usage>
+fn prefix_of(alloc: Global, text: &str) -> Result<Prefix, UsageError>
     ensures ok { IfOk result (λ prefix. prefix ≡ text.now) }
     ensures err { IfErr result (IsNoPrefix text.now) }
 {
     match Prefix::new(alloc, text.as_bytes())? {
         Some(prefix) => Ok(prefix),
-        None => Err(Usage::Bad(format!(in alloc;
+        None => Err(UsageError::Bad(format!(in alloc;
             "error: invalid value '{text}' for '--prefix <TEXT>': at most 64 letters, digits and _, of which the first is no digit\n\nFor more information, try '--help'.\n"
         )?)),
     }
 }
 
 // Reads each field from the matches.
-fn read_options(alloc: Global, matches: &ArgMatches<'_>) -> Result<Options, Usage>
-    ensures ok { IfOk result (Holds (rows_of (found_of matches.now))) }
-    ensures err { IfErr result (IsNoPrefix (prefix_word (rows_of (found_of matches.now)))) }
+fn read_options(alloc: Global, matches: &ArgMatches<'_>) -> Result<Options, UsageError>
+    ensures ok { IfOk result (AreOptionsOf (rows_of (found_of matches.now))) }
+    ensures err { IfErr result (IsNoPrefix (asked_prefix (rows_of (found_of matches.now)))) }
 {
     let root = text_or(alloc, matches, "root", ".")?;
     let config = text_or(alloc, matches, "config", ".config")?;
@@ -119,37 +119,39 @@ fn read_options(alloc: Global, matches: &ArgMatches<'_>) -> Result<Options, Usag
 }
 
 // What an error of the parse is.
-fn usage_of(alloc: Global, error: &Error) -> Usage
+fn usage_of(alloc: Global, error: &Error) -> UsageError
     ensures { IsKindOf (kind_of error.now) result }
 {
     if error.kind() == ErrorKind::OutOfMemory {
-        return Usage::Memory;
+        return UsageError::Memory;
     }
     match error.to_string(alloc) {
-        Ok(text) if error.kind() == ErrorKind::DisplayHelp => Usage::Help(text),
-        Ok(text) if error.kind() == ErrorKind::DisplayVersion => Usage::Version(text),
-        Ok(text) => Usage::Bad(text),
-        Err(_) => Usage::Memory,
+        Ok(text) if error.kind() == ErrorKind::DisplayHelp => UsageError::Help(text),
+        Ok(text) if error.kind() == ErrorKind::DisplayVersion => UsageError::Version(text),
+        Ok(text) => UsageError::Bad(text),
+        Err(_) => UsageError::Memory,
     }
 }
 
 /// Reads the words after the program's name, as the command line
-/// `[--root DIR] [--config FILE] [--out FILE] [--header FILE] [--savedefconfig FILE] [--depfile FILE] [--prefix TEXT] [--must-exist] [--strict] [--warn-lost] [--replace] KCONFIG [FRAGMENT ..]`,
+/// `[--root DIR] [--config FILE] [--out FILE] [--header FILE] [--savedefconfig FILE] [--depfile FILE] [--prefix TEXT]
+/// [--must-exist] [--strict] [--warn-lost] [--replace] KCONFIG [FRAGMENT ..]`,
 /// `--help`, `-h`, `--version` or `-V`
 /// (our own; the reading of the words is that of Rust's `clap`, whose documentation has the rules).
 ///
-/// Each field is what the words hold, or for an absent option: root `.`, config `.config`, out the file of
-/// `--config`, prefix `CONFIG_`, header, minimal and depfile none, `--must-exist`, `--strict`, `--warn-lost` and `--replace` false.
-/// The errors are those of `Usage`. They leave nothing behind.
-pub fn options_of(alloc: Global, words: &[String]) -> Result<Options, Usage>
+/// Each field is what the words hold, or for an absent option: root `.`, config `.config`, out the file of `--config`, prefix
+/// `CONFIG_`, header, minimal and depfile none, `--must-exist`, `--strict`, `--warn-lost` and `--replace` false.
+/// The errors are those of `UsageError`. They leave nothing behind.
+pub fn options_of(alloc: Global, words: &[String]) -> Result<Options, UsageError>
     // Each field is what the words hold, or what an absent option means.
-    ensures ok { IfOk result (Holds (rows_for words.now)) }
+    ensures ok { IfOk result (AreOptionsOf (rows_for words.now)) }
     // Options are given only where clap finds no fault in the words.
     ensures faultless { IfOk result (λ _. fault_of kconf_app (words_of words.now) ≡ []) }
-    // Help and the version only where clap finds that they are asked for, Bad only for another of its faults or a prefix that is none.
-    ensures refused { IfErr result (IsRefused (fault_of kconf_app (words_of words.now)) (prefix_word (rows_for words.now))) }
+    // Help and the version only where clap finds that they are asked for, Bad only for another of its faults or a prefix that
+    // is none.
+    ensures refused { IfErr result (IsRefused (fault_of kconf_app (words_of words.now)) (asked_prefix (rows_for words.now))) }
     // Words that the command takes, with a prefix that is one, fail only when out of memory.
-    ensures taken { takes kconf_app (words_of words.now) ≡ true → is_prefix (prefix_word (rows_for words.now)) ≡ true → IfErr result (λ usage. usage ≡ Usage.Memory) }
+    ensures taken { takes kconf_app (words_of words.now) ≡ true → is_prefix (asked_prefix (rows_for words.now)) ≡ true → IfErr result (λ usage. usage ≡ UsageError.Memory) }
 {
     let command = command(alloc)?;
     match command.try_get_matches_from(words) {

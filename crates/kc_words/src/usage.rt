@@ -2,13 +2,13 @@
 
 ghost use Rattle.std.specs.Prelude.{◌≡◌};
 ghost use Rattle.kc_words.specs.Refusals.{text_of};
-ghost use Rattle.kc_words.specs.declared.usage.Usage.TheVariants.{Memory};
+ghost use Rattle.kc_words.specs.declared.usage.UsageError.TheVariants.{Memory};
 
 use std::alloc::AllocError;
 
 /// Why words give no options. The texts are `clap`'s, but for that of a prefix that is none.
 #[derive(Debug, Drop)]
-pub enum Usage {
+pub enum UsageError {
     /// The words ask for help, by `--help` or `-h`: the help, for standard output.
     Help(String),
     /// The words ask for the version, by `--version` or `-V`: the program's name and version, for standard output.
@@ -19,22 +19,23 @@ pub enum Usage {
     Memory,
 }
 
-impl From<AllocError> for Usage {
+impl From<AllocError> for UsageError {
     ghost from_gives = { λ _ e. e ≡ Memory };
 
-    fn from(_e: AllocError) -> Usage {
-        Usage::Memory
+    fn from(_e: AllocError) -> UsageError {
+        UsageError::Memory
     }
 }
 
-impl Usage {
+impl UsageError {
     /// The text to print.
     pub fn text(&self) -> &str
         ensures { result.now ≡ text_of self.now }
     {
         match self {
-            Usage::Help(text) | Usage::Version(text) | Usage::Bad(text) => text.as_str(),
-            Usage::Memory => "error E20: out of memory\n",
+            UsageError::Help(text) | UsageError::Version(text) | UsageError::Bad(text) =>
+                text.as_str(),
+            UsageError::Memory => "error E20: out of memory\n",
         }
     }
 }

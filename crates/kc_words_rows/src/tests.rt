@@ -1,5 +1,6 @@
 //! Worked rows of the command line.
-use kc_words::*;
+use kc_conf::Options;
+use kc_words::{UsageError, options_of};
 use std::test::Fail;
 
 // The words between the `|` of a row.
@@ -54,10 +55,10 @@ fn given(rt: &HostRuntime, row: &str) -> Result<String, Fail> {
     let words = words_in(rt, row)?;
     let text = match options_of(rt.alloc(), words.as_slice()) {
         Ok(options) => shown(rt, &options)?,
-        Err(Usage::Help(_help)) => String::from_str(rt.alloc(), "help")?,
-        Err(Usage::Version(text)) => text,
-        Err(Usage::Bad(_text)) => String::from_str(rt.alloc(), "bad")?,
-        Err(Usage::Memory) => String::from_str(rt.alloc(), "memory")?,
+        Err(UsageError::Help(_help)) => String::from_str(rt.alloc(), "help")?,
+        Err(UsageError::Version(text)) => text,
+        Err(UsageError::Bad(_text)) => String::from_str(rt.alloc(), "bad")?,
+        Err(UsageError::Memory) => String::from_str(rt.alloc(), "memory")?,
     };
     Ok(text)
 }
@@ -179,6 +180,6 @@ fn each_usage_has_a_text(rt: HostRuntime) -> Result<(), Fail> {
         };
         assert!(rt; usage.text().contains(part), "{row}");
     }
-    assert_eq!(rt; Usage::Memory.text(), "error E20: out of memory\n");
+    assert_eq!(rt; UsageError::Memory.text(), "error E20: out of memory\n");
     Ok(())
 }

@@ -1,5 +1,5 @@
 //! The program `kconf`: reads a tree of Kconfig files and a `.config`, and writes the full `.config`, and where they are
-//! wanted a C header and a minimal `.config`.
+//! wanted a C header, a minimal `.config` and a rule for make.
 #![tactic(auto)]
 
 use kc_disk::{exit_status, kconf};

@@ -17,19 +17,19 @@ const WITHOUT_FILES: [&str; 8] = [
     "--out bad.folder/config Kconfig",
 ];
 
-// The words between the blanks.
-fn words_of(alloc: Global, line: &str) -> Result<Vec<String>, AllocError> {
-    let mut words = Vec::new(alloc);
+// The arguments between the blanks.
+fn arguments_of(alloc: Global, line: &str) -> Result<Vec<String>, AllocError> {
+    let mut arguments = Vec::new(alloc);
     for word in line.split(' ') {
-        words.push(String::from_str(alloc, word)?)?;
+        arguments.push(String::from_str(alloc, word)?)?;
     }
-    Ok(words)
+    Ok(arguments)
 }
 
-// Runs `kconf` with the words of the line, and prints the exit status.
+// Runs `kconf` with the arguments of the line, and prints the exit status.
 fn run(rt: &HostRuntime, line: &str) -> io::Result<()> {
-    let words = words_of(rt.alloc(), line)?;
-    let status = exit_status(kconf_of(rt, &words));
+    let arguments = arguments_of(rt.alloc(), line)?;
+    let status = exit_status(kconf_of(rt, &arguments));
     println!(rt; "status {status}: {line}")
 }
 

@@ -132,7 +132,7 @@ const ROWS: &[Accepted] = &[
             CONFIG_T=m\n\
             CONFIG_A=y\n",
         minimal: Some(b""),
-        is_settled: false,
+        is_idempotent: false,
         ..ACCEPTED
     },
     Accepted {

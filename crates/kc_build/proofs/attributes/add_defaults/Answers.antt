@@ -2,10 +2,10 @@ use Rattle.std.proofs.Common.{ap, ◌∙◌, map, length, arith, refl}
 use Rattle.std.proofs.lemmas.List.{length_push}
 use Rattle.kc_expr.specs.declared.expression.Expr.{Expr}
 use Rattle.kc_expr.specs.Form.{form_of}
-use Rattle.kc_read.specs.Reads.{statement_view}
-use Rattle.kc_tree.specs.declared.parts.SymbolDefault.{SymbolDefault}
+use Rattle.kc_read.specs.StatementViews.{statement_view}
+use Rattle.kc_tree.specs.declared.rows.SymbolDefault.{SymbolDefault}
 use Rattle.kc_build.specs.EntryLines.{default_line, default_row}
-use Rattle.kc_build.specs.Passes.{given_view}
+use Rattle.kc_build.specs.Passes.{stated_default_view}
 use Rattle.kc_build.proofs.AttributeLemmas.{default_made, default_missing}
 use Rattle.kc_build.proofs.ScanLemmas.{adds_none, adds_one, adds_end}
 use Rattle.kc_build.proofs.attributes.add_defaults.Goals as goal
@@ -30,7 +30,7 @@ loop-line-preserved c =
     let i = c.loop-line.line-index in
     let s = statement_view c.line-item.result.statement in
     let now = c.loop-line.defaults.items in
-    elim c.match-given_of.branch [
+    elim c.match-stated_default.branch [
       | in-Some+in_ok-value+in_ok-when+in_ok-push w ↦
           let value = w.in_ok-value.value in
           let d : SymbolDefault = record { value = value; when = w.in_ok-when.when } in
@@ -38,7 +38,9 @@ loop-line-preserved c =
           let longer = c.loop-line.invariant.longer in
           let few = c.loop-line.invariant.few in
           rw w.defaults-is (record {
-            adds = adds_one default_line base default_row ls i c.line-item.result now w.push.new.self.items d c.loop-line.invariant.adds c.loop-line-test.true c.line-item.is (default_made s (given_view w.in-Some.given) d w.in-Some.ensures (ap (λ (e : Expr). form_of e) w.in_ok-value.ensures.cases) w.in_ok-when.ensures) w.in_ok-push.ensures.items;
+            adds = adds_one default_line base default_row ls i c.line-item.result now w.push.new.self.items d c.loop-line.invariant.adds c.loop-line-test.true
+                c.line-item.is (default_made s (stated_default_view w.in-Some.given) d w.in-Some.ensures
+                (ap (λ (e : Expr). form_of e) w.in_ok-value.ensures.cases) w.in_ok-when.ensures) w.in_ok-push.ensures.items;
             longer = omega (arith, size);
             few = omega (arith, size);
           })
@@ -59,7 +61,8 @@ overflow_cast-result c =
 
 pub returns-clause-added : goal.returns-clause-added
 returns-clause-added c =
-    adds_end default_line (map default_row c.args.defaults.now.items) c.args.attributes.now c.loop-line.line-index (map default_row c.loop-line.defaults.items) c.loop-line.invariant.adds c.loop-line-test.false
+    adds_end default_line (map default_row c.args.defaults.now.items) c.args.attributes.now c.loop-line.line-index (map default_row c.loop-line.defaults.items)
+    c.loop-line.invariant.adds c.loop-line-test.false
 
 pub returns-clause-longer : goal.returns-clause-longer
 returns-clause-longer c = c.loop-line.invariant.longer

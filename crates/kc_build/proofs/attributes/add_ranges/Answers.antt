@@ -1,7 +1,7 @@
 use Rattle.std.proofs.Common.{ap, ◌∙◌, map, length, arith, refl}
 use Rattle.std.proofs.lemmas.List.{length_push}
-use Rattle.kc_read.specs.Reads.{statement_view}
-use Rattle.kc_tree.specs.declared.parts.SymbolRange.{SymbolRange}
+use Rattle.kc_read.specs.StatementViews.{statement_view}
+use Rattle.kc_tree.specs.declared.rows.SymbolRange.{SymbolRange}
 use Rattle.kc_build.specs.EntryLines.{range_line, range_row}
 use Rattle.kc_build.specs.Passes.{range_view}
 use Rattle.kc_build.proofs.AttributeLemmas.{range_made, range_missing}
@@ -38,7 +38,9 @@ loop-line-preserved c =
           let longer = c.loop-line.invariant.longer in
           let few = c.loop-line.invariant.few in
           rw w.ranges-is (record {
-            adds = adds_one range_line base range_row ls i c.line-item.result now w.push.new.self.items d c.loop-line.invariant.adds c.loop-line-test.true c.line-item.is (range_made s (range_view w.in-Some.range) d w.in-Some.ensures w.in_ok-low.ensures w.in_ok-high.ensures w.in_ok-when.ensures) w.in_ok-push.ensures.items;
+            adds = adds_one range_line base range_row ls i c.line-item.result now w.push.new.self.items d c.loop-line.invariant.adds c.loop-line-test.true
+                c.line-item.is (range_made s (range_view w.in-Some.range) d w.in-Some.ensures w.in_ok-low.ensures w.in_ok-high.ensures w.in_ok-when.ensures)
+                w.in_ok-push.ensures.items;
             longer = omega (arith, size);
             few = omega (arith, size);
           })

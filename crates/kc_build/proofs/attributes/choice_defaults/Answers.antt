@@ -1,11 +1,11 @@
 use Rattle.std.proofs.Common.{◌∙◌, ap, sym, map, refl}
 use Rattle.kc_expr.specs.declared.expression.Expr.{Expr}
 use Rattle.kc_expr.specs.Form.{form_of}
-use Rattle.kc_read.specs.Reads.{statement_view}
-use Rattle.kc_tree.specs.declared.parts.ChoiceDefault.{ChoiceDefault}
+use Rattle.kc_read.specs.StatementViews.{statement_view}
+use Rattle.kc_tree.specs.declared.rows.ChoiceDefault.{ChoiceDefault}
 use Rattle.kc_build.specs.EntryLines.{choice_default_line, member_line}
 use Rattle.kc_build.specs.Facts.{single_symbol}
-use Rattle.kc_build.specs.Passes.{given_view}
+use Rattle.kc_build.specs.Passes.{stated_default_view}
 use Rattle.kc_build.proofs.AttributeLemmas.{member_made, member_missing, member_other, member_unnamed}
 use Rattle.kc_build.proofs.ScanLemmas.{list_none, list_push, list_end}
 use Rattle.kc_build.proofs.attributes.choice_defaults.Goals as goal
@@ -22,20 +22,29 @@ loop-line-preserved c =
     let i = c.loop-line.line-index in
     let s = statement_view c.line-item.result.statement in
     let now = c.loop-line.defaults.items in
-    elim c.match-given_of.branch [
+    elim c.match-stated_default.branch [
       | in-Some+in-Some-single_symbol+then-is_member+in_ok-when+in_ok-push w ↦
           let d : ChoiceDefault = record { member = w.in-Some-single_symbol.member; when = w.in_ok-when.when } in
           let named = w.in-Some-single_symbol.ensures ∙ ap (λ (e : Expr). single_symbol (form_of e)) w.deref.ensures in
-          rw w.defaults-is (list_push (member_line symbols k) choice_default_line ls i c.line-item.result now w.push.new.self.items d (choice_default_line d) c.loop-line.invariant c.loop-line-test.true c.line-item.is (sym (member_made symbols k s (given_view w.in-Some.given) d w.in-Some.ensures named w.if-is_member.ensures w.in_ok-when.ensures)) refl w.in_ok-push.ensures.items)
+          rw w.defaults-is (list_push (member_line symbols k) choice_default_line ls i c.line-item.result now w.push.new.self.items d (choice_default_line d)
+          c.loop-line.invariant c.loop-line-test.true c.line-item.is
+          (sym (member_made symbols k s (stated_default_view w.in-Some.given) d w.in-Some.ensures named w.if-is_member.ensures w.in_ok-when.ensures))
+          refl w.in_ok-push.ensures.items)
       | in-Some+in-Some-single_symbol+else-is_member w ↦
           let named = w.in-Some-single_symbol.ensures ∙ ap (λ (e : Expr). single_symbol (form_of e)) w.deref.ensures in
-          rw w.defaults-is (list_none (member_line symbols k) ls i c.line-item.result (map choice_default_line now) c.loop-line.invariant c.loop-line-test.true c.line-item.is (member_other symbols k s (given_view w.in-Some.given) w.in-Some-single_symbol.member w.in-Some.ensures named w.if-is_member.ensures))
+          rw w.defaults-is (list_none (member_line symbols k) ls i c.line-item.result (map choice_default_line now)
+          c.loop-line.invariant c.loop-line-test.true c.line-item.is
+          (member_other symbols k s (stated_default_view w.in-Some.given) w.in-Some-single_symbol.member w.in-Some.ensures named w.if-is_member.ensures))
       | in-Some+in_default-single_symbol w ↦
           let named = w.in_default-single_symbol.ensures ∙ ap (λ (e : Expr). single_symbol (form_of e)) w.deref.ensures in
-          rw w.defaults-is (list_none (member_line symbols k) ls i c.line-item.result (map choice_default_line now) c.loop-line.invariant c.loop-line-test.true c.line-item.is (member_unnamed symbols k s (given_view w.in-Some.given) w.in-Some.ensures named))
-      | in_default w ↦ rw w.defaults-is (list_none (member_line symbols k) ls i c.line-item.result (map choice_default_line now) c.loop-line.invariant c.loop-line-test.true c.line-item.is (member_missing symbols k s w.in_default.ensures))
+          rw w.defaults-is (list_none (member_line symbols k) ls i c.line-item.result (map choice_default_line now)
+          c.loop-line.invariant c.loop-line-test.true c.line-item.is
+          (member_unnamed symbols k s (stated_default_view w.in-Some.given) w.in-Some.ensures named))
+      | in_default w ↦ rw w.defaults-is (list_none (member_line symbols k) ls i c.line-item.result (map choice_default_line now)
+          c.loop-line.invariant c.loop-line-test.true c.line-item.is (member_missing symbols k s w.in_default.ensures))
     ]
 
 pub returns : goal.returns
 returns c =
-    list_end (member_line c.args.symbols.now c.args.choice.0) c.args.attributes.now c.loop-line.line-index (map choice_default_line c.loop-line.defaults.items) c.loop-line.invariant c.loop-line-test.false
+    list_end (member_line c.args.symbols.now c.args.choice.0) c.args.attributes.now c.loop-line.line-index (map choice_default_line c.loop-line.defaults.items)
+    c.loop-line.invariant c.loop-line-test.false

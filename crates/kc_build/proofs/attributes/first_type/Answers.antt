@@ -4,7 +4,8 @@ use Rattle.kc_build.proofs.attributes.first_type.Goals as goal
 
 pub returns-in-Some : goal.returns-in-Some
 returns-in-Some c =
-    first_here type_of c.args.attributes.now c.loop-line.line-index c.line-item.result c.type_of.result c.loop-line.invariant c.loop-line-test.true c.line-item.is c.type_of.ensures c.in-Some.kind c.in-Some.is
+    first_here type_of c.args.attributes.now c.loop-line.line-index c.line-item.result c.type_of.result c.loop-line.invariant c.loop-line-test.true
+    c.line-item.is c.type_of.ensures c.in-Some.kind c.in-Some.is
 
 pub loop-line-preserved : goal.loop-line-preserved
 loop-line-preserved c =

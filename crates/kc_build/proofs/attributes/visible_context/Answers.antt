@@ -34,8 +34,12 @@ loop-line-preserved c =
     let ls = c.args.attributes.now in
     let i = c.loop-line.line-index in
     elim c.match-visible_of.branch [
-      | in-Some+in_ok-clone+in_ok-at w ↦ rw (w.contexts-is, w.at-is) (asks_more visible_form old c.args.outer.0 ls i c.line-item.result c.loop-line.contexts w.inside.new.self c.loop-line.at.0 w.in_ok-at.at.0 (form_of w.in_ok-clone.field-0.value) c.loop-line.invariant c.loop-line-test.true c.line-item.is (ap (λ (e : Expr). Some (form_of e)) w.in_ok-clone.ensures.cases ∙ w.in-Some.ensures) w.in_ok-at.ensures.added w.in_ok-at.ensures.number)
-      | in_default w ↦ rw (w.contexts-is, w.at-is) (asks_none visible_form old c.args.outer.0 ls i c.line-item.result c.loop-line.contexts c.loop-line.at.0 c.loop-line.invariant c.loop-line-test.true c.line-item.is (sym w.in_default.ensures))
+      | in-Some+in_ok-clone+in_ok-at w ↦ rw (w.contexts-is, w.at-is)
+          (asks_more visible_form old c.args.outer.0 ls i c.line-item.result c.loop-line.contexts w.inside.new.self c.loop-line.at.0 w.in_ok-at.at.0
+          (form_of w.in_ok-clone.field-0.value) c.loop-line.invariant c.loop-line-test.true c.line-item.is
+          (ap (λ (e : Expr). Some (form_of e)) w.in_ok-clone.ensures.cases ∙ w.in-Some.ensures) w.in_ok-at.ensures.added w.in_ok-at.ensures.number)
+      | in_default w ↦ rw (w.contexts-is, w.at-is) (asks_none visible_form old c.args.outer.0 ls i c.line-item.result c.loop-line.contexts c.loop-line.at.0
+          c.loop-line.invariant c.loop-line-test.true c.line-item.is (sym w.in_default.ensures))
     ]
 
 pub returns-clause-made : goal.returns-clause-made

@@ -1,34 +1,34 @@
 use Rattle.std.proofs.Common.{◌≡◌, Ok, Err, ap, ◌∙◌, map}
 use Rattle.kc_read.specs.Files.{bytes_in}
-use Rattle.kc_read.specs.Reads.{line_view}
+use Rattle.kc_read.specs.StatementViews.{line_view}
 use Rattle.kc_tree.specs.Wholes.{tree_of}
-use Rattle.kc_build.specs.Assemblies.{assembled_view}
+use Rattle.kc_build.specs.PartsView.{parts_view}
 use Rattle.kc_build.specs.Trees.{tree_with}
-use Rattle.kc_build.proofs.BuildLemmas.{assembled-lines, count-few, late-memory, lines-apart, lines-below, lines-formed, lines-opened, lines-typed}
+use Rattle.kc_build.proofs.BuildLemmas.{assembled-lines, count-few, refused-memory, lines-apart, lines-below, lines-formed, lines-opened, lines-typed}
 use Rattle.kc_build.proofs.build.build_tree.Goals as goal
 
-pub assemble-requires-clause-below : goal.assemble-requires-clause-below
-assemble-requires-clause-below c =
+pub build_parts-requires-clause-below : goal.build_parts-requires-clause-below
+build_parts-requires-clause-below c =
     let x = c.in_ok-names.ensures.listed in
     lines-below x.0 c.in_ok-names.field-0 x.2 c.deref.result.now c.deref.ensures.value
 
-pub assemble-requires-clause-typed : goal.assemble-requires-clause-typed
-assemble-requires-clause-typed c =
+pub build_parts-requires-clause-typed : goal.build_parts-requires-clause-typed
+build_parts-requires-clause-typed c =
     let x = c.in_ok-names.ensures.listed in
     lines-typed x.0 c.in_ok-names.field-0 x.2 (bytes_in c.args.map.now) c.args.root.now x.1 c.deref.result.now c.deref.ensures.value
 
-pub assemble-requires-clause-apart : goal.assemble-requires-clause-apart
-assemble-requires-clause-apart c =
+pub build_parts-requires-clause-apart : goal.build_parts-requires-clause-apart
+build_parts-requires-clause-apart c =
     let x = c.in_ok-names.ensures.listed in
     lines-apart x.0 c.in_ok-names.field-0 x.2 (bytes_in c.args.map.now) c.args.root.now x.1 c.deref.result.now c.deref.ensures.value
 
-pub assemble-requires-clause-ends : goal.assemble-requires-clause-ends
-assemble-requires-clause-ends c =
+pub build_parts-requires-clause-ends : goal.build_parts-requires-clause-ends
+build_parts-requires-clause-ends c =
     let x = c.in_ok-names.ensures.listed in
     lines-opened x.0 c.in_ok-names.field-0 x.2 (bytes_in c.args.map.now) c.args.root.now x.1 c.deref.result.now c.deref.ensures.value
 
-pub assemble-requires-clause-defined : goal.assemble-requires-clause-defined
-assemble-requires-clause-defined c =
+pub build_parts-requires-clause-defined : goal.build_parts-requires-clause-defined
+build_parts-requires-clause-defined c =
     let x = c.in_ok-names.ensures.listed in
     count-few x.0 c.in_ok-names.field-0 x.2 (bytes_in c.args.map.now) c.args.root.now x.1
 
@@ -37,7 +37,7 @@ of-requires c =
     let x = c.in_ok-names.ensures.listed in
     let l = c.in_ok-names.field-0 in
     let parts = c.in-Ok-assembled.parts in
-    let says : assembled_view l.names (Ok parts) ≡ tree_with l.names l.count l.modules (map line_view c.deref.result.now) = (rw c.in-Ok-assembled.is at c.in-Ok.ensures) in
+    let says : parts_view l.names (Ok parts) ≡ tree_with l.names l.count l.modules (map line_view c.deref.result.now) = (rw c.in-Ok-assembled.is at c.in-Ok.ensures) in
     lines-formed x.0 l x.2 (bytes_in c.args.map.now) c.args.root.now (tree_of l.names parts) x.1 c.are_distinct.ensures
     (assembled-lines x.0 l x.2 c.deref.result.now (Ok parts) c.deref.ensures.value says)
 
@@ -46,7 +46,7 @@ returns-in-Ok-assembled-clause-built c =
     let x = c.in_ok-names.ensures.listed in
     let l = c.in_ok-names.field-0 in
     let parts = c.in-Ok-assembled.parts in
-    let says : assembled_view l.names (Ok parts) ≡ tree_with l.names l.count l.modules (map line_view c.deref.result.now) = (rw c.in-Ok-assembled.is at c.in-Ok.ensures) in
+    let says : parts_view l.names (Ok parts) ≡ tree_with l.names l.count l.modules (map line_view c.deref.result.now) = (rw c.in-Ok-assembled.is at c.in-Ok.ensures) in
     (Ok x.0, x.1, ap Ok c.of.ensures ∙ assembled-lines x.0 l x.2 c.deref.result.now (Ok parts) c.deref.ensures.value says)
 
 pub returns-in-Err-assembled-clause-refused : goal.returns-in-Err-assembled-clause-refused
@@ -54,7 +54,7 @@ returns-in-Err-assembled-clause-refused c = λ ne.
     let x = c.in_ok-names.ensures.listed in
     let l = c.in_ok-names.field-0 in
     let r = c.in-Err-assembled.refusal in
-    let says : assembled_view l.names (Err r) ≡ tree_with l.names l.count l.modules (map line_view c.deref.result.now) = (rw c.in-Err-assembled.is at c.in-Ok.ensures) in
+    let says : parts_view l.names (Err r) ≡ tree_with l.names l.count l.modules (map line_view c.deref.result.now) = (rw c.in-Err-assembled.is at c.in-Ok.ensures) in
     (Ok x.0, x.1, assembled-lines x.0 l x.2 c.deref.result.now (Err r) c.deref.ensures.value says)
 
 pub returns-in-Err-assembled-clause-memory : goal.returns-in-Err-assembled-clause-memory
@@ -62,5 +62,5 @@ returns-in-Err-assembled-clause-memory c =
     let x = c.in_ok-names.ensures.listed in
     let l = c.in_ok-names.field-0 in
     let r = c.in-Err-assembled.refusal in
-    let says : assembled_view l.names (Err r) ≡ tree_with l.names l.count l.modules (map line_view c.deref.result.now) = (rw c.in-Err-assembled.is at c.in-Ok.ensures) in
-    late-memory x.0.lines r (assembled-lines x.0 l x.2 c.deref.result.now (Err r) c.deref.ensures.value says)
+    let says : parts_view l.names (Err r) ≡ tree_with l.names l.count l.modules (map line_view c.deref.result.now) = (rw c.in-Err-assembled.is at c.in-Ok.ensures) in
+    refused-memory x.0.lines r (assembled-lines x.0 l x.2 c.deref.result.now (Err r) c.deref.ensures.value says)

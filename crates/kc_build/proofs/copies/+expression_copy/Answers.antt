@@ -8,7 +8,9 @@ loop-part-init t c =
 
 pub loop-part-preserved : goal.loop-part-preserved
 loop-part-preserved t c =
-    copies_next Every c.args.e.now c.loop-part.all.items c.loop-part.part-index c.deref-part-items.result.now c.part-item.result c.in_ok-expression_copy-in-All.field-0 c.push.new.self.items c.loop-part.invariant c.loop-part-test.true c.part-item.is c.in_ok-expression_copy-in-All.ensures c.in_ok-push-in-All.ensures.items
+    copies_next Every c.args.e.now c.loop-part.all.items c.loop-part.part-index c.deref-part-items.result.now c.part-item.result
+    c.in_ok-expression_copy-in-All.field-0 c.push.new.self.items c.loop-part.invariant c.loop-part-test.true c.part-item.is
+    c.in_ok-expression_copy-in-All.ensures c.in_ok-push-in-All.ensures.items
 
 pub loop-part-2-init : goal.loop-part-2-init
 loop-part-2-init t c =
@@ -16,7 +18,9 @@ loop-part-2-init t c =
 
 pub loop-part-2-preserved : goal.loop-part-2-preserved
 loop-part-2-preserved t c =
-    copies_next Some_of c.args.e.now c.loop-part-2.any.items c.loop-part-2.part-index c.deref-part-items-in-Any.result.now c.part-item-in-loop-part-2.result c.in_ok-expression_copy-in-Any.field-0 c.push-in-loop-part-2.new.self.items c.loop-part-2.invariant c.loop-part-2-test.true c.part-item-in-loop-part-2.is c.in_ok-expression_copy-in-Any.ensures c.in_ok-push-in-Any.ensures.items
+    copies_next Some_of c.args.e.now c.loop-part-2.any.items c.loop-part-2.part-index c.deref-part-items-in-Any.result.now c.part-item-in-loop-part-2.result
+    c.in_ok-expression_copy-in-Any.field-0 c.push-in-loop-part-2.new.self.items c.loop-part-2.invariant c.loop-part-2-test.true
+    c.part-item-in-loop-part-2.is c.in_ok-expression_copy-in-Any.ensures c.in_ok-push-in-Any.ensures.items
 
 pub returns-after-loop-part : goal.returns-after-loop-part
 returns-after-loop-part t c =

@@ -1,5 +1,5 @@
 use Rattle.std.proofs.Common.{◌≡◌, length, map}
-use Rattle.kc_read.specs.Reads.{line_view}
+use Rattle.kc_read.specs.StatementViews.{line_view}
 use Rattle.kc_build.specs.Renamings.{final, line_renamed}
 use Rattle.kc_build.proofs.RenamedLemmas.{changed_to}
 use Rattle.kc_build.proofs.renaming.rename_lines.Given as goal

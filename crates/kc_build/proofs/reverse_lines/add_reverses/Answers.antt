@@ -14,8 +14,11 @@ loop-line-preserved c =
     elim c.match-target_of.branch [
       | in-Some+in_ok-add_reverse w ↦
           rw w.reverses-is
-          (adding_one ss c.args.source own c.args.reverses.now c.loop-line.reverses w.add_reverse.new.reverses c.loop-line.line-index c.line-item.result (target_view w.in-Some.target) c.loop-line.invariant c.loop-line-test.true c.line-item.is w.in-Some.ensures w.in_ok-add_reverse.ensures.added w.add_reverse.ensures.sources)
+          (adding_one ss c.args.source own c.args.reverses.now c.loop-line.reverses w.add_reverse.new.reverses c.loop-line.line-index c.line-item.result
+          (target_view w.in-Some.target) c.loop-line.invariant c.loop-line-test.true c.line-item.is w.in-Some.ensures w.in_ok-add_reverse.ensures.added
+          w.add_reverse.ensures.sources)
       | in_default w ↦
           rw w.reverses-is
-          (adding_none ss c.args.source own c.args.reverses.now c.loop-line.reverses c.loop-line.line-index c.line-item.result c.loop-line.invariant c.loop-line-test.true c.line-item.is w.in_default.ensures)
+          (adding_none ss c.args.source own c.args.reverses.now c.loop-line.reverses c.loop-line.line-index c.line-item.result c.loop-line.invariant
+          c.loop-line-test.true c.line-item.is w.in_default.ensures)
     ]

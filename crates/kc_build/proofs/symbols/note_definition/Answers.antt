@@ -2,24 +2,27 @@ use Rattle.std.proofs.Common.{arith, ap, ◌∙◌, Option}
 use Rattle.std.specs.List.{filter_map}
 use Rattle.std.specs.Option.{option_map}
 use Rattle.kc_expr.specs.declared.expression.Kind.{Kind}
-use Rattle.kc_tree.specs.declared.parts.ChoiceId.{ChoiceId}
+use Rattle.kc_tree.specs.declared.rows.ChoiceId.{ChoiceId}
 use Rattle.kc_build.specs.Facts.{first_of, type_of}
-use Rattle.kc_build.specs.Known.{row_view}
-use Rattle.kc_build.specs.Passes.{said_by}
+use Rattle.kc_build.specs.SymbolRows.{row_view}
+use Rattle.kc_build.specs.Passes.{statements_of}
 use Rattle.kc_build.specs.SymbolWalk.{with_definition}
 use Rattle.kc_build.proofs.TableLemmas.{set_changed, unchanged_past}
 use Rattle.kc_build.proofs.symbols.note_definition.Goals as goal
 
 pub returns-in_ok-add_definition-clause-rows : goal.returns-in_ok-add_definition-clause-rows
 returns-in_ok-add_definition-clause-rows c =
-    let round = c.args.round.now in
-    let choice = option_map (λ (k : ChoiceId). k.0) round.choice in
-    let found = first_of (filter_map type_of (said_by c.args.own.now)) in
-    set_changed row_view (with_definition round.definitions found choice) c.args.symbols.now.items c.args.symbol.0 c.index_mut.result.now c.add_definition.new.symbol (omega (arith, c.args.symbols.now.ok)) c.index_mut.ensures.value (c.in_ok-add_definition.ensures.row ∙ ap (λ (o : Option Kind). with_definition round.definitions o choice (row_view c.index_mut.result.now)) c.first_type.ensures)
+    let scope = c.args.scope.now in
+    let choice = option_map (λ (k : ChoiceId). k.0) scope.choice in
+    let found = first_of (filter_map type_of (statements_of c.args.own.now)) in
+    set_changed row_view (with_definition scope.definitions found choice)
+    c.args.symbols.now.items c.args.symbol.0 c.index_mut.result.now c.add_definition.new.symbol (omega (arith, c.args.symbols.now.ok))
+    c.index_mut.ensures.value (c.in_ok-add_definition.ensures.row
+    ∙ ap (λ (o : Option Kind). with_definition scope.definitions o choice (row_view c.index_mut.result.now)) c.first_type.ensures)
 
 pub returns-else-symbol-len-clause-rows : goal.returns-else-symbol-len-clause-rows
 returns-else-symbol-len-clause-rows c =
-    let round = c.args.round.now in
-    let choice = option_map (λ (k : ChoiceId). k.0) round.choice in
-    let found = first_of (filter_map type_of (said_by c.args.own.now)) in
-    unchanged_past row_view (with_definition round.definitions found choice) c.args.symbols.now.items c.args.symbol.0 (omega (arith, c.args.symbols.now.ok))
+    let scope = c.args.scope.now in
+    let choice = option_map (λ (k : ChoiceId). k.0) scope.choice in
+    let found = first_of (filter_map type_of (statements_of c.args.own.now)) in
+    unchanged_past row_view (with_definition scope.definitions found choice) c.args.symbols.now.items c.args.symbol.0 (omega (arith, c.args.symbols.now.ok))

@@ -1,4 +1,4 @@
-use Rattle.kc_conf.proofs.HeardLemmas.{nothing_lost}
+use Rattle.kc_conf.proofs.AccountedLemmas.{nothing_lost}
 use Rattle.kc_conf.proofs.laws.nothing_is_lost.Goals as goal
 
 pub returns : goal.returns

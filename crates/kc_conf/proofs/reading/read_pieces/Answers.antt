@@ -9,7 +9,7 @@ pub pieces-init : goal.pieces-init
 pieces-init g c =
     let reader = c.args.reader.now in
     record {
-      taken = TakenSoFar-nothing reader.tree reader.prefix reader.name (g.I.Input.remaining c.args.input.now) reader.spot c.args.user.now (g.S.Sink.taken c.args.sink.now);
+      taken = TakenSoFar-nothing reader.tree reader.prefix reader.name (g.I.Input.remaining c.args.input.now) reader.position c.args.user.now (g.S.Sink.taken c.args.sink.now);
       stands = refl;
       quiet = refl;
       quiet_input = refl;
@@ -20,7 +20,7 @@ pieces-init g c =
 pub returns-in-Err-clause-err : goal.returns-in-Err-clause-err
 returns-in-Err-clause-err g c =
     let reader = c.args.reader.now in
-    BreaksPieces-so_far reader.tree reader.prefix reader.name _ _ reader.spot c.pieces.reader.spot c.args.user.now c.pieces.user _ _ c.pieces.invariant.taken
+    BreaksPieces-so_far reader.tree reader.prefix reader.name _ _ reader.position c.pieces.reader.position c.args.user.now c.pieces.user _ _ c.pieces.invariant.taken
 
 pub pieces-preserved : goal.pieces-preserved
 pieces-preserved g c =
@@ -31,9 +31,10 @@ pieces-preserved g c =
     let prefix = ap (λ (r : ReaderState). r.prefix) invariant.stands in
     let name = ap (λ (r : ReaderState). r.name) invariant.stands in
     record {
-      taken = TakenSoFar-piece reader.tree reader.prefix reader.name _ _ _ _ reader.spot c.pieces.reader.spot c.feed_piece.new.reader.spot c.args.user.now c.pieces.user c.feed_piece.new.user _ _ _
+      taken = TakenSoFar-piece reader.tree reader.prefix reader.name _ _ _ _ reader.position c.pieces.reader.position c.feed_piece.new.reader.position
+          c.args.user.now c.pieces.user c.feed_piece.new.user _ _ _
           invariant.taken c.in-Ok.ensures.given (rw (tree, prefix, name) at ensures.ok);
-      stands = ensures.stands ∙ ap (λ (r : ReaderState). let s : ReaderState = record r { spot = c.feed_piece.new.reader.spot } in s) invariant.stands;
+      stands = ensures.stands ∙ ap (λ (r : ReaderState). let s : ReaderState = record r { position = c.feed_piece.new.reader.position } in s) invariant.stands;
       quiet = ensures.quiet ∙ invariant.quiet;
       quiet_input = c.in-Ok.ensures.quiet ∙ invariant.quiet_input;
       keeps = g.met.S.Sink.goes_on _ _ _ invariant.keeps ensures.keeps;
@@ -47,7 +48,8 @@ returns-in-Err-ConfigLineTooLong-clause-ok g c =
     let tree = ap (λ (r : ReaderState). r.tree) invariant.stands in
     let prefix = ap (λ (r : ReaderState). r.prefix) invariant.stands in
     let name = ap (λ (r : ReaderState). r.name) invariant.stands in
-    rw c.in-Err-ConfigLineTooLong.number-is (TakesPieces-long reader.tree reader.prefix reader.name _ _ _ _ _ reader.spot c.pieces.reader.spot c.feed_piece.new.reader.spot c.feed_piece.new.reader.spot c.args.user.now c.pieces.user c.feed_piece.new.user _ _ _
+    rw c.in-Err-ConfigLineTooLong.number-is (TakesPieces-long reader.tree reader.prefix reader.name _ _ _ _ _ reader.position c.pieces.reader.position
+    c.feed_piece.new.reader.position c.feed_piece.new.reader.position c.args.user.now c.pieces.user c.feed_piece.new.user _ _ _
     invariant.taken c.in-Ok.ensures.given (rw (c.in-Err-ConfigLineTooLong.field-0-is, tree, prefix, name) at c.in-Err-ConfigLineTooLong.ensures.refused))
 
 pub returns-in-Err-Sink-clause-err : goal.returns-in-Err-Sink-clause-err
@@ -57,8 +59,9 @@ returns-in-Err-Sink-clause-err g c =
     let tree = ap (λ (r : ReaderState). r.tree) invariant.stands in
     let prefix = ap (λ (r : ReaderState). r.prefix) invariant.stands in
     let name = ap (λ (r : ReaderState). r.name) invariant.stands in
-    BreaksPieces-piece reader.tree reader.prefix reader.name Sink _ _ _ _ reader.spot c.pieces.reader.spot c.feed_piece.new.reader.spot c.args.user.now c.pieces.user c.feed_piece.new.user _ _ _
-    (begins_at_sink reader.tree reader.prefix reader.name c.feed_piece.new.reader.spot c.feed_piece.new.user)
+    BreaksPieces-piece reader.tree reader.prefix reader.name Sink _ _ _ _ reader.position c.pieces.reader.position c.feed_piece.new.reader.position
+    c.args.user.now c.pieces.user c.feed_piece.new.user _ _ _
+    (begins_at_sink reader.tree reader.prefix reader.name c.feed_piece.new.reader.position c.feed_piece.new.user)
     invariant.taken c.in-Ok.ensures.given (rw (c.in-Err-Sink.field-0-is, tree, prefix, name) at c.in-Err-Sink.ensures.refused)
 
 pub returns-in-Err-Memory-clause-err : goal.returns-in-Err-Memory-clause-err
@@ -68,6 +71,7 @@ returns-in-Err-Memory-clause-err g c =
     let tree = ap (λ (r : ReaderState). r.tree) invariant.stands in
     let prefix = ap (λ (r : ReaderState). r.prefix) invariant.stands in
     let name = ap (λ (r : ReaderState). r.name) invariant.stands in
-    BreaksPieces-piece reader.tree reader.prefix reader.name Memory _ _ _ _ reader.spot c.pieces.reader.spot c.feed_piece.new.reader.spot c.args.user.now c.pieces.user c.feed_piece.new.user _ _ _
-    (begins_at_memory reader.tree reader.prefix reader.name c.feed_piece.new.reader.spot c.feed_piece.new.user)
+    BreaksPieces-piece reader.tree reader.prefix reader.name Memory _ _ _ _ reader.position c.pieces.reader.position c.feed_piece.new.reader.position
+    c.args.user.now c.pieces.user c.feed_piece.new.user _ _ _
+    (begins_at_memory reader.tree reader.prefix reader.name c.feed_piece.new.reader.position c.feed_piece.new.user)
     invariant.taken c.in-Ok.ensures.given (rw (c.in-Err-Memory.field-0-is, tree, prefix, name) at c.in-Err-Memory.ensures.refused)

@@ -1,6 +1,6 @@
 -- The input gave these bytes so far, and the reader took them.
 use Rattle.std.proofs.Common.{◌≡◌}
-use Rattle.kc_user.specs.Places.{IsUserOf}
+use Rattle.kc_user.specs.Places.{ArePlacesOf}
 use Rattle.kc_conf.specs.Reads.{TakenSoFar}
 use Rattle.kc_conf.proofs.reading.read_pieces.Given as goal
 
@@ -11,12 +11,13 @@ invariant-pieces g l =
     let remaining = g.I.Input.remaining in
     let failures = g.I.Input.failures in
     record {
-      taken : TakenSoFar l.fn.reader.tree l.fn.reader.prefix l.fn.reader.name (remaining l.fn.input) (remaining l.input) l.fn.reader.spot l.reader.spot l.fn.user l.user (taken l.fn.sink) (taken l.sink);
-      stands : l.reader ≡ record l.fn.reader { spot = l.reader.spot };
+      taken : TakenSoFar l.fn.reader.tree l.fn.reader.prefix l.fn.reader.name (remaining l.fn.input) (remaining l.input)
+          l.fn.reader.position l.reader.position l.fn.user l.user (taken l.fn.sink) (taken l.sink);
+      stands : l.reader ≡ record l.fn.reader { position = l.reader.position };
       quiet : faults l.sink ≡ faults l.fn.sink;
       quiet_input : failures l.input ≡ failures l.fn.input;
       keeps : g.S.Sink.goes_to l.fn.sink l.sink;
-      user : IsUserOf l.fn.reader.tree l.user;
+      user : ArePlacesOf l.fn.reader.tree l.user;
     }
 
 abbrev pub decreases-pieces : goal.decreases-pieces

@@ -17,7 +17,7 @@ returns-in-Ok-clause-ok g c =
     let tree = ap (λ (r : ReaderState). r.tree) stands in
     let prefix = ap (λ (r : ReaderState). r.prefix) stands in
     let name = ap (λ (r : ReaderState). r.name) stands in
-    ReadsStream-whole reader.tree reader.prefix reader.name _ c.read_pieces.new.reader.spot c.args.user.now c.read_pieces.new.user c.finish_stream.new.user _ _ _
+    ReadsStream-whole reader.tree reader.prefix reader.name _ c.read_pieces.new.reader.position c.args.user.now c.read_pieces.new.user c.finish_stream.new.user _ _ _
     (rw (c.in-Ok-None.field-0-is, c.requires.begins) at c.in-Ok-None.ensures.ok) (rw (tree, prefix, name) at c.in-Ok.ensures.ok)
 
 pub returns-in-Err-Sink-clause-err : goal.returns-in-Err-Sink-clause-err
@@ -27,11 +27,11 @@ returns-in-Err-Sink-clause-err g c =
     let tree = ap (λ (r : ReaderState). r.tree) stands in
     let prefix = ap (λ (r : ReaderState). r.prefix) stands in
     let name = ap (λ (r : ReaderState). r.name) stands in
-    BreaksStream-fails reader.tree reader.prefix reader.name Sink _ c.read_pieces.new.reader.spot c.args.user.now c.read_pieces.new.user _ _ _
+    BreaksStream-fails reader.tree reader.prefix reader.name Sink _ c.read_pieces.new.reader.position c.args.user.now c.read_pieces.new.user _ _ _
     (rw (c.in-Ok-None.field-0-is, c.requires.begins) at c.in-Ok-None.ensures.ok) (rw (c.in-Err-Sink.field-0-is, tree, prefix, name) at c.in-Err-Sink.ensures.failed)
 
 pub returns-in-Err-Memory-clause-err : goal.returns-in-Err-Memory-clause-err
 returns-in-Err-Memory-clause-err g c =
     let reader = c.args.reader.now in
-    BreaksStream-fails reader.tree reader.prefix reader.name Memory _ c.read_pieces.new.reader.spot c.args.user.now c.read_pieces.new.user _ _ _
+    BreaksStream-fails reader.tree reader.prefix reader.name Memory _ c.read_pieces.new.reader.position c.args.user.now c.read_pieces.new.user _ _ _
     (rw (c.in-Ok-None.field-0-is, c.requires.begins) at c.in-Ok-None.ensures.ok) (rw c.in-Err-Memory.field-0-is at c.in-Err-Memory.ensures.failed)

@@ -11,7 +11,8 @@ returns-in-Ok-Some-clause-ok g c =
     let options = c.args.options.now in
     let within : c.loop-at.at < length c.loop-at.inputs = let test = c.loop-at-test.true in let count = c.loop-at.invariant.count in omega (arith, test, count) in
     let named : c.loop-at.at < length (names_of options) = let count = names_count options in let inputs = c.requires.inputs in let test = c.loop-at-test.true in omega (arith, count, inputs, test) in
-    ReadsStreams-stop g.I.Input.remaining c.args.tree.now options.prefix (names_of options) (map g.I.Input.remaining c.args.inputs.now) c.args.user.now c.loop-at.user _ _ c.loop-at.inputs c.loop-at.at c.index-inputs-at.result c.stream_name-name.result.now
+    ReadsStreams-stop g.I.Input.remaining c.args.tree.now options.prefix (names_of options) (map g.I.Input.remaining c.args.inputs.now)
+    c.args.user.now c.loop-at.user _ _ c.loop-at.inputs c.loop-at.at c.index-inputs-at.result c.stream_name-name.result.now
     named within c.stream_name-name.ensures c.in-Ok-Some.number c.read_stream.new.user _ c.loop-at.invariant.read
     (rw (c.in-Ok-Some.field-0-is, c.new-reader.ensures) at c.in-Ok-Some.ensures.ok)
 
@@ -25,14 +26,16 @@ returns-in-Err-clause-err g c =
     let options = c.args.options.now in
     let within : c.loop-at.at < length c.loop-at.inputs = let test = c.loop-at-test.true in let count = c.loop-at.invariant.count in omega (arith, test, count) in
     let named : c.loop-at.at < length (names_of options) = let count = names_count options in let inputs = c.requires.inputs in let test = c.loop-at-test.true in omega (arith, count, inputs, test) in
-    BreaksStreams-stop g.I.Input.remaining c.args.tree.now options.prefix (names_of options) (map g.I.Input.remaining c.args.inputs.now) c.args.user.now c.loop-at.user _ _ c.loop-at.inputs c.loop-at.at c.index-inputs-at.result c.stream_name-name.result.now
+    BreaksStreams-stop g.I.Input.remaining c.args.tree.now options.prefix (names_of options) (map g.I.Input.remaining c.args.inputs.now)
+    c.args.user.now c.loop-at.user _ _ c.loop-at.inputs c.loop-at.at c.index-inputs-at.result c.stream_name-name.result.now
     named within c.stream_name-name.ensures _ c.loop-at.invariant.read (rw c.new-reader.ensures at c.in-Err.ensures.err)
 
 pub returns-in-Err-clause-counted_inputs : goal.returns-in-Err-clause-counted_inputs
 returns-in-Err-clause-counted_inputs g c =
     let within : c.loop-at.at < length c.loop-at.inputs = let test = c.loop-at-test.true in let count = c.loop-at.invariant.count in omega (arith, test, count) in
-    CountsInputs-stream g.I.Input.failures c.in-Err.cause (map g.I.Input.failures c.args.inputs.now) c.loop-at.inputs c.loop-at.at c.read_stream.new.input c.index-inputs-at.result within c.loop-at.invariant.quiet_inputs c.in-Err.ensures.cause
-    c.in-Err.ensures.counted_input
+    CountsInputs-stream g.I.Input.failures c.in-Err.cause (map g.I.Input.failures c.args.inputs.now)
+    c.loop-at.inputs c.loop-at.at c.read_stream.new.input c.index-inputs-at.result within c.loop-at.invariant.quiet_inputs c.in-Err.ensures.cause
+    c.in-Err.ensures.input_failures_after
 
 pub loop-at-preserved : goal.loop-at-preserved
 loop-at-preserved g c =
@@ -42,7 +45,8 @@ loop-at-preserved g c =
     let within : c.loop-at.at < length c.loop-at.inputs = let test = c.loop-at-test.true in let count = c.loop-at.invariant.count in omega (arith, test, count) in
     let named : c.loop-at.at < length (names_of options) = let count = names_count options in let inputs = c.requires.inputs in let test = c.loop-at-test.true in omega (arith, count, inputs, test) in
     record {
-      read = ReadSoFar-next g.I.Input.remaining c.args.tree.now options.prefix (names_of options) (map g.I.Input.remaining c.args.inputs.now) c.args.user.now c.loop-at.user _ _ c.loop-at.inputs c.loop-at.at c.index-inputs-at.result c.stream_name-name.result.now
+      read = ReadSoFar-next g.I.Input.remaining c.args.tree.now options.prefix (names_of options) (map g.I.Input.remaining c.args.inputs.now)
+          c.args.user.now c.loop-at.user _ _ c.loop-at.inputs c.loop-at.at c.index-inputs-at.result c.stream_name-name.result.now
           named within c.stream_name-name.ensures (slice_set c.loop-at.inputs c.loop-at.at c.read_stream.new.input) c.read_stream.new.user _
           (drop-changed c.loop-at.inputs c.loop-at.at c.read_stream.new.input) invariant.read (rw (c.in-Ok-None.field-0-is, c.new-reader.ensures) at ensures.ok);
       count = length-set c.loop-at.inputs c.loop-at.at c.read_stream.new.input ∙ invariant.count;

@@ -1,6 +1,6 @@
 -- The streams so far were read, and the other inputs are as they were.
 use Rattle.std.proofs.Common.{◌≡◌, drop, length, map}
-use Rattle.kc_user.specs.Places.{IsUserOf}
+use Rattle.kc_user.specs.Places.{ArePlacesOf}
 use Rattle.kc_conf.specs.Outcome.{names_of}
 use Rattle.kc_conf.specs.Reads.{ReadSoFar}
 use Rattle.kc_conf.proofs.reading.read_streams.Given as goal
@@ -12,10 +12,11 @@ invariant-loop-at g l =
     let remaining = g.I.Input.remaining in
     let failures = g.I.Input.failures in
     record {
-      read : ReadSoFar l.tree l.options.prefix (names_of l.options) (drop l.at (names_of l.options)) (map remaining l.fn.inputs) (map remaining (drop l.at l.inputs)) l.fn.user l.user (taken l.fn.sink) (taken l.sink);
+      read : ReadSoFar l.tree l.options.prefix (names_of l.options) (drop l.at (names_of l.options)) (map remaining l.fn.inputs)
+          (map remaining (drop l.at l.inputs)) l.fn.user l.user (taken l.fn.sink) (taken l.sink);
       count : length l.inputs ≡ length l.fn.inputs;
       quiet : faults l.sink ≡ faults l.fn.sink;
       quiet_inputs : map failures l.inputs ≡ map failures l.fn.inputs;
       keeps : g.S.Sink.goes_to l.fn.sink l.sink;
-      user : IsUserOf l.tree l.user;
+      user : ArePlacesOf l.tree l.user;
     }

@@ -4,7 +4,7 @@ use Rattle.std.proofs.lemmas.Result.{IfOk-weaker, IfErr-weaker}
 use Rattle.std.proofs.Common.{List, ℕ}
 use Rattle.kc_read.specs.Files.{bytes_in}
 use Rattle.kc_conf.specs.Faults.{CountsInputs}
-use Rattle.kc_conf.proofs.RunLemmas.{Broken-accepted, Broken-accepted_rule, CountsInputs-outputs, Finishes-accepted}
+use Rattle.kc_conf.proofs.RunLemmas.{BreaksRun-accepted, BreaksRun-accepted_rule, CountsInputs-outputs, Finishes-accepted}
 use Rattle.kc_conf.proofs.runs.run_accepted.Goals as goal
 
 pub returns-in-Ok-clause-ok : goal.returns-in-Ok-clause-ok
@@ -14,7 +14,7 @@ returns-in-Ok-clause-ok g c =
       all,
       are,
       Finishes-accepted (bytes_in c.args.files.now) c.args.options.now c.args.tree.now all c.in-Ok.status ended
-          (g.O.Outputs.seen c.args.outputs.now) (g.O.Outputs.seen c.run_tree.new.outputs) (g.O.Outputs.seen c.end_run.new.outputs) c.requires.accepted part ends,
+          (g.O.Outputs.states c.args.outputs.now) (g.O.Outputs.states c.run_tree.new.outputs) (g.O.Outputs.states c.end_run.new.outputs) c.requires.accepted part ends,
     )) c.end_run.ensures.ok
 
 pub returns-in-Ok-clause-err : goal.returns-in-Ok-clause-err
@@ -23,8 +23,8 @@ returns-in-Ok-clause-err g c =
     IfErr-weaker c.end_run.result _ _ (λ cause breaks. (
       all,
       are,
-      Broken-accepted_rule c.one_answer.ensures c.opened_are_one_list.ensures.one (bytes_in c.args.files.now) c.args.options.now c.args.tree.now all c.in-Ok.status cause
-          (g.O.Outputs.seen c.args.outputs.now) (g.O.Outputs.seen c.run_tree.new.outputs) (g.O.Outputs.seen c.end_run.new.outputs) c.requires.accepted part breaks,
+      BreaksRun-accepted_rule c.one_answer.ensures c.opened_are_one_list.ensures.one (bytes_in c.args.files.now) c.args.options.now c.args.tree.now all c.in-Ok.status cause
+          (g.O.Outputs.states c.args.outputs.now) (g.O.Outputs.states c.run_tree.new.outputs) (g.O.Outputs.states c.end_run.new.outputs) c.requires.accepted part breaks,
     )) c.end_run.ensures.err
 
 pub returns-in-Ok-clause-counted_inputs : goal.returns-in-Ok-clause-counted_inputs
@@ -38,6 +38,6 @@ returns-in-Err-clause-err g c =
     let (all, are, broken) = c.in-Err.ensures.err in (
       all,
       are,
-      Broken-accepted c.one_answer.ensures (bytes_in c.args.files.now) c.args.options.now c.args.tree.now all c.in-Err.cause
-          (g.O.Outputs.seen c.args.outputs.now) (g.O.Outputs.seen c.run_tree.new.outputs) c.requires.accepted broken,
+      BreaksRun-accepted c.one_answer.ensures (bytes_in c.args.files.now) c.args.options.now c.args.tree.now all c.in-Err.cause
+          (g.O.Outputs.states c.args.outputs.now) (g.O.Outputs.states c.run_tree.new.outputs) c.requires.accepted broken,
     )

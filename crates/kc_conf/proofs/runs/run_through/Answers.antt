@@ -2,11 +2,11 @@
 use Rattle.std.proofs.Common.{inr, map}
 use Rattle.std.proofs.lemmas.Result.{IfOk-weaker, IfErr-weaker}
 use Rattle.kc_read.specs.Files.{bytes_in}
-use Rattle.kc_read.specs.Steps.{refusal_view}
+use Rattle.kc_read.specs.RefusalView.{refusal_view}
 use Rattle.kc_conf.specs.Faults.{Finishes}
 use Rattle.kc_conf.specs.ErrorLines.{refusal_line}
-use Rattle.kc_conf.specs.Outcome.{refused, root_of}
-use Rattle.kc_conf.proofs.StopLemmas.{accepted_as, looped_as, refused_as, Broken-refusal, Finishes-refusal, Holds-accepted, Holds-ended, nothing_accepted}
+use Rattle.kc_conf.specs.Outcome.{refused, root_file}
+use Rattle.kc_conf.proofs.StopLemmas.{accepted_as, looped_as, refused_as, BreaksRun-refusal, Finishes-refusal, HoldsTree-accepted, HoldsTree-ended, nothing_accepted}
 use Rattle.kc_conf.proofs.runs.run_through.Goals as goal
 
 -- ---- no tree
@@ -14,25 +14,25 @@ use Rattle.kc_conf.proofs.runs.run_through.Goals as goal
 pub returns-in-Err-clause-ok : goal.returns-in-Err-clause-ok
 returns-in-Err-clause-ok g c =
     let files = bytes_in c.args.files.now in
-    let why = refused_as files c.as_bytes.result.now (root_of c.args.options.now) c.as_bytes.ensures.value c.in-Err.refusal c.in-Err.ensures.refused in
+    let why = refused_as files c.as_bytes.result.now (root_file c.args.options.now) c.as_bytes.ensures.value c.in-Err.refusal c.in-Err.ensures.refused in
     IfOk-weaker c.refuse.result _ _
     (λ status. Finishes-refusal c.one_answer.ensures c.opened_are_one_list.ensures.there files c.args.options.now c.in-Err.refusal why (map g.I.Input.remaining c.args.inputs.now)
-    status (g.O.Outputs.seen c.args.outputs.now) (g.O.Outputs.seen c.refuse.new.outputs)) c.refuse.ensures.ok
+    status (g.O.Outputs.states c.args.outputs.now) (g.O.Outputs.states c.refuse.new.outputs)) c.refuse.ensures.ok
 
 pub returns-in-Err-clause-err : goal.returns-in-Err-clause-err
 returns-in-Err-clause-err g c =
     let files = bytes_in c.args.files.now in
-    let why = refused_as files c.as_bytes.result.now (root_of c.args.options.now) c.as_bytes.ensures.value c.in-Err.refusal c.in-Err.ensures.refused in
+    let why = refused_as files c.as_bytes.result.now (root_file c.args.options.now) c.as_bytes.ensures.value c.in-Err.refusal c.in-Err.ensures.refused in
     IfErr-weaker c.refuse.result _ _
-    (λ cause. Broken-refusal c.one_answer.ensures c.opened_are_one_list.ensures.there files c.args.options.now c.in-Err.refusal why (map g.I.Input.remaining c.args.inputs.now)
-    cause (g.O.Outputs.seen c.args.outputs.now) (g.O.Outputs.seen c.refuse.new.outputs)) c.refuse.ensures.err
+    (λ cause. BreaksRun-refusal c.one_answer.ensures c.opened_are_one_list.ensures.there files c.args.options.now c.in-Err.refusal why (map g.I.Input.remaining c.args.inputs.now)
+    cause (g.O.Outputs.states c.args.outputs.now) (g.O.Outputs.states c.refuse.new.outputs)) c.refuse.ensures.err
 
 pub returns-in-Err-clause-kept : goal.returns-in-Err-clause-kept
 returns-in-Err-clause-kept g c =
     let files = bytes_in c.args.files.now in
-    let why = refused_as files c.as_bytes.result.now (root_of c.args.options.now) c.as_bytes.ensures.value c.in-Err.refusal c.in-Err.ensures.refused in
+    let why = refused_as files c.as_bytes.result.now (root_file c.args.options.now) c.as_bytes.ensures.value c.in-Err.refusal c.in-Err.ensures.refused in
     nothing_accepted c.one_answer.ensures c.opened_are_one_list.ensures.there files c.args.options.now c.in-Err.refusal why c.args.kept.now
-    (λ status. Finishes (refused (refusal_line (refusal_view c.in-Err.refusal))) status (g.O.Outputs.seen c.args.outputs.now) (g.O.Outputs.seen c.refuse.new.outputs))
+    (λ status. Finishes (refused (refusal_line (refusal_view c.in-Err.refusal))) status (g.O.Outputs.states c.args.outputs.now) (g.O.Outputs.states c.refuse.new.outputs))
     c.refuse.result c.refuse.ensures.ok
 
 -- ---- a tree that is accepted
@@ -40,37 +40,37 @@ returns-in-Err-clause-kept g c =
 pub returns-in-Ok-of-clause-refused_inputs : goal.returns-in-Ok-of-clause-refused_inputs
 returns-in-Ok-of-clause-refused_inputs g c = λ r refused.
     let files = bytes_in c.args.files.now in
-    let root = root_of c.args.options.now in
+    let root = root_file c.args.options.now in
     let accepted = accepted_as files c.as_bytes.result.now root c.as_bytes.ensures.value c.in-Ok.tree c.in-Ok.ensures.built c.in-Ok-of.ensures.accepted in
     absurd (c.one_answer.ensures.not_both files root r c.in-Ok.tree refused accepted)
 
 pub returns-in-Ok-of-clause-refused_outputs : goal.returns-in-Ok-of-clause-refused_outputs
 returns-in-Ok-of-clause-refused_outputs g c = λ r refused.
     let files = bytes_in c.args.files.now in
-    let root = root_of c.args.options.now in
+    let root = root_file c.args.options.now in
     let accepted = accepted_as files c.as_bytes.result.now root c.as_bytes.ensures.value c.in-Ok.tree c.in-Ok.ensures.built c.in-Ok-of.ensures.accepted in
     absurd (c.one_answer.ensures.not_both files root r c.in-Ok.tree refused accepted)
 
 pub returns-in-Ok-of-clause-kept : goal.returns-in-Ok-of-clause-kept
 returns-in-Ok-of-clause-kept g c =
     let files = bytes_in c.args.files.now in
-    let root = root_of c.args.options.now in
+    let root = root_file c.args.options.now in
     let accepted = accepted_as files c.as_bytes.result.now root c.as_bytes.ensures.value c.in-Ok.tree c.in-Ok.ensures.built c.in-Ok-of.ensures.accepted in
-    Holds-ended c.one_answer.ensures files root c.in-Ok.tree accepted c.layout-layout.result.now c.in-Ok-of.order c.layout-layout.ensures.laid c.in-Ok-of.ensures.same c.run_accepted-ended.result
+    HoldsTree-ended c.one_answer.ensures files root c.in-Ok.tree accepted c.layout-layout.result.now c.in-Ok-of.order c.layout-layout.ensures.laid c.in-Ok-of.ensures.same c.run_accepted-ended.result
 
 pub returns-in-Ok-of-clause-refused_kept : goal.returns-in-Ok-of-clause-refused_kept
 returns-in-Ok-of-clause-refused_kept g c = λ r refused.
     let files = bytes_in c.args.files.now in
-    let root = root_of c.args.options.now in
+    let root = root_file c.args.options.now in
     let accepted = accepted_as files c.as_bytes.result.now root c.as_bytes.ensures.value c.in-Ok.tree c.in-Ok.ensures.built c.in-Ok-of.ensures.accepted in
     absurd (c.one_answer.ensures.not_both files root r c.in-Ok.tree refused accepted)
 
 pub returns-in-Ok-of-clause-either_kept : goal.returns-in-Ok-of-clause-either_kept
 returns-in-Ok-of-clause-either_kept g c = λ tree is.
     let files = bytes_in c.args.files.now in
-    let root = root_of c.args.options.now in
+    let root = root_file c.args.options.now in
     let accepted = accepted_as files c.as_bytes.result.now root c.as_bytes.ensures.value c.in-Ok.tree c.in-Ok.ensures.built c.in-Ok-of.ensures.accepted in
-    inr (Holds-accepted c.one_answer.ensures files root c.in-Ok.tree accepted c.layout-layout.result.now c.in-Ok-of.order c.layout-layout.ensures.laid c.in-Ok-of.ensures.same tree is)
+    inr (HoldsTree-accepted c.one_answer.ensures files root c.in-Ok.tree accepted c.layout-layout.result.now c.in-Ok-of.order c.layout-layout.ensures.laid c.in-Ok-of.ensures.same tree is)
 
 -- ---- a loop
 
@@ -78,25 +78,25 @@ pub returns-in-Err-of-clause-ok : goal.returns-in-Err-of-clause-ok
 returns-in-Err-of-clause-ok g c =
     let files = bytes_in c.args.files.now in
     let r = c.in-Err-of.refusal in
-    let why = looped_as files c.as_bytes.result.now (root_of c.args.options.now) c.as_bytes.ensures.value c.in-Ok.tree r c.in-Ok.ensures.built c.in-Err-of.ensures.refused in
+    let why = looped_as files c.as_bytes.result.now (root_file c.args.options.now) c.as_bytes.ensures.value c.in-Ok.tree r c.in-Ok.ensures.built c.in-Err-of.ensures.refused in
     IfOk-weaker c.refuse-in-Err-of.result _ _
     (λ status. Finishes-refusal c.one_answer.ensures c.opened_are_one_list.ensures.there files c.args.options.now r why (map g.I.Input.remaining c.args.inputs.now)
-    status (g.O.Outputs.seen c.args.outputs.now) (g.O.Outputs.seen c.refuse-in-Err-of.new.outputs)) c.refuse-in-Err-of.ensures.ok
+    status (g.O.Outputs.states c.args.outputs.now) (g.O.Outputs.states c.refuse-in-Err-of.new.outputs)) c.refuse-in-Err-of.ensures.ok
 
 pub returns-in-Err-of-clause-err : goal.returns-in-Err-of-clause-err
 returns-in-Err-of-clause-err g c =
     let files = bytes_in c.args.files.now in
     let r = c.in-Err-of.refusal in
-    let why = looped_as files c.as_bytes.result.now (root_of c.args.options.now) c.as_bytes.ensures.value c.in-Ok.tree r c.in-Ok.ensures.built c.in-Err-of.ensures.refused in
+    let why = looped_as files c.as_bytes.result.now (root_file c.args.options.now) c.as_bytes.ensures.value c.in-Ok.tree r c.in-Ok.ensures.built c.in-Err-of.ensures.refused in
     IfErr-weaker c.refuse-in-Err-of.result _ _
-    (λ cause. Broken-refusal c.one_answer.ensures c.opened_are_one_list.ensures.there files c.args.options.now r why (map g.I.Input.remaining c.args.inputs.now)
-    cause (g.O.Outputs.seen c.args.outputs.now) (g.O.Outputs.seen c.refuse-in-Err-of.new.outputs)) c.refuse-in-Err-of.ensures.err
+    (λ cause. BreaksRun-refusal c.one_answer.ensures c.opened_are_one_list.ensures.there files c.args.options.now r why (map g.I.Input.remaining c.args.inputs.now)
+    cause (g.O.Outputs.states c.args.outputs.now) (g.O.Outputs.states c.refuse-in-Err-of.new.outputs)) c.refuse-in-Err-of.ensures.err
 
 pub returns-in-Err-of-clause-kept : goal.returns-in-Err-of-clause-kept
 returns-in-Err-of-clause-kept g c =
     let files = bytes_in c.args.files.now in
     let r = c.in-Err-of.refusal in
-    let why = looped_as files c.as_bytes.result.now (root_of c.args.options.now) c.as_bytes.ensures.value c.in-Ok.tree r c.in-Ok.ensures.built c.in-Err-of.ensures.refused in
+    let why = looped_as files c.as_bytes.result.now (root_file c.args.options.now) c.as_bytes.ensures.value c.in-Ok.tree r c.in-Ok.ensures.built c.in-Err-of.ensures.refused in
     nothing_accepted c.one_answer.ensures c.opened_are_one_list.ensures.there files c.args.options.now r why c.args.kept.now
-    (λ status. Finishes (refused (refusal_line (refusal_view r))) status (g.O.Outputs.seen c.args.outputs.now) (g.O.Outputs.seen c.refuse-in-Err-of.new.outputs))
+    (λ status. Finishes (refused (refusal_line (refusal_view r))) status (g.O.Outputs.states c.args.outputs.now) (g.O.Outputs.states c.refuse-in-Err-of.new.outputs))
     c.refuse-in-Err-of.result c.refuse-in-Err-of.ensures.ok

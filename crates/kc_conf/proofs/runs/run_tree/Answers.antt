@@ -1,11 +1,11 @@
 -- The tree's warnings, and what follows from the streams.
 use Rattle.std.proofs.Common.{◌∙◌, ap, map, refl}
 use Rattle.std.proofs.lemmas.Result.{IfOk-weaker, IfErr-weaker}
-use Rattle.kc_conf.specs.Outcome.{is_told, lines_text}
-use Rattle.kc_conf.specs.Places.{written}
-use Rattle.kc_conf.specs.declared.outputs.Which.TheVariants.{Notes}
+use Rattle.kc_conf.specs.Outcome.{has_text, lines_text}
+use Rattle.kc_conf.specs.OutputStates.{with_text}
+use Rattle.kc_conf.specs.declared.outputs.Output.TheVariants.{Notes}
 use Rattle.kc_conf.proofs.ReadsLemmas.{left_of, AreAllToCome-self}
-use Rattle.kc_conf.proofs.RunLemmas.{Finishes-tree, Broken-tree, Broken-warnings}
+use Rattle.kc_conf.proofs.RunLemmas.{Finishes-tree, BreaksRun-tree, BreaksRun-warnings}
 use Rattle.kc_conf.proofs.runs.run_tree.Goals as goal
 
 pub returns-in-Err-clause-err : goal.returns-in-Err-clause-err
@@ -13,27 +13,30 @@ returns-in-Err-clause-err g c =
     let given = map g.I.Input.remaining c.args.inputs.now in (
       map left_of given,
       AreAllToCome-self given,
-      Broken-warnings c.args.options.now c.args.tree.now (map left_of given) _ (g.O.Outputs.seen c.args.outputs.now) (g.O.Outputs.seen c.note_lines.new.outputs) c.parse_warnings.ensures c.in-Err.ensures.err,
+      BreaksRun-warnings c.args.options.now c.args.tree.now (map left_of given) _ (g.O.Outputs.states c.args.outputs.now)
+          (g.O.Outputs.states c.note_lines.new.outputs) c.parse_warnings.ensures c.in-Err.ensures.err,
     )
 
 pub returns-clause-ok : goal.returns-clause-ok
 returns-clause-ok g c =
     let tree = c.args.tree.now in
-    let told = c.is_told_by-is_warned.ensures ∙ ap (λ l. is_told (lines_text l)) c.parse_warnings-2.ensures in
-    let wrote = c.in_default.ensures.ok ∙ ap (λ l. written Notes (lines_text l) (g.O.Outputs.seen c.args.outputs.now)) c.parse_warnings.ensures in
+    let told = c.is_warned_by-is_warned.ensures ∙ ap (λ l. has_text (lines_text l)) c.parse_warnings-2.ensures in
+    let wrote = c.in_default.ensures.ok ∙ ap (λ l. with_text Notes (lines_text l) (g.O.Outputs.states c.args.outputs.now)) c.parse_warnings.ensures in
     IfOk-weaker c.run_read.result _ _ (λ status. λ (all, are, finishes). (
       all,
       are,
-      Finishes-tree c.args.options.now tree all tree.warnings c.is_told_by-is_warned.result told refl status (g.O.Outputs.seen c.args.outputs.now) (g.O.Outputs.seen c.note_lines.new.outputs) (g.O.Outputs.seen c.run_read.new.outputs) wrote finishes,
+      Finishes-tree c.args.options.now tree all tree.warnings c.is_warned_by-is_warned.result told refl status (g.O.Outputs.states c.args.outputs.now)
+          (g.O.Outputs.states c.note_lines.new.outputs) (g.O.Outputs.states c.run_read.new.outputs) wrote finishes,
     )) c.run_read.ensures.ok
 
 pub returns-clause-err : goal.returns-clause-err
 returns-clause-err g c =
     let tree = c.args.tree.now in
-    let told = c.is_told_by-is_warned.ensures ∙ ap (λ l. is_told (lines_text l)) c.parse_warnings-2.ensures in
-    let wrote = c.in_default.ensures.ok ∙ ap (λ l. written Notes (lines_text l) (g.O.Outputs.seen c.args.outputs.now)) c.parse_warnings.ensures in
+    let told = c.is_warned_by-is_warned.ensures ∙ ap (λ l. has_text (lines_text l)) c.parse_warnings-2.ensures in
+    let wrote = c.in_default.ensures.ok ∙ ap (λ l. with_text Notes (lines_text l) (g.O.Outputs.states c.args.outputs.now)) c.parse_warnings.ensures in
     IfErr-weaker c.run_read.result _ _ (λ cause. λ (all, are, broken). (
       all,
       are,
-      Broken-tree c.args.options.now tree all tree.warnings c.is_told_by-is_warned.result told refl cause (g.O.Outputs.seen c.args.outputs.now) (g.O.Outputs.seen c.note_lines.new.outputs) (g.O.Outputs.seen c.run_read.new.outputs) wrote broken,
+      BreaksRun-tree c.args.options.now tree all tree.warnings c.is_warned_by-is_warned.result told refl cause (g.O.Outputs.states c.args.outputs.now)
+          (g.O.Outputs.states c.note_lines.new.outputs) (g.O.Outputs.states c.run_read.new.outputs) wrote broken,
     )) c.run_read.ensures.err

@@ -2,13 +2,13 @@
 use Rattle.std.proofs.Common.{List, ℕ, string_bytes, subst₂}
 use Rattle.kc_load.specs.Expanding.{Suffices}
 use Rattle.kc_read.specs.Files.{bytes_in}
-use Rattle.kc_conf.specs.Outcome.{root_of}
+use Rattle.kc_conf.specs.Outcome.{root_file}
 use Rattle.kc_configure.proofs.OverLemmas.{accepted_over, leaves_over, refused_over}
 use Rattle.kc_configure.proofs.run.configure.Goals as goal
 
 pub returns-clause-ran : goal.returns-clause-ran
 returns-clause-ran g c =
-    let root = root_of c.args.options.now in
+    let root = root_file c.args.options.now in
     let loaded = bytes_in c.in_ok-files.field-0 in
     let told = g.F.Folder.files c.args.folder.now in
     let e : Suffices told (string_bytes c.args.options.now.root) root loaded =

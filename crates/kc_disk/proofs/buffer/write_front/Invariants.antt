@@ -7,7 +7,7 @@ use Rattle.kc_disk.proofs.buffer.write_front.Given as goal
 abbrev pub invariant-loop-at : goal.invariant-loop-at
 invariant-loop-at g l = record {
   within : l.at ≤ length l.bytes;
-  told : g.M.Maker.told l.maker ≡ option_map (appended l.which (take l.at l.bytes)) (g.M.Maker.told l.initial.maker);
+  state : g.M.Maker.state l.maker ≡ option_map (appended l.output (take l.at l.bytes)) (g.M.Maker.state l.initial.maker);
   stays : g.M.Maker.failing l.maker ≡ g.M.Maker.failing l.initial.maker;
 }
 

@@ -1,6 +1,6 @@
 -- There is no memory for the buffer of the files.
 use Rattle.std.proofs.Common.{refl}
-use Rattle.kc_words.specs.declared.usage.Usage.TheVariants.{Memory}
+use Rattle.kc_words.specs.declared.usage.UsageError.TheVariants.{Memory}
 use Rattle.kc_disk.specs.Answering.{none}
 use Rattle.kc_disk.proofs.program.kconf_of.Goals as goal
 

@@ -1,4 +1,4 @@
--- The words give options, or none.
+-- The arguments give options, or none.
 use Rattle.std.proofs.Common.{refl}
 use Rattle.kc_disk.specs.Answering.{none, options}
 use Rattle.kc_disk.proofs.program.kconf_over.Goals as goal

@@ -1,10 +1,10 @@
-use Rattle.std.proofs.Common.{◌≡◌, ◌∙◌, ◌++◌, List, ℕ, ap, subst, OnOk, OnErr}
+use Rattle.std.proofs.Common.{◌≡◌, ◌++◌, List, ℕ, ap, subst, OnOk, OnErr}
 use Rattle.std.proofs.lemmas.Result.{err_from_is_err_and}
 use Rattle.std.specs.Prelude.{false}
 use Rattle.kc_dot.specs.Sink.{extended, HandsOut}
-use Rattle.kc_dot.specs.Texts.{config_heading, config_text, entries_text}
+use Rattle.kc_dot.specs.Texts.{config_text, entries_text}
 use Rattle.kc_dot.proofs.PageLemmas.{HandsOut-nothing}
-use Rattle.kc_dot.specs.SolutionTold.{told_of}
+use Rattle.kc_dot.specs.SolvedView.{solution_view}
 use Rattle.kc_dot.proofs.config.put_config.Goals as goal
 
 pub returns-in_err-page-clause-beginning : goal.returns-in_err-page-clause-beginning
@@ -21,7 +21,7 @@ pub returns-clause-whole : goal.returns-clause-whole
 unfolding config_text
 returns-clause-whole g c =
     let tree = c.args.tree.now in
-    let lines = entries_text tree c.args.prefix.now (told_of c.args.solved.now) false tree.entries in
+    let lines = entries_text tree c.args.prefix.now (solution_view c.args.solved.now) false tree.entries in
     let page = rw (c.in_ok-page.ensures, c.main_menu.ensures) at c.in_ok-add_heading.ensures in
     let P : List ℕ → Type 0 = λ text. OnOk c.put_entries.result (g.S.Sink.taken c.put_entries.new.sink ≡ extended (g.S.Sink.taken c.args.sink.now) text) in
     subst P (ap (λ t. t ++ lines) page) c.put_entries.ensures.whole
@@ -30,7 +30,7 @@ pub returns-clause-beginning : goal.returns-clause-beginning
 unfolding config_text
 returns-clause-beginning g c =
     let tree = c.args.tree.now in
-    let lines = entries_text tree c.args.prefix.now (told_of c.args.solved.now) false tree.entries in
+    let lines = entries_text tree c.args.prefix.now (solution_view c.args.solved.now) false tree.entries in
     let page = rw (c.in_ok-page.ensures, c.main_menu.ensures) at c.in_ok-add_heading.ensures in
     let P : List ℕ → Type 0 = λ text. OnErr c.put_entries.result (HandsOut text (g.S.Sink.taken c.args.sink.now) (g.S.Sink.taken c.put_entries.new.sink)) in
     subst P (ap (λ t. t ++ lines) page) c.put_entries.ensures.beginning

@@ -3,7 +3,7 @@ use Rattle.kc_tree.specs.TreeFacts.{TreeFacts}
 use Rattle.kc_user.specs.Places.{place_at}
 use Rattle.kc_solve.specs.Solved.{value_of}
 use Rattle.kc_dot.specs.Laws.{HasShortLines}
-use Rattle.kc_dot.specs.Reread.{told_by}
+use Rattle.kc_dot.specs.Reread.{valuation_view}
 use Rattle.kc_dot.specs.Texts.{minimal_text}
 use Rattle.kc_dot.proofs.SolutionLemmas.{solution_of}
 use Rattle.kc_dot.proofs.header.write_minimal.Goals as goal
@@ -22,5 +22,5 @@ pub returns-clause-short : goal.returns-clause-short
 returns-clause-short g c held =
     let is = solution_of c.args.solved.now c.args.tree.now c.requires c.symbol_count-count.ensures.formed c.is_accepted.ensures c.is_solution.ensures held in
     let V = value_of c.args.solved.now in
-    let P : TreeFacts → Type 0 = λ t. HasShortLines (minimal_text c.args.tree.now c.args.prefix.now (told_by t (place_at c.args.solved.now.places) V)) in
+    let P : TreeFacts → Type 0 = λ t. HasShortLines (minimal_text c.args.tree.now c.args.prefix.now (valuation_view t (place_at c.args.solved.now.places) V)) in
     subst P (sym c.requires) (c.written_texts_are_short.ensures c.args.tree.now c.args.prefix.now c.args.solved.now.places V c.as_bytes-prefix.ensures.prefix is).1

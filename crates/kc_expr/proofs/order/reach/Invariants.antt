@@ -1,9 +1,9 @@
 use Rattle.std.proofs.Common.{◌≡◌, ℕ, ◌+◌, ◌-◌, length}
-use Rattle.kc_expr.specs.Order.{entry}
+use Rattle.kc_expr.specs.Order.{rank_at}
 use Rattle.kc_expr.proofs.order.reach.Given as goal
 
-abbrev pub invariant-loop-places : goal.invariant-loop-places
-invariant-loop-places l = (k : ℕ) → entry l.places.items k ≡ entry l.fn.places.items k
+abbrev pub invariant-loop-ranks : goal.invariant-loop-ranks
+invariant-loop-ranks l = (k : ℕ) → rank_at l.ranks.items k ≡ rank_at l.fn.ranks.items k
 
-abbrev pub decreases-loop-places : goal.decreases-loop-places
-decreases-loop-places l = l.i + 1 - length l.places.items
+abbrev pub decreases-loop-ranks : goal.decreases-loop-ranks
+decreases-loop-ranks l = l.i + 1 - length l.ranks.items

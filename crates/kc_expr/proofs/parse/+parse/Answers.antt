@@ -27,7 +27,9 @@ chain-returns-then-not-is_joined-clause-parsed t c = parsed_only _ _ _ _ _ _ _ _
 
 pub chain-loop-parts-init : goal.chain-loop-parts-init
 chain-loop-parts-init t c = record {
-  parts = parts_one c.args.connective c.args.condition c.args.levels c.args.tokens.now c.args.at 0 c.in_ok-first.end c.args.names.now c.part.new.names [] [] c.push.new.self.items c.in_ok-first.first (c.in_ok-push.ensures.items ∙ ap (λ l. l ++ c.in_ok-first.first ∷ []) c.in_ok-parts.ensures.items) c.in_ok-first.ensures.parsed c.in_ok-first.ensures.within.0 c.if-not-is_joined.ensures.0 c.if-not-is_joined.ensures.1;
+  parts = parts_one c.args.connective c.args.condition c.args.levels c.args.tokens.now c.args.at 0 c.in_ok-first.end c.args.names.now c.part.new.names [] []
+      c.push.new.self.items c.in_ok-first.first (c.in_ok-push.ensures.items ∙ ap (λ l. l ++ c.in_ok-first.first ∷ []) c.in_ok-parts.ensures.items)
+      c.in_ok-first.ensures.parsed c.in_ok-first.ensures.within.0 c.if-not-is_joined.ensures.0 c.if-not-is_joined.ensures.1;
   names = c.part.ensures.names;
 }
 
@@ -37,13 +39,19 @@ chain-returns-in_err-next-clause-fails t c =
 
 pub chain-loop-parts-preserved : goal.chain-loop-parts-preserved
 chain-loop-parts-preserved t c = record {
-  parts = parts_next c.args.connective c.args.condition c.args.levels c.args.tokens.now c.args.at c.loop-parts.place c.in_ok-next.end c.args.names.now c.loop-parts.names c.part-in-loop-parts.new.names c.loop-parts.parts.items c.push-in-loop-parts.new.self.items c.in_ok-next.next c.loop-parts.invariant.parts c.in_ok-next.ensures.names c.in_ok-push-2.ensures.items c.in_ok-next.ensures.parsed c.in_ok-next.ensures.within.0 c.if-not-is_joined-2.ensures.0 c.if-not-is_joined-2.ensures.1;
+  parts = parts_next c.args.connective c.args.condition c.args.levels c.args.tokens.now c.args.at c.loop-parts.place c.in_ok-next.end c.args.names.now
+      c.loop-parts.names c.part-in-loop-parts.new.names c.loop-parts.parts.items c.push-in-loop-parts.new.self.items c.in_ok-next.next
+      c.loop-parts.invariant.parts c.in_ok-next.ensures.names c.in_ok-push-2.ensures.items c.in_ok-next.ensures.parsed c.in_ok-next.ensures.within.0
+      c.if-not-is_joined-2.ensures.0 c.if-not-is_joined-2.ensures.1;
   names = extends_on _ _ _ c.loop-parts.invariant.names c.in_ok-next.ensures.names;
 }
 
 pub chain-returns-then-not-is_joined-2-clause-parsed : goal.chain-returns-then-not-is_joined-2-clause-parsed
 chain-returns-then-not-is_joined-2-clause-parsed t c =
-    parsed_last c.args.connective c.args.condition c.args.levels c.args.tokens.now c.args.at c.loop-parts.place c.in_ok-next.end c.args.names.now c.loop-parts.names c.part-in-loop-parts.new.names c.loop-parts.parts.items c.push-in-loop-parts.new.self.items c.in_ok-next.next (form_of c.connected.result) c.connected.ensures c.loop-parts.invariant.parts c.in_ok-next.ensures.names c.in_ok-push-2.ensures.items c.in_ok-next.ensures.parsed c.if-not-is_joined-2.ensures
+    parsed_last c.args.connective c.args.condition c.args.levels c.args.tokens.now c.args.at c.loop-parts.place c.in_ok-next.end c.args.names.now
+    c.loop-parts.names c.part-in-loop-parts.new.names c.loop-parts.parts.items c.push-in-loop-parts.new.self.items c.in_ok-next.next
+    (form_of c.connected.result) c.connected.ensures c.loop-parts.invariant.parts c.in_ok-next.ensures.names c.in_ok-push-2.ensures.items
+    c.in_ok-next.ensures.parsed c.if-not-is_joined-2.ensures
 
 pub negation-returns-in_err-operand-clause-fails : goal.negation-returns-in_err-operand-clause-fails
 negation-returns-in_err-operand-clause-fails t c =
@@ -68,7 +76,8 @@ negation-returns-then-is_op-2-clause-parsed t c =
 pub part-returns-in-And-clause-parsed : goal.part-returns-in-And-clause-parsed
 part-returns-in-And-clause-parsed t c =
     let ts = terminals_from c.args.tokens.now in
-    rw c.in-And.is (IfOk-weaker _ _ _ (λ (r : Expr × ℕ). parsed_negation c.args.condition c.args.levels (ts c.args.at) (ts r.1) c.args.names.now c.negation.new.names (form_of r.0)) c.negation.ensures.parsed)
+    rw c.in-And.is (IfOk-weaker _ _ _ (λ (r : Expr × ℕ). parsed_negation c.args.condition c.args.levels (ts c.args.at) (ts r.1)
+    c.args.names.now c.negation.new.names (form_of r.0)) c.negation.ensures.parsed)
 
 pub part-returns-in-And-clause-fails : goal.part-returns-in-And-clause-fails
 part-returns-in-And-clause-fails t c =
@@ -77,7 +86,8 @@ part-returns-in-And-clause-fails t c =
 pub part-returns-in-Or-clause-parsed : goal.part-returns-in-Or-clause-parsed
 part-returns-in-Or-clause-parsed t c =
     let ts = terminals_from c.args.tokens.now in
-    rw c.in-Or.is (IfOk-weaker _ _ _ (λ (r : Expr × ℕ). parsed_conjunction c.args.condition c.args.levels (ts c.args.at) (ts r.1) c.args.names.now c.chain.new.names (form_of r.0)) c.chain.ensures.parsed)
+    rw c.in-Or.is (IfOk-weaker _ _ _ (λ (r : Expr × ℕ). parsed_conjunction c.args.condition c.args.levels (ts c.args.at) (ts r.1)
+    c.args.names.now c.chain.new.names (form_of r.0)) c.chain.ensures.parsed)
 
 pub part-returns-in-Or-clause-fails : goal.part-returns-in-Or-clause-fails
 part-returns-in-Or-clause-fails t c =
@@ -96,4 +106,5 @@ chain-returns-in_err-push-2-clause-fails t c =
 pub negation-returns-in_err-new-clause-fails : goal.negation-returns-in_err-new-clause-fails
 negation-returns-in_err-new-clause-fails t c =
     let p = c.in_ok-operand.ensures.parsed in
-    fault_passed c.from_residual-in_err-new.result _ Memory c.from_residual-in_err-new.ensures.1 (operand_on _ (Bang ∷ []) _ c.if-is_op.ensures.1 (operand_in _ (spell_not p.tree) _ p.whole (not_operand p.tree)))
+    fault_passed c.from_residual-in_err-new.result _ Memory c.from_residual-in_err-new.ensures.1
+    (operand_on _ (Bang ∷ []) _ c.if-is_op.ensures.1 (operand_in _ (spell_not p.tree) _ p.whole (not_operand p.tree)))

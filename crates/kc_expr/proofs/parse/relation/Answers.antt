@@ -22,7 +22,8 @@ returns-in_default-2-clause-fails c =
     let left = rw c.in-Some.is at c.in_ok-left.ensures.reads in
     let right = rw c.in_default-2.is at c.in_ok-right.ensures.reads in
     let e : c.args.at + 1 + 1 ≡ c.args.at + 2 = omega arith in
-    no_right_side _ _ left.atom c.in-Some-relation_op.op (left.next ∙ ap (λ l. Plain left.atom ∷ l) c.in-Some-relation_op.ensures.1) (ap (λ n. starts_plain (terminals_from c.args.tokens.now n)) e ∙ right)
+    no_right_side _ _ left.atom c.in-Some-relation_op.op (left.next ∙ ap (λ l. Plain left.atom ∷ l) c.in-Some-relation_op.ensures.1)
+    (ap (λ n. starts_plain (terminals_from c.args.tokens.now n)) e ∙ right)
 
 pub returns-clause-parsed : goal.returns-clause-parsed
 returns-clause-parsed c =
@@ -44,13 +45,15 @@ pub returns-in_err-plain-clause-fails : goal.returns-in_err-plain-clause-fails
 returns-in_err-plain-clause-fails c =
     let ts = terminals_from c.args.tokens.now c.args.at in
     let left = rw c.in-Some.is at c.in_ok-left.ensures.reads in
-    fault_passed c.from_residual-in_err-plain.result (λ f. (k : ℕ) → FailsNot f k ts) _ c.from_residual-in_err-plain.ensures.1 (λ k. memory_not _ k ts c.in_err-plain.ensures.memory (operand_here ts _ left.atom left.next))
+    fault_passed c.from_residual-in_err-plain.result (λ f. (k : ℕ) → FailsNot f k ts) _ c.from_residual-in_err-plain.ensures.1
+    (λ k. memory_not _ k ts c.in_err-plain.ensures.memory (operand_here ts _ left.atom left.next))
 
 pub returns-in_err-right-clause-fails : goal.returns-in_err-right-clause-fails
 returns-in_err-right-clause-fails c =
     let ts = terminals_from c.args.tokens.now c.args.at in
     let left = rw c.in-Some.is at c.in_ok-left.ensures.reads in
-    fault_passed c.from_residual-in_err-right.result (λ f. (k : ℕ) → FailsNot f k ts) _ c.from_residual-in_err-right.ensures.1 (λ k. memory_not _ k ts (is_memory _ _ c.in_err-right.ensures.memory) (operand_here ts _ left.atom left.next))
+    fault_passed c.from_residual-in_err-right.result (λ f. (k : ℕ) → FailsNot f k ts) _ c.from_residual-in_err-right.ensures.1
+    (λ k. memory_not _ k ts (is_memory _ _ c.in_err-right.ensures.memory) (operand_here ts _ left.atom left.next))
 
 pub returns-in_err-sides-clause-fails : goal.returns-in_err-sides-clause-fails
 returns-in_err-sides-clause-fails c =

@@ -1,6 +1,6 @@
 -- What the check left open in `eval_depends_on_symbols`.
 use Rattle.kc_expr.specs.Form.{form_of}
-use Rattle.kc_expr.specs.Value.{known_by}
+use Rattle.kc_expr.specs.Value.{values_by}
 use Rattle.kc_expr.proofs.AgreeLemmas.{depends_on_symbols}
 use Rattle.kc_expr.proofs.values.eval_depends_on_symbols.Goals as goal
 
@@ -8,4 +8,5 @@ pub returns : goal.returns
 returns g c =
     let values = c.args.values.now in
     let others = c.args.others.now in
-    depends_on_symbols (known_by (g.V.Values.kind_of values) (g.V.Values.tri_of values) (g.V.Values.text_of values)) (known_by (g.W.Values.kind_of others) (g.W.Values.tri_of others) (g.W.Values.text_of others)) (form_of c.args.e.now)
+    depends_on_symbols (values_by (g.V.Values.kind_of values) (g.V.Values.tri_of values) (g.V.Values.text_of values))
+    (values_by (g.W.Values.kind_of others) (g.W.Values.tri_of others) (g.W.Values.text_of others)) (form_of c.args.e.now)

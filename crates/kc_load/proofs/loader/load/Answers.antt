@@ -12,8 +12,9 @@ use Rattle.kc_load.proofs.loader.load.Goals as goal
 
 pub loop-name-init : goal.loop-name-init
 loop-name-init g c = record {
-  ongoing = subst (λ (s : State). Ongoing (g.F.Folder.files c.args.folder.now) c.args.root.now c.args.kconfig.now s) (sym c.in_ok-loading.ensures) (at_start _ c.args.root.now c.args.kconfig.now c.utf8.kconfig);
-  on_way = subst (λ (s : State). IsOnWay (g.F.Folder.files c.args.folder.now) c.args.root.now c.args.kconfig.now s) (sym c.in_ok-loading.ensures) (walk_begins _ c.args.root.now c.args.kconfig.now);
+  ongoing = subst (λ (s : State). Ongoing (g.F.Folder.files c.args.folder.now) c.args.dir.now c.args.kconfig.now s) (sym c.in_ok-loading.ensures)
+      (at_start _ c.args.dir.now c.args.kconfig.now c.utf8.kconfig);
+  on_way = subst (λ (s : State). IsOnWay (g.F.Folder.files c.args.folder.now) c.args.dir.now c.args.kconfig.now s) (sym c.in_ok-loading.ensures) (walk_begins _ c.args.dir.now c.args.kconfig.now);
   within = let none : c.in_ok-loading.loading.lines ≡ 0 = ap (λ s. s.lines) c.in_ok-loading.ensures in omega arith;
   stays = refl;
   failing_stays = refl;
@@ -24,32 +25,43 @@ pub returns-in_err-visit-clause-fault : goal.returns-in_err-visit-clause-fault
 returns-in_err-visit-clause-fault g c =
     let i = c.loop-name.invariant in
     let p = err_from_is_err_and c.from_residual-in_err-visit.result c.from_residual-in_err-visit.ensures.1 in
-    rw (p.1, p.2) (at_fault _ _ _ (state_of c.loop-name.loading) i.ongoing i.within (g.F.Folder.failing c.args.folder.now) (g.F.Folder.failing c.loop-name.folder) i.failing_stays _ c.in-Some.name.items
+    rw (p.1, p.2) (at_fault _ _ _ (state_of c.loop-name.loading) i.ongoing i.within (g.F.Folder.failing c.args.folder.now)
+    (g.F.Folder.failing c.loop-name.folder) i.failing_stays _ c.in-Some.name.items
     (popped_last (λ (v : Vec ℕ Global). v.items) c.pop.new.self.items c.in-Some.name _ c.in-Some.ensures.items) c.in_err-visit.field-0.0 c.in_err-visit.ensures.err)
 
 pub returns-then-is_over-clause-loaded : goal.returns-then-is_over-clause-loaded
 returns-then-is_over-clause-loaded g c =
     let i = c.loop-name.invariant in
-    when_over _ _ _ (state_of c.visit.new.self) (turned _ _ _ _ (state_of c.loop-name.loading) i.ongoing i.within i.stays _ c.in-Some.name.items (popped_last (λ (v : Vec ℕ Global). v.items) c.pop.new.self.items c.in-Some.name _ c.in-Some.ensures.items) (state_of c.visit.new.self) c.in_ok-visit.ensures.ok) (is_over _ c.if-is_over.ensures)
+    when_over _ _ _ (state_of c.visit.new.self) (turned _ _ _ _ (state_of c.loop-name.loading) i.ongoing i.within i.stays _ c.in-Some.name.items
+    (popped_last (λ (v : Vec ℕ Global). v.items) c.pop.new.self.items c.in-Some.name _ c.in-Some.ensures.items) (state_of c.visit.new.self)
+    c.in_ok-visit.ensures.ok) (is_over _ c.if-is_over.ensures)
 
 pub returns-then-is_over-clause-enough : goal.returns-then-is_over-clause-enough
 returns-then-is_over-clause-enough g c =
     let i = c.loop-name.invariant in
     let last = popped_last (λ (v : Vec ℕ Global). v.items) c.pop.new.self.items c.in-Some.name _ c.in-Some.ensures.items in
-    enough _ _ _ (state_of c.visit.new.self) (turned _ _ _ _ (state_of c.loop-name.loading) i.ongoing i.within i.stays _ c.in-Some.name.items last (state_of c.visit.new.self) c.in_ok-visit.ensures.ok) true
-    (over_walk _ _ _ (state_of c.visit.new.self) (walk_turned _ _ _ _ (state_of c.loop-name.loading) i.on_way i.stays _ c.in-Some.name.items last (state_of c.visit.new.self) c.in_ok-visit.ensures.ok) (is_over _ c.if-is_over.ensures))
+    enough _ _ _ (state_of c.visit.new.self) (turned _ _ _ _ (state_of c.loop-name.loading) i.ongoing i.within i.stays _ c.in-Some.name.items last
+    (state_of c.visit.new.self) c.in_ok-visit.ensures.ok) true
+    (over_walk _ _ _ (state_of c.visit.new.self) (walk_turned _ _ _ _ (state_of c.loop-name.loading) i.on_way i.stays _ c.in-Some.name.items last
+    (state_of c.visit.new.self) c.in_ok-visit.ensures.ok) (is_over _ c.if-is_over.ensures))
 
 pub loop-name-smaller : goal.loop-name-smaller
 loop-name-smaller g c =
     let i = c.loop-name.invariant in
-    falls _ _ (state_of c.loop-name.loading) _ c.in-Some.name.items (state_of c.visit.new.self) (popped_last (λ (v : Vec ℕ Global). v.items) c.pop.new.self.items c.in-Some.name _ c.in-Some.ensures.items) i.within (not_over _ c.if-is_over.ensures) (fits c.visit.new.self.waiting) c.in_ok-visit.ensures.ok
+    falls _ _ (state_of c.loop-name.loading) _ c.in-Some.name.items (state_of c.visit.new.self)
+    (popped_last (λ (v : Vec ℕ Global). v.items) c.pop.new.self.items c.in-Some.name _ c.in-Some.ensures.items) i.within (not_over _ c.if-is_over.ensures)
+    (fits c.visit.new.self.waiting) c.in_ok-visit.ensures.ok
 
 pub loop-name-preserved : goal.loop-name-preserved
 loop-name-preserved g c =
     let i = c.loop-name.invariant in
     record {
-      ongoing = turned _ _ _ _ (state_of c.loop-name.loading) i.ongoing i.within i.stays _ c.in-Some.name.items (popped_last (λ (v : Vec ℕ Global). v.items) c.pop.new.self.items c.in-Some.name _ c.in-Some.ensures.items) (state_of c.visit.new.self) c.in_ok-visit.ensures.ok;
-      on_way = walk_turned _ _ _ _ (state_of c.loop-name.loading) i.on_way i.stays _ c.in-Some.name.items (popped_last (λ (v : Vec ℕ Global). v.items) c.pop.new.self.items c.in-Some.name _ c.in-Some.ensures.items) (state_of c.visit.new.self) c.in_ok-visit.ensures.ok;
+      ongoing = turned _ _ _ _ (state_of c.loop-name.loading) i.ongoing i.within i.stays _ c.in-Some.name.items
+          (popped_last (λ (v : Vec ℕ Global). v.items) c.pop.new.self.items c.in-Some.name _ c.in-Some.ensures.items) (state_of c.visit.new.self)
+          c.in_ok-visit.ensures.ok;
+      on_way = walk_turned _ _ _ _ (state_of c.loop-name.loading) i.on_way i.stays _ c.in-Some.name.items
+          (popped_last (λ (v : Vec ℕ Global). v.items) c.pop.new.self.items c.in-Some.name _ c.in-Some.ensures.items) (state_of c.visit.new.self)
+          c.in_ok-visit.ensures.ok;
       within = not_over _ c.if-is_over.ensures;
       stays = c.in_ok-visit.ensures.stays ∙ i.stays;
       failing_stays = c.in_ok-visit.ensures.failing_stays ∙ i.failing_stays;

@@ -8,8 +8,8 @@ use Rattle.kc_load.proofs.loader.load.Given as goal
 
 abbrev pub invariant-loop-name : goal.invariant-loop-name
 invariant-loop-name g l = record {
-  ongoing : Ongoing (g.F.Folder.files l.fn.folder) l.root l.kconfig (state_of l.loading);
-  on_way : IsOnWay (g.F.Folder.files l.fn.folder) l.root l.kconfig (state_of l.loading);
+  ongoing : Ongoing (g.F.Folder.files l.fn.folder) l.dir l.kconfig (state_of l.loading);
+  on_way : IsOnWay (g.F.Folder.files l.fn.folder) l.dir l.kconfig (state_of l.loading);
   within : l.loading.lines ≤ most_lines;
   stays : g.F.Folder.files l.folder ≡ g.F.Folder.files l.fn.folder;
   failing_stays : g.F.Folder.failing l.folder ≡ g.F.Folder.failing l.fn.folder;

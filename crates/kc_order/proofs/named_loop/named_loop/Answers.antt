@@ -5,13 +5,13 @@ use Rattle.std.proofs.lemmas.List.{length_push, take_rest, get_or_read}
 use Rattle.kc_order.specs.Rows.{AreMarks}
 use Rattle.kc_order.proofs.Groups.{graph, flat, needs_within}
 use Rattle.kc_order.proofs.Walks.{sets_out, goes_further, has_room, comes_back, IsOnTheWay, met_push, not_met, is_met, none_met}
-use Rattle.kc_order.proofs.named_loop.named_loop.Goals.{After-index, After-next_stuck-at}
+use Rattle.kc_order.proofs.named_loop.named_loop.Goals.{After-index, After-next_unordered-at}
 use Rattle.kc_order.proofs.named_loop.named_loop.Goals as goal
 
 pub loop-met-init : goal.loop-met-init
 loop-met-init c = record {
   walks = rw c.new-walk.ensures.items (sets_out _ (flat c.args.symbols c.args.rows.now) c.args.first c.requires.first);
-  marked = subst (λ w. AreMarks c.args.symbols (λ s. list_any (eqb s) w) c.in_ok-met.met.items) (sym c.new-walk.ensures.items)
+  marked_unordered = subst (λ w. AreMarks c.args.symbols (λ s. list_any (eqb s) w) c.in_ok-met.met.items) (sym c.new-walk.ensures.items)
       (none_met c.args.symbols c.in_ok-met.met.items c.in_ok-met.ensures);
 }
 
@@ -19,20 +19,20 @@ loop-met-init c = record {
 on_walk : (c : After-index) → list_any (eqb c.loop-met.at) c.loop-met.walk.items ≡ c.index.result.now
 on_walk c =
     let below = c.loop-met.invariant.walks.below in
-    sym (c.loop-met.invariant.marked.each c.loop-met.at below)
-    ∙ sym (get_or_read c.loop-met.met.items c.loop-met.at c.index.result.now (omega (arith, below, c.loop-met.invariant.marked.length_is)) c.index.ensures false)
+    sym (c.loop-met.invariant.marked_unordered.each c.loop-met.at below)
+    ∙ sym (get_or_read c.loop-met.met.items c.loop-met.at c.index.result.now (omega (arith, below, c.loop-met.invariant.marked_unordered.length_is)) c.index.ensures false)
 
 -- the walk after the push, and what comes next
-further : (c : After-next_stuck-at) → list_any (eqb c.loop-met.at) c.loop-met.walk.items ≡ false →
-    IsOnTheWay c.args.symbols (flat c.args.symbols c.args.rows.now) (c.loop-met.walk.items ++ c.loop-met.at ∷ []) c.next_stuck-at.result
+further : (c : After-next_unordered-at) → list_any (eqb c.loop-met.at) c.loop-met.walk.items ≡ false →
+    IsOnTheWay c.args.symbols (flat c.args.symbols c.args.rows.now) (c.loop-met.walk.items ++ c.loop-met.at ∷ []) c.next_unordered-at.result
 further c new =
-    goes_further _ (flat c.args.symbols c.args.rows.now) c.loop-met.walk.items c.loop-met.at c.next_stuck-at.result
-    (needs_within (graph c.args.symbols c.args.rows.now) c.requires.graph) c.loop-met.invariant.walks (not_met c.loop-met.walk.items c.loop-met.at new) c.next_stuck-at.ensures.next
+    goes_further _ (flat c.args.symbols c.args.rows.now) c.loop-met.walk.items c.loop-met.at c.next_unordered-at.result
+    (needs_within (graph c.args.symbols c.args.rows.now) c.requires.graph) c.loop-met.invariant.walks (not_met c.loop-met.walk.items c.loop-met.at new) c.next_unordered-at.ensures.next
 
 pub loop-met-smaller : goal.loop-met-smaller
 loop-met-smaller c =
     let new = on_walk (goal.at.loop-met-smaller c).After-index ∙ c.loop-met-test.true in
-    let f = further (goal.at.loop-met-smaller c).After-next_stuck-at new in
+    let f = further (goal.at.loop-met-smaller c).After-next_unordered-at new in
     let room = has_room _ c.loop-met.walk.items c.loop-met.at f.all_below f.apart in
     omega (arith, room, ap length c.in_ok-push.ensures.items, length_push c.loop-met.walk.items c.loop-met.at)
 
@@ -42,9 +42,9 @@ loop-met-preserved c =
     let walk = c.loop-met.walk.items in
     let at = c.loop-met.at in
     record {
-      walks = rw c.in_ok-push.ensures.items (further (goal.at.loop-met-preserved c).After-next_stuck-at new);
-      marked = subst (λ w. AreMarks c.args.symbols (λ s. list_any (eqb s) w) (set c.loop-met.met.items at true)) (sym c.in_ok-push.ensures.items)
-          (met_push c.args.symbols walk c.loop-met.met.items at c.loop-met.invariant.marked c.loop-met.invariant.walks.below);
+      walks = rw c.in_ok-push.ensures.items (further (goal.at.loop-met-preserved c).After-next_unordered-at new);
+      marked_unordered = subst (λ w. AreMarks c.args.symbols (λ s. list_any (eqb s) w) (set c.loop-met.met.items at true)) (sym c.in_ok-push.ensures.items)
+          (met_push c.args.symbols walk c.loop-met.met.items at c.loop-met.invariant.marked_unordered c.loop-met.invariant.walks.below);
     }
 
 pub unreachable-requires : goal.unreachable-requires

@@ -8,7 +8,7 @@ use Rattle.kc_order.proofs.named_loop.named_loop.Given as goal
 abbrev pub invariant-loop-met : goal.invariant-loop-met
 invariant-loop-met l = record {
   walks : IsOnTheWay l.symbols (flat l.symbols l.rows) l.walk.items l.at;
-  marked : AreMarks l.symbols (λ s. list_any (eqb s) l.walk.items) l.met.items;
+  marked_unordered : AreMarks l.symbols (λ s. list_any (eqb s) l.walk.items) l.met.items;
 }
 
 abbrev pub decreases-loop-met : goal.decreases-loop-met

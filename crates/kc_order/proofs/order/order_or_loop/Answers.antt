@@ -2,12 +2,12 @@ use Rattle.std.proofs.Common.{arith, sym, ◌∙◌, ap, subst, ◌<◌, ◌≡�
 use Rattle.std.proofs.lemmas.List.{get_or-take, length-take-le, get_or_default}
 use Rattle.kc_order.specs.declared.search.Mark.TheVariants.{New}
 use Rattle.kc_order.specs.Graph.{IsGraph}
-use Rattle.kc_order.specs.Needs.{AreWithin, needs_in, stuck_after}
+use Rattle.kc_order.specs.Needs.{AreWithin, needs_in, unordered_after}
 use Rattle.kc_order.specs.Order.{IsOrderOf}
-use Rattle.kc_order.specs.Search.{is_stuck}
-use Rattle.kc_order.proofs.Groups.{none_stuck, stuck_alike}
+use Rattle.kc_order.specs.Search.{is_unordered}
+use Rattle.kc_order.proofs.Groups.{none_unordered, unordered_alike}
 use Rattle.kc_order.proofs.Held.{rows_below}
-use Rattle.kc_order.proofs.SearchSteps.{finishes, marks_are, stuck_iff}
+use Rattle.kc_order.proofs.SearchSteps.{finishes, unordered_iff}
 use Rattle.kc_order.proofs.order.order_or_loop.Goals as goal
 
 pub search_all-requires-clause-rows_below : goal.search_all-requires-clause-rows_below
@@ -23,15 +23,15 @@ returns-in-None-clause-order c =
     let g : IsGraph (record { symbols = n; rows = rows }) = subst IsGraph (sym c.graph.view_is) c.requires.graph in
     let over = c.in_ok-marks.ensures in
     let first = rw c.deref.ensures.value at c.in-None.ensures in
-    let free : (s : ℕ) → s < n → stuck_after (needs_in rows) (length rows) s ≡ false = λ s b.
-    sym (stuck_iff rows search over s (omega (arith, b, g.symbols_there)))
-    ∙ ap is_stuck (sym (get_or-take n marks s New b))
+    let free : (s : ℕ) → s < n → unordered_after (needs_in rows) (length rows) s ≡ false = λ s b.
+    sym (unordered_iff rows search over s (omega (arith, b, g.symbols_there)))
+    ∙ ap is_unordered (sym (get_or-take n marks s New b))
     ∙ first s New (omega (arith, b, length-take-le n marks (omega (arith, g.symbols_there, over.sound.marks_len)))) in
     subst (λ g. IsOrderOf (length g.rows) (needs_in g.rows) search.order.items) c.graph.view_is
     (finishes rows search over (λ t d b.
-    ap is_stuck (get_or_default marks t d New b)
-    ∙ stuck_iff rows search over t (omega (arith, b, over.sound.marks_len))
-    ∙ none_stuck (record { symbols = n; rows = rows }) g free t (omega (arith, b, over.sound.marks_len))))
+    ap is_unordered (get_or_default marks t d New b)
+    ∙ unordered_iff rows search over t (omega (arith, b, over.sound.marks_len))
+    ∙ none_unordered (record { symbols = n; rows = rows }) g free t (omega (arith, b, over.sound.marks_len))))
 
 pub named_loop-requires-clause-first : goal.named_loop-requires-clause-first
 named_loop-requires-clause-first c =
@@ -47,11 +47,11 @@ named_loop-requires-clause-first c =
     let below : c.in-Some.first < n = omega (arith, found.0, taken) in
     record {
       below = below;
-      stuck = sym (stuck_alike (record { symbols = n; rows = rows }) g i below)
-          ∙ sym (stuck_iff rows search over i (omega (arith, below, g.symbols_there)))
-          ∙ ap is_stuck (sym (get_or-take n marks i New below)) ∙ found.1;
+      unordered = sym (unordered_alike (record { symbols = n; rows = rows }) g i below)
+          ∙ sym (unordered_iff rows search over i (omega (arith, below, g.symbols_there)))
+          ∙ ap is_unordered (sym (get_or-take n marks i New below)) ∙ found.1;
       none_before = λ u b.
-          sym (stuck_alike (record { symbols = n; rows = rows }) g u (omega (arith, b, below)))
-          ∙ sym (stuck_iff rows search over u (omega (arith, b, below, g.symbols_there)))
-          ∙ ap is_stuck (sym (get_or-take n marks u New (omega (arith, b, below)))) ∙ found.2 u b;
+          sym (unordered_alike (record { symbols = n; rows = rows }) g u (omega (arith, b, below)))
+          ∙ sym (unordered_iff rows search over u (omega (arith, b, below, g.symbols_there)))
+          ∙ ap is_unordered (sym (get_or-take n marks u New (omega (arith, b, below)))) ∙ found.2 u b;
     }

@@ -7,7 +7,7 @@ use Rattle.kc_order.specs.declared.search.Mark.TheVariants.{New}
 use Rattle.kc_order.specs.Needs.{needs_in}
 use Rattle.kc_order.specs.Search.{IsSearch}
 use Rattle.kc_order.proofs.Held.{needs_below}
-use Rattle.kc_order.proofs.SearchSteps.{opens_sound, opens_less, closes_sound, closes_less, gives_up_sound, gives_up_less, passed_one, row_passes_one, found, needs_stuck, last_is}
+use Rattle.kc_order.proofs.SearchSteps.{opens_sound, opens_less, closes_sound, closes_less, gives_up_sound, gives_up_less, passed_one, row_passes_one, found, needs_unordered, last_is}
 use Rattle.kc_order.proofs.search.advance.Goals as goal
 use Rattle.kc_order.proofs.search.advance.Goals.{After-row, After-index}
 
@@ -111,25 +111,25 @@ returns-in-Open-clause-sound c =
     let s = c.args.search.now in
     let a = (goal.at.returns-in-Open-clause-sound c).After-row in
     let i = (goal.at.returns-in-Open-clause-sound c).After-index in
-    let stuck = found _ (needs_in c.args.rows.now) (λ t. get_or s.marks.items t New) (λ t. get_or s.left.items t 0)
+    let unordered = found _ (needs_in c.args.rows.now) (λ t. get_or s.marks.items t New) (λ t. get_or s.left.items t 0)
     (take (vec_len s.path - 1) s.path.items) s.order.items c.args.top (need a)
     (is_split a) (need_in a) (need_below a) (mark_is i (need_below a) ∙ c.in-Open.is) in
-    gives_up_sound c.args.rows.now s c.give_up.new.search c.args.top c.requires.sound c.requires.below stuck c.give_up.ensures
+    gives_up_sound c.args.rows.now s c.give_up.new.search c.args.top c.requires.sound c.requires.below unordered c.give_up.ensures
 
 pub returns-in-Open-clause-less : goal.returns-in-Open-clause-less
 returns-in-Open-clause-less c =
     gives_up_less c.args.rows.now c.args.search.now c.give_up.new.search c.args.top c.requires.sound c.requires.below c.give_up.ensures
 
-pub returns-in-Stuck-clause-sound : goal.returns-in-Stuck-clause-sound
-returns-in-Stuck-clause-sound c =
+pub returns-in-Unordered-clause-sound : goal.returns-in-Unordered-clause-sound
+returns-in-Unordered-clause-sound c =
     let s = c.args.search.now in
-    let a = (goal.at.returns-in-Stuck-clause-sound c).After-row in
-    let i = (goal.at.returns-in-Stuck-clause-sound c).After-index in
-    let stuck = needs_stuck _ (needs_in c.args.rows.now) (λ t. get_or s.marks.items t New)
+    let a = (goal.at.returns-in-Unordered-clause-sound c).After-row in
+    let i = (goal.at.returns-in-Unordered-clause-sound c).After-index in
+    let unordered = needs_unordered _ (needs_in c.args.rows.now) (λ t. get_or s.marks.items t New)
     (λ t. get_or s.left.items t 0) s.path.items s.order.items c.args.top (need a)
-    c.requires.sound.keeps (need_in a) (need_below a) (mark_is i (need_below a) ∙ c.in-Stuck.is) in
-    gives_up_sound c.args.rows.now s c.give_up-in-Stuck.new.search c.args.top c.requires.sound c.requires.below stuck c.give_up-in-Stuck.ensures
+    c.requires.sound.keeps (need_in a) (need_below a) (mark_is i (need_below a) ∙ c.in-Unordered.is) in
+    gives_up_sound c.args.rows.now s c.give_up-in-Unordered.new.search c.args.top c.requires.sound c.requires.below unordered c.give_up-in-Unordered.ensures
 
-pub returns-in-Stuck-clause-less : goal.returns-in-Stuck-clause-less
-returns-in-Stuck-clause-less c =
-    gives_up_less c.args.rows.now c.args.search.now c.give_up-in-Stuck.new.search c.args.top c.requires.sound c.requires.below c.give_up-in-Stuck.ensures
+pub returns-in-Unordered-clause-less : goal.returns-in-Unordered-clause-less
+returns-in-Unordered-clause-less c =
+    gives_up_less c.args.rows.now c.args.search.now c.give_up-in-Unordered.new.search c.args.top c.requires.sound c.requires.below c.give_up-in-Unordered.ensures

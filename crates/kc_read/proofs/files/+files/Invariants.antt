@@ -1,10 +1,10 @@
 use Rattle.std.proofs.Common.{◌≡◌, ◌+◌, ◌-◌, ◌*◌, List, [], None, length}
 use Rattle.std.proofs.Common.{ℕ}
-use Rattle.kc_text.specs.Lines.{left}
+use Rattle.kc_text.specs.Lines.{unread_lines}
 use Rattle.kc_expr.specs.Names.{Extends}
-use Rattle.kc_read.specs.Expansion.{Around, Log}
+use Rattle.kc_read.specs.Expansion.{FileContext, Log}
 use Rattle.kc_read.specs.Files.{bytes_in}
-use Rattle.kc_read.specs.Progress.{GoesOn, IsBounded, IsShallow, IsState}
+use Rattle.kc_read.specs.Progress.{HasAdvanced, IsBounded, IsShallow, IsState}
 use Rattle.kc_read.proofs.files.+files.Given as goal
 
 abbrev pub decreases-read_file : goal.decreases-read_file
@@ -21,7 +21,8 @@ decreases-source l = 4 * (64 - length l.progress.now.open_files.items)
 
 abbrev pub invariant-read_file-loop-tokens : goal.invariant-read_file-loop-tokens
 invariant-read_file-loop-tokens l = record {
-  read : (first : List (List ℕ)) (a : Around) (log : Log) → IsState first l.reader.modules l.fn.names a [] log l.fn.progress l.fn.frame → GoesOn (bytes_in l.reader.map.now) first l.reader.modules l.names a (left l.bytes 1) l.lines [] log l.progress l.frame;
+  read : (first : List (List ℕ)) (a : FileContext) (log : Log) → IsState first l.reader.modules l.fn.names a [] log l.fn.progress l.fn.frame →
+      HasAdvanced (bytes_in l.reader.map.now) first l.reader.modules l.names a (unread_lines l.bytes 1) l.lines [] log l.progress l.frame;
   clear : l.lines.refusal ≡ None;
   shallow : IsShallow l.frame;
   bounded : IsBounded l.progress;

@@ -4,7 +4,7 @@ use Rattle.kc_read.proofs.files.enter.Goals as goal
 pub returns-clause-progress : goal.returns-clause-progress
 returns-clause-progress c = record {
   open_files = (c.in_ok-clone.field-0, ap (λ v. v.items) (c.in_ok-clone.ensures.cases ∙ c.in_ok-file.ensures.ok), c.in_ok-push.ensures.items);
-  counted_is = refl;
+  total_lines_is = refl;
   lines = refl;
   defined_is = refl;
   config = refl;

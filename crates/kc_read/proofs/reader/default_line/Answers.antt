@@ -3,8 +3,8 @@ use Rattle.std.proofs.Common.{None}
 use Rattle.kc_read.specs.Lines.{ReadsValue}
 use Rattle.kc_read.proofs.PartLemmas.{read_passed, value_fault}
 use Rattle.std.proofs.Common.{refl}
-use Rattle.kc_expr.specs.Grammar.{words}
-use Rattle.kc_read.specs.Statements.{condition_words}
+use Rattle.kc_expr.specs.Grammar.{names_in}
+use Rattle.kc_read.specs.Statements.{names_in_condition}
 use Rattle.kc_expr.specs.Grammar.{lexemes_from}
 use Rattle.kc_read.specs.Statements.{DefaultLine}
 use Rattle.kc_read.specs.Lines.{front}
@@ -19,7 +19,7 @@ returns-clause-read c =
       DefaultLine v.tree w.tree,
       (front v.tree rest, w.tree, v.starts, w.condition_is, refl),
       record {
-        mentions = mentioned_on c.args.names.now c.front.new.names c.condition.new.names (words v.tree) (condition_words w.tree) v.mentions w.mentions;
+        mentions = mentioned_on c.args.names.now c.front.new.names c.condition.new.names (names_in v.tree) (names_in_condition w.tree) v.mentions w.mentions;
         form = λ later x. rw c.in_ok-new.ensures.ok (λ i. DefaultLine (v.form later (extends_on c.front.new.names c.condition.new.names later c.in_ok-when.ensures.names x) i) (w.form later x i));
       },
     )
@@ -28,4 +28,5 @@ pub returns-in_err-when-clause-read : goal.returns-in_err-when-clause-read
 returns-in_err-when-clause-read c =
     let ls = lexemes_from c.args.tokens.now 1 in
     read_passed c.args.modules c.args.names.now c.condition.new.names (ReadsValue DefaultLine ls) c.from_residual-in_err-when.result c.in_err-when.field-0.0 c.from_residual-in_err-when.ensures.1
-    (value_fault DefaultLine None c.args.names.now c.front.new.names ls (lexemes_from c.args.tokens.now c.in_ok-value.after) (form_of c.in_ok-value.value) c.in_err-when.field-0.0 c.in_ok-value.ensures.front c.in_err-when.ensures.fault)
+    (value_fault DefaultLine None c.args.names.now c.front.new.names ls (lexemes_from c.args.tokens.now c.in_ok-value.after) (form_of c.in_ok-value.value)
+    c.in_err-when.field-0.0 c.in_ok-value.ensures.front c.in_err-when.ensures.fault)

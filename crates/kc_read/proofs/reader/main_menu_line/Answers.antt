@@ -7,5 +7,9 @@ use Rattle.kc_read.proofs.reader.main_menu_line.Goals as goal
 
 pub returns : goal.returns
 returns c = λ modules names.
-    let ls = lexemes_from c.args.tokens.now 1 in
-    (MainMenuLine c.in_ok-text.text.items, text_line_ok MainMenuLine ls c.in_ok-text.text.items c.in_ok-text.ensures.part (after_one c.args.tokens.now 1 ∙ c.in_ok-end.ensures.end), record { mentions = refl; form = λ later x. refl })
+    let ls = lexemes_from c.args.tokens.now 1 in (
+      MainMenuLine c.in_ok-text.text.items,
+      text_line_ok MainMenuLine ls c.in_ok-text.text.items c.in_ok-text.ensures.part
+          (after_one c.args.tokens.now 1 ∙ c.in_ok-end.ensures.end),
+      record { mentions = refl; form = λ later x. refl },
+    )

@@ -1,9 +1,9 @@
-use Rattle.kc_expr.specs.Grammar.{atom_words}
+use Rattle.kc_expr.specs.Grammar.{names_in_atom}
 use Rattle.std.proofs.Common.{◌++◌, ◌∙◌, ap}
 use Rattle.kc_expr.specs.Form.{leaf_of}
 use Rattle.kc_read.specs.declared.statement.Bounds.{Bounds}
 use Rattle.kc_expr.specs.When.{when_view}
-use Rattle.kc_read.specs.Statements.{condition_words}
+use Rattle.kc_read.specs.Statements.{names_in_condition}
 use Rattle.kc_expr.specs.Grammar.{lexemes_from}
 use Rattle.kc_expr.proofs.NamesLemmas.{extends_on, mentioned_on}
 use Rattle.kc_read.specs.Statements.{RangeLine}
@@ -23,9 +23,11 @@ returns-clause-read c =
       range_ok (lexemes_from ts 1) (lexemes_from ts 2) (lexemes_from ts 3) a.atom b.atom w.tree a.part_is (after_one ts 1) b.part_is (after_two ts 1) w.condition_is,
       record {
         mentions =
-            mentioned_on c.args.names.now c.operand_at.new.names c.condition.new.names (atom_words a.atom) (atom_words b.atom ++ condition_words w.tree) a.mentions
-            (mentioned_on c.operand_at.new.names c.operand_at-2.new.names c.condition.new.names (atom_words b.atom) (condition_words w.tree) b.mentions w.mentions);
-        form = λ later x. ap (λ (b : Bounds). RangeLine (leaf_of b.low) (leaf_of b.high) (when_view c.in_ok-when.when)) c.in_ok-bounds.ensures.ok ∙ (λ i. RangeLine (a.form later (extends_on c.operand_at.new.names c.operand_at-2.new.names later c.in_ok-high.ensures.names (mid later c.in_ok-when.ensures.names x)) i) (b.form later (mid later c.in_ok-when.ensures.names x) i) (w.form later x i));
+            mentioned_on c.args.names.now c.operand_at.new.names c.condition.new.names (names_in_atom a.atom) (names_in_atom b.atom ++ names_in_condition w.tree) a.mentions
+            (mentioned_on c.operand_at.new.names c.operand_at-2.new.names c.condition.new.names (names_in_atom b.atom) (names_in_condition w.tree) b.mentions w.mentions);
+        form = λ later x. ap (λ (b : Bounds). RangeLine (leaf_of b.low) (leaf_of b.high) (when_view c.in_ok-when.when)) c.in_ok-bounds.ensures.ok
+            ∙ (λ i. RangeLine (a.form later (extends_on c.operand_at.new.names c.operand_at-2.new.names later c.in_ok-high.ensures.names
+            (mid later c.in_ok-when.ensures.names x)) i) (b.form later (mid later c.in_ok-when.ensures.names x) i) (w.form later x i));
       },
     )
 

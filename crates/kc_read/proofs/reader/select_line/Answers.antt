@@ -1,6 +1,6 @@
 use Rattle.kc_read.specs.Lines.{ReadsTarget}
 use Rattle.kc_expr.specs.Names.{all_mentioned}
-use Rattle.kc_read.specs.Statements.{condition_words}
+use Rattle.kc_read.specs.Statements.{names_in_condition}
 use Rattle.kc_expr.proofs.NamesLemmas.{extends_on}
 use Rattle.std.proofs.Common.{◌∙◌, ap}
 use Rattle.kc_expr.specs.Grammar.{lexemes_from}
@@ -17,7 +17,7 @@ returns-clause-read c =
       SelectLine t w.tree,
       target_ok SelectLine ls (lexemes_from c.args.tokens.now 2) t w.tree c.in_ok-word.ensures.part (after_one c.args.tokens.now 1) w.condition_is,
       record {
-        mentions = w.mentions ∙ ap (λ ns. all_mentioned ns (condition_words w.tree)) c.in_ok-id.ensures.mentions;
+        mentions = w.mentions ∙ ap (λ ns. all_mentioned ns (names_in_condition w.tree)) c.in_ok-id.ensures.mentions;
         form = λ later x. λ i. SelectLine (c.in_ok-id.ensures.number later (extends_on c.name_number.new.names c.condition.new.names later c.in_ok-when.ensures.names x) i) (w.form later x i);
       },
     )
@@ -25,4 +25,7 @@ returns-clause-read c =
 pub returns-in_err-when-clause-read : goal.returns-in_err-when-clause-read
 returns-in_err-when-clause-read c =
     let ls = lexemes_from c.args.tokens.now 1 in
-    read_passed c.args.modules c.args.names.now c.condition.new.names (ReadsTarget SelectLine ls) c.from_residual-in_err-when.result c.in_err-when.field-0.0 c.from_residual-in_err-when.ensures.1 (target_fault SelectLine ls (lexemes_from c.args.tokens.now 2) c.in_ok-word.word.now c.in_err-when.field-0.0 c.in_ok-word.ensures.part (after_one c.args.tokens.now 1) c.in_err-when.ensures.fault)
+    read_passed c.args.modules c.args.names.now c.condition.new.names (ReadsTarget SelectLine ls)
+    c.from_residual-in_err-when.result c.in_err-when.field-0.0 c.from_residual-in_err-when.ensures.1
+    (target_fault SelectLine ls (lexemes_from c.args.tokens.now 2) c.in_ok-word.word.now c.in_err-when.field-0.0 c.in_ok-word.ensures.part
+    (after_one c.args.tokens.now 1) c.in_err-when.ensures.fault)

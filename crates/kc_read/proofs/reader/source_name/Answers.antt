@@ -8,4 +8,5 @@ use Rattle.kc_read.proofs.reader.source_name.Goals as goal
 pub returns-clause-name : goal.returns-clause-name
 returns-clause-name c =
     let ls = lexemes_from c.args.tokens.now 1 in
-    source_ok ls c.in_ok-name.name.items c.in_ok-name.ensures.part (sym (c.is_pattern.ensures ∙ ap is_pattern c.deref.ensures.value) ∙ c.if-is_pattern.false) (after_one c.args.tokens.now 1 ∙ c.in_ok-end.ensures.end)
+    source_ok ls c.in_ok-name.name.items c.in_ok-name.ensures.part (sym (c.is_pattern.ensures ∙ ap is_pattern c.deref.ensures.value) ∙ c.if-is_pattern.false)
+    (after_one c.args.tokens.now 1 ∙ c.in_ok-end.ensures.end)

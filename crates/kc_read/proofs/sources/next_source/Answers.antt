@@ -1,5 +1,5 @@
 use Rattle.std.proofs.Common.{◌≡◌, ◌∙◌, MatchOption, ap, subst, sym}
-use Rattle.kc_text.specs.Lines.{IsLineFault, Left, TakesLine}
+use Rattle.kc_text.specs.Lines.{IsLineFault, UnreadLines, TakesLine}
 use Rattle.kc_read.specs.Sources.{IsFound}
 use Rattle.kc_read.proofs.SourceLemmas.{ended_found, line_ends, says_clear, says_less}
 use Rattle.kc_read.proofs.SourceLines.{at_end}
@@ -14,12 +14,12 @@ returns-in-Some-clause-less c =
     says_less c.args.lines.now c.next_single.new.self c.source_of_line.new.lines c.in-Some.line.now c.source_of_line.result c.in-Some.ensures.some.2 c.source_of_line.ensures
 
 pub returns-in-Ok-None-clause-found : goal.returns-in-Ok-None-clause-found
-returns-in-Ok-None-clause-found c = at_end c.args.lines.now (ap (λ (l : Left). l.lines) (sym c.in_default.ensures.none.0) ∙ (rw c.in-Ok-None.field-0-is at c.in-Ok-None.ensures.end).1)
+returns-in-Ok-None-clause-found c = at_end c.args.lines.now (ap (λ (l : UnreadLines). l.lines) (sym c.in_default.ensures.none.0) ∙ (rw c.in-Ok-None.field-0-is at c.in-Ok-None.ensures.end).1)
 
 pub returns-in-Err-clause-found : goal.returns-in-Err-clause-found
 returns-in-Err-clause-found c =
     let why = c.in-Err.fault in
-    let cause = subst (λ (l : Left). MatchOption l.refusal (IsLineFault l why) (λ given. given ≡ why)) c.in_default.ensures.none.0 c.in-Err.ensures.cause in
+    let cause = subst (λ (l : UnreadLines). MatchOption l.refusal (IsLineFault l why) (λ given. given ≡ why)) c.in_default.ensures.none.0 c.in-Err.ensures.cause in
     ended_found (IsFound c.args.lines.now c.next_into.new.self) c.ended.result why c.ended.ensures (λ ne. line_ends c.args.lines.now why c.requires cause ne)
 
 pub returns-clause-clear : goal.returns-clause-clear
@@ -34,5 +34,5 @@ returns-clause-less c =
     let taken = rw c.in-Ok-Some.field-0-is at c.in-Ok-Some.ensures.line in
     let old = c.args.lines.now in
     let mid = c.next_into.new.self in
-    let line = subst (λ (l : Left). TakesLine l mid c.next_into.new.line.items) c.in_default.ensures.none.0 taken.2 in
+    let line = subst (λ (l : UnreadLines). TakesLine l mid c.next_into.new.line.items) c.in_default.ensures.none.0 taken.2 in
     says_less old mid c.source_of_line-2.new.lines c.deref-2.result.now c.source_of_line-2.result (rw c.deref-2.ensures.value line) c.source_of_line-2.ensures

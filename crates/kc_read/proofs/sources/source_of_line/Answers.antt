@@ -1,5 +1,5 @@
 use Rattle.std.proofs.Common.{◌≡◌, ◌∙◌, cond, sym}
-use Rattle.kc_text.specs.Tokens.{pieces}
+use Rattle.kc_text.specs.Tokens.{token_views}
 use Rattle.kc_read.specs.Expansion.{is_help, lexemes, without_help}
 use Rattle.kc_read.specs.LineReads.{cause_of}
 use Rattle.kc_read.proofs.SourceLemmas.{SaysSource, begins_pieces, cut_ends, ended_found, source_bad, source_found, taken_line}
@@ -18,7 +18,7 @@ pub returns-then-not-begins_with : goal.returns-then-not-begins_with
 returns-then-not-begins_with c = λ before taken.
     let mid = c.args.lines.now in
     let ts = c.lex.new.out.items in
-    let ls = lexemes (pieces ts) in
+    let ls = lexemes (token_views ts) in
     let first = rw c.deref.ensures.value at c.begins_help.ensures in
     let left : c.if-begins_help.lines ≡ cond (is_help ls) (without_help mid) mid =
     elim c.if-begins_help.branch [
@@ -27,13 +27,13 @@ returns-then-not-begins_with c = λ before taken.
     ] in
     let line = taken_line before mid c.if-begins_help.lines c.args.line.now ts taken c.in-Ok.ensures.cut left in
     let begins = begins_pieces ts c.begins_with.result (rw c.deref-2.ensures.value at c.begins_with.ensures.word) in
-    (pieces ts, line, begins ∙ c.if-not-begins_with.true)
+    (token_views ts, line, begins ∙ c.if-not-begins_with.true)
 
 pub returns-in-Ok-source_name : goal.returns-in-Ok-source_name
 returns-in-Ok-source_name c = λ before taken.
     let mid = c.args.lines.now in
     let ts = c.lex.new.out.items in
-    let ls = lexemes (pieces ts) in
+    let ls = lexemes (token_views ts) in
     let first = rw c.deref.ensures.value at c.begins_help.ensures in
     let left : c.if-begins_help.lines ≡ cond (is_help ls) (without_help mid) mid =
     elim c.if-begins_help.branch [
@@ -42,13 +42,13 @@ returns-in-Ok-source_name c = λ before taken.
     ] in
     let line = taken_line before mid c.if-begins_help.lines c.args.line.now ts taken c.in-Ok.ensures.cut left in
     let begins = begins_pieces ts c.begins_with.result (rw c.deref-2.ensures.value at c.begins_with.ensures.word) in
-    (pieces ts, line, begins ∙ c.if-not-begins_with.false, source_found ts c.in-Ok-source_name.name.items (rw c.deref-3.ensures.value at c.in-Ok-source_name.ensures.name))
+    (token_views ts, line, begins ∙ c.if-not-begins_with.false, source_found ts c.in-Ok-source_name.name.items (rw c.deref-3.ensures.value at c.in-Ok-source_name.ensures.name))
 
 pub returns-in_default : goal.returns-in_default
 returns-in_default c = λ before taken.
     let mid = c.args.lines.now in
     let ts = c.lex.new.out.items in
-    let ls = lexemes (pieces ts) in
+    let ls = lexemes (token_views ts) in
     let first = rw c.deref.ensures.value at c.begins_help.ensures in
     let left : c.if-begins_help.lines ≡ cond (is_help ls) (without_help mid) mid =
     elim c.if-begins_help.branch [
@@ -57,4 +57,5 @@ returns-in_default c = λ before taken.
     ] in
     let line = taken_line before mid c.if-begins_help.lines c.args.line.now ts taken c.in-Ok.ensures.cut left in
     let begins = begins_pieces ts c.begins_with.result (rw c.deref-2.ensures.value at c.begins_with.ensures.word) in
-    source_bad before c.if-begins_help.lines ts (cause_of c.in-Err-source_name.fault) line (begins ∙ c.if-not-begins_with.false) ((rw c.deref-3.ensures.value at c.in-Err-source_name.ensures.fault) c.in_default.not-Memory)
+    source_bad before c.if-begins_help.lines ts (cause_of c.in-Err-source_name.fault) line (begins ∙ c.if-not-begins_with.false)
+    ((rw c.deref-3.ensures.value at c.in-Err-source_name.ensures.fault) c.in_default.not-Memory)

@@ -1,4 +1,4 @@
-use Rattle.kc_text.specs.Lines.{left}
+use Rattle.kc_text.specs.Lines.{unread_lines}
 use Rattle.std.proofs.Common.{map, sym, subst}
 use Rattle.kc_read.proofs.SilentFiles.{no_names}
 use Rattle.kc_read.proofs.SourceLemmas.{Follows, follows_name, follows_other}
@@ -13,12 +13,14 @@ returns-then-not-may_source-clause-names c =
 pub along-preserved-in-Other : goal.along-preserved-in-Other
 along-preserved-in-Other c = record {
   clear = (rw c.in-Other.is at c.in_ok-next_source.ensures.clear) tt;
-  follows = follows_other (left c.args.file.now 1) c.along.lines c.next_source.new.lines (map (λ n. n.items) c.along.names.items) c.along.invariant.follows (rw c.in-Other.is at c.in_ok-next_source.ensures.found);
+  follows = follows_other (unread_lines c.args.file.now 1) c.along.lines c.next_source.new.lines (map (λ n. n.items) c.along.names.items)
+      c.along.invariant.follows (rw c.in-Other.is at c.in_ok-next_source.ensures.found);
 }
 
 pub along-preserved : goal.along-preserved
 along-preserved c = record {
   clear = (rw c.in-Name.is at c.in_ok-next_source.ensures.clear) tt;
-  follows = subst (λ ns. Follows (left c.args.file.now 1) c.next_source.new.lines (map (λ n. n.items) ns)) (sym c.in_ok-push-in-Name.ensures.items)
-      (follows_name (left c.args.file.now 1) c.along.lines c.next_source.new.lines c.in-Name.name c.along.names.items c.along.invariant.follows (rw c.in-Name.is at c.in_ok-next_source.ensures.found));
+  follows = subst (λ ns. Follows (unread_lines c.args.file.now 1) c.next_source.new.lines (map (λ n. n.items) ns)) (sym c.in_ok-push-in-Name.ensures.items)
+      (follows_name (unread_lines c.args.file.now 1) c.along.lines c.next_source.new.lines c.in-Name.name c.along.names.items c.along.invariant.follows
+      (rw c.in-Name.is at c.in_ok-next_source.ensures.found));
 }

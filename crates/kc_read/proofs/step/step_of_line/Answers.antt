@@ -5,36 +5,47 @@ use Rattle.kc_read.specs.Progress.{context_in}
 use Rattle.kc_read.proofs.step.step_of_line.Goals as goal
 use Rattle.kc_read.proofs.step.step_of_line.Goals.{then-begins_help, else-begins_help}
 use Rattle.kc_read.specs.Expansion.{lexemes, is_help, without_help}
-use Rattle.kc_text.specs.Tokens.{pieces}
+use Rattle.kc_text.specs.Tokens.{token_views}
 
 pub returns-in-Err-clause-refused : goal.returns-in-Err-clause-refused
 returns-in-Err-clause-refused c = λ before same taken.
-    lex_fault c.args.position.now.frame.now.file.value.items (context_in c.args.position.now.frame.now c.args.position.now.progress.now) before c.args.lines.now c.args.line.now c.in-Err.fault c.refuse.result c.args.number (cause_of c.text_fault.result) taken c.in-Err.ensures.refused same c.text_fault.ensures (rw (c.deref-in-Err.ensures.value ∙ ap (λ v. v.items) c.deref.ensures) at c.refuse.ensures.refused)
+    lex_fault c.args.position.now.frame.now.file.value.items (context_in c.args.position.now.frame.now c.args.position.now.progress.now)
+    before c.args.lines.now c.args.line.now c.in-Err.fault c.refuse.result c.args.number (cause_of c.text_fault.result)
+    taken c.in-Err.ensures.refused same c.text_fault.ensures
+    (rw (c.deref-in-Err.ensures.value ∙ ap (λ v. v.items) c.deref.ensures) at c.refuse.ensures.refused)
 
 pub returns-in-Ok-read_line-clause-step : goal.returns-in-Ok-read_line-clause-step
 returns-in-Ok-read_line-clause-step c = λ before same taken.
     let read = rw c.deref-3.ensures.value at c.in-Ok-read_line.ensures.read in
     let mid = c.args.lines.now in
     let ts = c.lex.new.out.items in
-    let ls = lexemes (pieces ts) in
+    let ls = lexemes (token_views ts) in
     let first = rw c.deref-2.ensures.value at c.begins_help.ensures in
     let left : c.if-begins_help.lines ≡ cond (is_help ls) (without_help mid) mid =
     elim c.if-begins_help.branch [
       | then-begins_help w ↦ left_help ls mid _ (sym first ∙ w.if-begins_help.true) (rw w.lines-is (w.skip_help.ensures.dropped c.requires.clear))
       | else-begins_help w ↦ left_other ls mid _ (sym first ∙ w.if-begins_help.false) w.lines-is
-    ] in
-    (read.0, same, next_statement (context_in c.args.position.now.frame.now c.args.position.now.progress.now) before mid c.if-begins_help.lines c.args.line.now ts _ taken c.in-Ok.ensures.cut (search rules) read.1 left, read.2)
+    ] in (
+      read.0,
+      same,
+      next_statement (context_in c.args.position.now.frame.now c.args.position.now.progress.now)
+          before mid c.if-begins_help.lines c.args.line.now ts _ taken c.in-Ok.ensures.cut (search rules) read.1 left,
+      read.2,
+    )
 
 pub returns-in-Err-read_line-clause-refused : goal.returns-in-Err-read_line-clause-refused
 returns-in-Err-read_line-clause-refused c = λ before same taken.
     let read = rw c.deref-3.ensures.value at c.in-Err-read_line.ensures.read in
     let mid = c.args.lines.now in
     let ts = c.lex.new.out.items in
-    let ls = lexemes (pieces ts) in
+    let ls = lexemes (token_views ts) in
     let first = rw c.deref-2.ensures.value at c.begins_help.ensures in
     let left : c.if-begins_help.lines ≡ cond (is_help ls) (without_help mid) mid =
     elim c.if-begins_help.branch [
       | then-begins_help w ↦ left_help ls mid _ (sym first ∙ w.if-begins_help.true) (rw w.lines-is (w.skip_help.ensures.dropped c.requires.clear))
       | else-begins_help w ↦ left_other ls mid _ (sym first ∙ w.if-begins_help.false) w.lines-is
     ] in
-    read_refused c.args.position.now.frame.now.file.value.items (context_in c.args.position.now.frame.now c.args.position.now.progress.now) before mid c.if-begins_help.lines c.args.line.now ts c.in-Err-read_line.fault c.refuse-in-Err-read_line.result c.args.number taken c.in-Ok.ensures.cut (search rules) left read same (rw (c.deref-in-Err-read_line-2.ensures.value ∙ ap (λ v. v.items) c.deref-in-Err-read_line.ensures) at c.refuse-in-Err-read_line.ensures.refused)
+    read_refused c.args.position.now.frame.now.file.value.items (context_in c.args.position.now.frame.now c.args.position.now.progress.now)
+    before mid c.if-begins_help.lines c.args.line.now ts c.in-Err-read_line.fault c.refuse-in-Err-read_line.result c.args.number taken c.in-Ok.ensures.cut
+    (search rules) left read same (rw (c.deref-in-Err-read_line-2.ensures.value ∙ ap (λ v. v.items) c.deref-in-Err-read_line.ensures)
+    at c.refuse-in-Err-read_line.ensures.refused)

@@ -1,7 +1,7 @@
 use Rattle.std.proofs.Common.{◌≡◌, map}
 use Rattle.std.specs.List.{range_with_len}
 use Rattle.kc_values.specs.Differs.{default_selection}
-use Rattle.kc_solve.specs.Places.{valuation}
+use Rattle.kc_solve.specs.PlaceLists.{valuation}
 use Rattle.kc_solve.proofs.flags.default_selections.Given as goal
 
 abbrev pub invariant-loop-c : goal.invariant-loop-c

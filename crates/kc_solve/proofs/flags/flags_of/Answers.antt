@@ -6,10 +6,10 @@ use Rattle.kc_user.specs.Places.{place_at}
 use Rattle.kc_values.specs.Differs.{selection, default_selection}
 use Rattle.kc_values.specs.Lookups.{name}
 use Rattle.kc_values.specs.Table.{known_in}
-use Rattle.kc_values.specs.User.{place}
+use Rattle.kc_values.specs.User.{given_in}
 use Rattle.kc_values.specs.Warnings.{warnings_of}
-use Rattle.kc_values.specs.Written.{written_facts}
-use Rattle.kc_solve.specs.Places.{valuation}
+use Rattle.kc_values.specs.WrittenSymbols.{written_facts}
+use Rattle.kc_solve.specs.PlaceLists.{valuation}
 use Rattle.kc_solve.proofs.FlagSteps.{one_more_differs, one_more_written, solved_here}
 use Rattle.kc_solve.proofs.TableSteps.{choice_at_most, choice_below, row_count, row_facts}
 use Rattle.kc_solve.proofs.UserSteps.{place_mapped}
@@ -41,7 +41,7 @@ symbol_differs-requires-clause-solved c =
     let s = c.symbol_row-symbol.result.now in
     solved_here t.tree.now t.values.items c.requires.full (place_at c.args.user.now) c.loop-i.i
     (facts_of t.layout.now c.loop-i.i s) (row_facts t (symbol c.loop-i.i) s c.symbol_row-symbol.ensures) c.args.selections.now c.args.defaults.now c.requires.selections c.requires.defaults
-    c.requires.solves (omega arith) (place c.get-own.result) (place_mapped c.get-own.result ∙ c.get-own.ensures)
+    c.requires.solves (omega arith) (given_in c.get-own.result) (place_mapped c.get-own.result ∙ c.get-own.ensures)
 
 pub loop-i-preserved : goal.loop-i-preserved
 loop-i-preserved c =
@@ -57,7 +57,7 @@ loop-i-preserved c =
     _ _ _ before.0 c.in_ok-push.ensures.items c.in_ok-differs.ensures
     in
     let written = one_more_written t values c.loop-i.i _ _ _ c.requires.full before.1 c.in_ok-push-2.ensures.items (c.written.ensures ∙ ap (written_facts t (known_in t values)) (sym at)) in
-    let warned = one_more_warned t values c.args.user.now c.loop-i.i (place c.get-own.result) _ _ c.requires.full (place_mapped c.get-own.result ∙ c.get-own.ensures) before.2
-    (c.in_ok-warnings_into.ensures ∙ ap (λ o. map (λ w. w.items) c.loop-i.warnings.items ++ warnings_of t (known_in t values) (name t (symbol c.loop-i.i)) o (place c.get-own.result)) (sym at))
+    let warned = one_more_warned t values c.args.user.now c.loop-i.i (given_in c.get-own.result) _ _ c.requires.full (place_mapped c.get-own.result ∙ c.get-own.ensures) before.2
+    (c.in_ok-warnings_into.ensures ∙ ap (λ o. map (λ w. w.items) c.loop-i.warnings.items ++ warnings_of t (known_in t values) (name t (symbol c.loop-i.i)) o (given_in c.get-own.result)) (sym at))
     in
     (differs, written, warned)

@@ -2,8 +2,8 @@ use Rattle.std.proofs.Common.{◌&&◌, not, sym, ◌∙◌, ap}
 use Rattle.std.specs.Option.{is_some}
 use Rattle.kc_tree.specs.Contexts.{mode_view}
 use Rattle.kc_tree.specs.Layouts.{facts_of}
-use Rattle.kc_values.specs.Known.{known_at}
-use Rattle.kc_values.specs.User.{place}
+use Rattle.kc_values.specs.TableFacts.{known_at}
+use Rattle.kc_values.specs.User.{given_in}
 use Rattle.kc_values.specs.Values.{is_n}
 use Rattle.kc_solve.proofs.FlagSteps.{does_not_differ}
 use Rattle.kc_solve.proofs.flags.symbol_differs.Goals as goal
@@ -11,7 +11,7 @@ use Rattle.kc_solve.proofs.flags.symbol_differs.Goals as goal
 pub returns-else-can_count : goal.returns-else-can_count
 returns-else-can_count c =
     let t = c.args.table.now in
-    let own = place c.args.user in
+    let own = given_in c.args.user in
     does_not_differ t.tree.now (known_at t) c.args.id (facts_of t.layout.now c.args.id.0 c.args.symbol.now) own c.args.selections.now c.args.defaults.now
     (ap (λ v. is_some own && not (is_n v)) (sym c.requires.shown) ∙ sym c.can_count.ensures ∙ c.if-can_count.false)
     _ (ap mode_view c.in-None.is) c.requires.solved

@@ -2,20 +2,20 @@ use Rattle.std.proofs.Common.{◌∙◌, ap, length}
 use Rattle.kc_solve.proofs.OrderSteps.{accepted_through}
 use Rattle.kc_order.specs.Graph.{needs_of}
 use Rattle.kc_values.specs.Needs.{needs}
-use Rattle.kc_solve.specs.Places.{valuation}
+use Rattle.kc_solve.specs.PlaceLists.{valuation}
 use Rattle.kc_user.specs.Places.{place_at}
 use Rattle.kc_solve.proofs.UserSteps.{count_shown, solves_as_shown}
 use Rattle.kc_solve.proofs.solve.full_table.Goals as goal
 
-pub fill-requires-clause-order : goal.fill-requires-clause-order
-fill-requires-clause-order c =
+pub compute-requires-clause-order : goal.compute-requires-clause-order
+compute-requires-clause-order c =
     record { graph = c.args.order.now; is = c.requires.order.graph; alike = c.requires.order.alike; rows = c.requires.order.nodes; orders = c.nodes.ensures }
 
-pub fill-requires-clause-given : goal.fill-requires-clause-given
-fill-requires-clause-given c = count_shown c.symbols-given.result.now c.args.user.now.symbols c.symbols-given.ensures ∙ c.requires.user.symbols
+pub compute-requires-clause-given : goal.compute-requires-clause-given
+compute-requires-clause-given c = count_shown c.symbols-given.result.now c.args.user.now.symbols c.symbols-given.ensures ∙ c.requires.user.symbols
 
-pub fill-requires-clause-chosen : goal.fill-requires-clause-chosen
-fill-requires-clause-chosen c = ap length c.choices-chosen.ensures ∙ c.requires.user.choices
+pub compute-requires-clause-chosen : goal.compute-requires-clause-chosen
+compute-requires-clause-chosen c = ap length c.choices-chosen.ensures ∙ c.requires.user.choices
 
 pub returns-clause-solves : goal.returns-clause-solves
 returns-clause-solves c =

@@ -1,10 +1,10 @@
 use Rattle.std.proofs.Common.{refl, sym, ◌∙◌, ap, subst}
 use Rattle.kc_order.specs.Solution.{Solves, IsOnlySolution}
 use Rattle.kc_tree.specs.TreeFacts.{TreeFacts}
-use Rattle.kc_user.specs.Places.{IsUserOf, place_at}
+use Rattle.kc_user.specs.Places.{ArePlacesOf, place_at}
 use Rattle.kc_values.specs.Laws.{IsAccepted}
 use Rattle.kc_values.specs.Solution.{symbol_count, equations}
-use Rattle.kc_solve.specs.Places.{valuation}
+use Rattle.kc_solve.specs.PlaceLists.{valuation}
 use Rattle.kc_solve.proofs.SolvedSteps.{only_here}
 use Rattle.kc_solve.proofs.solve.solve.Goals as goal
 
@@ -15,11 +15,11 @@ invariant_of-solved c =
     let e = sym c.in_ok-table.ensures.tree in
     record {
       accepted = subst IsAccepted e c.in_ok-table.ensures.accepted;
-      user = subst (λ (t : TreeFacts). IsUserOf t c.args.user.now) e c.requires.user;
+      user = subst (λ (t : TreeFacts). ArePlacesOf t c.args.user.now) e c.requires.user;
       full = c.in_ok-table.ensures.count ∙ ap symbol_count e;
       solves = subst (λ (t : TreeFacts). Solves (symbol_count t) (equations t U) (valuation t items)) e c.in_ok-table.ensures.solves;
       only = subst (λ (t : TreeFacts). IsOnlySolution (symbol_count t) (equations t U) (valuation t items)) e c.in_ok-table.ensures.only;
-      chosen_are = c.in_ok-selections.ensures;
+      selections_are = c.in_ok-selections.ensures;
       defaults_are = c.in_ok-default_selections.ensures;
       differing_are = c.in_ok-differing.ensures.differing;
       written_are = c.in_ok-differing.ensures.written;

@@ -1,7 +1,7 @@
 use Rattle.std.proofs.Common.{arith, refl}
 use Rattle.kc_tree.specs.Layouts.{facts_of}
 use Rattle.kc_solve.proofs.TableSteps.{choice_below, filled_value, row_count, row_facts}
-use Rattle.kc_solve_rows.proofs.SlowSteps.{settled_none}
+use Rattle.kc_solve_rows.proofs.SlowSteps.{computed_none}
 use Rattle.kc_solve_rows.proofs.slow.compute_anew.Goals as goal
 
 pub symbol_row-symbol-requires : goal.symbol_row-symbol-requires
@@ -11,12 +11,13 @@ pub value_anew-requires-clause-users : goal.value_anew-requires-clause-users
 value_anew-requires-clause-users c =
     let t = c.args.table.now in
     let s = c.symbol_row-symbol.result.now in
-    choice_below t.tree.now c.symbol_count-count.ensures.formed c.args.id.0 _ (facts_of t.layout.now c.args.id.0 s) s.choice (row_facts t c.args.id s c.symbol_row-symbol.ensures) refl c.requires.chosen
+    choice_below t.tree.now c.symbol_count-count.ensures.formed c.args.id.0 _ (facts_of t.layout.now c.args.id.0 s) s.choice
+    (row_facts t c.args.id s c.symbol_row-symbol.ensures) refl c.requires.chosen
 
 pub invariant_of-table : goal.invariant_of-table
 invariant_of-table c =
     let t = c.args.table.now in
-    record { laid = t.laid; formed = t.formed; settled = settled_none t.tree.now t.layout.now _ t.contexts.items c.requires.unsettled }
+    record { laid = t.laid; formed = t.formed; computed = computed_none t.tree.now t.layout.now _ t.contexts.items c.requires.unsettled }
 
 pub returns : goal.returns
 returns c =

@@ -1,13 +1,12 @@
-use Rattle.std.proofs.Common.{◌≡◌, ◌+◌, length, List, None, Option, ◌∙◌, sym, ap, subst, arith}
+use Rattle.std.proofs.Common.{◌≡◌, length, None, ◌∙◌, sym, ap, subst, arith}
 use Rattle.std.specs.Prelude.{replicate}
 use Rattle.std.proofs.lemmas.List.{length-replicate}
 use Rattle.kc_expr.specs.Names.{symbol}
-use Rattle.kc_expr.specs.declared.expression.Tri.{Tri}
 use Rattle.kc_tree.specs.TreeFacts.{TreeFacts}
 use Rattle.kc_user.specs.Places.{place_at}
 use Rattle.kc_values.specs.Solution.{symbol_count}
-use Rattle.kc_solve.specs.Filling.{AreFilledValues}
-use Rattle.kc_solve.specs.Places.{valuation}
+use Rattle.kc_solve.specs.Computing.{AreComputedValues}
+use Rattle.kc_solve.specs.PlaceLists.{valuation}
 use Rattle.kc_solve.proofs.OrderSteps.{tree_accepted}
 use Rattle.kc_solve.proofs.UserSteps.{count_shown, solves_as_shown}
 use Rattle.kc_solve_rows.proofs.SlowSteps.{computed, ended, round_ended}
@@ -48,7 +47,7 @@ loop-i-preserved c =
     let chosen = c.choices-chosen.result.now in
     let values = c.loop-i.table.values.items in
     let new = c.compute_anew.new.table in
-    let filled = subst (λ (u : TreeFacts). AreFilledValues u given chosen (symbol c.loop-i.i) values new.values.items) now.tree f.values in
+    let filled = subst (λ (u : TreeFacts). AreComputedValues u given chosen (symbol c.loop-i.i) values new.values.items) now.tree f.values in
     record {
       tree = ap (λ t. t.now) f.keeps.tree ∙ now.tree;
       count = f.values.count ∙ now.count;

@@ -8,7 +8,8 @@ use Rattle.kc_text.proofs.Helps.{help_ends, help_text, drops_first, first_is_hel
 use Rattle.kc_text.proofs.help.drop_help.Goals as goal
 
 pub returns-then-is_empty : goal.returns-then-is_empty
-returns-then-is_empty c = help_ends c.args.rest.now c.drop_lines-start.result.rest.now c.args.number c.drop_lines-start.result.number c.drop_lines-start.ensures (eqb-true _ 0 (sym c.if-is_empty.ensures))
+returns-then-is_empty c = help_ends c.args.rest.now c.drop_lines-start.result.rest.now c.args.number c.drop_lines-start.result.number c.drop_lines-start.ensures
+    (eqb-true _ 0 (sym c.if-is_empty.ensures))
 
 pub returns : goal.returns
 returns c =

@@ -1,6 +1,6 @@
 use Rattle.std.proofs.Common.{◌≡◌, map, drop}
 use Rattle.kc_tree.specs.Layouts.{choice_default_view, choice_facts}
-use Rattle.kc_values.specs.Known.{known_at, condition_at}
+use Rattle.kc_values.specs.TableFacts.{known_at, condition_at}
 use Rattle.kc_values.specs.Values as spec
 use Rattle.kc_values.proofs.choices.first_default.Given as goal
 

@@ -1,5 +1,5 @@
 use Rattle.std.proofs.Common.{◌≡◌, drop}
-use Rattle.kc_values.specs.Known.{known_at}
+use Rattle.kc_values.specs.TableFacts.{known_at}
 use Rattle.kc_values.specs.Values as spec
 use Rattle.kc_values.proofs.choices.first_visible.Given as goal
 

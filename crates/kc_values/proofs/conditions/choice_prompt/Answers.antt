@@ -3,8 +3,8 @@ use Rattle.std.specs.Option.{option_map}
 use Rattle.kc_expr.specs.Value.{lesser}
 use Rattle.kc_tree.specs.Contexts.{condition_in}
 use Rattle.kc_tree.specs.Layouts.{prompt_view}
-use Rattle.kc_values.specs.Known.{known_at}
-use Rattle.kc_values.specs.Values.{all_hold, prompt_value}
+use Rattle.kc_values.specs.TableFacts.{known_at}
+use Rattle.kc_values.specs.Values.{and_value, prompt_value}
 use Rattle.kc_values.proofs.ConditionLemmas.{prompt_asked}
 use Rattle.kc_values.proofs.conditions.choice_prompt.Goals as goal
 
@@ -15,8 +15,8 @@ returns-in-Some c =
     let cs = t.layout.now.tables.contexts in
     let dep = condition_in cs c.args.choice.now.within.0 in
     let p = c.in-Some.prompt in
-    let V = all_hold k (condition_in cs p.visible.0).parts in
-    c.asked.ensures
-    ∙ ap (λ x. lesser x (all_hold k dep.parts)) (c.asked-shown.ensures ∙ ap (λ x. lesser x V) c.own.ensures)
+    let V = and_value k (condition_in cs p.visible.0).parts in
+    c.enclosing_least.ensures
+    ∙ ap (λ x. lesser x (and_value k dep.parts)) (c.enclosing_least-shown.ensures ∙ ap (λ x. lesser x V) c.if_value.ensures)
     ∙ sym (prompt_asked k cs dep p)
     ∙ ap (λ o. prompt_value k (option_map (prompt_view cs dep) o)) (sym c.in-Some.is)

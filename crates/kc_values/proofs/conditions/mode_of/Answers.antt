@@ -1,7 +1,7 @@
 use Rattle.std.proofs.Common.{Some, None, ap, ◌∙◌}
 use Rattle.std.proofs.Math.Logic.{∥∥₁_elim}
-use Rattle.kc_values.specs.Known.{known_at}
-use Rattle.kc_values.specs.Values.{up, mode_of}
+use Rattle.kc_values.specs.TableFacts.{known_at}
+use Rattle.kc_values.specs.Values.{upgrade, mode_of}
 use Rattle.kc_values.proofs.Laid.{choice_found}
 use Rattle.kc_values.proofs.TriLemmas.{one_way}
 use Rattle.kc_values.proofs.conditions.mode_of.Goals as goal
@@ -11,7 +11,7 @@ returns-in-Some c =
     let t = c.args.table.now in
     ∥∥₁_elim t.laid (one_way _ _)
     (λ laid.
-    c.up.ensures ∙ ap up c.choice_prompt.ensures
+    c.upgrade.ensures ∙ ap upgrade c.choice_prompt.ensures
     ∙ ap (mode_of (known_at t)) (choice_found t.tree.now t.layout.now laid c.args.id.0 (Some c.in-Some.choice.now) c.in-Some.ensures))
 
 pub returns-in-None : goal.returns-in-None

@@ -1,7 +1,6 @@
 use Rattle.std.proofs.Common.{◌<◌, length, [], sym, arith}
-use Rattle.kc_tree.specs.Parts.{definition_ids}
+use Rattle.kc_tree.specs.Spans.{definition_ids}
 use Rattle.kc_values.specs.NeedRows as rows
-use Rattle.kc_values.specs.NeedRows.{Adds}
 use Rattle.kc_values.proofs.RowSteps.{found_more, none_more, adds_more, adds_nothing}
 use Rattle.kc_values.proofs.needs.definitions_into.Goals as goal
 use Rattle.kc_values.proofs.needs.definitions_into.Goals.{in-Some+in_ok-definition_into, in_default}

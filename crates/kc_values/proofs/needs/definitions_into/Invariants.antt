@@ -1,5 +1,5 @@
 use Rattle.std.proofs.Common.{◌≡◌, ◌++◌, take}
-use Rattle.kc_tree.specs.Parts.{definition_ids}
+use Rattle.kc_tree.specs.Spans.{definition_ids}
 use Rattle.kc_values.specs.NeedRows.{definitions_nodes_of, definitions_names_of}
 use Rattle.kc_values.proofs.needs.definitions_into.Given as goal
 

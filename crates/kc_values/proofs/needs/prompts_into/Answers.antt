@@ -1,7 +1,6 @@
 use Rattle.std.proofs.Common.{◌≡◌, ◌<◌, ◌++◌, length, [], cond, ap, ◌∙◌, sym, arith}
-use Rattle.kc_tree.specs.Parts.{definition_ids}
+use Rattle.kc_tree.specs.Spans.{definition_ids}
 use Rattle.kc_values.specs.NeedRows as rows
-use Rattle.kc_values.specs.NeedRows.{Adds}
 use Rattle.kc_values.proofs.RowSteps.{found_more, none_more, adds_both, adds_more, adds_nothing, no_prompt}
 use Rattle.kc_values.proofs.needs.prompts_into.Goals as goal
 use Rattle.kc_values.proofs.needs.prompts_into.Goals.{in-Some+then-is_some+in_ok-context_into+in_ok-prompt_into, in-Some+else-is_some, in_default}

@@ -6,7 +6,7 @@ use Rattle.kc_values.specs.declared.needs.Row.{Row}
 use Rattle.kc_values.proofs.ReverseRows.{nodes_next, names_next, nodes_past, names_past}
 use Rattle.kc_values.proofs.RowSteps.{adds_both, adds_of_left, adds_nothing}
 use Rattle.kc_values.proofs.needs.reverses_into.Goals as goal
-use Rattle.kc_values.proofs.needs.reverses_into.Goals.{in-Some-definition+in_ok-push+in_ok-context_into+in_ok-own_into, in_default-definition}
+use Rattle.kc_values.proofs.needs.reverses_into.Goals.{in-Some-definition+in_ok-push+in_ok-context_into+in_ok-if_names_into, in_default-definition}
 
 pub returns-in_default-reverse : goal.returns-in_default-reverse
 returns-in_default-reverse c =
@@ -32,14 +32,14 @@ lines-preserved c =
     let leftNodes = rows.reverses_nodes l r.next in
     let leftNames = rows.reverses_names l r.next in
     elim c.match-definition.branch [
-      | in-Some-definition+in_ok-push+in_ok-context_into+in_ok-own_into w ↦
+      | in-Some-definition+in_ok-push+in_ok-context_into+in_ok-if_names_into w ↦
           let d = w.in-Some-definition.source.now in
           let found = sym w.in-Some-definition.ensures in
           let pushed : Row = record now { names = w.push.new.self } in
           let push : Adds now pushed [] (d.symbol ∷ []) = record { nodes_are = sym (append-nil now.nodes.items); names_are = w.in_ok-push.ensures.items } in
           let two = adds_both now pushed w.context_into.new.out [] (rows.context_nodes l d.within.0) (d.symbol ∷ []) [] push w.in_ok-context_into.ensures in
-          let three = adds_both now w.context_into.new.out w.own_into.new.out (rows.context_nodes l d.within.0) []
-          (d.symbol ∷ []) (rows.when_names (when_view r.when)) two w.in_ok-own_into.ensures in
+          let three = adds_both now w.context_into.new.out w.if_names_into.new.out (rows.context_nodes l d.within.0) []
+          (d.symbol ∷ []) (rows.when_names (when_view r.when)) two w.in_ok-if_names_into.ensures in
           adds_of_left now next (rows.context_nodes l d.within.0 ++ []) leftNodes _ (d.symbol ∷ rows.when_names (when_view r.when)) leftNames _ _ _
           (rw w.out-is three)
           (allNodes ∙ ap (λ o. rows.source_nodes l o ++ leftNodes) found ∙ ap (λ x. x ++ leftNodes) (sym (append-nil (rows.context_nodes l d.within.0))))

@@ -1,21 +1,21 @@
 use Rattle.std.proofs.Common.{sym, ap, ◌∙◌}
 use Rattle.kc_expr.specs.Value.{greater}
-use Rattle.kc_values.specs.Known.{known_at}
-use Rattle.kc_values.proofs.ChainLemmas.{pulled_from, pulled-at, pulled-past}
+use Rattle.kc_values.specs.TableFacts.{known_at}
+use Rattle.kc_values.proofs.ChainLemmas.{reverse_values_from, reverse_values-at, reverse_values-past}
 use Rattle.kc_values.proofs.TriLemmas.{greater_n, greater-step}
 use Rattle.kc_values.proofs.truths.reverse_values.Goals as goal
 
 pub returns-in_default-reverse : goal.returns-in_default-reverse
 returns-in_default-reverse c =
     let t = c.args.table.now in
-    let past = pulled-past t.layout.now.tables t.tree.now (known_at t) c.in-Some.id (sym c.in_default-reverse.ensures.line) c.lines.at c.in-Some.is in
+    let past = reverse_values-past t.layout.now.tables t.tree.now (known_at t) c.in-Some.id (sym c.in_default-reverse.ensures.line) c.lines.at c.in-Some.is in
     sym (greater_n c.lines.greatest) ∙ ap (greater c.lines.greatest) (sym past) ∙ c.lines.invariant
 
 pub lines-preserved : goal.lines-preserved
 lines-preserved c =
     let t = c.args.table.now in
     let r = c.in-Some-reverse.line.now in
-    let rest = pulled_from t.layout.now.tables t.tree.now (known_at t) r.next in
-    let here = pulled-at t.layout.now.tables t.tree.now (known_at t) c.in-Some.id r (sym c.in-Some-reverse.ensures.line) c.lines.at c.in-Some.is in
+    let rest = reverse_values_from t.layout.now.tables t.tree.now (known_at t) r.next in
+    let here = reverse_values-at t.layout.now.tables t.tree.now (known_at t) c.in-Some.id r (sym c.in-Some-reverse.ensures.line) c.lines.at c.in-Some.is in
     ap (λ x. greater x rest) (c.greater-greatest.ensures ∙ ap (greater c.lines.greatest) c.reverse_value.ensures)
     ∙ greater-step c.lines.greatest _ rest _ _ here c.lines.invariant

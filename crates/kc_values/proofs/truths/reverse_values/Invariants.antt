@@ -1,12 +1,13 @@
 use Rattle.std.proofs.Common.{◌≡◌}
 use Rattle.kc_expr.specs.Value.{greater}
-use Rattle.kc_values.specs.Known.{known_at}
-use Rattle.kc_values.proofs.ChainLemmas.{pulled_from, steps_left}
+use Rattle.kc_values.specs.TableFacts.{known_at}
+use Rattle.kc_values.proofs.ChainLemmas.{reverse_values_from, steps_left}
 use Rattle.kc_values.proofs.truths.reverse_values.Given as goal
 
 abbrev pub invariant-lines : goal.invariant-lines
 invariant-lines l =
-    greater l.greatest (pulled_from l.table.layout.now.tables l.table.tree.now (known_at l.table) l.at) ≡ pulled_from l.table.layout.now.tables l.table.tree.now (known_at l.table) l.fn.last
+    greater l.greatest (reverse_values_from l.table.layout.now.tables l.table.tree.now (known_at l.table) l.at)
+    ≡ reverse_values_from l.table.layout.now.tables l.table.tree.now (known_at l.table) l.fn.last
 
 abbrev pub decreases-lines : goal.decreases-lines
 decreases-lines l = steps_left l.at

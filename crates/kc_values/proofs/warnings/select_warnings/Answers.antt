@@ -1,14 +1,15 @@
 use Rattle.std.proofs.Common.{[], ◌∷◌, map, ap, ◌∙◌}
 use Rattle.std.proofs.lemmas.List.{map-append}
 use Rattle.kc_tree.specs.Layouts.{facts_of}
-use Rattle.kc_values.specs.Known.{known_at}
+use Rattle.kc_values.specs.TableFacts.{known_at}
 use Rattle.kc_values.proofs.Joined.{select_joined}
 use Rattle.kc_values.proofs.warnings.select_warnings.Goals as goal
 
 pub returns : goal.returns
 returns c =
     let t = c.args.table.now in
-    select_joined t.tree.now (known_at t) c.args.name.now (facts_of t.layout.now c.args.id.0 c.args.symbol.now) c.reverse-reverse.result c.direct-direct.result c.is_above.result c.in_ok-line.line.items _ _
+    select_joined t.tree.now (known_at t) c.args.name.now (facts_of t.layout.now c.args.id.0 c.args.symbol.now)
+    c.reverse-reverse.result c.direct-direct.result c.is_above.result c.in_ok-line.line.items _ _
     c.reverse-reverse.ensures
     c.direct-direct.ensures
     c.is_above.ensures

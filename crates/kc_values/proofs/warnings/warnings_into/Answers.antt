@@ -2,9 +2,9 @@ use Rattle.std.proofs.Common.{◌≡◌, ◌++◌, map, OnOk, subst, refl, ◌�
 use Rattle.kc_expr.specs.declared.expression.Kind.TheVariants.{Bool as IsBool, Tristate}
 use Rattle.kc_tree.specs.Contexts.{mode_view}
 use Rattle.kc_tree.specs.Layouts.{facts_of}
-use Rattle.kc_values.specs.Known.{known_at}
+use Rattle.kc_values.specs.TableFacts.{known_at}
 use Rattle.kc_values.specs.Lookups.{name}
-use Rattle.kc_values.specs.User.{place}
+use Rattle.kc_values.specs.User.{given_in}
 use Rattle.kc_values.proofs.Joined.{truth_warned, no_choice}
 use Rattle.kc_values.proofs.warnings.warnings_into.Goals as goal
 
@@ -13,7 +13,8 @@ returns-in-Bool c =
     let t = c.args.table.now in
     let f = facts_of t.layout.now c.args.id.0 c.args.symbol.now in
     let alone = no_choice c.args.symbol.now.choice (sym c.is_some.ensures ∙ c.if-is_some.false) in
-    let e = truth_warned t.tree.now (known_at t) c.name-name.result.now (name t.tree.now c.args.id) f (mode_view c.args.symbol.now.choice) (place c.args.user) IsBool refl c.in-Bool.is alone c.name-name.ensures in
+    let e = truth_warned t.tree.now (known_at t) c.name-name.result.now (name t.tree.now c.args.id) f (mode_view c.args.symbol.now.choice)
+    (given_in c.args.user) IsBool refl c.in-Bool.is alone c.name-name.ensures in
     subst (λ x. OnOk c.select_warnings.result (map (λ w. w.items) c.select_warnings.new.out.items ≡ map (λ w. w.items) c.args.out.now.items ++ x)) e c.select_warnings.ensures
 
 pub returns-in-Tristate : goal.returns-in-Tristate
@@ -21,5 +22,7 @@ returns-in-Tristate c =
     let t = c.args.table.now in
     let f = facts_of t.layout.now c.args.id.0 c.args.symbol.now in
     let alone = no_choice c.args.symbol.now.choice (sym c.is_some.ensures ∙ c.if-is_some.false) in
-    let e = truth_warned t.tree.now (known_at t) c.name-name.result.now (name t.tree.now c.args.id) f (mode_view c.args.symbol.now.choice) (place c.args.user) Tristate refl c.in-Tristate.is alone c.name-name.ensures in
-    subst (λ x. OnOk c.select_warnings-in-Tristate.result (map (λ w. w.items) c.select_warnings-in-Tristate.new.out.items ≡ map (λ w. w.items) c.args.out.now.items ++ x)) e c.select_warnings-in-Tristate.ensures
+    let e = truth_warned t.tree.now (known_at t) c.name-name.result.now (name t.tree.now c.args.id) f (mode_view c.args.symbol.now.choice)
+    (given_in c.args.user) Tristate refl c.in-Tristate.is alone c.name-name.ensures in
+    subst (λ x. OnOk c.select_warnings-in-Tristate.result
+    (map (λ w. w.items) c.select_warnings-in-Tristate.new.out.items ≡ map (λ w. w.items) c.args.out.now.items ++ x)) e c.select_warnings-in-Tristate.ensures

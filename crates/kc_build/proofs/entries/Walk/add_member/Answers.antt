@@ -18,7 +18,7 @@ returns-in_ok-push-clause-choices c =
     let w = c.args.self.now in
     let l : c.in-Some.choice.0 < length w.tables.choices.items = (let a = c.if-choice-len.true in let b = c.len.ensures in omega (arith, w.tables.choices.ok.0)) in
     let mode : Some c.in-Some.choice.0 ≡ (condition_in w.tables.contexts w.blocks.innermost.within.0).mode = c.in-Some.ensures
-    ∙ ap (λ (b : Block). (condition_in w.tables.contexts b.within.0).mode) c.innermost-round.ensures in
+    ∙ ap (λ (b : Block). (condition_in w.tables.contexts b.within.0).mode) c.innermost-outer.ensures in
     let e = c.in_ok-push.ensures.items in
     set_changed (choice_in w.tables) (one_more c.args.symbol) w.tables.choices.items c.in-Some.choice.0 c.index_mut.result.now _ l c.index_mut.ensures.value
     (λ i. record (choice_in w.tables c.index_mut.result.now) { members = e i })

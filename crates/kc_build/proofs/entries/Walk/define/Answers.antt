@@ -1,8 +1,8 @@
 use Rattle.std.proofs.Common.{◌∙◌, ap, sym, subst, Bool}
-use Rattle.kc_tree.specs.declared.parts.Entry.TheVariants as entry
+use Rattle.kc_tree.specs.declared.rows.ShownEntry.TheVariants as entry
 use Rattle.kc_tree.specs.declared.reverses.Reverses.{Reverses}
 use Rattle.kc_build.specs.declared.entries.Walk.{Walk}
-use Rattle.kc_build.specs.Passes.{said_by}
+use Rattle.kc_build.specs.Passes.{statements_of}
 use Rattle.kc_build.specs.ReverseRows.{AreAdded, KeepSources}
 use Rattle.kc_build.proofs.GrownLemmas.{pushed}
 use Rattle.kc_build.proofs.HeldLemmas.{on_ok_both}
@@ -13,7 +13,7 @@ use Rattle.kc_build.proofs.entries.Walk.define.Goals.{then-is_first+in_ok-push, 
 pub returns : goal.returns
 returns c =
     let symbols = c.args.symbols.now in
-    let own = said_by c.args.own.now in
+    let own = statements_of c.args.own.now in
     let source = c.next_definition-id.result in
     let made = c.add_definition.new.self in
     let last = c.if-is_first.self in

@@ -3,15 +3,15 @@ use Rattle.std.proofs.Common.{refl, ap, ◌∙◌, arith, is_ok, ◌≡◌, ◌+
 use Rattle.std.specs.List.{filter_map}
 use Rattle.std.specs.Option.{option_map}
 use Rattle.std.proofs.lemmas.List.{length-map, length_push}
-use Rattle.kc_read.specs.Reads.{statement_view}
+use Rattle.kc_read.specs.StatementViews.{statement_view}
 use Rattle.kc_expr.specs.Form.{Form}
 use Rattle.kc_read.specs.Blocks.{last_of}
-use Rattle.kc_read.specs.Statements.{Asked}
+use Rattle.kc_read.specs.Statements.{InputPrompt}
 use Rattle.kc_tree.specs.Contexts.{condition_in, in_choice}
 use Rattle.kc_build.specs.EntryLines.{prompt_line}
-use Rattle.kc_build.specs.Facts.{asked_of, depends_form}
+use Rattle.kc_build.specs.Facts.{prompt_of, depends_form}
 use Rattle.kc_build.specs.Growth.{IsGrown, Stands, and_all}
-use Rattle.kc_build.specs.Passes.{said_by}
+use Rattle.kc_build.specs.Passes.{statements_of}
 use Rattle.kc_build.specs.declared.blocks.Block.{Block}
 use Rattle.kc_build.proofs.ChoiceOpenLemmas.{choice_enters, extends_block, extends_push, kept_block, kept_row}
 use Rattle.kc_build.proofs.GrownLemmas.{further, further_extends, held_extends, keeping, keeping_carries, plain_carries, plain_extends, titles_carry}
@@ -61,8 +61,8 @@ invariant_of-self-2 c =
     keeping c.entry_context.new.contexts w.tables.definitions.items c.push.new.self.items w.tables.titles.items
     (kept_row w c.innermost-outer.result c.entry_context.new.contexts (length c.args.own.now) (is_ok c.push.result)
     (record { within = c.in_ok-within.within; prompt = c.in_ok-prompt.prompt; defaults = c.in_ok-defaults.defaults; members = c.new.result }) c.push.new.self.items
-    (filter_map depends_form (said_by c.args.own.now))
-    (last_of (filter_map asked_of (said_by c.args.own.now))) c.innermost-outer.ensures c.entry_context.ensures.kept c.in_ok-within.ensures.made c.requires.plain
+    (filter_map depends_form (statements_of c.args.own.now))
+    (last_of (filter_map prompt_of (statements_of c.args.own.now))) c.innermost-outer.ensures c.entry_context.ensures.kept c.in_ok-within.ensures.made c.requires.plain
     c.in_ok-prompt.ensures c.push.ensures.items)
 
 pub choice_block-requires-clause-there : goal.choice_block-requires-clause-there
@@ -84,8 +84,8 @@ invariant_of-self-3 c =
     c.choice_block.ensures.unchanged (titles_carry w.tables.contexts middle f w.tables.titles.items w.titles) (let e = c.len.ensures in omega arith)
     (kept_row w c.innermost-outer.result c.entry_context.new.contexts (length c.args.own.now) (is_ok c.push.result)
     (record { within = c.in_ok-within.within; prompt = c.in_ok-prompt.prompt; defaults = c.in_ok-defaults.defaults; members = c.new.result }) c.push.new.self.items
-    (filter_map depends_form (said_by c.args.own.now))
-    (last_of (filter_map asked_of (said_by c.args.own.now))) c.innermost-outer.ensures c.entry_context.ensures.kept c.in_ok-within.ensures.made c.requires.plain
+    (filter_map depends_form (statements_of c.args.own.now))
+    (last_of (filter_map prompt_of (statements_of c.args.own.now))) c.innermost-outer.ensures c.entry_context.ensures.kept c.in_ok-within.ensures.made c.requires.plain
     c.in_ok-prompt.ensures c.push.ensures.items))
 
 pub invariant_of-self-in-Break-branch-5 : goal.invariant_of-self-in-Break-branch-5
@@ -122,19 +122,19 @@ pub returns : goal.returns
 returns c =
     let w = c.args.self.now in
     let middle = c.entry_context.new.contexts in
-    let n : length (said_by c.args.own.now) ≡ length c.args.own.now = length-map c.args.own.now (λ l. statement_view l.statement) in
-    let grown : IsGrown w.tables.contexts middle (condition_in w.tables.contexts w.blocks.innermost.within.0).mode (length (said_by c.args.own.now)) =
+    let n : length (statements_of c.args.own.now) ≡ length c.args.own.now = length-map c.args.own.now (λ l. statement_view l.statement) in
+    let grown : IsGrown w.tables.contexts middle (condition_in w.tables.contexts w.blocks.innermost.within.0).mode (length (statements_of c.args.own.now)) =
     rw (n, ← c.innermost-outer.ensures) c.in_ok-within.ensures.kept in
-    let stands : Stands middle c.in_ok-within.within.0 (and_all (condition_in w.tables.contexts w.blocks.innermost.within.0) (filter_map depends_form (said_by c.args.own.now))) =
+    let stands : Stands middle c.in_ok-within.within.0 (and_all (condition_in w.tables.contexts w.blocks.innermost.within.0) (filter_map depends_form (statements_of c.args.own.now))) =
     rw (← c.innermost-outer.ensures) c.in_ok-within.ensures.made in
     let visible : c.in_ok-block.block.visible ≡ w.blocks.innermost.visible = c.in_ok-block.ensures.visible ∙ ap (λ (b : Block). b.visible) c.innermost-outer.ensures in
     let added : c.choice_block.new.contexts ≡ middle ++ in_choice (condition_in middle w.blocks.innermost.within.0) c.len.result ∷ [] =
     rw (← c.innermost-outer.ensures) c.in_ok-block.ensures.added in
     let asked : option_map prompt_line c.in_ok-prompt.prompt ≡
-    option_map (λ (p : Asked Form). (w.blocks.innermost.visible.0, p.when)) (last_of (filter_map asked_of (said_by c.args.own.now))) =
+    option_map (λ (p : InputPrompt Form). (w.blocks.innermost.visible.0, p.when)) (last_of (filter_map prompt_of (statements_of c.args.own.now))) =
     rw (← c.innermost-outer.ensures) c.in_ok-prompt.ensures in
     on_ok_both c.open.result _ _ _ c.open.ensures.innermost c.open.ensures.outside
-    (λ inner outside. choice_enters c.args.symbols.now (said_by c.args.own.now) w _
+    (λ inner outside. choice_enters c.args.symbols.now (statements_of c.args.own.now) w _
     (record { definitions = refl; defaults = refl; ranges = refl; reverses = refl; titles = refl; entries = refl; main_menu = refl })
     middle (record { within = c.in_ok-within.within; prompt = c.in_ok-prompt.prompt; defaults = c.in_ok-defaults.defaults; members = c.new.result }) c.in_ok-block.block
     c.next_entry-entry.result c.len.result

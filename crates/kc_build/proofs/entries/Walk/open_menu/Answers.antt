@@ -2,12 +2,12 @@
 use Rattle.std.proofs.Common.{refl, ap, ◌∙◌, ◌≡◌, ◌<◌, ◌++◌, ◌∷◌, [], length, Some}
 use Rattle.std.specs.List.{filter_map}
 use Rattle.std.proofs.lemmas.List.{length-map}
-use Rattle.kc_read.specs.Reads.{statement_view}
+use Rattle.kc_read.specs.StatementViews.{statement_view}
 use Rattle.kc_tree.specs.Contexts.{IsPlain, condition_in}
-use Rattle.kc_tree.specs.declared.parts.Entry.TheVariants as entry
+use Rattle.kc_tree.specs.declared.rows.ShownEntry.TheVariants as entry
 use Rattle.kc_build.specs.Facts.{depends_form, visible_form}
 use Rattle.kc_build.specs.Growth.{IsGrown, Stands, and_all}
-use Rattle.kc_build.specs.Passes.{said_by}
+use Rattle.kc_build.specs.Passes.{statements_of}
 use Rattle.kc_build.specs.declared.blocks.Blocks.{Blocks}
 use Rattle.kc_build.proofs.GrownLemmas.{carries_both, further, held_by, keeping_carries}
 use Rattle.kc_build.proofs.HeldLemmas.{carries_entry, carries_visible, held_opens, held_walk, keeping_both, on_ok_both, plain_visible}
@@ -50,7 +50,7 @@ add_title-requires-clause-plain c =
     let old = c.args.self.now in
     let f = carries_entry old c.innermost-outer.result c.entry_context.new.contexts (length c.args.own.now) c.innermost-outer.ensures c.entry_context.ensures.kept in
     plain_visible old c.innermost-outer.result c.entry_context.new.contexts c.visible_context.new.contexts c.in_ok-visible.visible.0 0
-    (filter_map visible_form (said_by c.args.own.now)) c.innermost-outer.ensures f c.in_ok-visible.ensures.made
+    (filter_map visible_form (statements_of c.args.own.now)) c.innermost-outer.ensures f c.in_ok-visible.ensures.made
 
 pub invariant_of-self-4 : goal.invariant_of-self-4
 invariant_of-self-4 c =
@@ -61,7 +61,7 @@ invariant_of-self-4 c =
     let g = carries_visible old c.innermost-outer.result c.entry_context.new.contexts c.visible_context.new.contexts
     (length c.args.own.now) c.innermost-outer.ensures f c.visible_context.ensures.kept in
     let plain = plain_visible old c.innermost-outer.result c.entry_context.new.contexts c.visible_context.new.contexts c.in_ok-visible.visible.0 0
-    (filter_map visible_form (said_by c.args.own.now)) c.innermost-outer.ensures f c.in_ok-visible.ensures.made in
+    (filter_map visible_form (statements_of c.args.own.now)) c.innermost-outer.ensures f c.in_ok-visible.ensures.made in
     let within : c.in_ok-within.within.0 < length made.tables.contexts =
     rw t.contexts (further c.entry_context.new.contexts c.visible_context.new.contexts g c.in_ok-within.within.0 c.in_ok-within.ensures.made.there) in
     let visible : c.in_ok-visible.visible.0 < length made.tables.contexts = rw t.contexts c.in_ok-visible.ensures.made.there in
@@ -76,21 +76,21 @@ returns c =
     let old = c.args.self.now in
     let made = c.add_title.new.self in
     let t = c.in_ok-title.ensures.title in
-    let n : length (said_by c.args.own.now) ≡ length c.args.own.now = length-map c.args.own.now (λ l. statement_view l.statement) in
-    let grown : IsGrown old.tables.contexts c.entry_context.new.contexts (condition_in old.tables.contexts old.blocks.innermost.within.0).mode (length (said_by c.args.own.now)) =
+    let n : length (statements_of c.args.own.now) ≡ length c.args.own.now = length-map c.args.own.now (λ l. statement_view l.statement) in
+    let grown : IsGrown old.tables.contexts c.entry_context.new.contexts (condition_in old.tables.contexts old.blocks.innermost.within.0).mode (length (statements_of c.args.own.now)) =
     rw (n, ← c.innermost-outer.ensures) c.in_ok-within.ensures.kept in
     let stands : Stands c.entry_context.new.contexts c.in_ok-within.within.0
-    (and_all (condition_in old.tables.contexts old.blocks.innermost.within.0) (filter_map depends_form (said_by c.args.own.now))) =
+    (and_all (condition_in old.tables.contexts old.blocks.innermost.within.0) (filter_map depends_form (statements_of c.args.own.now))) =
     rw (← c.innermost-outer.ensures) c.in_ok-within.ensures.made in
     let more : IsGrown c.entry_context.new.contexts made.tables.contexts (condition_in c.entry_context.new.contexts old.blocks.innermost.visible.0).mode
-    (length (said_by c.args.own.now)) = rw (t.contexts, n, ← c.innermost-outer.ensures) c.in_ok-visible.ensures.kept in
+    (length (statements_of c.args.own.now)) = rw (t.contexts, n, ← c.innermost-outer.ensures) c.in_ok-visible.ensures.kept in
     let sees : Stands made.tables.contexts c.in_ok-visible.visible.0
-    (and_all (condition_in c.entry_context.new.contexts old.blocks.innermost.visible.0) (filter_map visible_form (said_by c.args.own.now))) =
+    (and_all (condition_in c.entry_context.new.contexts old.blocks.innermost.visible.0) (filter_map visible_form (statements_of c.args.own.now))) =
     rw (t.contexts, ← c.innermost-outer.ensures) c.in_ok-visible.ensures.made in
     let entries : c.push.new.self.items ≡ old.tables.entries.items ++ entry.Menu c.in_ok-title.title ∷ [] = c.in_ok-push.ensures.items
     ∙ ap (λ v. v.items ++ entry.Menu c.in_ok-title.title ∷ []) t.entries in
     on_ok_both c.open.result _ _ _ c.open.ensures.innermost c.open.ensures.outside
-    (λ inner outside. menu_enters c.args.text.now (said_by c.args.own.now) old _
+    (λ inner outside. menu_enters c.args.text.now (statements_of c.args.own.now) old _
     (record { definitions = t.definitions; defaults = t.defaults; ranges = t.ranges; reverses = t.reverses; choices = t.choices; main_menu = t.main_menu })
     c.entry_context.new.contexts c.in_ok-within.within c.in_ok-visible.visible t.title c.in_ok-title.title c.next_entry-entry.result
     (record { within = c.in_ok-within.within; visible = c.in_ok-visible.visible; entry = Some c.next_entry-entry.result })

@@ -1,6 +1,6 @@
 -- The notes are open.
 use Rattle.std.proofs.Common.{subst}
-use Rattle.kc_conf.specs.declared.outputs.Which.{Which}
+use Rattle.kc_conf.specs.declared.outputs.Output.{Output}
 use Rattle.kc_disk.specs.Drafted.{drafted}
 use Rattle.kc_disk.specs.Makers.{IsOpen, Tells}
 use Rattle.kc_disk.proofs.DraftLemmas.{notes-open}
@@ -9,6 +9,6 @@ use Rattle.kc_disk.proofs.drafts.DraftsMaker.write.Goals as goal
 pub write-requires-clause-is_open : goal.write-requires-clause-is_open
 write-requires-clause-is_open g c =
     let s = c.args.self.now in
-    let told = g.M.Maker.told s.notes in
-    let P : Which → Type 0 = λ w. Tells (drafted s.config s.header s.minimal s.depfile told) (IsOpen w) in
-    notes-open s.config s.header s.minimal s.depfile told (subst P c.in-Notes.is c.requires.is_open)
+    let state = g.M.Maker.state s.notes in
+    let P : Output → Type 0 = λ w. Tells (drafted s.config s.header s.minimal s.depfile state) (IsOpen w) in
+    notes-open s.config s.header s.minimal s.depfile state (subst P c.in-Notes.is c.requires.is_open)

@@ -1,19 +1,19 @@
 -- The reads are counted, and a fault is one of the stream.
 use Rattle.std.proofs.Common.{◌≤◌, length, take, arith}
 use Rattle.std.proofs.lemmas.List.{length-take-le}
-use Rattle.kc_disk.proofs.StreamLemmas.{counted-more, endless-of, or-right}
+use Rattle.kc_disk.proofs.StreamLemmas.{reads_within-more, endless-of, or-right}
 use Rattle.kc_disk.proofs.input.FileInputInput.read.Goals as goal
 
 pub invariant_of-self-clause-fails : goal.invariant_of-self-clause-fails
 invariant_of-self-clause-fails g c = λ some.
     let s = c.args.self.now in
-    s.asked (or-right _ _ (endless-of g.P.Opener.rest (g.P.Opener.files s.opener.now) s.name.now s.stage s.reads c.if-self-ge-MOST_READS.true s.counted))
+    s.may_fail_known (or-right _ _ (endless-of g.P.Opener.rest (g.P.Opener.files s.opener.now) s.name.now s.stage s.reads c.if-self-ge-MOST_READS.true s.reads_within))
 
-pub invariant_of-self-then-count-gt0-clause-counted : goal.invariant_of-self-then-count-gt0-clause-counted
-invariant_of-self-then-count-gt0-clause-counted g c =
+pub invariant_of-self-then-count-gt0-clause-reads_within : goal.invariant_of-self-then-count-gt0-clause-reads_within
+invariant_of-self-then-count-gt0-clause-reads_within g c =
     let s = c.args.self.now in
     let taken = take c.in-Ok.count c.next.new.buffer in
     let same = c.next.auto.buffer in
-    let counted = length-take-le c.in-Ok.count c.next.new.buffer (omega (arith, c.in-Ok.ensures.within, same)) in
-    let some : 1 ≤ length taken = omega (arith, counted, c.if-count-gt0.true) in
-    counted-more _ _ _ taken s.reads 1 c.in-Ok.ensures.given some s.counted
+    let reads_within = length-take-le c.in-Ok.count c.next.new.buffer (omega (arith, c.in-Ok.ensures.within, same)) in
+    let some : 1 ≤ length taken = omega (arith, reads_within, c.if-count-gt0.true) in
+    reads_within-more _ _ _ taken s.reads 1 c.in-Ok.ensures.given some s.reads_within

@@ -2,7 +2,7 @@
 use Rattle.std.proofs.Common.{◌≡◌, ◌<◌, false, length, take, sym, ◌∙◌}
 use Rattle.std.proofs.lemmas.List.{length-take-le}
 use Rattle.kc_disk.specs.Lines.{ends_line}
-use Rattle.kc_disk.proofs.LineLemmas.{ends-chunk, noted-none, noted-places, noted-some}
+use Rattle.kc_disk.proofs.LineLemmas.{ends-chunk, noted-none, noted-states, noted-some}
 use Rattle.kc_disk.proofs.outputs.FileOutputs.note.Goals as goal
 
 pub invariant_of-self-then-not-ends_with-clause-line_waits : goal.invariant_of-self-then-not-ends_with-clause-line_waits
@@ -16,23 +16,27 @@ invariant_of-self-then-not-ends_with-clause-line_waits g c = λ none.
 
 pub returns-in-0-clause-err : goal.returns-in-0-clause-err
 returns-in-0-clause-err g c =
-    let before = g.M.Maker.told c.args.self.now.maker in
-    let after = g.M.Maker.told c.flush.new.maker in
+    let before = g.M.Maker.state c.args.self.now.maker in
+    let after = g.M.Maker.state c.flush.new.maker in
     let now = c.args.self.now in
     let old = now.line.bytes.items in
     let new = c.give_back.new.self.bytes.items in
     let text = c.args.bytes.now in
     noted-none now.options.now before after now.current now.buffer.bytes.items now.records c.fail-in-0.new.self old new text c.give_back.result
-    (λ s. noted-places now.options.now before (g.M.Maker.told c.take.new.maker) after now.current now.buffer.bytes.items s old c.take.new.self.bytes.items text c.flush.new.self.bytes.items new c.in-Ok.count c.give_back.result c.in-Ok.ensures.within c.in-Ok.ensures.ok c.flush.ensures.moves c.give_back.ensures.items c.give_back.ensures.gone)
+    (λ s. noted-states now.options.now before (g.M.Maker.state c.take.new.maker)
+    after now.current now.buffer.bytes.items s old c.take.new.self.bytes.items text c.flush.new.self.bytes.items new c.in-Ok.count c.give_back.result
+    c.in-Ok.ensures.within c.in-Ok.ensures.ok c.flush.ensures.flushes c.give_back.ensures.items c.give_back.ensures.gone)
     c.in-0.is c.fail-in-0.ensures
 
 pub returns-in_default-give_back-clause-ok : goal.returns-in_default-give_back-clause-ok
 returns-in_default-give_back-clause-ok g c =
-    let before = g.M.Maker.told c.args.self.now.maker in
-    let after = g.M.Maker.told c.flush.new.maker in
+    let before = g.M.Maker.state c.args.self.now.maker in
+    let after = g.M.Maker.state c.flush.new.maker in
     let now = c.args.self.now in
     let old = now.line.bytes.items in
     let new = c.give_back.new.self.bytes.items in
     let text = c.args.bytes.now in
     noted-some now.options.now before after now.current now.buffer.bytes.items now.records old new text c.give_back.result
-    (noted-places now.options.now before (g.M.Maker.told c.take.new.maker) after now.current now.buffer.bytes.items now.records old c.take.new.self.bytes.items text c.flush.new.self.bytes.items new c.in-Ok.count c.give_back.result c.in-Ok.ensures.within c.in-Ok.ensures.ok c.flush.ensures.moves c.give_back.ensures.items c.give_back.ensures.gone)
+    (noted-states now.options.now before (g.M.Maker.state c.take.new.maker)
+    after now.current now.buffer.bytes.items now.records old c.take.new.self.bytes.items text c.flush.new.self.bytes.items new c.in-Ok.count
+    c.give_back.result c.in-Ok.ensures.within c.in-Ok.ensures.ok c.flush.ensures.flushes c.give_back.ensures.items c.give_back.ensures.gone)

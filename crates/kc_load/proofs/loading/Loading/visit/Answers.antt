@@ -13,7 +13,7 @@ returns-in_ok-take-in-Ok-Some-clause-ok g c =
       utf8 = subst IsUtf8 c.deref.ensures.value text.1;
       is_new = ap (was_asked c.args.self.now.asked) (sym c.deref-2.ensures.value) ∙ sym c.if-was_asked.ensures;
     })
-    (subst (λ (name : List ℕ). AnswersAs (g.F.Folder.files c.args.folder.now) (path_of c.args.root.now name) (Some c.in-Ok-Some.bytes.items)) (text.0 ∙ c.deref.ensures.value) answer)
+    (subst (λ (name : List ℕ). AnswersAs (g.F.Folder.files c.args.folder.now) (path_of c.args.dir.now name) (Some c.in-Ok-Some.bytes.items)) (text.0 ∙ c.deref.ensures.value) answer)
     (record {
       files_are = refl;
       waiting_is = refl;

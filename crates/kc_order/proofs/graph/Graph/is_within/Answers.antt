@@ -1,7 +1,7 @@
-use Rattle.std.proofs.Common.{arith, sym, ◌∙◌, subst, ◌≤◌, length, ◌≡◌, ap}
+use Rattle.std.proofs.Common.{arith, sym, ◌∙◌, subst, ◌≤◌, length}
 use Rattle.std.proofs.lemmas.Bool.{true≢false}
 use Rattle.kc_order.specs.Graph.{IsGraph}
-use Rattle.kc_order.specs.Rows.{RowsBelow, GoDown}
+use Rattle.kc_order.specs.Rows.{RowsBelow}
 use Rattle.kc_order.proofs.Held.{rows_below, is_graph, graph_down}
 use Rattle.kc_order.proofs.graph.Graph.is_within.Goals as goal
 

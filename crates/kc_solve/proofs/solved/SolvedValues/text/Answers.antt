@@ -1,4 +1,4 @@
-use Rattle.kc_expr.specs.Value.{Known, text_of_known}
+use Rattle.kc_expr.specs.Value.{SymbolValue, text_of_value}
 use Rattle.kc_expr.specs.declared.expression.SymId.{SymId}
 use Rattle.kc_tree.specs.TreeFacts.{TreeFacts}
 use Rattle.kc_solve.proofs.SolvedSteps.{told}
@@ -6,4 +6,4 @@ use Rattle.kc_solve.proofs.solved.SolvedValues.text.Goals as goal
 
 pub returns : goal.returns
 returns c = told c.self.inside.table.tree.now c.self.inside.user.now c.self.inside.table.values.items c.self.invariant.full _ c.self.view_is
-    (λ (t : TreeFacts) (k : SymId → Known). text_of_known (k c.args.id)) _ c.known_text.ensures
+    (λ (t : TreeFacts) (k : SymId → SymbolValue). text_of_value (k c.args.id)) _ c.known_text.ensures

@@ -2,7 +2,7 @@ use Rattle.std.proofs.Common.{◌≡◌, ◌<◌, ◌-◌, ap, ◌∙◌, Option
 use Rattle.std.specs.Borrow.{Bor}
 use Rattle.std.specs.List.{slice_get}
 use Rattle.std.specs.Option.{option_map}
-use Rattle.kc_tree.specs.declared.parts.Context.{Context}
+use Rattle.kc_tree.specs.declared.rows.Context.{Context}
 use Rattle.kc_tree.proofs.ContextLemmas.{context-found, mode-found}
 use Rattle.kc_tree.proofs.contexts.Contexts.mode.Goals as goal
 

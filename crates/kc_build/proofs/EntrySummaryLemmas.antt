@@ -1,0 +1,77 @@
+-- The summary of an entry, before the walk goes into it.
+use Rattle.std.proofs.Common.{◌≡◌, ℕ, Bool, true, false, List, length, Option, Some, None, refl, ap, sym, ◌∙◌, inl, inr}
+use Rattle.std.specs.Prelude.{◌⊎◌}
+use Rattle.std.specs.Option.{option_map}
+use Rattle.std.proofs.lemmas.List.{length-map}
+use Rattle.std.proofs.lemmas.Option.{slice_get_within}
+use Rattle.kc_expr.specs.declared.expression.SymId.{SymId}
+use Rattle.kc_read.specs.declared.statement.Statement.{Statement}
+use Rattle.kc_read.specs.declared.statement.Statement.TheVariants as made
+use Rattle.kc_read.specs.StatementViews.{statement_view}
+use Rattle.kc_read.specs.Statements.{Numbered, ConfigLine, ChoiceLine}
+use Rattle.kc_read.specs.Blocks.{is_attribute, numbers}
+use Rattle.kc_tree.specs.declared.rows.ChoiceId.{ChoiceId}
+use Rattle.kc_tree.specs.declared.rows.Symbol.{Symbol}
+use Rattle.kc_tree.specs.Contexts.{condition_in, mode_view}
+use Rattle.kc_tree.specs.Layouts.{definition_facts}
+use Rattle.kc_build.specs.Before.{definition_at}
+use Rattle.kc_build.specs.declared.blocks.Block.{Block}
+use Rattle.kc_build.specs.declared.diagnostics.MenuEntry.TheVariants as menu_entry
+use Rattle.kc_build.specs.declared.entries.Walk.{Walk}
+use Rattle.kc_build.specs.Facts.{choice_number, enclosing_choice, symbol_at, symbol_of}
+use Rattle.kc_build.specs.FirstDefinitions.{first_of_symbol, is_first_definition_at}
+use Rattle.kc_build.specs.SymbolRows.{IsWhole, definition_number, first_by}
+use Rattle.kc_build.specs.Walks.{IsHead, IsWalk}
+use Rattle.kc_build.specs.Warnings.{begun, menu_entry_at, menu_entry_before}
+use Rattle.kc_build.proofs.FirstNumberLemmas.{first_by_number}
+use Rattle.kc_build.proofs.MenuEntryLemmas.{entry_begins, entry_goes_on, entry_here}
+use Rattle.kc_build.proofs.WalkLemmas.{choice_count}
+use Rattle.kc_build.proofs.LayoutLemmas.{length-given}
+
+-- A statement that begins no symbol and no choice.
+pub other_begins : (n : ℕ) (s : Statement) → ((t : SymId) → s ≡ made.Config t → ⊥) → (s ≡ made.Choice → ⊥) →
+    (begun n (statement_view s) ≡ menu_entry.Other) × (symbol_of (Some (statement_view s)) ≡ None)
+other_begins n (made.Config t) a b = absurd (a t refl)
+other_begins n made.Choice a b = absurd (b refl)
+other_begins n _ a b = (refl, refl)
+
+module _ (ss : List Numbered) (symbols : List Symbol) (i : ℕ) (head : Numbered) (own : List Numbered) (whole : IsWhole ss symbols) (h : IsHead ss i head own) (w : Walk)
+    (k : IsWalk ss symbols i w) where
+  attribute_begins : (n : ℕ) (s : Numbered) → is_attribute s ≡ true → begun n s ≡ menu_entry.Other
+  attribute_begins n (ConfigLine s) e = absurd cc
+  attribute_begins n ChoiceLine e = absurd cc
+  attribute_begins n _ e = refl
+
+  by_kind : (b : Bool) → is_attribute head ≡ b → ((is_attribute head ≡ false) ⊎ (i ≡ 0)) → menu_entry_at ss i ≡ begun (choice_number ss i) head
+  by_kind false e q = sym (entry_here ss i) ∙ entry_begins ss i head h.at e
+  by_kind true e (inl f) = absurd cc
+  by_kind true e (inr z) =
+      sym (entry_here ss i) ∙ entry_goes_on ss i head h.at e ∙ ap (λ (n : ℕ). menu_entry_before ss n) z ∙ sym (attribute_begins (choice_number ss i) head e)
+
+  pub entry_is : menu_entry_at ss i ≡ begun (choice_number ss i) head
+  entry_is = by_kind (is_attribute head) refl h.begins
+
+  -- the choice that the entry stands in
+  pub within_choice_is : (b : Block) (o : Option ChoiceId) → b ≡ w.blocks.innermost → mode_view o ≡ (condition_in w.tables.contexts b.within.0).mode →
+      option_map (λ (c : ChoiceId). c.0) o ≡ enclosing_choice ss i
+  within_choice_is b o e m =
+      m ∙ ap (λ (x : Block). (condition_in w.tables.contexts x.within.0).mode) e ∙ ap (λ x. x.mode) k.blocks.innermost
+
+  -- how many definitions and choices stand before it
+  pub definition_count : length w.tables.definitions.items ≡ definition_number ss i
+  definition_count =
+      sym (length-map w.tables.definitions.items (definition_facts w.tables)) ∙ ap length k.definitions ∙ length-given (symbol_at ss) (definition_at ss) (numbers i)
+
+  -- it is the first definition of its symbol
+  pub first_is : (s : SymId) (n : ℕ) → head ≡ ConfigLine s → n ≡ length w.tables.definitions.items → first_by symbols s n ≡ is_first_definition_at ss i
+  first_is s n e m =
+      let named : symbol_at ss i ≡ Some s = ap symbol_of (h.at ∙ ap Some e) in
+      ap (first_by symbols s) (m ∙ definition_count)
+      ∙ first_by_number ss symbols s i whole.symbols_are (whole.below i s named) named (slice_get_within ss i head h.at)
+      ∙ sym (ap (first_of_symbol ss i) named)
+
+  pub not_first : symbol_of (Some head) ≡ None → false ≡ is_first_definition_at ss i
+  not_first e = sym (ap (first_of_symbol ss i) (ap symbol_of h.at ∙ e))
+
+  pub choice_is : (n : ℕ) → n ≡ length w.tables.choices.items → n ≡ choice_number ss i
+  choice_is n e = e ∙ choice_count ss symbols i w k

@@ -1,0 +1,90 @@
+-- What lines say, all of it.
+use Rattle.std.proofs.Common.{◌≡◌, ℕ, ◌==◌, Bool, List, [], length, map, Some, None, Ok, Err, codes, if◌then◌else◌, ap, sym, ◌∙◌, subst}
+use Rattle.std.specs.Prelude.{nat_lt}
+use Rattle.std.specs.List.{filter_map, list_any}
+use Rattle.std.specs.Option.{option_and_then, option_or, unwrap_or}
+use Rattle.std.proofs.lemmas.List.{length-map}
+use Rattle.std.proofs.Math.Seq.{take-length}
+use Rattle.kc_expr.specs.declared.expression.SymId.{SymId}
+use Rattle.kc_expr.specs.Names.{symbol}
+use Rattle.kc_read.specs.declared.statement.Line.{Line}
+use Rattle.kc_read.specs.Blocks.{attributes, last_of, numbers}
+use Rattle.kc_read.specs.Expansion.{Refused}
+use Rattle.kc_read.specs.StatementViews.{line_view}
+use Rattle.kc_read.specs.RefusalView.{refusal_view}
+use Rattle.kc_read.specs.declared.refusal.Refusal.{Refusal}
+use Rattle.kc_read.specs.Statements.{Numbered}
+use Rattle.kc_tree.specs.declared.layout.TreeParts.{TreeParts}
+use Rattle.kc_tree.specs.declared.rows.Symbol.{Symbol}
+use Rattle.kc_tree.specs.TreeFacts.{ChoiceFacts}
+use Rattle.kc_tree.specs.Wholes.{tree_of}
+use Rattle.kc_tree.specs.Words.{listed}
+use Rattle.kc_build.specs.declared.diagnostics.Diagnostics.{Diagnostics}
+use Rattle.kc_build.specs.Before.{choices_before, main_menu_before}
+use Rattle.kc_build.specs.Facts.{StatedDefault, choice_number, choice_places, choices, entries, stated_default, is_member, members_of, guarded_symbol, prompt_at, single_symbol, symbol_facts, title_of}
+use Rattle.kc_build.specs.SymbolRows.{AreBelow, AreSymbols, member_by}
+use Rattle.kc_build.specs.Passes.{statements_of}
+use Rattle.kc_build.specs.WalkResult.{IsWalkResult, IsDiagnosed}
+use Rattle.kc_build.specs.Trees.{facts_with, tree_with, unless_refused}
+use Rattle.kc_build.specs.Warnings.{bad_members}
+use Rattle.kc_build.proofs.DiagnosedLemmas.{accepted, refused_tree}
+use Rattle.kc_build.proofs.KindLemmas.{choices_known}
+use Rattle.kc_build.proofs.LayoutLemmas.{symbols-are}
+use Rattle.kc_build.proofs.MemberLemmas.{member_is}
+use Rattle.kc_build.proofs.StatementLemmas.{statements-are}
+use Rattle.kc_build.proofs.WholeLemmas.{none_bad}
+
+-- The choices, where no member is refused.
+module _ (ss : List Numbered) where
+  abbrev choices_with : (ℕ → SymId → Bool) → List ChoiceFacts
+  choices_with members =
+      map (λ j. record {
+        prompt = prompt_at ss j;
+        defaults = filter_map
+            (λ (g : StatedDefault). option_and_then (λ s. if members (choice_number ss j) s then Some (guarded_symbol ss j s g.when) else None) (single_symbol g.value))
+            (filter_map stated_default (attributes ss j));
+        members = members_of ss (choice_number ss j);
+      }) (choice_places ss)
+
+  module _ (symbols : List Symbol) (below : AreBelow (length symbols) ss) (are : AreSymbols ss symbols) (none : bad_members ss ≡ []) where
+    members-known : member_by symbols ≡ is_member ss
+    members-known =
+        let at : (k : ℕ) (s : SymId) → member_by symbols k s ≡ is_member ss k s =
+        λ k s. ap (λ f. list_any (λ d. d == k) (listed (f s))) (choices_known ss symbols below are) ∙ sym (member_is ss s none k) in
+        λ i k s. at k s i
+
+    pub choices-are : choices_before ss symbols (length ss) ≡ choices ss
+    choices-are = ap choices_with members-known
+
+pub main_menu-is : (ss : List Numbered) → main_menu_before ss (length ss) ≡ unwrap_or (last_of (filter_map title_of ss)) (codes "Main menu")
+main_menu-is ss = ap (λ (l : List Numbered). unwrap_or (last_of (filter_map title_of l)) (codes "Main menu")) (take-length ss)
+
+module _ (names : List (List ℕ)) (count : ℕ) (modules : SymId) (lines : List Line) (d : Diagnostics) (is : IsDiagnosed names (map line_view lines) (length lines) d) where
+  all_diagnosed : IsDiagnosed names (map line_view lines) (length (map line_view lines)) d
+  all_diagnosed = subst (λ n. IsDiagnosed names (map line_view lines) n d) (sym (length-map lines line_view)) is
+
+  -- the first refusal
+  pub refused-is : (r : Refusal) → option_or d.bad_member d.bad_default ≡ Some r → Err (refusal_view r) ≡ tree_with names count modules (map line_view lines)
+  refused-is r e = sym (refused_tree names (map line_view lines) d all_diagnosed r (facts_with names count modules (map line_view lines)) e)
+
+  -- no refusal, and all that is said
+  pub whole : (p : TreeParts) → AreBelow count (statements_of lines) → length p.layout.symbols.items ≡ count → AreSymbols (statements_of lines) p.layout.symbols.items →
+      IsWalkResult (statements_of lines) p.layout.symbols.items p.layout.tables p.main_menu.items →
+      d.bad_member ≡ None → d.bad_default ≡ None → p.warnings.items ≡ d.warnings.items → p.modules ≡ (if nat_lt modules.0 count then Some modules else None) →
+      Ok (tree_of names p) ≡ tree_with names count modules (map line_view lines)
+  whole p below n are said no_member no_default warnings_are modules_is =
+      let ss = statements_of lines in
+      let a = accepted names (map line_view lines) d all_diagnosed no_member no_default in
+      let same = sym (statements-are lines) in
+      let none : bad_members ss ≡ [] = ap bad_members same ∙ none_bad names (map line_view lines) a.refusals in
+      let below_symbols : AreBelow (length p.layout.symbols.items) ss = subst (λ (k : ℕ). AreBelow k ss) (sym n) below in
+      let s = symbols-are ss p.layout are said.definitions said.selectors said.impliers
+      ∙ ap (λ (k : ℕ). map (λ i. symbol_facts ss (symbol i)) (numbers k)) n
+      ∙ ap (λ (l : List Numbered). map (λ i. symbol_facts l (symbol i)) (numbers count)) same in
+      let c = said.choices ∙ choices-are ss p.layout.symbols.items below_symbols are none ∙ ap choices same in
+      let e = said.entries ∙ ap entries same in
+      let w = ap (map (λ w. w.items)) warnings_are ∙ a.warnings_are in
+      let m = said.main_menu_is ∙ main_menu-is ss ∙ ap (λ (l : List Numbered). unwrap_or (last_of (filter_map title_of l)) (codes "Main menu")) same in
+      let facts : tree_of names p ≡ facts_with names count modules (map line_view lines) =
+      λ i. record { names = names; symbols = s i; choices = c i; entries = e i; warnings = w i; main_menu = m i; modules = modules_is i } in
+      ap Ok facts ∙ sym (ap (λ (rs : List Refused). unless_refused rs (facts_with names count modules (map line_view lines))) a.refusals)

@@ -1,0 +1,39 @@
+-- For proofs: The scope of a line: what its enclosing blocks ask for.
+use Rattle.std.specs.Prelude.{ℕ, ◌+◌, List, [], ◌++◌, Option, Some, None, if◌then◌else◌}
+use Rattle.std.specs.List.{flat_map}
+use Rattle.kc_expr.specs.Form.{Form}
+use Rattle.kc_read.specs.declared.statement.Block.TheVariants as block
+use Rattle.kc_read.specs.Statements.{Numbered, ChoiceLine}
+use Rattle.kc_read.specs.Blocks.{enclosing}
+use Rattle.kc_build.specs.Facts.{of_block, block_parts, own_visible, enclosing_visible, enclosing_choice, enclosing_block}
+
+pub record Scope : Type 0 where
+  pub parts : List Form
+  pub visible : List Form
+  pub mode : Option ℕ
+  pub opener : Option ℕ
+
+abbrev pub nothing : Scope
+nothing = record { parts = []; visible = []; mode = None; opener = None }
+
+abbrev pub next_count : Numbered → ℕ → ℕ
+next_count ChoiceLine n = n + 1
+next_count _ n = n
+
+module _ (ss : List Numbered) where
+  -- what a block that begins at a place asks of the prompts and menus in it
+  abbrev pub block_visible : ℕ → List Form
+  block_visible i = if of_block ss block.Menu i then own_visible ss i else []
+
+  -- the scope of the lines of the block that begins at a place, given the scope of its first line and the choices before
+  abbrev pub inside_from : ℕ → Scope → ℕ → Scope
+  inside_from i r choices = record {
+    parts = r.parts ++ block_parts ss i;
+    visible = r.visible ++ block_visible i;
+    mode = if of_block ss block.Choice i then Some choices else r.mode;
+    opener = Some i;
+  }
+
+  -- the scope of a place
+  abbrev pub scope_at : ℕ → Scope
+  scope_at i = record { parts = flat_map (block_parts ss) (enclosing ss i); visible = enclosing_visible ss i; mode = enclosing_choice ss i; opener = enclosing_block ss i }

@@ -1,0 +1,104 @@
+-- For proofs: What the first walk finds of symbols, and the warnings about lines by it.
+use Rattle.std.specs.Prelude.{◌≡◌, ℕ, ◌<◌, List, map, length, Option, Some, None, slice_get, option_map, unwrap_or, ◌==◌, ◌&&◌, nat_lt, is_none, is_some, Bool, true}
+use Rattle.std.specs.List.{filter_map, list_any}
+use Rattle.std.specs.Option.{option_and_then}
+use Rattle.kc_expr.specs.declared.expression.SymId.{SymId}
+use Rattle.kc_expr.specs.declared.expression.Kind.{Kind}
+use Rattle.kc_expr.specs.declared.expression.Kind.TheVariants as kind
+use Rattle.kc_expr.specs.Names.{symbol}
+use Rattle.kc_read.specs.Blocks.{numbers}
+use Rattle.kc_read.specs.Statements.{Numbered, ChoiceLine, EndMenuLine}
+use Rattle.kc_build.specs.declared.diagnostics.EntrySummary.{EntrySummary}
+use Rattle.kc_tree.specs.declared.rows.ChoiceId.{ChoiceId}
+use Rattle.kc_tree.specs.declared.rows.DefinitionId.{DefinitionId}
+use Rattle.kc_tree.specs.declared.rows.Symbol.{Symbol}
+use Rattle.kc_build.specs.declared.warning.Warning.{Warning}
+use Rattle.kc_tree.specs.Words.{listed}
+use Rattle.kc_build.specs.Facts.{kind_of, choice_of, enclosing_choice, definitions_of, stated_default, enclosing_block, single_symbol, symbol_at, is_selectable, type_of}
+use Rattle.kc_build.specs.FirstDefinitions.{is_first_definition_at}
+use Rattle.kc_tree.specs.Spans.{definition_ids}
+use Rattle.kc_build.specs.Warnings.{menu_entry_at, line_warnings_by}
+
+-- each defined symbol has a number below this one
+abbrev pub AreBelow : ℕ → List Numbered → Type 0
+AreBelow count ss = (i : ℕ) (s : SymId) → symbol_at ss i ≡ Some s → s.0 < count
+
+-- no line gives the type that stands for none
+abbrev pub AreTyped : List Numbered → Type 0
+AreTyped ss = (i : ℕ) (s : Numbered) → slice_get ss i ≡ Some s → type_of s ≡ Some kind.Undefined → ⊥
+
+-- no choice stands in another one
+abbrev pub AreChoicesApart : List Numbered → Type 0
+AreChoicesApart ss = (i : ℕ) → slice_get ss i ≡ Some ChoiceLine → enclosing_choice ss i ≡ None
+
+-- each end of a menu closes a block
+abbrev pub AreMenusOpened : List Numbered → Type 0
+AreMenusOpened ss = (i : ℕ) → slice_get ss i ≡ Some EndMenuLine → is_some (enclosing_block ss i) ≡ true
+
+-- What the first walk finds of a symbol: its type, its choice and the numbers of its definitions.
+pub record SymbolRow : Type 0 where
+  pub kind : Kind
+  pub choice : Option ℕ
+  pub definitions : List ℕ
+
+abbrev pub row_view : Symbol → SymbolRow
+row_view s = record {
+  kind = s.kind;
+  choice = option_map (λ (k : ChoiceId). k.0) s.choice;
+  definitions = map (λ (d : DefinitionId). d.0) (definition_ids s);
+}
+
+-- how many definitions stand before a place
+abbrev pub definition_number : List Numbered → ℕ → ℕ
+definition_number ss i = length (filter_map (symbol_at ss) (numbers i))
+
+-- the same, of the symbol with a number in a list of statements
+abbrev pub row_of : List Numbered → ℕ → SymbolRow
+row_of ss s = record {
+  kind = kind_of ss (symbol s);
+  choice = choice_of ss (symbol s);
+  definitions = map (definition_number ss) (definitions_of ss (symbol s));
+}
+
+-- the symbols of a list of statements
+abbrev pub AreSymbols : List Numbered → List Symbol → Type 0
+AreSymbols ss symbols = map row_view symbols ≡ map (row_of ss) (numbers (length symbols))
+
+-- a list that is walked over whole, and the symbols that are known of it
+pub record IsWhole (ss : List Numbered) (symbols : List Symbol) : Type 0 where
+  pub symbols_are : AreSymbols ss symbols
+  pub below : AreBelow (length symbols) ss
+  pub ends : AreMenusOpened ss
+
+-- the choice and the type of a symbol, by what is known of the symbols
+abbrev pub choice_by : List Symbol → SymId → Option ℕ
+choice_by symbols s = option_and_then (λ (f : Symbol). option_map (λ (c : ChoiceId). c.0) f.choice) (slice_get symbols s.0)
+
+abbrev pub kind_by : List Symbol → SymId → Kind
+kind_by symbols s = unwrap_or (option_map (λ (f : Symbol). f.kind) (slice_get symbols s.0)) kind.Undefined
+
+-- the symbol is a member of the choice, by the same
+abbrev pub member_by : List Symbol → ℕ → SymId → Bool
+member_by symbols c s = list_any (λ d. d == c) (listed (choice_by symbols s))
+
+-- selecting or implying the symbol has an effect, by the same
+abbrev pub can_be_target : List Symbol → SymId → Bool
+can_be_target symbols s = nat_lt s.0 (length symbols) && (is_none (choice_by symbols s) && is_selectable (kind_by symbols s))
+
+-- the first definition of a symbol has this number, by the same
+abbrev pub first_by : List Symbol → SymId → ℕ → Bool
+first_by symbols s n = list_any (λ (d : DefinitionId). d.0 == n) (listed (option_and_then (λ (f : Symbol). f.first) (slice_get symbols s.0)))
+
+-- the summary of the entry at a place
+pub record IsEntrySummary (ss : List Numbered) (i : ℕ) (p : EntrySummary) : Type 0 where
+  pub entry : p.entry ≡ menu_entry_at ss i
+  pub first : p.first ≡ is_first_definition_at ss i
+  pub within_choice : option_map (λ (k : ChoiceId). k.0) p.within_choice ≡ enclosing_choice ss i
+
+-- the warnings about a line, by what is known of the symbols and by the summary of its entry
+abbrev pub line_warnings_in : List Symbol → EntrySummary → Bool → Numbered → List Warning
+line_warnings_in symbols p prompted = line_warnings_by (kind_by symbols) (choice_by symbols) (member_by symbols) p.entry prompted p.first
+
+-- the symbol that a default names alone
+abbrev pub default_symbol : Numbered → Option SymId
+default_symbol s = option_and_then (λ g. single_symbol g.value) (stated_default s)

@@ -1,0 +1,87 @@
+-- For proofs: What the tables say when all lines were gone over, and what the lines have against them.
+use Rattle.std.specs.Prelude.{◌≡◌, ◌<◌, ◌≤◌, ◌+◌, ◌*◌, ◌^◌, ℕ, List, [], All, Some, filter, map, length, nat_lt, slice_get}
+use Rattle.std.specs.List.{flat_map}
+use Rattle.kc_expr.specs.Names.{symbol}
+use Rattle.kc_read.specs.Blocks.{numbers}
+use Rattle.kc_read.specs.Statements.{Numbered, Located}
+use Rattle.kc_read.specs.declared.refusal.Code.TheVariants as code
+use Rattle.kc_build.specs.declared.diagnostics.Diagnostics.{Diagnostics}
+use Rattle.kc_tree.specs.declared.layout.Tables.{Tables}
+use Rattle.kc_tree.specs.declared.rows.Definition.{Definition}
+use Rattle.kc_tree.specs.declared.rows.ShownEntry.{ShownEntry}
+use Rattle.kc_tree.specs.declared.rows.ShownEntry.TheVariants as entry
+use Rattle.kc_tree.specs.declared.rows.Span.{Span}
+use Rattle.kc_tree.specs.declared.rows.Symbol.{Symbol}
+use Rattle.kc_tree.specs.declared.rows.Title.{Title}
+use Rattle.kc_build.specs.Before.{choices_before, definitions_before, entries_before, impliers_before, main_menu_before, selectors_before}
+use Rattle.kc_build.specs.Diagnosed.{diagnosis_view}
+use Rattle.kc_build.specs.Facts.{first_of}
+use Rattle.kc_tree.specs.Layouts.{choice_facts as choice_in, definition_facts, impliers_at, selectors_at, shown_of}
+use Rattle.kc_build.specs.ReverseRows.{HaveSources}
+use Rattle.kc_tree.specs.TreeFacts.{Condition}
+use Rattle.kc_build.specs.Warnings.{bad_defaults, bad_members, refused_at, warned_at}
+
+-- no table has more rows than twice the lines before a place, and one
+pub record IsSmall (i : ℕ) (t : Tables) : Type 0 where
+  pub contexts : length t.contexts ≤ 2 * i + 1
+  pub definitions : length t.definitions.items ≤ i
+  pub defaults : length t.defaults.items ≤ i
+  pub ranges : length t.ranges.items ≤ i
+  pub lines : length t.reverses.lines.items ≤ i
+  pub titles : length t.titles.items ≤ i
+  pub entries : length t.entries.items ≤ i
+  pub choices : length t.choices.items ≤ i
+
+-- a span lies within a table of this length
+pub record IsSpanBelow (n : ℕ) (s : Span) : Type 0 where
+  pub goes_up : s.start ≤ s.end
+  pub within : s.end ≤ n
+
+-- what a title is shown under is there; an entry leads to what is there
+pub record IsTitleThere (conditions : List Condition) (t : Title) : Type 0 where
+  pub within : t.within.0 < length conditions
+  pub visible : t.visible.0 < length conditions
+
+abbrev pub IsEntryThere : ℕ → ℕ → ShownEntry → Type 0
+IsEntryThere titles entries (entry.Symbol s) = Unit {0}
+IsEntryThere titles entries (entry.Menu id) = id.0 < titles
+IsEntryThere titles entries (entry.End menu) = menu < entries
+IsEntryThere titles entries (entry.Comment id) = id.0 < titles
+
+-- rows lead only to rows that are there, so that they say the same once the tables have more
+pub record AreRowsThere (t : Tables) : Type 0 where
+  pub defaults : (i : ℕ) (d : Definition) → slice_get t.definitions.items i ≡ Some d → IsSpanBelow (length t.defaults.items) d.defaults
+  pub ranges : (i : ℕ) (d : Definition) → slice_get t.definitions.items i ≡ Some d → IsSpanBelow (length t.ranges.items) d.ranges
+  pub sources : HaveSources (length t.definitions.items) t.reverses.lines.items
+  pub titles : All (IsTitleThere t.contexts) t.titles.items
+  pub entries : All (IsEntryThere (length t.titles.items) (length t.entries.items)) t.entries.items
+
+-- there is room for an entry of so many lines
+pub record HasRoom (n : ℕ) (t : Tables) : Type 0 where
+  pub contexts : length t.contexts + 2 * n + 2 < 2 ^ 32
+  pub definitions : length t.definitions.items + n + 1 < 2 ^ 32
+  pub defaults : length t.defaults.items + n < 2 ^ 32
+  pub ranges : length t.ranges.items + n < 2 ^ 32
+  pub lines : length t.reverses.lines.items + n < 2 ^ 32
+  pub titles : length t.titles.items + 1 < 2 ^ 32
+  pub entries : length t.entries.items + 1 < 2 ^ 32
+
+-- a last line of each kind, or none, for each symbol
+pub record HasHeads (symbols : List Symbol) (t : Tables) : Type 0 where
+  pub selects : length t.reverses.selects.items ≡ length symbols
+  pub implies : length t.reverses.implies.items ≡ length symbols
+
+-- what the lines before a place have against them
+pub record IsDiagnosed (names : List (List ℕ)) (ls : List (Located Numbered)) (i : ℕ) (d : Diagnostics) : Type 0 where
+  pub member : (diagnosis_view d).member ≡ first_of (flat_map (refused_at names ls code.ChoiceMember) (filter (λ j. nat_lt j i) (bad_members (map (λ l. l.statement) ls))))
+  pub default : (diagnosis_view d).default ≡ first_of (flat_map (refused_at names ls code.BadDefault) (filter (λ j. nat_lt j i) (bad_defaults (map (λ l. l.statement) ls))))
+  pub warnings : bad_members (map (λ l. l.statement) ls) ≡ [] → (diagnosis_view d).warnings ≡ flat_map (λ j. warned_at names ls j (slice_get ls j)) (numbers i)
+
+-- all that lines say
+pub record IsWalkResult (ss : List Numbered) (symbols : List Symbol) (t : Tables) (main_menu : List ℕ) : Type 0 where
+  pub definitions : map (definition_facts t) t.definitions.items ≡ definitions_before ss (length ss)
+  pub selectors : (s : ℕ) → s < length symbols → selectors_at t s ≡ selectors_before ss (length ss) (symbol s)
+  pub impliers : (s : ℕ) → s < length symbols → impliers_at t s ≡ impliers_before ss (length ss) (symbol s)
+  pub choices : map (choice_in t) t.choices.items ≡ choices_before ss symbols (length ss)
+  pub entries : map (shown_of t) t.entries.items ≡ entries_before ss (length ss)
+  pub main_menu_is : main_menu ≡ main_menu_before ss (length ss)

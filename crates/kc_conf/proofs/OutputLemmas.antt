@@ -1,0 +1,81 @@
+-- Texts written one after another.
+use Rattle.std.proofs.Common.{◌≡◌, ◌<◌, ◌+◌, ℕ, List, [], ◌∷◌, ◌++◌, sym, ap, ◌∙◌, append_assoc, append-nil, take, drop, length, get_or, Option, inl, inr, refl}
+use Rattle.std.proofs.lemmas.List.{take-append-drop, take_more}
+use Rattle.std.proofs.lemmas.Grind.{flat_map-append}
+use Rattle.std.specs.Prelude.{flat_map}
+use Rattle.kc_dot.proofs.SinkLemmas.{extended-extended}
+use Rattle.kc_dot.specs.Sink.{extended, next_failure}
+use Rattle.kc_conf.specs.declared.options.Options.{Options}
+use Rattle.kc_conf.specs.Faults.{after_fault, error_line, NotesLine, Reports, StrikesNotes}
+use Rattle.kc_conf.specs.OutputStates.{OutputState, OutputStates, at, with_state, grown, failed, with_text, ChangesOnly, ChangesOnly-same, BreaksOutput}
+use Rattle.kc_conf.specs.Reads.{notes_failures_after}
+use Rattle.kc_conf.specs.declared.run_fault.RunFault.{RunFault}
+use Rattle.kc_conf.specs.declared.run_fault.RunFault.TheVariants.{Read, Write, Memory}
+use Rattle.kc_conf.specs.declared.outputs.Output.{Output}
+use Rattle.kc_conf.specs.declared.outputs.Output.TheVariants.{Config, Header, Minimal, Depfile, Notes}
+
+pub grown-grown : (state : OutputState) (a b : List ℕ) → grown (grown state a) b ≡ grown state (a ++ b)
+grown-grown state a b = ap (λ t. let p : OutputState = record state { text = t } in p) (extended-extended state.text a b)
+
+pub with_text-with_text : (a b : List ℕ) (states : OutputStates) → with_text Notes b (with_text Notes a states) ≡ with_text Notes (a ++ b) states
+with_text-with_text a b states = ap (λ p. with_state states Notes p) (grown-grown states.notes a b)
+
+-- the notes broke off in the second text
+pub BreaksOutput-after : (a b : List ℕ) (old new : OutputStates) → BreaksOutput Notes b (with_text Notes a old) new → BreaksOutput Notes (a ++ b) old new
+BreaksOutput-after a b old new (front, (rest, begins), is) =
+    (a ++ front, (rest, ap (λ t. a ++ t) begins ∙ sym (append_assoc a front rest)), is ∙ ap (λ p. with_state old Notes (failed p)) (grown-grown old.notes a front))
+
+-- or in the first
+pub BreaksOutput-before : (a b : List ℕ) (old new : OutputStates) → BreaksOutput Notes a old new → BreaksOutput Notes (a ++ b) old new
+BreaksOutput-before a b old new (front, (rest, begins), is) = (front, (rest ++ b, ap (λ t. t ++ b) begins ∙ append_assoc front rest b), is)
+
+-- one part of many, with those before it and those behind it
+pub flat_map-at : {X : Type 0} (f : X → List ℕ) (xs : List X) (i : ℕ) (d : X) → i < length xs →
+    flat_map f xs ≡ (flat_map f (take i xs) ++ f (get_or xs i d)) ++ flat_map f (drop (i + 1) xs)
+flat_map-at f xs i d within =
+    ap (flat_map f) (sym (take-append-drop (i + 1) xs)) ∙ flat_map-append f (take (i + 1) xs) (drop (i + 1) xs)
+    ∙ ap (λ t. t ++ flat_map f (drop (i + 1) xs)) (ap (flat_map f) (take_more xs i d within) ∙ flat_map-append f (take i xs) (get_or xs i d ∷ [])
+    ∙ ap (λ t. flat_map f (take i xs) ++ t) (append-nil (f (get_or xs i d))))
+
+-- one part of many broke off
+pub BreaksOutput-at : {X : Type 0} (f : X → List ℕ) (xs : List X) (i : ℕ) (d : X) (old mid new : OutputStates) → i < length xs →
+    mid ≡ with_text Notes (flat_map f (take i xs)) old → BreaksOutput Notes (f (get_or xs i d)) mid new → BreaksOutput Notes (flat_map f xs) old new
+BreaksOutput-at f xs i d old mid new within so_far broke =
+    rw (flat_map-at f xs i d within) (BreaksOutput-before (flat_map f (take i xs) ++ f (get_or xs i d)) (flat_map f (drop (i + 1) xs)) old new
+    (BreaksOutput-after (flat_map f (take i xs)) (f (get_or xs i d)) old new (rw so_far at broke)))
+
+-- an output after the only change of it
+pub ChangesOnly-text : (output : Output) (old new : OutputStates) (text : Option (List ℕ)) (failures : ℕ) → ChangesOnly output old new →
+    (at new output).text ≡ text → (at new output).failures ≡ failures →
+    new ≡ with_state old output (let p : OutputState = record { is_begun = (at old output).is_begun; is_ended = (at old output).is_ended; text = text; failures = failures } in p)
+ChangesOnly-text output old new text failures only first second = rw (← first, ← second) only
+
+-- the notes grew by this
+pub with_text-only : (old new : OutputStates) (text : List ℕ) → ChangesOnly Notes old new → new.notes.text ≡ extended old.notes.text text →
+    new.notes.failures ≡ old.notes.failures → new ≡ with_text Notes text old
+with_text-only old new text only grew quiet = ChangesOnly-text Notes old new (extended old.notes.text text) old.notes.failures only grew quiet
+
+-- and broke off for this cause
+pub after_fault-only : (cause : RunFault) (old new : OutputStates) (text : List ℕ) → StrikesNotes cause → ChangesOnly Notes old new → new.notes.text ≡ extended old.notes.text text →
+    new.notes.failures ≡ notes_failures_after cause old.notes.failures → new ≡ after_fault cause (with_text Notes text old)
+after_fault-only (Read input) old new text strikes only grew counts = with_text-only old new text only grew counts
+after_fault-only Memory old new text strikes only grew counts = with_text-only old new text only grew counts
+after_fault-only (Write Notes) old new text strikes only grew counts = ChangesOnly-text Notes old new (extended old.notes.text text) (next_failure old.notes.failures) only grew counts
+after_fault-only (Write Config) old new text strikes only grew counts = absurd (let e : Config ≡ Notes = strikes in cc)
+after_fault-only (Write Header) old new text strikes only grew counts = absurd (let e : Header ≡ Notes = strikes in cc)
+after_fault-only (Write Minimal) old new text strikes only grew counts = absurd (let e : Minimal ≡ Notes = strikes in cc)
+after_fault-only (Write Depfile) old new text strikes only grew counts = absurd (let e : Depfile ≡ Notes = strikes in cc)
+
+-- an error line changes the notes alone
+NotesLine-only : (line : List ℕ) (old new : OutputStates) → NotesLine line old new → ChangesOnly Notes old new
+NotesLine-only line old new (inl is) = rw is refl
+NotesLine-only line old new (inr (front, begins, is)) = rw is refl
+
+pub Reports-only : (options : Options) (cause : RunFault) (old new : OutputStates) → Reports options cause old new → ChangesOnly Notes old new
+Reports-only options (Read input) old new line = NotesLine-only (error_line options (Read input)) old new line
+Reports-only options Memory old new line = NotesLine-only (error_line options Memory) old new line
+Reports-only options (Write Config) old new line = NotesLine-only (error_line options (Write Config)) old new line
+Reports-only options (Write Header) old new line = NotesLine-only (error_line options (Write Header)) old new line
+Reports-only options (Write Minimal) old new line = NotesLine-only (error_line options (Write Minimal)) old new line
+Reports-only options (Write Depfile) old new line = NotesLine-only (error_line options (Write Depfile)) old new line
+Reports-only options (Write Notes) old new same = rw same (ChangesOnly-same Notes old)

@@ -1,0 +1,187 @@
+//! The warnings of the streams: told as they come, or held until all streams are read.
+ghost use Rattle.std.specs.Prelude.{◌≡◌, ◌+◌, [], false, length, map, Some, IfOk, OnOk, IfErr, OnErr, ⊤};
+ghost use Rattle.std.specs.Option.{option_map};
+ghost use Rattle.kc_user.specs.Places.{ArePlacesOf};
+ghost use Rattle.kc_conf.specs.Faults.{CountsInputs, StrikesNotes};
+ghost use Rattle.kc_conf.specs.Outcome.{has_text, names_of};
+ghost use Rattle.kc_conf.specs.OutputStates.{ChangesOnly};
+ghost use Rattle.kc_conf.specs.Reads.{stop_of, notes_failures_after, BreaksStreams, BreaksTelling, ReadsStreams, TellsStreams};
+
+use crate::input::Input;
+use crate::notes::note_text;
+use crate::options::Options;
+use crate::outputs::{Output, OutputSink, Outputs};
+use crate::reading::{LongLine, read_streams};
+use crate::run_fault::RunFault;
+use kc_dot::{Fault, Sink};
+use kc_tree::tree::Tree;
+use kc_user::user::User;
+use std::alloc::Global;
+
+// A text that is kept in memory. It fails only where memory is refused.
+#[derive(Drop)]
+struct MemorySink {
+    text: Vec<u8>,
+    failures: u64,
+}
+
+impl MemorySink {
+    // Nothing yet.
+    fn new(alloc: Global) -> MemorySink
+        ensures { result.text.items ≡ [] }
+    {
+        MemorySink {
+            text: Vec::new(alloc),
+            failures: 0,
+        }
+    }
+}
+
+impl Sink for MemorySink {
+    ghost taken = { λ h. Some h.text.items };
+
+    ghost failures = { λ h. h.failures };
+
+    ghost goes_to = { λ g h. ⊤ };
+
+    fn write(&mut self, bytes: &[u8]) -> Result<usize, Fault> {
+        match self.text.extend_from_slice(bytes) {
+            Ok(()) => Ok(bytes.len()),
+            Err(_) => {
+                self.failures = self.failures.saturating_add(1);
+                Err(Fault)
+            }
+        }
+    }
+
+    ghost stays = { λ g. tt };
+
+    ghost goes_on = { λ f g h a b. tt };
+}
+
+/// What reading the streams came to.
+#[derive(Clone, Copy, Debug)]
+pub struct StreamsRead<'a> {
+    /// The line that is too long, where there is one.
+    pub long: Option<LongLine<'a>>,
+    /// Whether any warning was told. It is known only where warnings are refused.
+    pub is_warned: bool,
+}
+
+// Whether the text is not empty.
+#[tactic(auto, using(crate::proofs::TellingLemmas::told_text))]
+fn is_some_text(text: &[u8]) -> bool
+    ensures { result ≡ has_text text.now }
+{
+    !text.is_empty()
+}
+
+// Reads the streams, with the warnings on the notes as they come.
+fn read_to_notes<'a, I: Input, O: Outputs>(
+    alloc: Global,
+    options: &'a Options,
+    tree: &Tree,
+    inputs: &mut [I],
+    user: &mut User,
+    outputs: &mut O,
+) -> Result<Option<LongLine<'a>>, RunFault>
+    requires inputs { length inputs.old ≡ length options.now.fragments.items + 1 }
+    requires user { ArePlacesOf tree.now user.old }
+    ensures ok { IfOk result (λ long. ReadsStreams tree.now options.now.prefix (names_of options.now) (option_map stop_of long) (map I.remaining inputs.old) user.old user.new (O.states outputs.old).notes.text (O.states outputs.new).notes.text) }
+    ensures err { OnErr result (BreaksStreams tree.now options.now.prefix (names_of options.now) (map I.remaining inputs.old) user.old (O.states outputs.old).notes.text (O.states outputs.new).notes.text) }
+    ensures quiet { OnOk result ((O.states outputs.new).notes.failures ≡ (O.states outputs.old).notes.failures) }
+    ensures cause { IfErr result StrikesNotes }
+    ensures counted { IfErr result (λ cause. (O.states outputs.new).notes.failures ≡ notes_failures_after cause (O.states outputs.old).notes.failures) }
+    ensures quiet_inputs { OnOk result (map I.failures inputs.new ≡ map I.failures inputs.old) }
+    ensures counted_inputs { IfErr result (λ cause. CountsInputs cause (map I.failures inputs.old) (map I.failures inputs.new)) }
+    ensures only { ChangesOnly Output.Notes (O.states outputs.old) (O.states outputs.new) }
+    ensures user { ArePlacesOf tree.now user.new }
+{
+    let mut sink = OutputSink::new(outputs, Output::Notes);
+    read_streams(alloc, options, tree, inputs, user, &mut sink)
+}
+
+// Reads the streams, each warning being told as it comes.
+fn tell<'a, I: Input, O: Outputs>(
+    alloc: Global,
+    options: &'a Options,
+    tree: &Tree,
+    inputs: &mut [I],
+    user: &mut User,
+    outputs: &mut O,
+) -> Result<StreamsRead<'a>, RunFault>
+    requires lenient { options.now.strict ≡ false }
+    requires inputs { length inputs.old ≡ length options.now.fragments.items + 1 }
+    requires user { ArePlacesOf tree.now user.old }
+    ensures ok { IfOk result (λ s. TellsStreams tree.now options.now.prefix options.now.strict (names_of options.now) (option_map stop_of s.long) s.is_warned (map I.remaining inputs.old) user.old user.new (O.states outputs.old) (O.states outputs.new)) }
+    ensures err { IfErr result (λ cause. BreaksTelling tree.now options.now.prefix (names_of options.now) cause (map I.remaining inputs.old) user.old (O.states outputs.old) (O.states outputs.new)) }
+    ensures cause { IfErr result StrikesNotes }
+    ensures quiet_inputs { OnOk result (map I.failures inputs.new ≡ map I.failures inputs.old) }
+    ensures counted_inputs { IfErr result (λ cause. CountsInputs cause (map I.failures inputs.old) (map I.failures inputs.new)) }
+    ensures user { ArePlacesOf tree.now user.new }
+{
+    match read_to_notes(alloc, options, tree, inputs, user, outputs) {
+        Ok(long) => Ok(StreamsRead {
+            long,
+            is_warned: false,
+        }),
+        Err(cause) => Err(cause),
+    }
+}
+
+// Reads the streams, and then tells their warnings. Where a stream cannot be read, none is told.
+fn hold<'a, I: Input, O: Outputs>(
+    alloc: Global,
+    options: &'a Options,
+    tree: &Tree,
+    inputs: &mut [I],
+    user: &mut User,
+    outputs: &mut O,
+) -> Result<StreamsRead<'a>, RunFault>
+    requires inputs { length inputs.old ≡ length options.now.fragments.items + 1 }
+    requires user { ArePlacesOf tree.now user.old }
+    ensures ok { IfOk result (λ s. TellsStreams tree.now options.now.prefix options.now.strict (names_of options.now) (option_map stop_of s.long) s.is_warned (map I.remaining inputs.old) user.old user.new (O.states outputs.old) (O.states outputs.new)) }
+    ensures err { IfErr result (λ cause. BreaksTelling tree.now options.now.prefix (names_of options.now) cause (map I.remaining inputs.old) user.old (O.states outputs.old) (O.states outputs.new)) }
+    ensures cause { IfErr result StrikesNotes }
+    ensures quiet_inputs { OnOk result (map I.failures inputs.new ≡ map I.failures inputs.old) }
+    ensures counted_inputs { IfErr result (λ cause. CountsInputs cause (map I.failures inputs.old) (map I.failures inputs.new)) }
+    ensures user { ArePlacesOf tree.now user.new }
+{
+    let mut held = MemorySink::new(alloc);
+    let long = match read_streams(alloc, options, tree, inputs, user, &mut held) {
+        Ok(long) => long,
+        Err(RunFault::Write(_)) => return Err(RunFault::Memory),
+        Err(cause) => return Err(cause),
+    };
+    let is_warned = is_some_text(held.text.as_slice());
+    match note_text(outputs, held.text.as_slice()) {
+        Ok(()) => Ok(StreamsRead { long, is_warned }),
+        Err(Fault) => Err(RunFault::Write(Output::Notes)),
+    }
+}
+
+/// Reads the streams one after another, with their warnings on the notes, to the end of the last or to a line that is too
+/// long. Where warnings are refused, they are told when all is read, and it is answered whether there is any.
+pub fn tell_streams<'a, I: Input, O: Outputs>(
+    alloc: Global,
+    options: &'a Options,
+    tree: &Tree,
+    inputs: &mut [I],
+    user: &mut User,
+    outputs: &mut O,
+) -> Result<StreamsRead<'a>, RunFault>
+    requires inputs { length inputs.old ≡ length options.now.fragments.items + 1 }
+    requires user { ArePlacesOf tree.now user.old }
+    ensures ok { IfOk result (λ s. TellsStreams tree.now options.now.prefix options.now.strict (names_of options.now) (option_map stop_of s.long) s.is_warned (map I.remaining inputs.old) user.old user.new (O.states outputs.old) (O.states outputs.new)) }
+    ensures err { IfErr result (λ cause. BreaksTelling tree.now options.now.prefix (names_of options.now) cause (map I.remaining inputs.old) user.old (O.states outputs.old) (O.states outputs.new)) }
+    ensures cause { IfErr result StrikesNotes }
+    ensures quiet_inputs { OnOk result (map I.failures inputs.new ≡ map I.failures inputs.old) }
+    ensures counted_inputs { IfErr result (λ cause. CountsInputs cause (map I.failures inputs.old) (map I.failures inputs.new)) }
+    ensures user { ArePlacesOf tree.now user.new }
+{
+    if options.strict {
+        hold(alloc, options, tree, inputs, user, outputs)
+    } else {
+        tell(alloc, options, tree, inputs, user, outputs)
+    }
+}

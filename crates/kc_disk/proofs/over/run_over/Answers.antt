@@ -1,8 +1,0 @@
--- A fault of loading is told.
-use Rattle.kc_disk.proofs.RanLemmas.{unloaded-of}
-use Rattle.kc_disk.proofs.over.run_over.Goals as goal
-
-pub returns-in-Err : goal.returns-in-Err
-returns-in-Err g c =
-    let o = c.configure_over-ended.ensures in
-    unloaded-of _ _ _ _ c.in-Err.fault _ _ _ _ _ c.in-Err.is o.fault o.untouched o.failing_stays c.tell_fault.ensures

@@ -1,0 +1,8 @@
+-- A fault of loading is reported.
+use Rattle.kc_disk.proofs.RanLemmas.{unloaded-of}
+use Rattle.kc_disk.proofs.run.run_over.Goals as goal
+
+pub returns-in-Err : goal.returns-in-Err
+returns-in-Err g c =
+    let o = c.configure_over-ended.ensures in
+    unloaded-of _ _ _ _ c.in-Err.fault _ _ _ _ _ c.in-Err.is o.fault o.untouched o.failing_stays c.report_load_fault.ensures

@@ -1,9 +1,0 @@
--- The parts are said, up to one that was not taken whole.
-use Rattle.std.proofs.Common.{List, ℕ, Bor, sym, ◌∙◌}
-use Rattle.kc_disk.proofs.SaysLemmas.{says-parts, short-fails}
-use Rattle.kc_disk.proofs.tell.write_parts.Goals as goal
-
-pub returns-then-write_front-part : goal.returns-then-write_front-part
-returns-then-write_front-part g c =
-    let fails = short-fails _ _ _ c.if-write_front-part.true c.write_front.ensures.whole in
-    says-parts (λ (part : Bor (List ℕ)). part.now) c.args.parts.now c.loop-part.part-index c.write_front.result _ _ _ _ _ c.loop-part-test.true c.loop-part.invariant.told c.write_front.ensures.told (sym c.loop-part.invariant.stays ∙ fails)

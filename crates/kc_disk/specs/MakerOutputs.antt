@@ -1,0 +1,89 @@
+-- For proofs: The states of the outputs over a maker of files.
+use Rattle.std.specs.Prelude.{◌≡◌, ℕ, Bool, true, false, List, [], ◌++◌, Option, Some, option_map}
+use Rattle.kc_dot.specs.Sink.{next_failure}
+use Rattle.kc_conf.specs.OutputStates.{OutputState, OutputStates}
+use Rattle.kc_conf.specs.Faults.{name_of}
+use Rattle.kc_conf.specs.declared.outputs.Output.{Output}
+use Rattle.kc_conf.specs.declared.outputs.Output.TheVariants.{Config, Header, Minimal, Depfile, Notes}
+use Rattle.kc_conf.specs.declared.options.Options.{Options}
+use Rattle.kc_disk.specs.Makers.{MakerState, MadeFile, made_of}
+use Rattle.kc_disk.specs.declared.records.OutputRecord.{OutputRecord}
+use Rattle.kc_disk.specs.declared.records.OutputRecords.{OutputRecords}
+
+-- what waits for that file, where this one is open
+abbrev pub waiting : Option Output → Output → List ℕ → List ℕ
+waiting (Some Config) Config bytes = bytes
+waiting (Some Header) Header bytes = bytes
+waiting (Some Minimal) Minimal bytes = bytes
+waiting (Some Depfile) Depfile bytes = bytes
+waiting _ _ bytes = []
+
+-- what an output took: what reached it, and then what waits
+abbrev pub output_text : Option MakerState → Output → List ℕ → Option (List ℕ)
+output_text state output bytes = option_map (λ t. (made_of t output).bytes ++ bytes) state
+
+abbrev pub state_of : OutputRecord → Option (List ℕ) → OutputState
+state_of r text = record { is_begun = r.is_begun; is_ended = r.is_ended; text = text; failures = r.failures }
+
+-- the states of the outputs: by the names of the options, what a maker tells, the file that is open, what waits for it and
+-- for the notes, and the records
+abbrev pub states_of : Options → Option MakerState → Option Output → List ℕ → List ℕ → OutputRecords → OutputStates
+states_of options state current bytes line r = record {
+  config = state_of r.config (output_text state Config (waiting current Config bytes));
+  header = state_of r.header (output_text state Header (waiting current Header bytes));
+  minimal = state_of r.minimal (output_text state Minimal (waiting current Minimal bytes));
+  depfile = state_of r.depfile (output_text state Depfile (waiting current Depfile bytes));
+  notes = state_of r.notes (output_text state Notes line);
+  names = λ w. name_of options w;
+}
+
+-- ---- the records
+
+-- an output that was not begun and has not failed
+abbrev pub new_record : OutputRecord
+new_record = record { is_begun = false; is_ended = false; failures = 0 }
+
+abbrev pub record_at : OutputRecords → Output → OutputRecord
+record_at r Config = r.config
+record_at r Header = r.header
+record_at r Minimal = r.minimal
+record_at r Depfile = r.depfile
+record_at r Notes = r.notes
+
+abbrev pub with_record : OutputRecords → Output → OutputRecord → OutputRecords
+with_record r Config x = record r { config = x }
+with_record r Header x = record r { header = x }
+with_record r Minimal x = record r { minimal = x }
+with_record r Depfile x = record r { depfile = x }
+with_record r Notes x = record r { notes = x }
+
+abbrev pub record_begun : OutputRecord → OutputRecord
+record_begun r = record { is_begun = true; is_ended = false; failures = r.failures }
+
+abbrev pub record_ended : OutputRecord → OutputRecord
+record_ended r = record { is_begun = r.is_begun; is_ended = true; failures = r.failures }
+
+abbrev pub record_failed : OutputRecord → OutputRecord
+record_failed r = record { is_begun = r.is_begun; is_ended = r.is_ended; failures = next_failure r.failures }
+
+-- ---- what the outputs keep
+
+-- whether this file is the open one
+abbrev pub is_current : Option Output → Output → Bool
+is_current (Some Config) Config = true
+is_current (Some Header) Header = true
+is_current (Some Minimal) Minimal = true
+is_current (Some Depfile) Depfile = true
+is_current _ _ = false
+
+-- record and file of one output agree: a file that was begun has its output's name, and one that was ended is closed
+abbrev pub IsConsistent : List ℕ → OutputRecord → MadeFile → Type 0
+IsConsistent name r made = (r.is_begun ≡ true → made.name ≡ name) × (r.is_ended ≡ true → made.is_open ≡ false)
+
+-- those of all outputs agree, and only the current file is open
+abbrev pub AreConsistent : Options → Option Output → OutputRecords → MakerState → Type 0
+AreConsistent options current r t =
+    (t.config.is_open ≡ is_current current Config) × (t.header.is_open ≡ is_current current Header) × (t.minimal.is_open ≡ is_current current Minimal)
+    × (t.depfile.is_open ≡ is_current current Depfile) × (t.notes.is_open ≡ true)
+    × IsConsistent (name_of options Config) r.config t.config × IsConsistent (name_of options Header) r.header t.header
+    × IsConsistent (name_of options Minimal) r.minimal t.minimal × IsConsistent (name_of options Depfile) r.depfile t.depfile

@@ -1,0 +1,110 @@
+-- Trusted: What a mover of files tells, and how the files of a run take their places.
+use Rattle.std.specs.Prelude.{◌≡◌, ℕ, ◌+◌, Bool, false, not, ◌||◌, List, [], ◌∷◌, ◌++◌, drop, take, filter, Option, None, Some, option_map, bytes_eq, if◌then◌else◌}
+use Rattle.std.specs.Option.{option_map_or}
+
+-- a text, and the name of its place
+pub record NamedText : Type 0 where
+  pub name : List ℕ
+  pub bytes : List ℕ
+
+-- what the file of each name holds, or nothing where there is none, and how often another took its place
+pub record Held : Type 0 where
+  pub bytes : List ℕ → Option (List ℕ)
+  pub moves : List ℕ → ℕ
+
+-- the state of a mover: what is held; the file beside its place that is being written; and those beside their places that
+-- are whole and on the disk, in the order in which they were made
+pub record MoverState : Type 0 where
+  pub held : Held
+  pub begun : Option NamedText
+  pub whole : List NamedText
+
+-- a mover in a call: what it tells before and after, and whether it may fail
+pub record MoverCall : Type 0 where
+  pub state : Option MoverState
+  pub state_after : Option MoverState
+  pub may_fail : Bool
+
+abbrev pub mover_call : Option MoverState → Option MoverState → Bool → MoverCall
+mover_call state state_after may_fail = record { state = state; state_after = state_after; may_fail = may_fail }
+
+-- nothing was moved
+abbrev pub IsStill : MoverCall → Type 0
+IsStill mover = mover.state_after ≡ mover.state
+
+-- ---- what a mover does
+
+-- an empty file is made beside the place of this name
+abbrev pub started : List ℕ → MoverState → MoverState
+started name s = record { held = s.held; begun = Some (record { name = name; bytes = [] }); whole = s.whole }
+
+-- the file that is being written has these bytes after its own
+abbrev pub grown_by : List ℕ → MoverState → MoverState
+grown_by bytes s = record { held = s.held; begun = option_map (λ t. record { name = t.name; bytes = t.bytes ++ bytes }) s.begun; whole = s.whole }
+
+-- it is whole, and on the disk
+abbrev pub finished : MoverState → MoverState
+finished s = record { held = s.held; begun = None; whole = s.whole ++ option_map_or (λ t. t ∷ []) s.begun [] }
+
+-- this text is what its place holds: a file more took that place
+abbrev pub put : NamedText → Held → Held
+put t held = record {
+  bytes = λ n. if bytes_eq n t.name then Some t.bytes else held.bytes n;
+  moves = λ n. if bytes_eq n t.name then held.moves n + 1 else held.moves n;
+}
+
+abbrev pub put_first : List NamedText → Held → Held
+put_first [] held = held
+put_first (t ∷ texts) held = put t held
+
+-- the first of the whole files took its place
+abbrev pub moved : MoverState → MoverState
+moved s = record { held = put_first s.whole s.held; begun = s.begun; whole = drop 1 s.whole }
+
+-- nothing stands beside a place
+abbrev pub cleared : MoverState → MoverState
+cleared s = record { held = s.held; begun = None; whole = [] }
+
+abbrev pub IsClear : MoverState → Type 0
+IsClear s = (s.begun ≡ None) × (s.whole ≡ [])
+
+-- ---- what is to be
+
+-- the file of this name holds these bytes
+abbrev pub is_held : Held → List ℕ → List ℕ → Bool
+is_held held name bytes = option_map_or (λ b. bytes_eq b bytes) (held.bytes name) false
+
+-- one of the texts has this name
+abbrev pub has_name : List ℕ → List NamedText → Bool
+has_name name [] = false
+has_name name (t ∷ texts) = bytes_eq t.name name || has_name name texts
+
+-- two of the texts have one name
+abbrev pub share_name : List NamedText → Bool
+share_name [] = false
+share_name (t ∷ texts) = has_name t.name texts || share_name texts
+
+-- the texts that are not in their places, or all
+abbrev pub changed_or_all : Bool → List NamedText → Held → List NamedText
+changed_or_all all texts held = filter (λ t. all || not (is_held held t.name t.bytes)) texts
+
+-- the texts that are to take their places: those that are not there; all, where two have one name
+abbrev pub changed : List NamedText → Held → List NamedText
+changed texts held = changed_or_all (share_name texts) texts held
+
+-- one after another is put in its place
+abbrev pub put_all : List NamedText → Held → Held
+put_all [] held = held
+put_all (t ∷ texts) held = put_all texts (put t held)
+
+-- Each text is in its place: where it was there before, the file was not touched.
+abbrev pub replaced : List NamedText → MoverState → MoverState
+replaced texts s = record { held = put_all (changed texts s.held) s.held; begun = s.begun; whole = s.whole }
+
+-- the first of those that were to change are in their places, and the others are as they were
+abbrev pub replaced_front : ℕ → List NamedText → MoverState → MoverState
+replaced_front count texts s = record { held = put_all (take count (changed texts s.held)) s.held; begun = s.begun; whole = s.whole }
+
+-- this holds of what is told
+abbrev pub Shows : Option MoverState → (MoverState → Type 0) → Type 0
+Shows state P = (s : MoverState) → state ≡ Some s → P s

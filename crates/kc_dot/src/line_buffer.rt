@@ -1,0 +1,197 @@
+//! The line that is not yet ended, and what each byte does to it.
+ghost use Rattle.std.specs.Prelude.{◌≡◌, ◌<◌, ◌≤◌, ◌∷◌, ◌++◌, [], ℕ, List, true, false, length, take, All, OnOk, OnErr, IfOk, IfErr, if◌then◌else◌};
+ghost use Rattle.std.specs.Str.Lines.{strip_carriage_return};
+ghost use Rattle.kc_text.specs.Lines.{is_line_feed};
+ghost use Rattle.kc_user.specs.Places.{ArePlacesOf};
+ghost use Rattle.kc_dot.specs.Feeding.{StreamPosition, IsWithinLine, Feeds, Refuses, StopsAt, Finishes, FailsToEnd, fed, ended, failures_after};
+ghost use Rattle.kc_dot.specs.LineSteps.{FailsIn};
+ghost use Rattle.kc_dot.specs.Reading.{line, next_number, places_after, warning};
+ghost use Rattle.kc_dot.specs.ReaderView.{position_of};
+ghost use Rattle.kc_dot.specs.Sink.{extended};
+
+use crate::fault::DotFault;
+use crate::sink::Sink;
+use crate::step::{NamedStream, read_line, without_carriage_return};
+use bstr::ByteSlice;
+use kc_user::user::User;
+use std::alloc::Global;
+
+/// The most bytes of a line.
+pub const LONGEST_LINE: usize = 65535;
+
+/// The number of the line that is not yet ended, and its bytes so far.
+#[derive(Drop)]
+pub struct LineBuffer {
+    pub number: u64,
+    pub pending: Vec<u8>,
+}
+
+// The line's text, without the carriage return that belongs to its end.
+fn text_of(bytes: &[u8], ended: bool) -> &[u8]
+    ensures { result.now ≡ (if ended then strip_carriage_return bytes.now else bytes.now) }
+{
+    if ended {
+        without_carriage_return(bytes)
+    } else {
+        bytes
+    }
+}
+
+/// Reads the pending bytes as a line, and goes on to the next. After an error all is as it was.
+pub fn end_line<S: Sink>(
+    alloc: Global,
+    stream: &NamedStream<'_>,
+    line_buffer: &mut LineBuffer,
+    ended: bool,
+    user: &mut User,
+    sink: &mut S,
+) -> Result<(), DotFault>
+    requires { ArePlacesOf stream.now.tree.now user.old }
+    ensures places { OnOk result (user.new ≡ places_after stream.now.tree.now stream.now.prefix.now user.old (line stream.now.name.now line_buffer.old.number line_buffer.old.pending.items ended ∷ [])) }
+    ensures warned { OnOk result (S.taken sink.new ≡ extended (S.taken sink.old) (warning stream.now.tree.now stream.now.prefix.now user.old (line stream.now.name.now line_buffer.old.number line_buffer.old.pending.items ended))) }
+    ensures next { OnOk result (position_of line_buffer.new ≡ record { number = next_number line_buffer.old.number; pending = [] }) }
+    ensures unchanged { OnErr result (user.new ≡ user.old) }
+    ensures stays { OnErr result (position_of line_buffer.new ≡ position_of line_buffer.old) }
+    ensures fault { IfErr result (λ fault. FailsIn (warning stream.now.tree.now stream.now.prefix.now user.old (line stream.now.name.now line_buffer.old.number line_buffer.old.pending.items ended)) fault (S.taken sink.old) (S.taken sink.new)) }
+    ensures quiet { OnOk result (S.failures sink.new ≡ S.failures sink.old) }
+    ensures counted { IfErr result (λ fault. S.failures sink.new ≡ failures_after fault (S.failures sink.old)) }
+    ensures keeps { S.goes_to sink.old sink.new }
+{
+    let text = text_of(&line_buffer.pending, ended);
+    read_line(alloc, stream, line_buffer.number, text, user, sink)?;
+    line_buffer.number = line_buffer.number.saturating_add(1);
+    line_buffer.pending.clear();
+    Ok(())
+}
+
+// Takes one byte: an LF ends the line, another byte waits for it, unless it is the 65,536th of its line.
+fn take_byte<S: Sink>(
+    alloc: Global,
+    stream: &NamedStream<'_>,
+    line_buffer: &mut LineBuffer,
+    byte: u8,
+    user: &mut User,
+    sink: &mut S,
+) -> Result<(), DotFault>
+    requires user { ArePlacesOf stream.now.tree.now user.old }
+    requires opened { IsWithinLine (position_of line_buffer.old) }
+    ensures ok { OnOk result (Feeds stream.now.tree.now stream.now.prefix.now stream.now.name.now (byte ∷ []) (position_of line_buffer.old) (position_of line_buffer.new) user.old user.new (S.taken sink.old) (S.taken sink.new)) }
+    ensures position { OnOk result (position_of line_buffer.new ≡ fed (byte ∷ []) (position_of line_buffer.old)) }
+    ensures unchanged { OnErr result (user.new ≡ user.old) }
+    ensures stays { OnErr result (position_of line_buffer.new ≡ position_of line_buffer.old) }
+    ensures err { IfErr result (λ fault. StopsAt stream.now.tree.now stream.now.prefix.now stream.now.name.now fault (byte ∷ []) (position_of line_buffer.old) user.old (S.taken sink.old) (S.taken sink.new)) }
+    ensures quiet { OnOk result (S.failures sink.new ≡ S.failures sink.old) }
+    ensures counted { IfErr result (λ fault. S.failures sink.new ≡ failures_after fault (S.failures sink.old)) }
+    ensures keeps { S.goes_to sink.old sink.new }
+    ensures user { OnOk result (ArePlacesOf stream.now.tree.now user.new) }
+    ensures opened { OnOk result (IsWithinLine (position_of line_buffer.new)) }
+{
+    if byte == b'\n' {
+        return end_line(alloc, stream, line_buffer, true, user, sink);
+    }
+    if line_buffer.pending.len() >= LONGEST_LINE {
+        return Err(DotFault::ConfigLineTooLong(line_buffer.number));
+    }
+    line_buffer.pending.push(byte)?;
+    Ok(())
+}
+
+// How many bytes stand before the first LF.
+fn bytes_before_lf(bytes: &[u8]) -> usize
+    ensures within { result ≤ length bytes.now }
+    ensures none { All (λ b. is_line_feed b ≡ false) (take result bytes.now) }
+{
+    match bytes.find_byte(b'\n') {
+        Some(n) => n,
+        None => bytes.len(),
+    }
+}
+
+// Takes a beginning of the bytes, and answers how many: those before the next LF, where the line does not get too long by
+// them, and else one.
+fn take_front<S: Sink>(
+    alloc: Global,
+    stream: &NamedStream<'_>,
+    line_buffer: &mut LineBuffer,
+    bytes: &[u8],
+    user: &mut User,
+    sink: &mut S,
+) -> Result<usize, DotFault>
+    requires some { 0 < length bytes.now }
+    requires user { ArePlacesOf stream.now.tree.now user.old }
+    requires opened { IsWithinLine (position_of line_buffer.old) }
+    ensures some { IfOk result (λ n. 0 < n) }
+    ensures within { IfOk result (λ n. n ≤ length bytes.now) }
+    ensures ok { IfOk result (λ n. Feeds stream.now.tree.now stream.now.prefix.now stream.now.name.now (take n bytes.now) (position_of line_buffer.old) (position_of line_buffer.new) user.old user.new (S.taken sink.old) (S.taken sink.new)) }
+    ensures position { IfOk result (λ n. (before : List ℕ) (first : StreamPosition) → position_of line_buffer.old ≡ fed before first → position_of line_buffer.new ≡ fed (before ++ take n bytes.now) first) }
+    ensures unchanged { OnErr result (user.new ≡ user.old) }
+    ensures stays { OnErr result (position_of line_buffer.new ≡ position_of line_buffer.old) }
+    ensures err { IfErr result (λ fault. StopsAt stream.now.tree.now stream.now.prefix.now stream.now.name.now fault bytes.now (position_of line_buffer.old) user.old (S.taken sink.old) (S.taken sink.new)) }
+    ensures quiet { OnOk result (S.failures sink.new ≡ S.failures sink.old) }
+    ensures counted { IfErr result (λ fault. S.failures sink.new ≡ failures_after fault (S.failures sink.old)) }
+    ensures keeps { S.goes_to sink.old sink.new }
+    ensures user { OnOk result (ArePlacesOf stream.now.tree.now user.new) }
+    ensures opened { OnOk result (IsWithinLine (position_of line_buffer.new)) }
+{
+    let count = bytes_before_lf(bytes);
+    if count > 0 && count <= LONGEST_LINE - line_buffer.pending.len() {
+        line_buffer.pending.extend_from_slice(&bytes[..count])?;
+        return Ok(count);
+    }
+    take_byte(alloc, stream, line_buffer, bytes[0], user, sink)?;
+    Ok(1)
+}
+
+/// Takes the piece.
+pub fn take_piece<S: Sink>(
+    alloc: Global,
+    stream: &NamedStream<'_>,
+    line_buffer: &mut LineBuffer,
+    piece: &[u8],
+    user: &mut User,
+    sink: &mut S,
+) -> Result<(), DotFault>
+    requires user { ArePlacesOf stream.now.tree.now user.old }
+    requires opened { IsWithinLine (position_of line_buffer.old) }
+    ensures ok { OnOk result (Feeds stream.now.tree.now stream.now.prefix.now stream.now.name.now piece.now (position_of line_buffer.old) (position_of line_buffer.new) user.old user.new (S.taken sink.old) (S.taken sink.new)) }
+    ensures position { OnOk result (position_of line_buffer.new ≡ fed piece.now (position_of line_buffer.old)) }
+    ensures err { IfErr result (λ fault. Refuses stream.now.tree.now stream.now.prefix.now stream.now.name.now fault piece.now (position_of line_buffer.old) (position_of line_buffer.new) user.old user.new (S.taken sink.old) (S.taken sink.new)) }
+    ensures quiet { OnOk result (S.failures sink.new ≡ S.failures sink.old) }
+    ensures counted { IfErr result (λ fault. S.failures sink.new ≡ failures_after fault (S.failures sink.old)) }
+    ensures keeps { S.goes_to sink.old sink.new }
+    ensures user { ArePlacesOf stream.now.tree.now user.new }
+    ensures opened { IsWithinLine (position_of line_buffer.new) }
+{
+    let mut at = 0;
+    while at < piece.len() {
+        at += take_front(alloc, stream, line_buffer, &piece[at..], user, sink)?;
+    }
+    Ok(())
+}
+
+/// Ends the stream: pending bytes are its last line. After an error all is as it was.
+pub fn end_stream<S: Sink>(
+    alloc: Global,
+    stream: &NamedStream<'_>,
+    line_buffer: &mut LineBuffer,
+    user: &mut User,
+    sink: &mut S,
+) -> Result<(), DotFault>
+    requires user { ArePlacesOf stream.now.tree.now user.old }
+    requires opened { IsWithinLine (position_of line_buffer.old) }
+    ensures ok { OnOk result (Finishes stream.now.tree.now stream.now.prefix.now stream.now.name.now (position_of line_buffer.old) user.old user.new (S.taken sink.old) (S.taken sink.new)) }
+    ensures position { OnOk result (position_of line_buffer.new ≡ ended (position_of line_buffer.old)) }
+    ensures unchanged { OnErr result (user.new ≡ user.old) }
+    ensures stays { OnErr result (position_of line_buffer.new ≡ position_of line_buffer.old) }
+    ensures err { IfErr result (λ fault. FailsToEnd stream.now.tree.now stream.now.prefix.now stream.now.name.now fault (position_of line_buffer.old) user.old (S.taken sink.old) (S.taken sink.new)) }
+    ensures quiet { OnOk result (S.failures sink.new ≡ S.failures sink.old) }
+    ensures counted { IfErr result (λ fault. S.failures sink.new ≡ failures_after fault (S.failures sink.old)) }
+    ensures keeps { S.goes_to sink.old sink.new }
+    ensures user { OnOk result (ArePlacesOf stream.now.tree.now user.new) }
+    ensures opened { OnOk result (IsWithinLine (position_of line_buffer.new)) }
+{
+    if line_buffer.pending.is_empty() {
+        return Ok(());
+    }
+    end_line(alloc, stream, line_buffer, false, user, sink)
+}

@@ -1,0 +1,29 @@
+-- What the check left open in `symbols_into`.
+use Rattle.std.proofs.Common.{◌≡◌, ◌++◌, ◌∙◌, ap, sym, ⊎_elim, append-nil}
+use Rattle.std.proofs.lemmas.Result.{err_from_is_err_and, on_err_weaker}
+use Rattle.kc_expr.specs.declared.expression.Sides.{Sides}
+use Rattle.kc_expr.specs.Form.{form_of, symbols, leaf_of, leaf_symbols, AppendsFront}
+use Rattle.kc_expr.proofs.FormLemmas.{both_on_err, front_within, symbols_of_all, symbols-All, symbols-Any}
+use Rattle.kc_expr.proofs.values.+symbols_into.Goals as goal
+
+pub returns-in_err-symbols_into-in-All-clause-err : goal.returns-in_err-symbols_into-in-All-clause-err
+returns-in_err-symbols_into-in-All-clause-err t c =
+    let p = err_from_is_err_and c.from_residual-in_err-symbols_into-in-All.result c.from_residual-in_err-symbols_into-in-All.ensures.1 in
+    rw (p.1, c.loop-part.invariant.all) (front_within _ _ _ _ _ _ c.loop-part-test.true c.part-item.is c.loop-part.invariant.so_far c.in_err-symbols_into-in-All.ensures.err)
+
+pub returns-in_ok-symbol_into-in-Rel-clause-err : goal.returns-in_ok-symbol_into-in-Rel-clause-err
+returns-in_ok-symbol_into-in-Rel-clause-err t c =
+    let left = leaf_symbols (leaf_of c.deref.result.now.left) in
+    let right = leaf_symbols (leaf_of c.in-Rel.sides.value.right) in
+    let both : symbols (form_of c.args.e.now) ≡ left ++ right = ap (λ e. symbols (form_of e)) c.in-Rel.is ∙ ap (λ (s : Sides). leaf_symbols (leaf_of s.left) ++ right) (sym c.deref.ensures) in
+    on_err_weaker {Q = AppendsFront c.args.out.now.items (symbols (form_of c.args.e.now)) c.symbol_into-in-Rel-2.new.out.items} _
+    (λ h. (left, right, both, h.0 ∙ c.in_ok-symbol_into-in-Rel.ensures.ok, h.1))
+    (both_on_err c.symbol_into-in-Rel-2.result _ _ c.symbol_into-in-Rel-2.ensures.err (rw c.deref-in-Rel.ensures at c.symbol_into-in-Rel-2.ensures.some))
+
+pub loop-part-init : goal.loop-part-init
+loop-part-init t c =
+    let items = ap symbols_of_all (sym c.deref-part-items.ensures.value) in
+    record {
+      so_far = simp append-nil;
+      all = ⊎_elim (λ h. ap (λ e. symbols (form_of e)) h ∙ symbols-All _ ∙ items) (λ h. ap (λ e. symbols (form_of e)) h ∙ symbols-Any _ ∙ items) c.in-All.is;
+    }

@@ -1,0 +1,11 @@
+-- The invariants and measures of `symbols_into`.
+use Rattle.std.proofs.Common.{◌≡◌, ◌++◌, take}
+use Rattle.kc_expr.specs.Form.{form_of, symbols}
+use Rattle.kc_expr.proofs.FormLemmas.{symbols_of_all}
+use Rattle.kc_expr.proofs.values.+symbols_into.Given as goal
+
+abbrev pub invariant-loop-part : goal.invariant-loop-part
+invariant-loop-part l = record {
+  so_far : l.out.items ≡ l.fn.out.items ++ symbols_of_all (take l.part-index l.part-items);
+  all : symbols (form_of l.e) ≡ symbols_of_all l.part-items;
+}

@@ -1,0 +1,10 @@
+use Rattle.std.proofs.Common.{◌≡◌, length}
+use Rattle.kc_make.specs.Rules.{needs_backslash}
+use Rattle.kc_make.proofs.rule.needs_backslash.Given as goal
+
+-- `\`s were passed
+abbrev pub invariant-along : goal.invariant-along
+invariant-along l = needs_backslash l.bytes ≡ needs_backslash l.rest
+
+abbrev pub decreases-along : goal.decreases-along
+decreases-along l = length l.rest

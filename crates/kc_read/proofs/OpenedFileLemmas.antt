@@ -1,0 +1,191 @@
+-- The files that an expansion asks for are named in those that it opened before.
+use Rattle.std.proofs.Common.{◌≡◌, ◌⊎◌, inl, inr, ℕ, zero, suc, ◌<◌, ◌≤◌, Bool, true, cond, List, [], ◌∷◌, ◌++◌, length, drop, codes, Option, Some, None, Result, Ok, Err, refl, sym, ap, ◌∙◌, subst, arith}
+use Rattle.std.specs.List.{Contains}
+use Rattle.std.proofs.lemmas.Bool.{cases_Bool}
+use Rattle.kc_text.specs.declared.faults.TextFault.{TextFault}
+use Rattle.kc_text.specs.Lexemes.{Lexeme}
+use Rattle.kc_text.specs.Lines.{UnreadLines, TakesLine, unread_lines, Next, Ended, Taken, TooLong, IsNextLine}
+use Rattle.kc_text.specs.Tokens.{TokenView}
+use Rattle.kc_text.proofs.Joins.{one_next_line_law}
+use Rattle.kc_text.proofs.There.{one_cutting_law}
+use Rattle.kc_read.specs.Expansion.{FileContext, Log, Refused, Rest, NextLine, NextStatement, context_of, is_help, lexemes, without_help, at_end, unclosed, too_long, no_tokens, blank, bad_line, over_limit, statement, bad_source, refused_inside, source}
+use Rattle.kc_read.specs.Files.{Files}
+use Rattle.kc_read.specs.Lines.{LineContext, After, Cause, ReadsSource, begins_with, finish, plain_text, text_of}
+use Rattle.kc_read.specs.OpenedFiles.{asked, IsNamedIn, IsNamedByOne, AskedAreNamed, HasOneListOfNames}
+use Rattle.kc_read.specs.Sources.{SourceNames}
+use Rattle.kc_read.specs.Statements.{Located, Named, SourceLine}
+use Rattle.kc_read.proofs.LineThere.{source_line}
+use Rattle.kc_read.proofs.RestLemmas.{next_less}
+use Rattle.kc_read.proofs.SourceLines.{before_other, before_source, one_list}
+use Rattle.kc_read.proofs.SourceLines as lines
+use Rattle.kc_read.proofs.SourceWord.{source_begins, begins_source}
+
+abbrev begins : List TokenView → Bool
+begins ts = begins_with (codes "source") (lexemes ts)
+
+-- ---- What a `source` line reads
+
+read_on : {A : Type 0} (o : Result A Cause) (Next : A → Result Named Cause → Type 0) (s : Named) → After o Next (Ok s) → (a : A) × Next a (Ok s)
+read_on (Ok a) Next s h = (a, h)
+read_on (Err c) Next s h = absurd (let e : Ok s ≡ Err c = h in cc)
+
+ends_as : (s t : Named) (ts : List Lexeme) → Ok s ≡ finish t ts → s ≡ t
+ends_as s t [] e = cc
+ends_as s t (x ∷ xs) e = absurd cc
+
+-- nothing else than a `source` line
+pub reads_source : (ts : List Lexeme) (s : Named) → ReadsSource ts (Ok s) → (name : List ℕ) × (s ≡ SourceLine name)
+reads_source ts s h =
+    let (t, plain) = read_on (text_of ts) (λ t. After (plain_text t) (λ u r. r ≡ finish (SourceLine u) (drop 1 ts))) s h in
+    let (u, e) = read_on (plain_text t) (λ u r. r ≡ finish (SourceLine u) (drop 1 ts)) s plain in
+    (u, ends_as s (SourceLine u) (drop 1 ts) e)
+
+-- ---- The names of lines are there, by the lines that are left
+
+abbrev NamesThere : UnreadLines → Type 0
+NamesThere l = (names : List (List ℕ)) × SourceNames l names
+
+module _ (l : UnreadLines) (on : (m : UnreadLines) → length m.lines < length l.lines → NamesThere m) where
+  source_names : (m : UnreadLines) (ts : List TokenView) → NextLine l m ts None → begins ts ≡ true → (r : Result Named Cause) → ReadsSource (drop 1 (lexemes ts)) r → NamesThere l
+  source_names m ts next b (Err c) reads = ([], lines.bad_source l m ts c next b reads)
+  source_names m ts next b (Ok s) reads =
+      let (name, e) = reads_source (drop 1 (lexemes ts)) s reads in
+      let (names, d) = on m (next_less l m ts None next) in
+      (name ∷ names, before_source l m name names (ts, next, b, subst (λ x. ReadsSource (drop 1 (lexemes ts)) (Ok x)) e reads) d)
+
+  cut_names : (m : UnreadLines) (ts : List TokenView) (out : Option TextFault) → NextLine l m ts out → NamesThere l
+  cut_names m ts (Some why) next = ([], lines.no_tokens l m ts why next)
+  cut_names m ts None next = elim (cases_Bool (begins ts)) [
+    | inl b ↦ let r = source_line (drop 1 (lexemes ts)) in source_names m ts next b r.0 r.1
+    | inr b ↦ let (names, d) = on m (next_less l m ts None next) in (names, before_other l m names (ts, next, b) d)
+  ]
+
+  taken_names : (m : UnreadLines) (text : List ℕ) → TakesLine l m text → NamesThere l
+  taken_names m text taken =
+      let c = one_cutting_law text in
+      cut_names (cond (is_help (lexemes c.0)) (without_help m) m) c.0 c.1.0 (record { middle = m; text = text; taken = taken; cut = c.1.1; left_after = refl })
+
+  next_names : (next : Next) → IsNextLine l next → NamesThere l
+  next_names Ended g = ([], lines.at_end l g)
+  next_names (Taken m text) g = taken_names m text g
+  next_names TooLong g = ([], lines.too_long l g)
+
+names_within : (fuel : ℕ) (l : UnreadLines) → length l.lines ≤ fuel → NamesThere l
+names_within zero l le = let next = one_next_line_law l in next_names l (λ m less. absurd (omega arith)) next.0 next.1
+names_within (suc fuel) l le = let next = one_next_line_law l in next_names l (λ m less. names_within fuel m (omega arith)) next.0 next.1
+
+names_there : (l : UnreadLines) → NamesThere l
+names_there l = names_within (length l.lines) l (omega arith)
+
+-- ---- Lists
+
+here : (x : List ℕ) (xs : List (List ℕ)) → Contains (x ∷ xs) x
+here x xs = (0, omega arith, refl)
+
+later : (x y : List ℕ) (xs : List (List ℕ)) → Contains xs x → Contains (y ∷ xs) x
+later x y xs h = (suc h.0, omega (arith, h.1), h.2)
+
+later_all : (x : List ℕ) (xs ys : List (List ℕ)) → Contains ys x → Contains (xs ++ ys) x
+later_all x [] ys h = h
+later_all x (y ∷ xs) ys h = later x y (xs ++ ys) (later_all x xs ys h)
+
+-- an element of two lists joined stands in the one or in the other
+split_append : (xs ys before after : List (List ℕ)) (x : List ℕ) → xs ++ ys ≡ before ++ x ∷ after →
+    ((more : List (List ℕ)) × (xs ≡ before ++ x ∷ more)) ⊎ ((front : List (List ℕ)) × (before ≡ xs ++ front) × (ys ≡ front ++ x ∷ after))
+split_append [] ys before after x e = inr (before, refl, e)
+split_append (y ∷ xs) ys [] after x e =
+    let h : y ≡ x = cc in inl (xs, ap (λ z. z ∷ xs) h)
+split_append (y ∷ xs) ys (z ∷ before) after x e =
+    let h : y ≡ z = cc in
+    let t : xs ++ ys ≡ before ++ x ∷ after = cc in
+    elim (split_append xs ys before after x t) [
+      | inl r ↦ inl (r.0, ap (λ k. k ∷ xs) h ∙ ap (λ k. z ∷ k) r.1)
+      | inr r ↦ inr (r.0, ap (λ k. z ∷ k) r.1 ∙ ap (λ k. k ∷ (xs ++ r.0)) (sym h), r.2)
+    ]
+
+-- ---- The law
+
+-- what the next line's file names after it, it names
+named_later : (l m : UnreadLines) (ts : List TokenView) (name : List ℕ) → NextLine l m ts None →
+    (begins ts ≡ true → (s : Named) × ReadsSource (drop 1 (lexemes ts)) (Ok s)) → IsNamedIn m name → IsNamedIn l name
+named_later l m ts name next reads (names, d, has) = elim (cases_Bool (begins ts)) [
+  | inl b ↦
+      let (s, r) = reads b in
+      let (k, e) = reads_source (drop 1 (lexemes ts)) s r in
+      (k ∷ names, before_source l m k names (ts, next, b, subst (λ x. ReadsSource (drop 1 (lexemes ts)) (Ok x)) e r) d, later name k names has)
+  | inr b ↦ (names, before_other l m names (ts, next, b) d, has)
+]
+
+-- also after a statement
+named_after : (l m : UnreadLines) (c : LineContext) (s : Named) (name : List ℕ) → NextStatement l m c (Ok s) → IsNamedIn m name → IsNamedIn l name
+named_after l m c s name n h = named_later l m n.tokens name n.next (λ b. (s, begins_source c (lexemes n.tokens) (Ok s) b n.reads)) h
+
+-- a `source` line's file is named
+named_here : (l m : UnreadLines) (c : LineContext) (name : List ℕ) → NextStatement l m c (Ok (SourceLine name)) → IsNamedIn l name
+named_here l m c name n =
+    let b = source_begins c (lexemes n.tokens) name n.reads in
+    let (names, d) = names_there m in
+    (name ∷ names, before_source l m name names (n.tokens, n.next, b, begins_source c (lexemes n.tokens) (Ok (SourceLine name)) b n.reads) d, here name names)
+
+-- named along the rest of the file, or in a file that was opened
+abbrev IsNamed : Files → UnreadLines → List (List ℕ) → List ℕ → Type 0
+IsNamed files l before name = IsNamedIn l name ⊎ IsNamedByOne files before name
+
+-- one more file was opened before
+one_more : (files : Files) (before : List (List ℕ)) (name k : List ℕ) → IsNamedByOne files before name → IsNamedByOne files (k ∷ before) name
+one_more files before name k (by, bytes, has, there, names) = (by, bytes, later by k before has, there, names)
+
+no_split : {B : Type 0} (before after : List (List ℕ)) (x : List ℕ) → [] ≡ before ++ x ∷ after → B
+no_split [] after x e = absurd cc
+no_split (y ∷ before) after x e = absurd cc
+
+-- along a file that is opened
+within : (files : Files) (bytes : List ℕ) (before : List (List ℕ)) (name k : List ℕ) → files k ≡ Some bytes → IsNamed files (unread_lines bytes 1) before name → IsNamedByOne files (k ∷ before) name
+within files bytes before name k there (inl h) = (k, bytes, here k before, there, h)
+within files bytes before name k there (inr h) = one_more files before name k h
+
+pub named : {files : Files} {a : FileContext} {l : UnreadLines} {own : List (Located Named)} {log : Log} {r : Result Log Refused} (d : Rest files a l own log r)
+    (before after : List (List ℕ)) (name : List ℕ) → asked d ≡ before ++ name ∷ after → IsNamed files l before name
+named (at_end a l own log none closed) before after name e = no_split before after name e
+named (unclosed a l own log line none unmatched) before after name e = no_split before after name e
+named (too_long a l own log long) before after name e = no_split before after name e
+named (no_tokens a l m own log ts why next) before after name e = no_split before after name e
+named (blank a l m own log r next d) before after name e = elim (named d before after name e) [
+  | inl h ↦ inl (named_later l m [] name next (λ b. absurd cc) h)
+  | inr h ↦ inr h
+]
+named (bad_line a l m own log c n) before after name e = no_split before after name e
+named (over_limit a l m own log s c n f) before after name e = no_split before after name e
+named (statement a l m own log s r n plain f d) before after name e = elim (named d before after name e) [
+  | inl h ↦ inl (named_after l m (context_of a own log) s name n h)
+  | inr h ↦ inr h
+]
+named (bad_source a l m own log k c n f) [] after name e =
+    let h : k ≡ name = cc in inl (subst (IsNamedIn l) h (named_here l m (context_of a own log) k n))
+named (bad_source a l m own log k c n f) (b ∷ before) after name e = no_split before after name (let h : [] ≡ before ++ name ∷ after = cc in h)
+named (refused_inside a l m own log k bytes c n free there d) [] after name e =
+    let h : k ≡ name = cc in inl (subst (IsNamedIn l) h (named_here l m (context_of a own log) k n))
+named {files} (refused_inside a l m own log k bytes c n free there d) (b ∷ before) after name e =
+    let h : k ≡ b = cc in
+    let t : asked d ≡ before ++ name ∷ after = cc in
+    inr (subst (λ x. IsNamedByOne files (x ∷ before) name) h (within files bytes before name k there (named d before after name t)))
+named (source a l m own log more k bytes r n free there d f) [] after name e =
+    let h : k ≡ name = cc in inl (subst (IsNamedIn l) h (named_here l m (context_of a own log) k n))
+named {files} (source a l m own log more k bytes r n free there d f) (b ∷ before) after name e =
+    let h : k ≡ b = cc in
+    let t : asked d ++ asked f ≡ before ++ name ∷ after = cc in
+    elim (split_append (asked d) (asked f) before after name t) [
+      | inl x ↦ inr (subst (λ y. IsNamedByOne files (y ∷ before) name) h (within files bytes before name k there (named d before x.0 name x.1)))
+      | inr x ↦ elim (named f x.0 after name x.2) [
+        | inl y ↦ inl (named_after l m (context_of a own log) (SourceLine k) name n y)
+        | inr y ↦ let (by, text, has, there, names) = y in inr (by, text, subst (λ z. Contains (b ∷ z) by) (sym x.1) (later by b (asked d ++ x.0) (later_all by (asked d) x.0 has)), there, names)
+      ]
+    ]
+
+pub asked_are_named : AskedAreNamed
+asked_are_named files root bytes r there d before after name e = within files bytes before name root there (named d before after name e)
+
+pub has_one_list_of_names : HasOneListOfNames
+has_one_list_of_names l =
+    let (names, d) = names_there l in
+    (names, d, λ other e. one_list l names other d e)

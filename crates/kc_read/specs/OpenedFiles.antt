@@ -1,0 +1,42 @@
+-- Trusted: The files that an expansion opens.
+use Rattle.std.specs.Prelude.{◌≡◌, ℕ, List, [], ◌∷◌, ◌++◌, Some, Result}
+use Rattle.std.specs.List.{Contains}
+use Rattle.kc_text.specs.Lines.{UnreadLines, unread_lines}
+use Rattle.kc_read.specs.Expansion.{FileContext, Log, Refused, Rest, at_end, unclosed, too_long, no_tokens, blank, bad_line, over_limit, statement, bad_source, refused_inside, source, root_context, with_file, nothing_read}
+use Rattle.kc_read.specs.Files.{Files}
+use Rattle.kc_read.specs.Sources.{SourceNames}
+use Rattle.kc_read.specs.Statements.{Located, Named}
+
+-- The files that are asked for along the rest of a file, in order: those that are opened, and last the one that may not
+-- be opened or has no bytes, where there is one.
+abbrev pub asked : {files : Files} {a : FileContext} {l : UnreadLines} {own : List (Located Named)} {log : Log} {r : Result Log Refused} → Rest files a l own log r → List (List ℕ)
+asked (at_end a l own log none closed) = []
+asked (unclosed a l own log line none unmatched) = []
+asked (too_long a l own log long) = []
+asked (no_tokens a l m own log ts why next) = []
+asked (blank a l m own log r next d) = asked d
+asked (bad_line a l m own log c next) = []
+asked (over_limit a l m own log s c next effect) = []
+asked (statement a l m own log s r next plain effect d) = asked d
+asked (bad_source a l m own log name c next why) = name ∷ []
+asked (refused_inside a l m own log name bytes e next free there d) = name ∷ asked d
+asked (source a l m own log more name bytes r next free there d f) = name ∷ asked d ++ asked f
+
+-- these lines have a list of names, and it holds this one
+abbrev pub IsNamedIn : UnreadLines → List ℕ → Type 0
+IsNamedIn l name = (names : List (List ℕ)) × SourceNames l names × Contains names name
+
+-- one of these files names it
+abbrev pub IsNamedByOne : Files → List (List ℕ) → List ℕ → Type 0
+IsNamedByOne files before name = (by bytes : List ℕ) × Contains before by × (files by ≡ Some bytes) × IsNamedIn (unread_lines bytes 1) name
+
+-- Each file that an expansion asks for after the root is named in one that it opened before.
+abbrev pub AskedAreNamed : Type 0
+AskedAreNamed =
+    (files : Files) (root bytes : List ℕ) (r : Result Log Refused) → files root ≡ Some bytes →
+    (d : Rest files (root_context root) (unread_lines bytes 1) [] (with_file nothing_read bytes) r) (before after : List (List ℕ)) (name : List ℕ) →
+    asked d ≡ before ++ name ∷ after → IsNamedByOne files (root ∷ before) name
+
+-- lines have one list of names, and no other
+abbrev pub HasOneListOfNames : Type 0
+HasOneListOfNames = (l : UnreadLines) → (names : List (List ℕ)) × SourceNames l names × ((other : List (List ℕ)) → SourceNames l other → names ≡ other)

@@ -1,0 +1,286 @@
+//! The parts of a line: texts, names, operands and expressions.
+
+ghost use Rattle.std.specs.Prelude.{◌≡◌, ◌≤◌, ◌+◌, [], length, IfOk, IfErr, OnOk, option_map, false, Ok, Some, None, Err, IsTrue, ◌<◌};
+ghost use Rattle.kc_expr.specs.Form.{form_of, leaf_of};
+ghost use Rattle.kc_expr.specs.Grammar.{lexemes_from, if_word, is_tristate_constant};
+ghost use Rattle.kc_expr.specs.Names.{IsNumber, is_name_byte, same_name, mention, Extends};
+ghost use Rattle.std.specs.List.{list_all};
+ghost use Rattle.kc_read.specs.declared.refusal.Code.TheVariants.{Memory};
+ghost use Rattle.kc_read.specs.Lines as spec;
+ghost use Rattle.kc_read.specs.Lines.{syntax_cause, IsMore, ExpressionFault, WholeFault, ConditionFault};
+ghost use Rattle.std.specs.Prelude.{List, Option};
+ghost use Rattle.kc_expr.specs.declared.expression.SymId.{SymId};
+ghost use Rattle.kc_expr.specs.When.{when_view};
+ghost use Rattle.kc_read.specs.LineReads.{IsToken, IsFault, IsPart, IsFront, IsWholeForm, IsConditionForm, IsOperand, cause_of, unquoted_text};
+
+use crate::refusal::Code;
+use crate::statement::Fault;
+use kc_expr::expression::{Expr, Operand, SymId};
+use kc_expr::names::Names;
+use kc_expr::parse::{ExprFault, parse};
+use kc_expr::values::tristate_constant;
+use kc_text::{Token, TokenKind, unescape_into};
+use std::alloc::Global;
+use std::rc::Rc;
+
+// The most bytes of a symbol's name.
+const MAX_NAME: usize = 255;
+
+// The token at a place, if there is one.
+pub fn next<'a>(tokens: &[Token<'a>], at: usize) -> Option<TokenKind<'a>>
+    ensures { IsToken result tokens.now at }
+{
+    if at < tokens.len() {
+        Some(tokens[at].kind)
+    } else {
+        None
+    }
+}
+
+// Whether this word stands at a place.
+pub fn begins_with(tokens: &[Token], at: usize, word: &[u8]) -> bool
+    ensures word { result ≡ spec.begins_with word.now (lexemes_from tokens.now at) }
+    ensures within { IsTrue result → at < length tokens.now }
+{
+    match next(tokens, at) {
+        Some(TokenKind::Word(found)) => found == word,
+        _ => false,
+    }
+}
+
+// The word `if`.
+pub fn is_if(word: &[u8]) -> bool
+    ensures { result ≡ same_name word.now if_word }
+{
+    word == b"if".as_slice()
+}
+
+// The words n, m and y.
+pub fn is_tristate_constant(word: &[u8]) -> bool
+    ensures { result ≡ is_tristate_constant word.now }
+{
+    tristate_constant(word).is_some()
+}
+
+pub fn syntax() -> Fault<'static>
+    ensures { cause_of result ≡ syntax_cause }
+{
+    Fault {
+        code: Code::Syntax,
+        detail: b"",
+    }
+}
+
+// The line ends at a place.
+pub fn end<'a>(tokens: &[Token<'a>], at: usize) -> Result<(), Fault<'a>>
+    ensures end { OnOk result (lexemes_from tokens.now at ≡ []) }
+    ensures more { IfErr result (λ f. IsMore (lexemes_from tokens.now at) × (cause_of f ≡ syntax_cause)) }
+{
+    match next(tokens, at) {
+        Some(_) => Err(syntax()),
+        None => Ok(()),
+    }
+}
+
+// The word at a place.
+pub fn word_at<'a>(tokens: &[Token<'a>], at: usize) -> Result<&'a [u8], Fault<'a>>
+    ensures part { IsPart (spec.word_of (lexemes_from tokens.now at)) (λ w. w.now) result }
+    ensures within { OnOk result (at < length tokens.now) }
+{
+    match next(tokens, at) {
+        Some(TokenKind::Word(word)) => Ok(word),
+        _ => Err(syntax()),
+    }
+}
+
+// The text at a place as it is written, and whether it is quoted.
+pub fn raw_text<'a>(tokens: &[Token<'a>], at: usize) -> Result<(&'a [u8], bool), Fault<'a>>
+    ensures part { IsPart (spec.text_of (lexemes_from tokens.now at)) (λ t. unquoted_text t.1 t.0.now) result }
+    ensures within { OnOk result (at < length tokens.now) }
+{
+    match next(tokens, at) {
+        Some(TokenKind::Word(word)) => {
+            if is_if(word) {
+                return Err(syntax());
+            }
+            Ok((word, false))
+        }
+        Some(TokenKind::Quoted(text)) => Ok((text, true)),
+        _ => Err(syntax()),
+    }
+}
+
+// The text at a place.
+pub fn text_at<'a>(alloc: Global, tokens: &[Token<'a>], at: usize) -> Result<Vec<u8>, Fault<'a>>
+    ensures part { IsPart (spec.text_of (lexemes_from tokens.now at)) (λ t. t.items) result }
+    ensures within { OnOk result (at < length tokens.now) }
+{
+    let (text, quoted) = raw_text(tokens, at)?;
+    if !quoted {
+        return Ok(Vec::from_slice(alloc, text)?);
+    }
+    let mut out = Vec::new(alloc);
+    unescape_into(text, &mut out)?;
+    Ok(out)
+}
+
+// The name that a select or an imply names.
+pub fn target_at<'a>(tokens: &[Token<'a>], at: usize) -> Result<&'a [u8], Fault<'a>>
+    ensures part { IsPart (spec.target_of (lexemes_from tokens.now at)) (λ w. w.now) result }
+    ensures within { OnOk result (at < length tokens.now) }
+{
+    match next(tokens, at) {
+        Some(TokenKind::Word(word)) => {
+            if word == b"if".as_slice() || tristate_constant(word).is_some() {
+                Err(syntax())
+            } else {
+                Ok(word)
+            }
+        }
+        _ => Err(syntax()),
+    }
+}
+
+pub fn fault_of<'a>(fault: ExprFault) -> Fault<'a>
+    ensures code { result.code ≡ spec.code_of fault }
+    ensures detail { result.detail.now ≡ [] }
+{
+    match fault {
+        ExprFault::Syntax => syntax(),
+        ExprFault::TooDeep => Fault {
+            code: Code::TooDeep,
+            detail: b"",
+        },
+        ExprFault::Memory => Fault {
+            code: Code::Memory,
+            detail: b"",
+        },
+    }
+}
+
+// The expression at a place, and the place after it.
+pub fn front<'a>(
+    alloc: Global,
+    tokens: &[Token<'a>],
+    at: usize,
+    condition: Option<SymId>,
+    names: &mut Names,
+) -> Result<(Expr, usize), Fault<'a>>
+    requires { at ≤ length tokens.now }
+    ensures front { IfOk result (λ r. IsFront condition names.old names.new (lexemes_from tokens.now at) (lexemes_from tokens.now r.1) (form_of r.0)) }
+    ensures within { IfOk result (λ r. r.1 ≤ length tokens.now) }
+    ensures fault { IfErr result (λ f. IsFault f (ExpressionFault (lexemes_from tokens.now at))) }
+    ensures names { Extends names.old names.new }
+{
+    match parse(alloc, tokens, at, condition, names) {
+        Ok((expr, end)) => Ok((expr, end)),
+        Err(fault) => Err(fault_of(fault)),
+    }
+}
+
+// An expression up to the end of the line. It is shared with what is made of the line.
+pub fn whole<'a>(
+    alloc: Global,
+    tokens: &[Token<'a>],
+    at: usize,
+    condition: Option<SymId>,
+    names: &mut Names,
+) -> Result<Rc<Expr>, Fault<'a>>
+    requires { at ≤ length tokens.now }
+    ensures whole { IfOk result (λ e. IsWholeForm condition names.old names.new (lexemes_from tokens.now at) (form_of e.value)) }
+    ensures fault { IfErr result (λ f. IsFault f (WholeFault (lexemes_from tokens.now at))) }
+    ensures names { Extends names.old names.new }
+{
+    let (expr, after) = front(alloc, tokens, at, condition, names)?;
+    end(tokens, after)?;
+    Ok(Rc::new(alloc, expr)?)
+}
+
+// Nothing, or `if` and an expression, up to the end of the line.
+pub fn condition<'a>(
+    alloc: Global,
+    tokens: &[Token<'a>],
+    at: usize,
+    modules: Option<SymId>,
+    names: &mut Names,
+) -> Result<Option<Rc<Expr>>, Fault<'a>>
+    requires { at ≤ length tokens.now }
+    ensures condition { IfOk result (λ e. IsConditionForm modules names.old names.new (lexemes_from tokens.now at) (when_view e)) }
+    ensures fault { IfErr result (λ f. IsFault f (ConditionFault (lexemes_from tokens.now at))) }
+    ensures names { Extends names.old names.new }
+{
+    if begins_with(tokens, at, b"if") {
+        let when = whole(alloc, tokens, at + 1, modules, names)?;
+        return Ok(Some(when));
+    }
+    end(tokens, at)?;
+    Ok(None)
+}
+
+// The number of a name, which stays its number.
+pub fn name_number<'a>(names: &mut Names, word: &[u8]) -> Result<SymId, Fault<'a>>
+    ensures number { IfOk result (λ id. IsNumber names.new word.now id) }
+    ensures mentions { OnOk result (names.new ≡ mention names.old word.now) }
+    ensures memory { IfErr result (λ f. f.code ≡ Memory) }
+    ensures names { Extends names.old names.new }
+{
+    let id = names.id(word)?;
+    Ok(id)
+}
+
+// The operand at a place.
+pub fn operand_at<'a>(
+    alloc: Global,
+    tokens: &[Token<'a>],
+    at: usize,
+    names: &mut Names,
+) -> Result<Operand, Fault<'a>>
+    ensures operand { IfOk result (λ o. IsOperand names.old names.new (spec.operand_of (lexemes_from tokens.now at)) (leaf_of o)) }
+    ensures fault { IfErr result (λ f. IsFault f (λ c. spec.operand_of (lexemes_from tokens.now at) ≡ Err c)) }
+    ensures within { OnOk result (at < length tokens.now) }
+    ensures names { Extends names.old names.new }
+{
+    match next(tokens, at) {
+        Some(TokenKind::Word(word)) => {
+            if is_if(word) {
+                return Err(syntax());
+            }
+            if let Some(letter) = tristate_constant(word) {
+                return Ok(Operand::TristateConstant(letter));
+            }
+            let id = name_number(names, word)?;
+            Ok(Operand::Sym(id))
+        }
+        Some(TokenKind::Quoted(text)) => {
+            let mut bytes = Vec::new(alloc);
+            unescape_into(text, &mut bytes)?;
+            Ok(Operand::Const(bytes))
+        }
+        _ => Err(syntax()),
+    }
+}
+
+// Whether each byte may stand in a symbol's name.
+pub fn are_name_bytes(word: &[u8]) -> bool
+    ensures { result ≡ list_all is_name_byte word.now }
+{
+    word.iter().all(|b| b.is_ascii_alphanumeric() || *b == b'_')
+}
+
+// Whether a symbol may have the name.
+pub fn is_good_name(word: &[u8]) -> bool
+    ensures { result ≡ spec.is_good_name word.now }
+{
+    if is_if(word) || is_tristate_constant(word) {
+        return false;
+    }
+    let length = word.len();
+    1 <= length && length <= MAX_NAME && are_name_bytes(word)
+}
+
+// `*`, `?` or `[` stands in the text.
+pub fn is_pattern(text: &[u8]) -> bool
+    ensures { result ≡ spec.is_pattern text.now }
+{
+    text.iter().any(|b| *b == b'*' || *b == b'?' || *b == b'[')
+}

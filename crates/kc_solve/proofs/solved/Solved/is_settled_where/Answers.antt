@@ -1,9 +1,0 @@
-use Rattle.std.proofs.Common.{subst}
-use Rattle.kc_solve.specs.Solved.{SettledWhere}
-use Rattle.kc_solve.proofs.SolvedSteps.{settled}
-use Rattle.kc_solve.proofs.solved.Solved.is_settled_where.Goals as goal
-
-pub returns : goal.returns
-returns c =
-    let members = (c.choices_stand_alone.ensures.members c.self.inside.table.tree.now c.symbol_count-count.ensures.formed).0 in
-    subst SettledWhere c.self.view_is (settled c.self.inside.table.tree.now c.self.inside.user.now c.self.inside.table.values.items _ _ _ _ _ c.self.invariant c.settled_where.ensures members)

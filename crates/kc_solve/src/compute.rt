@@ -1,0 +1,102 @@
+//! The table of values, computed once along an order.
+
+ghost use Rattle.std.specs.Prelude.{◌≡◌, ◌<◌, length, slice_get, Some, IfOk, OnOk};
+ghost use Rattle.kc_order.specs.Solution.{Solves};
+ghost use Rattle.kc_solve.specs.Computing.{IsComputedSymbol, IsNodeOrder, IsComputedContext, IsComputedSelection, IsUnread};
+ghost use Rattle.kc_solve.specs.PlaceLists.{places, valuation};
+ghost use Rattle.kc_tree.specs.Layouts.{IsLayoutOf};
+ghost use Rattle.kc_values.specs.TableFacts.{AreSelected};
+ghost use Rattle.kc_values.specs.Solution.{symbol_count, equations};
+
+use kc_expr::expression::SymId;
+use kc_tree::layout::Layout;
+use kc_tree::rows::{ChoiceId, ContextId, Symbol};
+use kc_tree::tree::Tree;
+use kc_user::value::UserValue;
+use kc_values::choices::selected_in;
+use kc_values::conditions::context;
+use kc_values::equation::equation;
+use kc_values::nodes::{Node, node_of};
+use kc_values::table::Table;
+use std::alloc::{AllocError, Global};
+
+/// The row of a symbol that is defined.
+pub(crate) fn symbol_row(layout: &Layout, id: SymId) -> &Symbol
+    requires { id.0 < length layout.now.symbols.items }
+    ensures { slice_get layout.now.symbols.items id.0 ≡ Some result.now }
+{
+    match layout.symbol(id) {
+        Some(symbol) => symbol,
+        None => unreachable!(),
+    }
+}
+
+// Computes the value of the next symbol.
+fn compute_symbol(
+    alloc: Global,
+    table: &mut Table<'_>,
+    id: SymId,
+    given: &[Option<UserValue>],
+    chosen: &[Option<SymId>],
+) -> Result<(), AllocError>
+    requires defined { id.0 < length table.old.values.items }
+    requires given { length given.now ≡ length table.old.values.items }
+    requires full { length table.old.values.items ≡ symbol_count table.old.tree.now }
+    requires selected { AreSelected table.old chosen.now }
+    requires unread { IsUnread table.old id.0 }
+    ensures { OnOk result (IsComputedSymbol given.now chosen.now id table.old table.new) }
+{
+    let symbol = symbol_row(table.layout, id);
+    let own = given[id.0].as_ref();
+    let value = equation(alloc, table, id, symbol, own, chosen)?;
+    table.values[id.0] = Some(value);
+    Ok(())
+}
+
+// Computes what the next context is worth.
+fn compute_context(table: &mut Table<'_>, id: ContextId)
+    requires { id.0 < length table.old.contexts.items }
+    ensures { IsComputedContext id.0 table.old table.new }
+{
+    let value = context(table, id);
+    table.contexts[id.0 as usize] = Some(value);
+}
+
+// Computes what the next choice selects.
+fn compute_selection(table: &mut Table<'_>, id: ChoiceId, chosen: &[Option<SymId>])
+    requires there { id.0 < length table.old.selections.items }
+    requires chosen { id.0 < length chosen.now }
+    ensures { IsComputedSelection chosen.now id.0 table.old table.new }
+{
+    let selection = selected_in(table, id, chosen[id.0]);
+    table.selections[id.0] = Some(selection);
+}
+
+/// The values of a tree's symbols, computed along an order of them and of the contexts and choices between them, each once:
+/// the table that solves the equations under what was given for each symbol and the member that was chosen for each choice.
+pub fn compute<'t>(
+    alloc: Global,
+    tree: &'t Tree,
+    layout: &'t Layout,
+    nodes: &[u32],
+    given: &[Option<UserValue>],
+    chosen: &[Option<SymId>],
+) -> Result<Table<'t>, AllocError>
+    requires laid { IsLayoutOf tree.now layout.now }
+    requires order { IsNodeOrder tree.now layout.now nodes.now }
+    requires given { length given.now ≡ symbol_count tree.now }
+    requires chosen { length chosen.now ≡ length tree.now.choices }
+    ensures tree { IfOk result (λ t. t.tree.now ≡ tree.now) }
+    ensures count { IfOk result (λ t. length t.values.items ≡ symbol_count tree.now) }
+    ensures solves { IfOk result (λ t. Solves (symbol_count tree.now) (equations tree.now (places given.now chosen.now)) (valuation tree.now t.values.items)) }
+{
+    let mut table = Table::empty(alloc, tree, layout)?;
+    for node in nodes {
+        match node_of(table.layout, *node) {
+            Node::Symbol(id) => compute_symbol(alloc, &mut table, id, given, chosen)?,
+            Node::Context(id) => compute_context(&mut table, id),
+            Node::Choice(id) => compute_selection(&mut table, id, chosen),
+        }
+    }
+    Ok(table)
+}

@@ -1,0 +1,19 @@
+-- Trusted: Spans of tables, and the definitions of a symbol.
+use Rattle.std.specs.Prelude.{◌-◌, ◌&&◌, List, [], ◌++◌, length, take, drop, nat_le, if◌then◌else◌, Option, Some, None}
+use Rattle.kc_tree.specs.declared.rows.DefinitionId.{DefinitionId}
+use Rattle.kc_tree.specs.declared.rows.Span.{Span}
+use Rattle.kc_tree.specs.declared.rows.Symbol.{Symbol}
+use Rattle.kc_tree.specs.Words.{listed}
+
+-- the slice of a table that a span names; an empty one where it is not there
+abbrev pub slice_of : {X : Type 0} → List X → Span → List X
+slice_of table s = if nat_le s.start s.end && nat_le s.end (length table) then take (s.end - s.start) (drop s.start table) else []
+
+-- those after the first, where there is a first
+abbrev pub more_of : Option DefinitionId → List DefinitionId → List DefinitionId
+more_of None more = []
+more_of (Some d) more = more
+
+-- the numbers of the definitions of a symbol, in the order of the lines
+abbrev pub definition_ids : Symbol → List DefinitionId
+definition_ids s = listed s.first ++ more_of s.first s.more.items

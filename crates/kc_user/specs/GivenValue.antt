@@ -1,0 +1,15 @@
+-- Trusted: What a user may give, and the places that hold it.
+use Rattle.std.specs.Prelude.{ℕ, List}
+use Rattle.kc_expr.specs.declared.expression.SymId.{SymId}
+use Rattle.kc_expr.specs.declared.expression.Tri.{Tri}
+
+-- a truth value, a text, or the member of a choice
+pub data GivenValue : Type 0 where
+  GivenTruth : Tri → GivenValue
+  GivenText : List ℕ → GivenValue
+  Member : SymId → GivenValue
+
+-- the place of a symbol, or of a choice, by number
+pub data UserPlace : Type 0 where
+  SymbolPlace : ℕ → UserPlace
+  ChoicePlace : ℕ → UserPlace

@@ -1,0 +1,337 @@
+-- The written values as the user's give the values again where no symbol changes on rereading.
+use Rattle.std.proofs.Common.{◌≡◌, ℕ, Bool, true, false, List, [], ◌∷◌, sym, ◌∙◌, ap, inl, inr, refl, cond, not, ◌&&◌, ◌||◌, Option, Some, None, ◌⊎◌, ◌<◌, zero, suc, arith, unwrap_or, subst}
+use Rattle.std.specs.List.{Contains, find}
+use Rattle.std.specs.Option.{option_map}
+use Rattle.std.proofs.lemmas.Bool.{cases_Bool, true≢false, and_parts, and_right, and_from}
+use Rattle.kc_expr.specs.declared.expression.SymId.{SymId}
+use Rattle.kc_expr.specs.declared.expression.Tri.{Tri}
+use Rattle.kc_expr.specs.declared.expression.Tri.TheVariants.{N, M, Y}
+use Rattle.kc_expr.specs.declared.expression.Kind.{Kind}
+use Rattle.kc_expr.specs.declared.expression.Kind.TheVariants.{Undefined, Bool as IsBool, Tristate, Str, Int, Hex}
+use Rattle.kc_expr.specs.Value.{SymbolValue, Truth, TextValue, greater, lesser, truth_of_value}
+use Rattle.kc_expr.specs.Names.{symbol}
+use Rattle.kc_tree.specs.TreeFacts.{SymbolFacts, ChoiceFacts, TreeFacts}
+use Rattle.kc_values.specs.declared.numbers.Interval.{Interval}
+use Rattle.kc_order.specs.Solution.{Solves}
+use Rattle.kc_values.specs.Lookups.{facts, choice_at}
+use Rattle.kc_values.specs.Numbers.{is_inside, if_inside, clamped}
+use Rattle.kc_values.specs.Values as v
+use Rattle.kc_user.specs.GivenValue.{GivenValue, GivenTruth, GivenText, Member, UserPlace, SymbolPlace, ChoicePlace}
+use Rattle.kc_user.specs.Places.{is_m, allowed_truth, allowed_text, allowed_by, allowed_for, allowed, members_of}
+use Rattle.kc_tree.specs.Words.{is_symbol_of}
+use Rattle.kc_values.specs.Values.{is_n, upgrade}
+use Rattle.kc_values.specs.Solution as sol
+use Rattle.kc_values.specs.Solution.{symbol_count, known_from, rhs, equations}
+use Rattle.kc_values.specs.WrittenSymbols as ls
+use Rattle.kc_values.specs.WrittenSymbols.{above}
+use Rattle.kc_values.specs.Differs.{given_of, is_yes, reread_places, changes_on_reread, AllowedPlaces}
+use Rattle.kc_values.specs.Laws.{MembersAreTheirs, IdempotentWhere}
+use Rattle.kc_values.proofs.TruthLines.{upgrade_if, outcome, base_of, line_keeps}
+use Rattle.kc_values.proofs.Selection.{found, selected_again, none_selected, selected_member, selected_visible}
+use Rattle.kc_values.proofs.FixedLines.{member_at, slot_cases, slot_of_member, names_itself, named, Sel, member_now}
+
+-- the same, and unchanged on rereading; or another, and changed
+abbrev pub Keeps : SymbolValue → SymbolValue → Bool → Type 0
+Keeps x y b = ((x ≡ y) × (b ≡ false)) ⊎ (((x ≡ y) → ⊥) × (b ≡ true))
+
+module _ (tree : TreeFacts) (k : SymId → SymbolValue) where
+  user_or_hidden : (u : Option GivenValue) (vis o : Tri) → is_n vis ≡ true → v.user_or u vis o ≡ o
+  user_or_hidden None vis o e = refl
+  user_or_hidden (Some (GivenText t)) vis o e = refl
+  user_or_hidden (Some (Member m)) vis o e = refl
+  user_or_hidden (Some (GivenTruth u)) vis o e = ap (λ b. cond b o (lesser u vis)) e
+
+  -- the value under a user's place
+  abbrev Out : Bool → Tri → Tri → Tri → Option GivenValue → Tri
+  Out b vis reverse o u = upgrade_if b (greater (v.user_or u (upgrade_if b vis) o) (upgrade_if b reverse))
+
+  abbrev Line : Bool → Bool → Tri → Option GivenValue
+  Line w a t = cond (w && a) (Some (GivenTruth t)) None
+
+  upgrade_if_stays : (b : Bool) (allow : Tri → Bool) (u : Option GivenValue) (vis reverse o : Tri) (w : Bool) → (is_n (upgrade_if b vis) ≡ false → w ≡ true) →
+      ((y : Tri) → allow (upgrade_if b y) ≡ true) →
+      Keeps (Truth (Out b vis reverse o u)) (Truth (Out b vis reverse o (Line w (allow (Out b vis reverse o u)) (Out b vis reverse o u))))
+      (not b && (not (is_n (upgrade_if b vis)) && (above (Out b vis reverse o u) (upgrade_if b vis) && above (Out b vis reverse o u) (upgrade_if b reverse))))
+  upgrade_if_stays b allow u vis reverse o w shown allowed =
+      let t = Out b vis reverse o u in
+      let R = λ (x : Tri). upgrade_if b (greater x (upgrade_if b reverse)) in
+      elim (cases_Bool (is_n (upgrade_if b vis))) [
+        | inl hidden ↦
+            let e = ap R (user_or_hidden u (upgrade_if b vis) o hidden) ∙ sym (ap R (user_or_hidden (Line w (allow t) t) (upgrade_if b vis) o hidden)) in
+            inl (
+              ap Truth e,
+              and_right (not b) (not (is_n (upgrade_if b vis)) && (above t (upgrade_if b vis) && above t (upgrade_if b reverse)))
+                  (ap (λ h. not h && (above t (upgrade_if b vis) && above t (upgrade_if b reverse))) hidden),
+            )
+        | inr seen_now ↦
+            let base = v.user_or u (upgrade_if b vis) o in
+            let place : Line w (allow t) t ≡ Some (GivenTruth t) =
+            ap (λ x. Line x (allow t) t) (shown seen_now) ∙ ap (λ x. Line true x t) (allowed (greater base (upgrade_if b reverse)))
+            in
+            let new : Out b vis reverse o (Line w (allow t) t) ≡ outcome b (base_of t (upgrade_if b vis) o) reverse = ap (Out b vis reverse o) place in
+            let tell : (not b && (not (is_n (upgrade_if b vis)) && (above t (upgrade_if b vis) && above t (upgrade_if b reverse)))) ≡
+            (not b && (above t (upgrade_if b vis) && above t (upgrade_if b reverse))) =
+            ap (λ h. not b && (not h && (above t (upgrade_if b vis) && above t (upgrade_if b reverse)))) seen_now
+            in
+            elim (line_keeps b base vis reverse o seen_now) [
+              | inl same ↦ inl (ap Truth (same.0 ∙ sym new), tell ∙ same.1)
+              | inr other ↦ inr ((λ e. let h : t ≡ outcome b (base_of t (upgrade_if b vis) o) reverse = ap truth_of_value e ∙ new in other.0 h), tell ∙ other.1)
+            ]
+      ]
+
+  pub upgrade_allowed : (y : Tri) → not (is_m (upgrade y)) ≡ true
+  upgrade_allowed N = refl
+  upgrade_allowed M = refl
+  upgrade_allowed Y = refl
+
+  abbrev pub is_truth_kind : Kind → Bool
+  is_truth_kind Undefined = false
+  is_truth_kind IsBool = true
+  is_truth_kind Tristate = true
+  is_truth_kind Str = false
+  is_truth_kind Int = false
+  is_truth_kind Hex = false
+
+  abbrev OutBy : Kind → Tri → Tri → Tri → Option GivenValue → Tri
+  OutBy kind vis reverse o u = v.upgraded tree k kind (greater (v.user_or u (v.upgraded tree k kind vis) o) (v.upgraded tree k kind reverse))
+
+  truth_settles : (kind : Kind) → is_truth_kind kind ≡ true → (u : Option GivenValue) (vis reverse o : Tri) (w : Bool) → (is_n (v.upgraded tree k kind vis) ≡ false → w ≡ true) →
+      Keeps (Truth (OutBy kind vis reverse o u)) (Truth (OutBy kind vis reverse o (Line w (allowed_truth kind (OutBy kind vis reverse o u)) (OutBy kind vis reverse o u))))
+      (ls.is_tristate tree k kind &&
+      (not (is_n (v.upgraded tree k kind vis)) && (above (OutBy kind vis reverse o u) (v.upgraded tree k kind vis) && above (OutBy kind vis reverse o u) (v.upgraded tree k kind reverse))))
+  truth_settles IsBool e u vis reverse o w shown = upgrade_if_stays true (allowed_truth IsBool) u vis reverse o w shown upgrade_allowed
+  truth_settles Tristate e u vis reverse o w shown = upgrade_if_stays (is_n (v.modules_value k tree.modules)) (allowed_truth Tristate) u vis reverse o w shown (λ y. refl)
+  truth_settles Undefined e u vis reverse o w shown = absurd (true≢false (sym e))
+  truth_settles Str e u vis reverse o w shown = absurd (true≢false (sym e))
+  truth_settles Int e u vis reverse o w shown = absurd (true≢false (sym e))
+  truth_settles Hex e u vis reverse o w shown = absurd (true≢false (sym e))
+
+  -- Texts and numbers.
+  abbrev TextLine : Bool → Bool → List ℕ → Option GivenValue
+  TextLine w a t = cond (w && a) (Some (GivenText t)) None
+
+  unused_text : (a : Bool) (vis : Tri) (d : List ℕ) → d ≡ unwrap_or (v.visible_text (cond a (Some (GivenText d)) None) vis) d
+  unused_text true N d = refl
+  unused_text true M d = refl
+  unused_text true Y d = refl
+  unused_text false vis d = refl
+
+  text_settles : (q : List ℕ → Bool) (u : Option GivenValue) (vis : Tri) (d : List ℕ) (w : Bool) → (is_n vis ≡ false → w ≡ true) → ((t : List ℕ) → u ≡ Some (GivenText t) → q t ≡ true) →
+      unwrap_or (v.visible_text u vis) d ≡ unwrap_or (v.visible_text (TextLine w (q (unwrap_or (v.visible_text u vis) d)) (unwrap_or (v.visible_text u vis) d)) vis) d
+  text_settles q None vis d w shown given = unused_text (w && q d) vis d
+  text_settles q (Some (GivenTruth t)) vis d w shown given = unused_text (w && q d) vis d
+  text_settles q (Some (Member m)) vis d w shown given = unused_text (w && q d) vis d
+  text_settles q (Some (GivenText t)) N d w shown given = unused_text (w && q d) N d
+  text_settles q (Some (GivenText t)) M d w shown given = sym (ap (λ b. unwrap_or (v.visible_text (cond b (Some (GivenText t)) None) M) d) (and_from w (q t) (shown refl) (given t refl)))
+  text_settles q (Some (GivenText t)) Y d w shown given = sym (ap (λ b. unwrap_or (v.visible_text (cond b (Some (GivenText t)) None) Y) d) (and_from w (q t) (shown refl) (given t refl)))
+
+  module _ (kind : Kind) (range : Option Interval) where
+    abbrev Ranged : Tri → List ℕ → Option GivenValue → List ℕ
+    Ranged vis d u = unwrap_or (if_inside kind range (v.visible_text u vis)) d
+
+    either_way : (b : Bool) (d : List ℕ) → d ≡ unwrap_or (cond b (Some d) None) d
+    either_way true d = refl
+    either_way false d = refl
+
+    unused_number : (a : Bool) (vis : Tri) (d : List ℕ) → d ≡ Ranged vis d (cond a (Some (GivenText d)) None)
+    unused_number true N d = refl
+    unused_number true M d = either_way (is_inside kind range d) d
+    unused_number true Y d = either_way (is_inside kind range d) d
+    unused_number false vis d = refl
+
+    shown_number : (q : List ℕ → Bool) (t d : List ℕ) (w : Bool) → w ≡ true → q t ≡ true →
+        unwrap_or (cond (is_inside kind range t) (Some t) None) d ≡ Ranged Y d
+        (TextLine w (q (unwrap_or (cond (is_inside kind range t) (Some t) None) d)) (unwrap_or (cond (is_inside kind range t) (Some t) None) d))
+    shown_number q t d w shown given =
+        let T = λ (b : Bool). unwrap_or (cond b (Some t) None) d in
+        let F = λ (x : List ℕ). Ranged Y d (TextLine w (q x) x) in
+        elim (cases_Bool (is_inside kind range t)) [
+          | inl y ↦
+              let e : T (is_inside kind range t) ≡ t = ap T y in
+              let f : F t ≡ t = ap (λ b. Ranged Y d (cond b (Some (GivenText t)) None)) (and_from w (q t) shown given) ∙ e in
+              e ∙ sym f ∙ sym (ap F e)
+          | inr n ↦
+              let e : T (is_inside kind range t) ≡ d = ap T n in
+              e ∙ unused_number (w && q d) Y d ∙ sym (ap F e)
+        ]
+
+    as_m : (d : List ℕ) (b : Bool) (x : List ℕ) → Ranged Y d (cond b (Some (GivenText x)) None) ≡ Ranged M d (cond b (Some (GivenText x)) None)
+    as_m d true x = refl
+    as_m d false x = refl
+
+    pub number_settles : (q : List ℕ → Bool) (u : Option GivenValue) (vis : Tri) (d : List ℕ) (w : Bool) → (is_n vis ≡ false → w ≡ true) → ((t : List ℕ) → u ≡ Some (GivenText t) → q t ≡ true) →
+        Ranged vis d u ≡ Ranged vis d (TextLine w (q (Ranged vis d u)) (Ranged vis d u))
+    number_settles q None vis d w shown given = unused_number (w && q d) vis d
+    number_settles q (Some (GivenTruth t)) vis d w shown given = unused_number (w && q d) vis d
+    number_settles q (Some (Member m)) vis d w shown given = unused_number (w && q d) vis d
+    number_settles q (Some (GivenText t)) N d w shown given = unused_number (w && q d) N d
+    number_settles q (Some (GivenText t)) M d w shown given = shown_number q t d w (shown refl) (given t refl) ∙ as_m d (w && q (Ranged M d (Some (GivenText t)))) (Ranged M d (Some (GivenText t)))
+    number_settles q (Some (GivenText t)) Y d w shown given = shown_number q t d w (shown refl) (given t refl)
+
+  -- One symbol outside a choice.
+  abbrev Settling : (Option GivenValue → SymbolValue) → Bool → (GivenValue → Bool) → (Tri → Bool) → SymbolValue → Type 0
+  Settling f w allow uns x =
+      Keeps x (f (cond (w && allow (given_of x)) (Some (given_of x)) None)) (uns (truth_of_value x))
+
+  shown_first : (b c : Bool) → b ≡ false → (not b || c) ≡ true
+  shown_first b c e = ap (λ x. not x || c) e
+
+  module _ (s : SymId) (f : SymbolFacts) where
+    not_tristate : (kind : Kind) (t : Tri) → ls.is_tristate tree k kind ≡ false → kind ≡ f.kind → ls.changes_on_reread_truth tree k f t ≡ false
+    not_tristate kind t n h =
+        ap (λ x. ls.is_tristate tree k x && (ls.is_visible tree k f && (above t (v.visibility tree k f) && above t (v.reverse tree k f)))) (sym h)
+        ∙ ap (λ b. b && (ls.is_visible tree k f && (above t (v.visibility tree k f) && above t (v.reverse tree k f)))) n
+
+    truth_line : (u : Option GivenValue) → is_truth_kind f.kind ≡ true →
+        Settling (λ p. Truth (v.truth_equation tree k f p)) (ls.written_truth tree k f) (allowed_by f.kind) (ls.changes_on_reread_truth tree k f) (Truth (v.truth_equation tree k f u))
+    truth_line u e =
+        truth_settles f.kind e u (v.conditions tree k f.prompts) (v.reverse_values tree k f.selectors)
+        (v.implied (v.default_value tree k (v.first_met tree k f.defaults)) (v.weak_reverse tree k f) (v.direct tree k f))
+        (ls.written_truth tree k f) (λ h. shown_first (is_n (v.visibility tree k f)) _ h)
+
+    settles_by_kind : (kind : Kind) (u : Option GivenValue) → kind ≡ f.kind → ((g : GivenValue) → u ≡ Some g → allowed_by f.kind g ≡ true) →
+        Settling (v.by_kind tree k s f kind) (ls.written_by_kind tree k f kind) (allowed_by f.kind) (ls.changes_on_reread_truth tree k f) (v.by_kind tree k s f kind u)
+    settles_by_kind Undefined u h given = inl (refl, not_tristate Undefined N refl h)
+    settles_by_kind IsBool u h given = truth_line u (ap is_truth_kind (sym h))
+    settles_by_kind Tristate u h given = truth_line u (ap is_truth_kind (sym h))
+    settles_by_kind Str u h given =
+        inl (
+          ap (TextValue Str) (text_settles (allowed_text f.kind) u (v.visibility tree k f) (v.default_text k (v.first_met tree k f.defaults)) (ls.written_text tree k f)
+              (λ e. shown_first (is_n (v.visibility tree k f)) _ e) (λ t e. given (GivenText t) e)),
+          not_tristate Str N refl h,
+        )
+    settles_by_kind Int u h given =
+        inl (
+          ap (TextValue Int) (number_settles f.kind (v.active_range tree k f) (allowed_text f.kind) u (v.visibility tree k f)
+              (clamped f.kind (v.active_range tree k f) (v.default_text k (v.first_met tree k f.defaults))) (ls.written_text tree k f)
+              (λ e. shown_first (is_n (v.visibility tree k f)) _ e) (λ t e. given (GivenText t) e)),
+          not_tristate Int N refl h,
+        )
+    settles_by_kind Hex u h given =
+        inl (
+          ap (TextValue Hex) (number_settles f.kind (v.active_range tree k f) (allowed_text f.kind) u (v.visibility tree k f)
+              (clamped f.kind (v.active_range tree k f) (v.default_text k (v.first_met tree k f.defaults))) (ls.written_text tree k f)
+              (λ e. shown_first (is_n (v.visibility tree k f)) _ e) (λ t e. given (GivenText t) e)),
+          not_tristate Hex N refl h,
+        )
+
+    settles_by_choice : (i : ℕ) (c : Option ℕ) (u : Option GivenValue) → sol.user_place_by i c ≡ SymbolPlace i → ((g : GivenValue) → u ≡ Some g → allowed_by f.kind g ≡ true) →
+        Settling (v.by_choice tree k s f c) (ls.written_by_choice tree k f c) (allowed_by f.kind) (ls.changes_on_reread_by tree k f c) (v.by_choice tree k s f c u)
+    settles_by_choice i None u at given = settles_by_kind f.kind u refl given
+    settles_by_choice i (Some c) u at given = cc
+
+  settles_facts : (s : SymId) (i : ℕ) (f : Option SymbolFacts) (u : Option GivenValue) → sol.user_place_of i f ≡ SymbolPlace i → ((g : GivenValue) → u ≡ Some g → allowed_for f g ≡ true) →
+      Settling (v.equation tree k s f) (ls.written_facts tree k f) (allowed_for f) (ls.changes_on_reread_facts tree k f) (v.equation tree k s f u)
+  settles_facts s i None u at given = inl (refl, refl)
+  settles_facts s i (Some f) u at given = settles_by_choice s f i f.choice u at given
+
+  -- a member does not change on rereading
+  kept_choice : (f : SymbolFacts) (i c : ℕ) (t : Tri) (o : Option ℕ) → sol.user_place_by i o ≡ ChoicePlace c → ls.changes_on_reread_by tree k f o t ≡ false
+  kept_choice f i c t None e = cc
+  kept_choice f i c t (Some d) e = refl
+
+  member_settled : (i c : ℕ) (f : Option SymbolFacts) (t : Tri) → sol.user_place_of i f ≡ ChoicePlace c → ls.changes_on_reread_facts tree k f t ≡ false
+  member_settled i c None t e = cc
+  member_settled i c (Some f) t e = kept_choice f i c t f.choice e
+
+  is_n-upgrade : (t : Tri) → is_n (upgrade t) ≡ is_n t
+  is_n-upgrade N = refl
+  is_n-upgrade M = refl
+  is_n-upgrade Y = refl
+
+  is_n-if : (b : Bool) (t : Tri) → is_n (cond b (upgrade t) t) ≡ is_n t
+  is_n-if true t = is_n-upgrade t
+  is_n-if false t = refl
+
+  is_n-upgraded : (kind : Kind) (t : Tri) → is_n (v.upgraded tree k kind t) ≡ is_n t
+  is_n-upgraded Undefined t = is_n-upgrade t
+  is_n-upgraded IsBool t = is_n-upgrade t
+  is_n-upgraded Tristate t = is_n-if (is_n (v.modules_value k tree.modules)) t
+  is_n-upgraded Str t = is_n-upgrade t
+  is_n-upgraded Int t = is_n-upgrade t
+  is_n-upgraded Hex t = is_n-upgrade t
+
+  -- a visible member is written
+  member_written : (m : SymId) (g : SymbolFacts) (c : ℕ) → facts tree m ≡ Some g → g.choice ≡ Some c → v.visible tree k m ≡ true → ls.written tree k m ≡ true
+  member_written m g c e h vis =
+      ap (ls.written_facts tree k) e
+      ∙ ap (ls.written_by_choice tree k g) h
+      ∙ ap not (is_n-upgraded g.kind (v.conditions tree k g.prompts))
+      ∙ sym (ap (v.visible_facts tree k) e)
+      ∙ vis
+
+yes_if : (b : Bool) → is_yes (Truth (cond b Y N)) ≡ true → b ≡ true
+yes_if true e = refl
+yes_if false e = e
+
+missing_at : {X : Type 0} (p : X → Bool) (b : Bool) (x y : X) (xs : List X) → p x ≡ b → (find p xs ≡ None → Contains xs y → p y ≡ false) → cond b (Some x) (find p xs) ≡ None →
+    Contains (x ∷ xs) y → p y ≡ false
+missing_at p true x y xs t rec e c = cc
+missing_at p false x y xs t rec e (zero, l, i) = ap p (sym i) ∙ t
+missing_at p false x y xs t rec e (suc n, l, i) = rec e (n, omega arith, i)
+
+missing : {X : Type 0} (p : X → Bool) (xs : List X) (y : X) → find p xs ≡ None → Contains xs y → p y ≡ false
+missing p [] y e c = absurd (omega (arith, c.1))
+missing p (x ∷ xs) y e c = missing_at p (p x) x y xs refl (missing p xs y) e c
+
+module _ (tree : TreeFacts) (user : UserPlace → Option GivenValue) (V : ℕ → SymbolValue) (theirs : MembersAreTheirs tree) (solves : Solves (symbol_count tree) (equations tree user) V) where
+  abbrev K : SymId → SymbolValue
+  K = known_from tree V
+
+  abbrev Wrote : SymId → Bool
+  Wrote m = ls.written tree K m && is_yes (V m.0)
+
+  abbrev Selected : ℕ → Option SymId
+  Selected c = Sel tree user V solves c
+
+  value_of_member : (c : ℕ) (f : ChoiceFacts) (m : SymId) → choice_at tree c ≡ Some f → Contains f.members m → V m.0 ≡ Truth (cond (is_symbol_of m (Selected c)) Y N)
+  value_of_member c f m e i =
+      let mine = theirs c f m e i in
+      member_now tree user V solves m.0 c mine.0 (slot_of_member tree m mine.1.0 c mine.1.1 mine.1.2)
+
+  -- the found member is the selected one, and none is found where none is selected
+  found_one : (c : ℕ) (r : Option SymId) (x : SymId) (o : Option ChoiceFacts) → choice_at tree c ≡ o → Selected c ≡ r → find Wrote (members_of o) ≡ Some x → v.selected tree K o (Some (Member x)) ≡ r
+  found_one c r x None at e d = cc
+  found_one c r x (Some f) at e d =
+      let h = found Wrote f.members x d in
+      let now = value_of_member c f x at h.1 in
+      let sel = named (Selected c) x (yes_if (is_symbol_of x (Selected c)) (sym (ap is_yes now) ∙ (and_parts (ls.written tree K x) (is_yes (V x.0)) h.0).1)) in
+      selected_again tree K (Some f) (user (ChoicePlace c)) x (sym (ap (λ o. v.selected tree K o (user (ChoicePlace c))) at) ∙ sel) ∙ sym sel ∙ e
+
+  again_to : (c : ℕ) (r w : Option SymId) → Selected c ≡ r → find Wrote (members_of (choice_at tree c)) ≡ w → v.selected tree K (choice_at tree c) (option_map Member w) ≡ r
+  again_to c None None e d = none_selected tree K (choice_at tree c) (user (ChoicePlace c)) e
+  again_to c (Some m) None e d =
+      let at = selected_member tree K (choice_at tree c) (user (ChoicePlace c)) m e in
+      let f = at.0 in
+      let mine = theirs c f m at.1 at.2 in
+      let vis = selected_visible tree K f (user (ChoicePlace c)) m (sym (ap (λ o. v.selected tree K o (user (ChoicePlace c))) at.1) ∙ e) in
+      let shown = (and_parts _ (v.visible tree K m) vis).1 in
+      let w = member_written tree K m mine.1.0 c mine.1.1 mine.1.2 shown in
+      let now = value_of_member c f m at.1 at.2 ∙ ap (λ r. Truth (cond (is_symbol_of m r) Y N)) e in
+      let y : is_yes (V m.0) ≡ true = ap is_yes now ∙ ap (λ b. is_yes (Truth (cond b Y N))) (names_itself m) in
+      absurd (true≢false (sym (and_from (ls.written tree K m) (is_yes (V m.0)) w y) ∙ missing Wrote f.members m (sym (ap (λ o. find Wrote (members_of o)) at.1) ∙ d) at.2))
+  again_to c r (Some x) e d = found_one c r x (choice_at tree c) refl e d
+
+  one_keeps : AllowedPlaces tree user → (i : ℕ) → i < symbol_count tree → Keeps (V i) (equations tree (reread_places tree V) i V) (changes_on_reread tree V i)
+  one_keeps given i l =
+      elim (slot_cases tree i) [
+        | inl at ↦
+            let e = solves i l ∙ ap (λ p. rhs tree i (user p) V) at in
+            let z = settles_facts tree K (symbol i) i (facts tree (symbol i)) (user (SymbolPlace i)) at (given i) in
+            let P = λ (x : SymbolValue). Settling tree K (v.equation tree K (symbol i) (facts tree (symbol i))) (ls.written tree K (symbol i)) (allowed tree (symbol i))
+            (ls.changes_on_reread_facts tree K (facts tree (symbol i))) x in
+            let y : P (V i) = subst P (sym e) z in
+            subst (λ p. Keeps (V i) (rhs tree i (reread_places tree V p) V) (changes_on_reread tree V i)) (sym at) y
+        | inr d ↦
+            let c = d.0 in
+            let now = member_now tree user V solves i c l d.1 in
+            let then_ = ap (λ p. rhs tree i (reread_places tree V p) V) d.1 ∙ member_at tree K i c (reread_places tree V (ChoicePlace c)) d.1 in
+            let same = again_to c (Selected c) _ refl refl in
+            inl (now ∙ ap (λ r. Truth (cond (is_symbol_of (symbol i) r) Y N)) (sym same) ∙ sym then_, member_settled tree K i c (facts tree (symbol i)) (truth_of_value (V i)) d.1)
+      ]
+
+pub idempotent_where : IdempotentWhere
+idempotent_where tree user V theirs given solves = (
+  λ w i l. elim (one_keeps tree user V theirs solves given i l) [ inl a ↦ a.1 | inr b ↦ absurd (b.0 (w i l)) ],
+  λ all i l. elim (one_keeps tree user V theirs solves given i l) [ inl a ↦ a.0 | inr b ↦ absurd (true≢false (sym b.1 ∙ all i l)) ],
+)

@@ -1,0 +1,43 @@
+-- What was found is the first whose condition is not n.
+use Rattle.std.proofs.Common.{◌≡◌, List, Option, Some, None, refl, ap, ◌∙◌}
+use Rattle.std.specs.Borrow.{Bor}
+use Rattle.std.specs.Option.{option_or}
+use Rattle.kc_expr.specs.Form.{Form, Leaf, leaf_of}
+use Rattle.kc_expr.specs.Value.{text}
+use Rattle.kc_expr.specs.declared.expression.Kind.{Kind}
+use Rattle.kc_expr.specs.declared.expression.Tri.{Tri}
+use Rattle.kc_tree.specs.declared.rows.SymbolDefault.{SymbolDefault}
+use Rattle.kc_tree.specs.declared.rows.SymbolRange.{SymbolRange}
+use Rattle.kc_tree.specs.Layouts.{range_view}
+use Rattle.kc_tree.specs.TreeFacts.{Condition, Guarded, Bounds}
+use Rattle.kc_values.specs.declared.table.Table.{Table}
+use Rattle.kc_values.specs.declared.numbers.Interval.{Interval}
+use Rattle.kc_values.specs.TableFacts.{known_at, IsMetDefault, IsMetRange}
+use Rattle.kc_values.specs.Numbers.{number_or_zero}
+use Rattle.kc_values.specs.Values.{interval}
+
+module _ (t : Table) where
+  -- then what else there is does not count
+  pub default-some : (o others : Option (Guarded Form)) (found : Bor SymbolDefault × Tri) → IsMetDefault t o (Some found) → o ≡ option_or o others
+  default-some None others found h = absurd cc
+  default-some (Some g) others found h = refl
+
+  pub default-none : (o others : Option (Guarded Form)) → IsMetDefault t o None → option_or o others ≡ others
+  default-none None others h = refl
+  default-none (Some g) others h = absurd h
+
+  pub range-some : (o others : Option (Guarded Bounds)) (found : Bor SymbolRange) → IsMetRange t o (Some found) → o ≡ option_or o others
+  range-some None others found h = absurd cc
+  range-some (Some g) others found h = refl
+
+  pub range-none : (o others : Option (Guarded Bounds)) → IsMetRange t o None → option_or o others ≡ others
+  range-none None others h = refl
+  range-none (Some g) others h = absurd h
+
+  -- and its bounds are those of the row that was found
+  pub range-bounds : (kind : Kind) (o : Option (Guarded Bounds)) (found : Bor SymbolRange) (conditions : List Condition) (dep : Condition) → IsMetRange t o (Some found) →
+      interval (known_at t) kind (Some (range_view conditions dep found.now)) ≡ interval (known_at t) kind o
+  range-bounds kind None found conditions dep h = absurd cc
+  range-bounds kind (Some g) found conditions dep h =
+      let F : Leaf → Leaf → Option Interval = λ x y. Some (record { low = number_or_zero kind (text (known_at t) x); high = number_or_zero kind (text (known_at t) y) }) in
+      ap (λ x. F x (leaf_of found.now.high)) h.0 ∙ ap (F g.what.low) h.1

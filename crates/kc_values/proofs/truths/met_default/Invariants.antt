@@ -1,0 +1,10 @@
+use Rattle.std.proofs.Common.{◌≡◌}
+use Rattle.kc_tree.specs.Layouts.{DefinitionFacts}
+use Rattle.kc_values.specs.TableFacts.{known_at}
+use Rattle.kc_values.proofs.DefinitionLemmas.{met_from}
+use Rattle.kc_values.proofs.truths.met_default.Given as goal
+
+abbrev pub invariant-loop-i : goal.invariant-loop-i
+invariant-loop-i l =
+    met_from l.table.tree.now (known_at l.table) l.table.layout.now l.symbol (λ (d : DefinitionFacts). d.defaults) l.i
+    ≡ met_from l.table.tree.now (known_at l.table) l.table.layout.now l.symbol (λ (d : DefinitionFacts). d.defaults) 0

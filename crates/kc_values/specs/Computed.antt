@@ -1,0 +1,29 @@
+-- Trusted: What a table has computed: the values of contexts and the selections of choices.
+use Rattle.std.specs.Prelude.{◌≡◌, ℕ, List, Option, Some, None, slice_index_or}
+use Rattle.kc_expr.specs.Form.{Form}
+use Rattle.kc_expr.specs.Value.{SymbolValue, value}
+use Rattle.kc_expr.specs.declared.expression.SymId.{SymId}
+use Rattle.kc_expr.specs.declared.expression.Tri.{Tri}
+use Rattle.kc_expr.specs.declared.expression.Tri.TheVariants.{N, M, Y}
+use Rattle.kc_tree.specs.declared.layout.Layout.{Layout}
+use Rattle.kc_tree.specs.Contexts.{condition_in}
+use Rattle.kc_tree.specs.TreeFacts.{TreeFacts}
+use Rattle.kc_values.specs.declared.table.Value.{Value}
+use Rattle.kc_values.specs.Table.{known_in}
+use Rattle.kc_values.specs.Values.{condition}
+
+-- the value of an `if`, y where there is none
+abbrev pub when_value : (SymId → SymbolValue) → Option Form → Tri
+when_value known None = Y
+when_value known (Some f) = value known f
+
+-- a truth as a number, by which a table may hold what it is
+abbrev pub rank : Tri → ℕ
+rank N = 0
+rank M = 1
+rank Y = 2
+
+-- each context that is computed has the value of its condition
+abbrev pub AreContextsComputed : TreeFacts → Layout → List (Option Value) → List (Option Tri) → Type 0
+AreContextsComputed tree layout values contexts =
+    (i : ℕ) (t : Tri) → slice_index_or contexts i None ≡ Some t → rank t ≡ rank (condition tree (known_in tree values) (condition_in layout.tables.contexts i))
