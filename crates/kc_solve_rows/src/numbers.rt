@@ -8,6 +8,7 @@ use kc_build::build_tree;
 use kc_expr::expression::{Expr, Kind, Operand, SymId, Tri};
 use kc_expr::values::Values;
 use kc_read::file_map::FileMap;
+use kc_tree::layout::Layout;
 use kc_tree::rows::{ChoiceId, ContextId};
 use kc_tree::tree::Tree;
 use kc_values::conditions::{context, mode_of};
@@ -101,12 +102,30 @@ fn what_is_inside_counts(rt: HostRuntime) {
     assert!(rt; if_inside(Kind::Int, range, Some(b"3".as_slice())).is_none());
 }
 
-// The mode of the first choice of a tree where its first symbol is worth this, and what the context of its first prompt is.
-fn mode_where(alloc: Global, tree: &Tree, value: Tri) -> Result<(Tri, Tri), AllocError> {
+// So many values, each this one.
+fn values_alike(alloc: Global, count: usize, value: Tri) -> Result<Vec<Option<Value>>, AllocError> {
+    let mut values = Vec::with_capacity(alloc, count)?;
+    for _ in 0..count {
+        values.push(Some(Value::Truth(value)))?;
+    }
+    Ok(values)
+}
+
+// A table of a tree where each symbol is worth this, and nothing is computed.
+fn table_where<'t>(alloc: Global, tree: &'t Tree, value: Tri) -> Result<Table<'t>, AllocError> {
     let mut table = Table::empty(alloc, tree, tree.layout())?;
-    table.values[0] = Some(Value::Truth(value));
-    let choice = &tree.choices()[0];
-    Ok((mode_of(&table, ChoiceId(0)), context(&table, choice.within)))
+    table.values = values_alike(alloc, tree.symbol_count(), value)?;
+    Ok(table)
+}
+
+// The mode of the first choice of a tree where each symbol is worth this, and what the context of its first prompt is; n
+// where there is no choice.
+fn mode_where(alloc: Global, tree: &Tree, value: Tri) -> Result<(Tri, Tri), AllocError> {
+    let table = table_where(alloc, tree, value)?;
+    match tree.choices().first() {
+        Some(choice) => Ok((mode_of(&table, ChoiceId(0)), context(&table, choice.within))),
+        None => Ok((Tri::N, Tri::N)),
+    }
 }
 
 #[test]
@@ -120,15 +139,14 @@ fn a_prompt_that_is_m_gives_the_mode_y(rt: HostRuntime) -> Result<(), Fail> {
     Ok(())
 }
 
-// What the contexts of a tree are worth where its first symbol is y: the first, and then the second, which is inside it.
+// What the contexts of a tree are worth where each symbol is y: the first, and then the second, which is inside it.
 fn contexts_of(alloc: Global, tree: &Tree) -> Result<(Tri, Tri), AllocError> {
-    let mut table = Table::empty(alloc, tree, tree.layout())?;
-    table.values[0] = Some(Value::Truth(Tri::Y));
+    let table = table_where(alloc, tree, Tri::Y)?;
     Ok((context(&table, ContextId(1)), context(&table, ContextId(2))))
 }
 
 #[test]
-fn contexts_ask_for_what_is_round_them(rt: HostRuntime) -> Result<(), Fail> {
+fn a_context_asks_for_what_encloses_it(rt: HostRuntime) -> Result<(), Fail> {
     let text = "config A\nbool\nif A\nconfig B\nbool \"b\"\ndepends on !A\nendif\n";
     let tree = tree_of(rt.alloc(), text)?;
     assert!(rt; contexts_of(rt.alloc(), &tree)? == (Tri::Y, Tri::N));
@@ -136,19 +154,28 @@ fn contexts_ask_for_what_is_round_them(rt: HostRuntime) -> Result<(), Fail> {
     Ok(())
 }
 
+// Whether the nodes of the second context, the first choice and the second symbol are found by their numbers.
+fn are_nodes_found(layout: &Layout) -> bool {
+    if layout.context_count() > 1 {
+        if !layout.choices().is_empty() {
+            let within = context_number(layout, ContextId(1));
+            let choice = choice_number(layout, ChoiceId(0));
+            return node_of(layout, within) == Node::Context(ContextId(1))
+                && node_of(layout, choice) == Node::Choice(ChoiceId(0))
+                && node_of(layout, 1) == Node::Symbol(SymId(1));
+        }
+    }
+    false
+}
+
 #[test]
 fn nodes_have_numbers(rt: HostRuntime) -> Result<(), Fail> {
     let text =
         "config A\nbool\nif A\nchoice\nprompt \"c\"\nconfig B\nbool \"b\"\nendchoice\nendif\n";
     let tree = tree_of(rt.alloc(), text)?;
-    let layout = tree.layout();
     // two symbols, the top, the `if`, the members of the choice, and the choice
-    assert!(rt; node_count(layout) == 6);
-    let number = context_number(layout, ContextId(1));
-    assert!(rt; node_of(layout, number) == Node::Context(ContextId(1)));
-    let number = choice_number(layout, ChoiceId(0));
-    assert!(rt; node_of(layout, number) == Node::Choice(ChoiceId(0)));
-    assert!(rt; node_of(layout, 1) == Node::Symbol(SymId(1)));
+    assert!(rt; node_count(tree.layout()) == 6);
+    assert!(rt; are_nodes_found(tree.layout()));
     drop(tree);
     Ok(())
 }
