@@ -146,6 +146,13 @@ def menu_round_selects(count):
     return names + config("T", "bool") + menu_with(depends, selects(count))
 
 
+def menu_at_the_limits(count):
+    """So many symbols, at most the 65,535 that a tree may have, in a menu with a dependency for each two of them or so: 30,000 then.
+    Each names what is no symbol, and holds."""
+    count = min(count, 65535)
+    return menu_with([f"depends on U_{i} != y" for i in range(count * 30000 // 65535)], symbols(count))
+
+
 def hidden_menu_round_symbols(count):
     """A menu with so many conditions of visibility round as many symbols."""
     names, depends = dependencies(count)
@@ -195,6 +202,7 @@ SHAPES = [
     (menu_round_comments, 16000),
     (menu_round_one_symbol, 16000),
     (menu_round_selects, 8000),
+    (menu_at_the_limits, 16384),
     (hidden_menu_round_symbols, 8000),
     (hidden_menu_round_choices, 8000),
     (hidden_menu_round_comments, 16000),

@@ -1,17 +1,21 @@
 #!/usr/bin/env python3
-"""Lists the definitions that the contracts of public functions cite, which a reader has to trust: bench/trusted.py [--cited]
+"""Lists the definitions that the contracts of public functions cite, which a reader has to trust: bench/trusted.py [--cited | --run]
 
 Each file of a crate's specs/ begins with `-- Trusted: ` where the contract of a public function cites some of its
 definitions, directly or through other definitions, and with `-- For proofs: ` where none does. Without an argument the
 trusted files are listed with their line counts, and a file without such a head line ends the run with status 1.
 With --cited the definitions are followed from the contracts, by name, and each file whose head line says something else
 than was found is printed, with the names that are cited in it; the status is then 1.
+With --run only the files are listed that the contracts of `run`, of the laws over runs and of the program cite: what somebody has to
+trust who uses kconf and calls no crate of it. The other trusted files say what the crates promise each other.
 """
 import os
 import re
 import sys
 
 TOP = os.path.dirname(os.path.dirname(os.path.abspath(__file__)))
+# The calls that a user of the program rests on: the run, the laws over runs (all of that room), the program.
+RUN = {("kc_conf", "runs"): {"run"}, ("kc_conf", "laws"): None, ("kc_disk", "program"): {"kconf_over"}, ("kc_disk", "report"): {"exit_status"}}
 HEADS = {"-- Trusted: ": True, "-- For proofs: ": False}
 WORD = re.compile(r"[A-Za-z_][\w'«»-]*(?:\.[A-Za-z_0-9][\w'-]*)*")
 
@@ -82,14 +86,18 @@ def public_items(crate):
     return modules, items
 
 
-def contracts(crate):
-    """The clauses of public functions, and the views and ghost members of public types, by file."""
+def contracts(crate, calls=None):
+    """The clauses of public functions, and the views and ghost members of public types, by file; of these calls alone, if some are
+    named."""
     modules, items = public_items(crate)
     folder = os.path.join(TOP, "crates", crate, "src")
     for name in sorted(os.listdir(folder)):
         module = name[:-3]
         if not name.endswith(".rt") or (module not in modules and module not in items):
             continue
+        if calls is not None and (crate, module) not in calls:
+            continue
+        names = None if calls is None else calls[crate, module]
         text = read(os.path.join(folder, name))
         clauses, holder, shown, public = [], None, True, False
         for line in text.split("\n"):
@@ -107,6 +115,7 @@ def contracts(crate):
                     public = public and (module in modules or starts.group(2) in items[module])
                 else:
                     public = public and shown
+                public = public and (names is None or starts.group(2) in names)
             if re.match(r" +(ensures|requires)\b", line) and public or re.match(r" +ghost \w+ = ", line) and shown:
                 clauses.append(line)
             elif clauses and public and re.match(r" {8,}[^ ]", line) and not re.match(r" +(let|if|match|for|while|return|self)\b", line):
@@ -115,8 +124,8 @@ def contracts(crate):
             yield "\n".join(clauses), imports(text)
 
 
-def cited():
-    """The definitions that public contracts cite, as (crate, module, name)."""
+def cited(calls=None):
+    """The definitions that public contracts cite, or those of these calls, as (crate, module, name)."""
     texts = {}
     for crate in crates():
         for name in spec_files(crate):
@@ -141,7 +150,7 @@ def cited():
                 waiting.append(goal)
 
     for crate in crates():
-        for text, uses in contracts(crate):
+        for text, uses in contracts(crate, calls):
             follow(text, uses, None)
     while waiting:
         crate, module, name = waiting.pop()
@@ -156,8 +165,8 @@ def cited():
 
 
 def main():
-    compare = "--cited" in sys.argv[1:]
-    found = cited() if compare else set()
+    compare, of_run = "--cited" in sys.argv[1:], "--run" in sys.argv[1:]
+    found = cited(RUN if of_run else None) if compare or of_run else set()
     wrong, files, lines = 0, 0, 0
     for crate in crates():
         for name in spec_files(crate):
@@ -168,7 +177,7 @@ def main():
             if trusted is None:
                 print(f"{path}: no head line")
                 wrong += 1
-            elif trusted:
+            elif trusted and (not of_run or any(item[:2] == (crate, name[:-5]) for item in found)):
                 files, lines = files + 1, lines + count
                 if not compare:
                     print(f"{count:5} {path}")

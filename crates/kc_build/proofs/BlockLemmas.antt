@@ -162,7 +162,7 @@ enclosing-closes ss i s h e =
 -- Each place that encloses a statement has before it, among those that do, the places that enclose itself.
 pub record IsNested (ss : List Numbered) (i : ℕ) (ys : List ℕ) (k : ℕ) : Type 0 where
   pub before : k < i
-  pub round : ys ≡ enclosing ss k
+  pub outside : ys ≡ enclosing ss k
   pub opener : is_some (opened (bracket_at ss k)) ≡ true
 
 abbrev Split : List ℕ → ℕ → List ℕ → ℕ → Type 0
@@ -191,7 +191,7 @@ front-rest (x ∷ []) = refl
 front-rest (x ∷ y ∷ xs) = ap (λ l. x ∷ l) (front-rest (y ∷ xs))
 
 IsNested-later : (ss : List Numbered) (i : ℕ) (ys : List ℕ) (k : ℕ) → IsNested ss i ys k → IsNested ss (suc i) ys k
-IsNested-later ss i ys k n = record { before = (let b = n.before in omega arith); round = n.round; opener = n.opener }
+IsNested-later ss i ys k n = record { before = (let b = n.before in omega arith); outside = n.outside; opener = n.opener }
 
 abbrev Nested : List Numbered → ℕ → Type 0
 Nested ss i = (ys : List ℕ) (k : ℕ) (zs : List ℕ) → enclosing ss i ≡ ys ++ k ∷ zs → IsNested ss i ys k
@@ -199,7 +199,7 @@ Nested ss i = (ys : List ℕ) (k : ℕ) (zs : List ℕ) → enclosing ss i ≡ y
 nested_next : (ss : List Numbered) (i : ℕ) (s : Numbered) (b : Bracket) → slice_get ss i ≡ Some s → bracket s ≡ b → Nested ss i → Nested ss (suc i)
 nested_next ss i s (Opens b) h e ih = λ ys k zs p.
     elim (split_snoc (enclosing ss i) i ys k zs (sym (enclosing-opens ss i s b h e) ∙ p)) as (λ _. IsNested ss (suc i) ys k) [
-      | inl q ↦ record { before = (let w = q.1 in omega arith); round = (rw (q.1) (q.0)); opener = (rw (q.1, h, e) refl) }
+      | inl q ↦ record { before = (let w = q.1 in omega arith); outside = (rw (q.1) (q.0)); opener = (rw (q.1, h, e) refl) }
       | inr w ↦ IsNested-later ss i ys k (ih ys k w.0 w.1)
     ]
 nested_next ss i s Closes h e ih = λ ys k zs p.
@@ -236,9 +236,9 @@ last-snoc (x ∷ []) k = refl
 last-snoc (x ∷ y ∷ xs) k = last-snoc (y ∷ xs) k
 
 -- The innermost opener's places are all but itself.
-pub round_last : (ss : List Numbered) (i k : ℕ) → i ≤ length ss → last_of (enclosing ss i) ≡ Some k → IsNested ss i (front (enclosing ss i)) k
-round_last ss i k h e = nested ss i h (front (enclosing ss i)) k [] (last-front (enclosing ss i) k e)
+pub last_is_nested : (ss : List Numbered) (i k : ℕ) → i ≤ length ss → last_of (enclosing ss i) ≡ Some k → IsNested ss i (front (enclosing ss i)) k
+last_is_nested ss i k h e = nested ss i h (front (enclosing ss i)) k [] (last-front (enclosing ss i) k e)
 
 pub enclosing-last : (ss : List Numbered) (i k : ℕ) → i ≤ length ss → last_of (enclosing ss i) ≡ Some k → enclosing ss i ≡ enclosing ss k ++ k ∷ []
 enclosing-last ss i k h e =
-    last-front (enclosing ss i) k e ∙ ap (λ l. l ++ k ∷ []) ((round_last ss i k h e).round)
+    last-front (enclosing ss i) k e ∙ ap (λ l. l ++ k ∷ []) ((last_is_nested ss i k h e).outside)

@@ -18,7 +18,7 @@ use Rattle.kc_read.specs.Statements.{Numbered, Located, Named}
 use Rattle.kc_read.specs.RefusalView.{IsMemory, refusal_view}
 use Rattle.kc_build.specs.declared.numbering.Listing.{Listing}
 use Rattle.kc_build.specs.PartsView.{parts_view}
-use Rattle.kc_tree.specs.Words.{listed}
+use Rattle.kc_tree.specs.Common.{listed}
 use Rattle.kc_build.specs.SymbolRows.{AreBelow, AreChoicesApart, AreMenusOpened, AreTyped}
 use Rattle.kc_build.specs.Numberings.{IsListing}
 use Rattle.kc_build.specs.Passes.{statements_of}

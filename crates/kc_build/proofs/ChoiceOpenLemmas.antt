@@ -22,7 +22,7 @@ use Rattle.kc_tree.specs.declared.rows.Title.{Title}
 use Rattle.kc_tree.specs.Contexts.{IsPlain, condition_in, in_choice, top}
 use Rattle.kc_tree.specs.Layouts.{choice_default_view, choice_facts as choice_in, prompt_view, with_when}
 use Rattle.kc_tree.specs.TreeFacts.{Condition, ChoiceFacts, Guarded}
-use Rattle.kc_tree.specs.Words.{listed}
+use Rattle.kc_tree.specs.Common.{listed}
 use Rattle.kc_build.specs.Before.{choice_before, choices_before, default_by, members_before}
 use Rattle.kc_build.specs.EntryLines.{choice_default_line, member_line, named_line, prompt_line}
 use Rattle.kc_build.specs.Facts.{StatedDefault, prompt_of, prompt_condition, block_parts, choice_number, enclosing_choice, dependency, depends_form, entry_number, stated_default, is_member_place, of_block, prompt_at, single_symbol, symbol_at, enclosing_visible}
@@ -167,8 +167,8 @@ none_pass p (suc n) h =
     ∙ ap (λ (b : Bool). if b then n ∷ [] else []) (h n (omega arith))
 
 module _ (ss : List Numbered) where
-  round_before : (j m : ℕ) → last_of (filter (of_block ss block.Choice) (enclosing ss j)) ≡ Some m → choice_number ss m < choice_number ss j
-  round_before j m e =
+  enclosing_before : (j m : ℕ) → last_of (filter (of_block ss block.Choice) (enclosing ss j)) ≡ Some m → choice_number ss m < choice_number ss j
+  enclosing_before j m e =
       let opens = last_in (λ (x : ℕ). of_block ss block.Choice x ≡ true) (filter (of_block ss block.Choice) (enclosing ss j)) m
       (filter_passes (of_block ss block.Choice) (enclosing ss j)) e in
       let before = last_in (λ (x : ℕ). x < length (take j ss)) (filter (of_block ss block.Choice) (enclosing ss j)) m
@@ -183,7 +183,7 @@ module _ (ss : List Numbered) where
       list_any (λ (d : ℕ). d == choice_number ss i) (listed (option_map (choice_number ss) o)) ≡ false
   not_yet i j None l e = refl
   not_yet i j (Some m) l e =
-      let before = round_before j m e in
+      let before = enclosing_before j m e in
       let fewer = no_fewer (of_block ss block.Choice) j i l in
       let other : (choice_number ss m == choice_number ss i) ≡ false = ne_eqb (choice_number ss m) (choice_number ss i) (λ q. omega arith) in
       rw other refl
@@ -235,9 +235,9 @@ module _ (symbols : List Symbol) (k : ℕ) (c : Condition) where
       ∙ (rw (by_given (stated_default s), defaults_named own) refl)
       ∙ sym (each (stated_default s) (filter_map stated_default own))
 
-  defaults_rows : (conditions : List Condition) (ds : List ChoiceDefault) → map (choice_default_view conditions c) ds ≡ map named_of (map choice_default_line ds)
-  defaults_rows conditions [] = refl
-  defaults_rows conditions (d ∷ ds) = rw (defaults_rows conditions ds) refl
+  defaults_rows : (ds : List ChoiceDefault) → map (choice_default_view c) ds ≡ map named_of (map choice_default_line ds)
+  defaults_rows [] = refl
+  defaults_rows (d ∷ ds) = rw (defaults_rows ds) refl
 
 -- A choice.
 pub record IsRest (old new : Walk) : Type 0 where
@@ -250,8 +250,8 @@ pub record IsRest (old new : Walk) : Type 0 where
   pub main_menu : new.main_menu ≡ old.main_menu
 
 module _ (symbols : List Symbol) (own : List Numbered) (old new : Walk) (rest : IsRest old new) (middle : List Condition) (c : Choice) (b : Block) (number id : ℕ) where
-  abbrev round_of : Block
-  round_of = old.blocks.innermost
+  abbrev block_outside : Block
+  block_outside = old.blocks.innermost
 
   pub choice_enters : IsGrown old.tables.contexts middle (condition_in old.tables.contexts old.blocks.innermost.within.0).mode (length own) →
       Stands middle c.within.0 (and_all (condition_in old.tables.contexts old.blocks.innermost.within.0) (filter_map depends_form own)) →
@@ -263,31 +263,31 @@ module _ (symbols : List Symbol) (own : List Numbered) (old new : Walk) (rest : 
       new.blocks.outside.items ≡ old.blocks.outside.items ++ old.blocks.innermost ∷ [] → Enters symbols ChoiceLine own old new
   choice_enters grown stands added id_is pushed_is prompt_is defaults_are members_are within visible entry number_is inner outside ss i a h w =
       let o = old.tables.contexts in
-      let there = old.within 0 round_of refl in
-      let seen = old.visible 0 round_of refl in
-      let x = condition_in middle round_of.within.0 in
-      let f = carries_grown o middle (condition_in o round_of.within.0).mode (length own) round_of.within.0 there refl grown in
+      let there = old.within 0 block_outside refl in
+      let seen = old.visible 0 block_outside refl in
+      let x = condition_in middle block_outside.within.0 in
+      let f = carries_grown o middle (condition_in o block_outside.within.0).mode (length own) block_outside.within.0 there refl grown in
       let k = extends_push middle new.tables.contexts (in_choice x id) added in
       let g : Extends o new.tables.contexts =
       record { keeps = λ n l. k.keeps n (let m = f.longer in omega arith) ∙ f.keeps n l; longer = (let m = f.longer in let n = k.longer in omega arith) } in
-      let round = w.blocks.innermost in
+      let innermost_is = w.blocks.innermost in
       let opens : of_block ss block.Choice i ≡ true = rw (h.at) refl in
       let counted : id ≡ choice_number ss i = id_is ∙ choice_count ss symbols i old w in
-      let depends : condition_in new.tables.contexts c.within.0 ≡ dependency ss i = k.keeps c.within.0 stands.there ∙ stands.is ∙ dependency_is ss i own o round_of round h.attributes_are in
-      let shows : (condition_in new.tables.contexts round_of.visible.0).parts ≡ enclosing_visible ss i = ap (λ (y : Condition). y.parts) (g.keeps round_of.visible.0 seen)
-      ∙ ap (λ y. y.visible) round in
+      let depends : condition_in new.tables.contexts c.within.0 ≡ dependency ss i = k.keeps c.within.0 stands.there ∙ stands.is ∙ dependency_is ss i own o block_outside innermost_is h.attributes_are in
+      let shows : (condition_in new.tables.contexts block_outside.visible.0).parts ≡ enclosing_visible ss i = ap (λ (y : Condition). y.parts) (g.keeps block_outside.visible.0 seen)
+      ∙ ap (λ y. y.visible) innermost_is in
       let asked : option_map (prompt_view new.tables.contexts (condition_in new.tables.contexts c.within.0)) c.prompt ≡ prompt_at ss i =
       ap (λ (y : Condition). option_map (prompt_view new.tables.contexts y) c.prompt) depends
       ∙ prompt_by_line new.tables.contexts (dependency ss i) c.prompt
       ∙ ap (option_map (prompt_under new.tables.contexts (dependency ss i))) prompt_is
-      ∙ by_asked new.tables.contexts (dependency ss i) round_of.visible.0 (last_of (filter_map prompt_of own))
+      ∙ by_asked new.tables.contexts (dependency ss i) block_outside.visible.0 (last_of (filter_map prompt_of own))
       ∙ ap (λ (v : List Form). option_map (λ (p : InputPrompt Form). with_when (record { parts = (dependency ss i).parts ++ v; mode = (dependency ss i).mode }) p.when)
       (last_of (filter_map prompt_of own))) shows
       ∙ ap (λ (l : List Numbered). option_map (prompt_condition ss i) (last_of (filter_map prompt_of l))) (sym h.attributes_are) in
-      let given : map (choice_default_view new.tables.contexts (condition_in new.tables.contexts c.within.0)) c.defaults.items ≡
+      let given : map (choice_default_view (condition_in new.tables.contexts c.within.0)) c.defaults.items ≡
       filter_map (default_by ss symbols i) (filter_map stated_default (attributes ss i)) =
-      ap (λ (y : Condition). map (choice_default_view new.tables.contexts y) c.defaults.items) depends
-      ∙ defaults_rows symbols id (dependency ss i) new.tables.contexts c.defaults.items
+      ap (λ (y : Condition). map (choice_default_view y) c.defaults.items) depends
+      ∙ defaults_rows symbols id (dependency ss i) c.defaults.items
       ∙ ap (map (named_of symbols id (dependency ss i))) defaults_are
       ∙ defaults_named symbols id (dependency ss i) own
       ∙ ap (λ (n : ℕ). filter_map (default_of symbols n (dependency ss i)) (filter_map stated_default own)) counted
@@ -306,7 +306,7 @@ module _ (symbols : List Symbol) (own : List Numbered) (old new : Walk) (rest : 
       let nothing : block_parts ss i ≡ [] = rw (h.at) refl in
       let unseen : block_visible ss i ≡ [] = rw (h.at) refl in
       let parts : (condition_in new.tables.contexts b.within.0).parts ≡ (block_facts_at ss i).parts ++ block_parts ss i = ap (λ (y : Condition). y.parts) made
-      ∙ ap (λ (y : Condition). y.parts) (f.keeps round_of.within.0 there) ∙ ap (λ y. y.parts) round
+      ∙ ap (λ (y : Condition). y.parts) (f.keeps block_outside.within.0 there) ∙ ap (λ y. y.parts) innermost_is
       ∙ sym (ap (λ (l : List Form). (block_facts_at ss i).parts ++ l) nothing ∙ append-nil (block_facts_at ss i).parts) in
       let visible_parts : (condition_in new.tables.contexts b.visible.0).parts ≡ (block_facts_at ss i).visible ++ block_visible ss i =
       ap (λ (y : ContextId). (condition_in new.tables.contexts y.0).parts) visible ∙ shows

@@ -18,7 +18,7 @@ use Rattle.kc_build.specs.Stacks.{AreOpen, IsClosed}
 use Rattle.kc_build.specs.Walks.{Enters}
 use Rattle.kc_build.specs.WalkSteps.{ends_of}
 use Rattle.kc_build.specs.declared.entries.Walk.{Walk}
-use Rattle.kc_build.proofs.BlockLemmas.{round_last}
+use Rattle.kc_build.proofs.BlockLemmas.{last_is_nested}
 use Rattle.kc_build.proofs.GrownLemmas.{Extends, carries_same, extends}
 use Rattle.kc_build.proofs.ListLemmas.{count_next}
 use Rattle.kc_build.proofs.OpenLemmas.{open_closes}
@@ -70,7 +70,7 @@ module _ (ss : List Numbered) where
       All (IsEntryThere m n) (ends_of (option_map (entry_number ss) o))
   end_there i m n None l e c = All-nil (IsEntryThere m n)
   end_there i m n (Some k) l e c =
-      let before = (round_last ss i k l e).before in
+      let before = (last_is_nested ss i k l e).before in
       let fewer = no_fewer (λ j. is_entry ss j (slice_get ss j)) k i (omega arith) in
       All-cons (IsEntryThere m n) (entry.End (entry_number ss k)) [] (omega arith) (All-nil (IsEntryThere m n))
 

@@ -188,19 +188,19 @@ module _ (symbol : SymId) (own : List Numbered) (old new : Walk) (d : Definition
       ∙ by_asked new.tables.contexts dependency old.blocks.innermost.visible.0 (last_of (filter_map prompt_of own))
       ∙ ap (λ (c : Condition). option_map (λ (p : InputPrompt Form). with_when (with_parts dependency c.parts) p.when) (last_of (filter_map prompt_of own))) visible_is
 
-  defaults_are : map (default_view new.tables.contexts (condition_in new.tables.contexts d.within.0)) (slice_of new.tables.defaults.items d.defaults) ≡ map
+  defaults_are : map (default_view (condition_in new.tables.contexts d.within.0)) (slice_of new.tables.defaults.items d.defaults) ≡ map
       (guarded_default dependency) (filter_map default_line own)
   defaults_are =
-      ap (λ (c : Condition). map (default_view new.tables.contexts c) (slice_of new.tables.defaults.items d.defaults)) dependency_is
-      ∙ defaults_by_row new.tables.contexts dependency (slice_of new.tables.defaults.items d.defaults)
+      ap (λ (c : Condition). map (default_view c) (slice_of new.tables.defaults.items d.defaults)) dependency_is
+      ∙ defaults_by_row dependency (slice_of new.tables.defaults.items d.defaults)
       ∙ ap (map (guarded_default dependency)) (part_last default_row old.tables.defaults.items new.tables.defaults.items (filter_map default_line own)
       d.defaults m.defaults_start m.defaults_end m.defaults)
 
-  ranges_are : map (range_view new.tables.contexts (condition_in new.tables.contexts d.within.0)) (slice_of new.tables.ranges.items d.ranges) ≡ map
+  ranges_are : map (range_view (condition_in new.tables.contexts d.within.0)) (slice_of new.tables.ranges.items d.ranges) ≡ map
       (guarded_bounds dependency) (filter_map range_line own)
   ranges_are =
-      ap (λ (c : Condition). map (range_view new.tables.contexts c) (slice_of new.tables.ranges.items d.ranges)) dependency_is
-      ∙ ranges_by_row new.tables.contexts dependency (slice_of new.tables.ranges.items d.ranges)
+      ap (λ (c : Condition). map (range_view c) (slice_of new.tables.ranges.items d.ranges)) dependency_is
+      ∙ ranges_by_row dependency (slice_of new.tables.ranges.items d.ranges)
       ∙ ap (map (guarded_bounds dependency)) (part_last range_row old.tables.ranges.items new.tables.ranges.items (filter_map range_line own) d.ranges m.ranges_start m.ranges_end m.ranges)
 
   facts_are : definition_facts new.tables d ≡ made_definition around symbol own

@@ -82,8 +82,8 @@ by_tables conditions defaults ranges d = record {
   symbol = d.symbol;
   dependency = condition_in conditions d.within.0;
   prompt = option_map (prompt_view conditions (condition_in conditions d.within.0)) d.prompt;
-  defaults = map (default_view conditions (condition_in conditions d.within.0)) (slice_of defaults d.defaults);
-  ranges = map (range_view conditions (condition_in conditions d.within.0)) (slice_of ranges d.ranges);
+  defaults = map (default_view (condition_in conditions d.within.0)) (slice_of defaults d.defaults);
+  ranges = map (range_view (condition_in conditions d.within.0)) (slice_of ranges d.ranges);
 }
 
 same_definitions : (t u : Tables) → u.contexts ≡ t.contexts → u.definitions ≡ t.definitions → u.defaults ≡ t.defaults → u.ranges ≡ t.ranges →
@@ -94,7 +94,7 @@ same_definitions t u c d e f = λ i. map (by_tables (c i) ((e i).items) ((f i).i
 abbrev choice_by_contexts : List Condition → Choice → ChoiceFacts
 choice_by_contexts conditions c = record {
   prompt = option_map (prompt_view conditions (condition_in conditions c.within.0)) c.prompt;
-  defaults = map (choice_default_view conditions (condition_in conditions c.within.0)) c.defaults.items;
+  defaults = map (choice_default_view (condition_in conditions c.within.0)) c.defaults.items;
   members = c.members.items;
 }
 

@@ -9,7 +9,7 @@ use Rattle.kc_expr.specs.declared.expression.SymId.{SymId}
 use Rattle.kc_expr.specs.Names.{symbol}
 use Rattle.kc_read.specs.Statements.{Numbered, ConfigLine}
 use Rattle.kc_read.specs.Blocks.{numbers, definitions, defined_name}
-use Rattle.kc_tree.specs.Words.{same_symbol, is_symbol_of}
+use Rattle.kc_tree.specs.Common.{same_symbol, is_symbol_of}
 use Rattle.kc_build.specs.Facts.{symbol_at, symbol_of, is_first_definition}
 use Rattle.kc_build.proofs.BlockLemmas.{take-next, there}
 use Rattle.kc_build.proofs.PlaceLemmas.{filter-next}

@@ -12,7 +12,7 @@ use Rattle.kc_read.specs.Statements.{Numbered}
 use Rattle.kc_tree.specs.declared.rows.DefinitionId.{DefinitionId}
 use Rattle.kc_tree.specs.declared.rows.Symbol.{Symbol}
 use Rattle.kc_tree.specs.Spans.{more_of}
-use Rattle.kc_tree.specs.Words.{is_symbol_of, listed}
+use Rattle.kc_tree.specs.Common.{is_symbol_of, listed}
 use Rattle.kc_build.specs.Facts.{definitions_of, is_first_definition, symbol_at}
 use Rattle.kc_build.specs.SymbolRows.{AreSymbols, SymbolRow, definition_number, first_by, row_of, row_view}
 use Rattle.kc_build.proofs.FirstLemmas.{first-is, some_places}

@@ -10,7 +10,7 @@ use Rattle.kc_expr.specs.Names.{symbol}
 use Rattle.kc_read.specs.Blocks.{numbers, attributes, last_of}
 use Rattle.kc_read.specs.Statements.{InputPrompt, Numbered, Located, RangeLine}
 use Rattle.kc_tree.specs.TreeFacts.{Condition, Guarded, Bounds, TreeFacts, AreLinesSound, IsModeBelow, IsDefined}
-use Rattle.kc_tree.specs.Words.{listed}
+use Rattle.kc_tree.specs.Common.{listed}
 use Rattle.kc_build.specs.Facts.{prompt_of, prompt_condition, can_be_target, enclosing_choice, choices, defaults_at, guarded_default, definitions_of, dependency, imply_of, guarded_symbol, naming_at, places, prompt_at, guarded_range, select_of, stated_default, symbol_at, symbol_facts}
 use Rattle.kc_build.specs.SymbolRows.{AreBelow}
 use Rattle.kc_build.specs.Trees.{facts_with}

@@ -219,17 +219,17 @@ prompt_alike old new dependency (Some p) h = rw (h p refl) refl
 abbrev pub guarded_default : Condition → Form × Option Form → Guarded Form
 guarded_default dependency r = record { what = r.0; when = with_when dependency r.1 }
 
-pub defaults_by_row : (conditions : List Condition) (dependency : Condition) (xs : List SymbolDefault) →
-    map (default_view conditions dependency) xs ≡ map (guarded_default dependency) (map default_row xs)
-defaults_by_row conditions dependency [] = refl
-defaults_by_row conditions dependency (x ∷ xs) = rw (defaults_by_row conditions dependency xs) refl
+pub defaults_by_row : (dependency : Condition) (xs : List SymbolDefault) →
+    map (default_view dependency) xs ≡ map (guarded_default dependency) (map default_row xs)
+defaults_by_row dependency [] = refl
+defaults_by_row dependency (x ∷ xs) = rw (defaults_by_row dependency xs) refl
 
 abbrev pub guarded_bounds : Condition → Leaf × Leaf × Option Form → Guarded Bounds
 guarded_bounds dependency r = record { what = record { low = r.0; high = r.1 }; when = with_when dependency r.2 }
 
-pub ranges_by_row : (conditions : List Condition) (dependency : Condition) (xs : List SymbolRange) → map (range_view conditions dependency) xs ≡ map (guarded_bounds dependency) (map range_row xs)
-ranges_by_row conditions dependency [] = refl
-ranges_by_row conditions dependency (x ∷ xs) = rw (ranges_by_row conditions dependency xs) refl
+pub ranges_by_row : (dependency : Condition) (xs : List SymbolRange) → map (range_view dependency) xs ≡ map (guarded_bounds dependency) (map range_row xs)
+ranges_by_row dependency [] = refl
+ranges_by_row dependency (x ∷ xs) = rw (ranges_by_row dependency xs) refl
 
 -- the slice of a table that a span names, when the table has more
 abbrev spanned : {X : Type 0} → List X → Span → Bool → List X
@@ -268,15 +268,15 @@ module _ (old new : Tables) where
       let before = condition_in old.contexts d.within.0 in
       let prompt : option_map (prompt_view new.contexts (condition_in new.contexts d.within.0)) d.prompt ≡ option_map (prompt_view old.contexts before) d.prompt =
       ap (λ (c : Condition). option_map (prompt_view new.contexts c) d.prompt) within ∙ prompt_alike old.contexts new.contexts before d.prompt visible in
-      let given : map (default_view new.contexts (condition_in new.contexts d.within.0)) (slice_of new.defaults.items d.defaults) ≡
-      map (default_view old.contexts before) (slice_of old.defaults.items d.defaults) =
-      ap (λ (c : Condition). map (default_view new.contexts c) (slice_of new.defaults.items d.defaults)) within
-      ∙ defaults_by_row new.contexts before (slice_of new.defaults.items d.defaults) ∙ ap (map (guarded_default before)) defaults
-      ∙ sym (defaults_by_row old.contexts before (slice_of old.defaults.items d.defaults)) in
-      let bounds : map (range_view new.contexts (condition_in new.contexts d.within.0)) (slice_of new.ranges.items d.ranges) ≡
-      map (range_view old.contexts before) (slice_of old.ranges.items d.ranges) = ap (λ (c : Condition). map (range_view new.contexts c) (slice_of new.ranges.items d.ranges)) within
-      ∙ ranges_by_row new.contexts before (slice_of new.ranges.items d.ranges) ∙ ap (map (guarded_bounds before)) ranges
-      ∙ sym (ranges_by_row old.contexts before (slice_of old.ranges.items d.ranges)) in
+      let given : map (default_view (condition_in new.contexts d.within.0)) (slice_of new.defaults.items d.defaults) ≡
+      map (default_view before) (slice_of old.defaults.items d.defaults) =
+      ap (λ (c : Condition). map (default_view c) (slice_of new.defaults.items d.defaults)) within
+      ∙ defaults_by_row before (slice_of new.defaults.items d.defaults) ∙ ap (map (guarded_default before)) defaults
+      ∙ sym (defaults_by_row before (slice_of old.defaults.items d.defaults)) in
+      let bounds : map (range_view (condition_in new.contexts d.within.0)) (slice_of new.ranges.items d.ranges) ≡
+      map (range_view before) (slice_of old.ranges.items d.ranges) = ap (λ (c : Condition). map (range_view c) (slice_of new.ranges.items d.ranges)) within
+      ∙ ranges_by_row before (slice_of new.ranges.items d.ranges) ∙ ap (map (guarded_bounds before)) ranges
+      ∙ sym (ranges_by_row before (slice_of old.ranges.items d.ranges)) in
       λ i. record { symbol = d.symbol; dependency = within i; prompt = prompt i; defaults = given i; ranges = bounds i }
 
   pub choice_alike : (c : Choice) → condition_in new.contexts c.within.0 ≡ condition_in old.contexts c.within.0 →
@@ -285,8 +285,8 @@ module _ (old new : Tables) where
       let before = condition_in old.contexts c.within.0 in
       let prompt : option_map (prompt_view new.contexts (condition_in new.contexts c.within.0)) c.prompt ≡ option_map (prompt_view old.contexts before) c.prompt =
       ap (λ (x : Condition). option_map (prompt_view new.contexts x) c.prompt) within ∙ prompt_alike old.contexts new.contexts before c.prompt visible in
-      let defaults : map (choice_default_view new.contexts (condition_in new.contexts c.within.0)) c.defaults.items ≡ map (choice_default_view old.contexts before) c.defaults.items =
-      ap (λ (x : Condition). map (choice_default_view new.contexts x) c.defaults.items) within in
+      let defaults : map (choice_default_view (condition_in new.contexts c.within.0)) c.defaults.items ≡ map (choice_default_view before) c.defaults.items =
+      ap (λ (x : Condition). map (choice_default_view x) c.defaults.items) within in
       λ i. record { prompt = prompt i; defaults = defaults i; members = c.members.items }
 
   -- Under more contexts, with the same defaults and ranges up to those that are new.
@@ -336,12 +336,12 @@ module _ (old new : Tables) where
     titled rest e i h = ap (λ (l : List Title). slice_get l i) e ∙ get_front old.titles.items rest i h
 
     title_says : (rest : List Title) → AreRowsThere old → new.titles.items ≡ old.titles.items ++ rest → (i : ℕ) → i < length old.titles.items →
-        (title_text new (slice_get new.titles.items i) ≡ title_text old (slice_get old.titles.items i)) ×
+        (title_text (slice_get new.titles.items i) ≡ title_text (slice_get old.titles.items i)) ×
         (shown_when new (slice_get new.titles.items i) ≡ shown_when old (slice_get old.titles.items i))
     title_says rest rows e i h =
         let o = titled rest e i h in
         let t = there_is old.titles.items i h in
-        (ap (title_text old) o, ap (shown_when new) o ∙ by_title (slice_get old.titles.items i) (λ s q. title_there i s rows q) t.0 t.1)
+        (ap title_text o, ap (shown_when new) o ∙ by_title (slice_get old.titles.items i) (λ s q. title_there i s rows q) t.0 t.1)
 
     pub shown_extends : (rest : List Title) (m : ℕ) (e : ShownEntry) → AreRowsThere old → new.titles.items ≡ old.titles.items ++ rest → IsEntryThere (length old.titles.items) m e →
         shown_of new e ≡ shown_of old e

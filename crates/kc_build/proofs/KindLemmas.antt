@@ -12,7 +12,7 @@ use Rattle.kc_read.specs.Statements.{Numbered}
 use Rattle.kc_read.specs.Blocks.{numbers}
 use Rattle.kc_tree.specs.declared.rows.ChoiceId.{ChoiceId}
 use Rattle.kc_tree.specs.declared.rows.Symbol.{Symbol}
-use Rattle.kc_tree.specs.Words.{is_symbol_of}
+use Rattle.kc_tree.specs.Common.{is_symbol_of}
 use Rattle.kc_build.specs.Facts.{symbol_at, kind_of, choice_of, definitions_of}
 use Rattle.kc_build.specs.SymbolRows.{AreBelow, AreSymbols, SymbolRow, kind_by, choice_by, row_of, row_view}
 use Rattle.kc_build.proofs.MemberLemmas.{below_or_past}

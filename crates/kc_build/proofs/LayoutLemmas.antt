@@ -19,7 +19,7 @@ use Rattle.kc_tree.specs.Layouts as layouts
 use Rattle.kc_tree.specs.Layouts.{DefinitionFacts, facts_at, facts_by, facts_of, impliers_at, selectors_at, symbols_in}
 use Rattle.kc_tree.specs.Contexts.{mode_view}
 use Rattle.kc_tree.specs.Spans.{definition_ids}
-use Rattle.kc_tree.specs.Words.{is_symbol_of}
+use Rattle.kc_tree.specs.Common.{is_symbol_of}
 use Rattle.kc_build.specs.Before.{definition_at, definition_line, definitions_before}
 use Rattle.kc_build.specs.Facts.{choice_of, definitions_of, impliers_of, kind_of, selectors_of, symbol_at, symbol_facts}
 use Rattle.kc_build.specs.SymbolRows.{AreSymbols, SymbolRow, definition_number, row_of, row_view}

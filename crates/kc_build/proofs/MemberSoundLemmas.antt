@@ -15,7 +15,7 @@ use Rattle.kc_read.specs.declared.statement.Block.TheVariants as block
 use Rattle.kc_read.specs.Blocks.{numbers, attributes}
 use Rattle.kc_read.specs.Statements.{Numbered, Located}
 use Rattle.kc_tree.specs.TreeFacts.{Guarded, SymbolFacts, ChoiceFacts, TreeFacts, IsMemberOf, IsChoiceSound, IsListed}
-use Rattle.kc_tree.specs.Words.{listed, same_symbol}
+use Rattle.kc_tree.specs.Common.{listed, same_symbol}
 use Rattle.kc_build.specs.Facts.{StatedDefault, choice_facts, choice_number, choice_of, choice_places, enclosing_choice, choices, definitions_of, first_of, stated_default, is_member, is_member_place, kind_of, member_default, members_of, guarded_symbol, of_block, places, same_kind, single_symbol, symbol_at, symbol_facts, symbol_of}
 use Rattle.kc_build.specs.FirstDefinitions.{is_first_definition_at}
 use Rattle.kc_build.specs.SymbolRows.{AreBelow}
@@ -101,13 +101,13 @@ module _ (ss : List Numbered) (none : bad_members ss ≡ []) where
   member_kind k i s m h =
       let x = symbol_within i s (slice_get ss i) refl h in
       let l : i < length ss = slice_get_within ss i x.0 x.1 in
-      let round : enclosing_choice ss i ≡ Some k = number_listed k (enclosing_choice ss i) (and_parts (is_some (symbol_at ss i)) (list_any (λ j. j == k) (listed (enclosing_choice ss i))) m).1 in
+      let outside : enclosing_choice ss i ≡ Some k = number_listed k (enclosing_choice ss i) (and_parts (is_some (symbol_at ss i)) (list_any (λ j. j == k) (listed (enclosing_choice ss i))) m).1 in
       let fine : is_bad_member (kind_of ss) (choice_of ss) (is_first_definition_at ss i) (enclosing_choice ss i) x.0 ≡ false = bad_at ss s i x.0 none l x.1 in
       let plain : list_any (λ t. (is_some (choice_of ss t) && not (is_first_definition_at ss i)) ||
       (is_some (enclosing_choice ss i) && not (same_kind (kind_of ss t) kind.Bool))) (listed (Some s)) ≡ false =
       ap (λ (o : Option SymId). list_any (λ t. (is_some (choice_of ss t) && not (is_first_definition_at ss i)) ||
       (is_some (enclosing_choice ss i) && not (same_kind (kind_of ss t) kind.Bool))) (listed o)) (sym x.2) ∙ fine in
-      is_bool (kind_of ss s) (not_bad (is_some (choice_of ss s) && not (is_first_definition_at ss i)) (is_some (enclosing_choice ss i)) (same_kind (kind_of ss s) kind.Bool) plain (ap is_some round))
+      is_bool (kind_of ss s) (not_bad (is_some (choice_of ss s) && not (is_first_definition_at ss i)) (is_some (enclosing_choice ss i)) (same_kind (kind_of ss s) kind.Bool) plain (ap is_some outside))
 
   -- where choice k stands
   record IsChoicePlace (k : ℕ) (c : ChoiceFacts) : Type 0 where

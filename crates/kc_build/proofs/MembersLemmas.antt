@@ -118,13 +118,13 @@ module _ (ss : List Numbered) (symbols : List Symbol) (i : ℕ) (s : SymId) (own
   one_more_by c j b e t =
       one_by c j b e (turned (choice_number ss j) c b (sym (ap (λ k. k == c) (length-filter opens (numbers j))) ∙ t))
 
-  by_round : (o : Option ℕ) → enclosing_choice ss i ≡ o → with_member o s (choices_before ss symbols i) ≡ map (choice_before ss symbols after) (filter opens (numbers i))
-  by_round None e =
+  by_enclosing : (o : Option ℕ) → enclosing_choice ss i ≡ o → with_member o s (choices_before ss symbols i) ≡ map (choice_before ss symbols after) (filter opens (numbers i))
+  by_enclosing None e =
       map_alike (choice_before ss symbols i) (choice_before ss symbols after) (filter opens (numbers i)) (λ k j at. sym (same_choice j e))
-  by_round (Some c) e =
+  by_enclosing (Some c) e =
       change_passing opens (one_more s) (choice_before ss symbols i) (choice_before ss symbols after) c (λ j. one_more_by c j (length (filter opens (numbers j)) == c) e refl) i
 
   -- the choices get the symbol as a member, where one encloses it
   pub members_added : with_member (enclosing_choice ss i) s (choices_before ss symbols i) ≡ choices_before ss symbols after
   members_added =
-      by_round (enclosing_choice ss i) refl ∙ sym (ap (map (choice_before ss symbols after)) openers_same)
+      by_enclosing (enclosing_choice ss i) refl ∙ sym (ap (map (choice_before ss symbols after)) openers_same)

@@ -8,7 +8,7 @@ use Rattle.kc_read.specs.Statements.{Numbered, ConfigLine, MenuLine, EndMenuLine
 use Rattle.kc_read.specs.Blocks.{numbers}
 use Rattle.kc_tree.specs.TreeFacts.{Condition, Shown, SymbolShown, MenuShown, EndShown}
 use Rattle.kc_build.specs.Facts.{enclosing_block, is_first_definition, is_entry, entry_number, entry_at, entries, shown_when}
-use Rattle.kc_build.proofs.BlockLemmas.{there, round_last}
+use Rattle.kc_build.proofs.BlockLemmas.{there, last_is_nested}
 use Rattle.kc_build.proofs.ChoiceLemmas.{fewer_before}
 use Rattle.kc_build.proofs.ExpansionLemmas.{AreNested}
 use Rattle.kc_build.proofs.ListLemmas.{count_next, end_get, front_get}
@@ -118,7 +118,7 @@ module _ (ss : List Numbered) (nested : AreNested ss) where
       × (slice_get (entries ss) (entry_number ss k) ≡ Some (MenuShown text when))))
   menu_before i l e =
       let k = menu_closed ss nested i e in
-      let before = (round_last ss i k.0 (omega arith) k.1).before in
+      let before = (last_is_nested ss i k.0 (omega arith) k.1).before in
       let opens : is_line_entry k.0 ≡ true = ap (is_entry ss k.0) k.2.1 in
       let shown : line_entry k.0 ≡ Some (MenuShown k.2.0 (shown_when ss k.0)) = ap (entry_at ss k.0) k.2.1 in (
         k.0,

@@ -21,7 +21,7 @@ use Rattle.kc_tree.specs.declared.rows.Symbol.{Symbol}
 use Rattle.kc_tree.specs.Chains.{chain_of, chains_of}
 use Rattle.kc_tree.specs.Layouts.{DefinitionFacts, definition_facts, impliers_at, reverse_at, reverse_facts, selectors_at, with_when}
 use Rattle.kc_tree.specs.TreeFacts.{Guarded}
-use Rattle.kc_tree.specs.Words.{listed}
+use Rattle.kc_tree.specs.Common.{listed}
 use Rattle.kc_build.specs.declared.lines.ReverseKind.{ReverseKind}
 use Rattle.kc_build.specs.declared.lines.ReverseKind.TheVariants as reverse_kind
 use Rattle.kc_build.specs.Facts as facts

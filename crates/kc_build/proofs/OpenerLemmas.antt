@@ -91,17 +91,17 @@ module _ (e : Form) (entry : ℕ) (b : Block) (old new : Walk) (same : AreSame o
       let g = carries_push conditions new.tables.contexts old.blocks.innermost.within.0 e there added in
       let made : condition_in new.tables.contexts b.within.0 ≡ and_also outer e = ap (λ (n : ℕ). condition_in new.tables.contexts n) within
       ∙ ap (λ (l : List Condition). condition_in l (length conditions)) added ∙ get_or_push conditions (and_also outer e) top (length conditions) refl in
-      let round = w.blocks.innermost in
+      let innermost_is = w.blocks.innermost in
       let opens : block_parts ss i ≡ e ∷ [] = rw (h.at) refl in
       let nothing : block_visible ss i ≡ [] = rw (h.at) refl in
       let other : of_block ss block.Choice i ≡ false = rw (h.at) refl in
       let parts : (condition_in new.tables.contexts b.within.0).parts ≡ (block_facts_at ss i).parts ++ block_parts ss i = ap (λ (c : Condition). c.parts) made
-      ∙ ap (λ (l : List Form). l ++ e ∷ []) (ap (λ x. x.parts) round) ∙ ap (λ (l : List Form). (block_facts_at ss i).parts ++ l) (sym opens) in
+      ∙ ap (λ (l : List Form). l ++ e ∷ []) (ap (λ x. x.parts) innermost_is) ∙ ap (λ (l : List Form). (block_facts_at ss i).parts ++ l) (sym opens) in
       let seen : (condition_in new.tables.contexts b.visible.0).parts ≡ (block_facts_at ss i).visible ++ block_visible ss i = ap (λ x. (condition_in new.tables.contexts x.0).parts) visible
-      ∙ ap (λ (c : Condition). c.parts) (g.keeps old.blocks.innermost.visible.0 shown) ∙ ap (λ x. x.visible) round
+      ∙ ap (λ (c : Condition). c.parts) (g.keeps old.blocks.innermost.visible.0 shown) ∙ ap (λ x. x.visible) innermost_is
       ∙ sym (ap (λ (l : List Form). (block_facts_at ss i).visible ++ l) nothing ∙ append-nil (block_facts_at ss i).visible) in
       let mode : (condition_in new.tables.contexts b.within.0).mode ≡ (if of_block ss block.Choice i then Some (choice_number ss i) else (block_facts_at ss i).mode) =
-      ap (λ (c : Condition). c.mode) made ∙ ap (λ x. x.mode) round ∙ sym (ap (λ (t : Bool). if t then Some (choice_number ss i) else (block_facts_at ss i).mode) other) in
+      ap (λ (c : Condition). c.mode) made ∙ ap (λ x. x.mode) innermost_is ∙ sym (ap (λ (t : Bool). if t then Some (choice_number ss i) else (block_facts_at ss i).mode) other) in
       let named : b.entry ≡ Some (entry_number ss i) = at ∙ ap Some (number ∙ entry_count ss symbols i old w a.ends) in
       let inside = ap (block_view new.tables.contexts) inner ∙ block_inside ss i new.tables.contexts b parts seen mode named in
       quiet_passes ss symbols i (IfLine e) own h old new w same

@@ -18,7 +18,7 @@ use Rattle.kc_tree.specs.declared.layout.TreeParts.{TreeParts}
 use Rattle.kc_tree.specs.declared.rows.Symbol.{Symbol}
 use Rattle.kc_tree.specs.TreeFacts.{ChoiceFacts}
 use Rattle.kc_tree.specs.Wholes.{tree_of}
-use Rattle.kc_tree.specs.Words.{listed}
+use Rattle.kc_tree.specs.Common.{listed}
 use Rattle.kc_build.specs.declared.diagnostics.Diagnostics.{Diagnostics}
 use Rattle.kc_build.specs.Before.{choices_before, main_menu_before}
 use Rattle.kc_build.specs.Facts.{StatedDefault, choice_number, choice_places, choices, entries, stated_default, is_member, members_of, guarded_symbol, prompt_at, single_symbol, symbol_facts, title_of}

@@ -15,7 +15,7 @@ use Rattle.kc_read.specs.Numbering.{modules_id, names_of, numbered_lines}
 use Rattle.kc_read.specs.Statements.{Named, Numbered, Located, ConfigLine, numbered}
 use Rattle.kc_read.proofs.NameLemmas.{known_at}
 use Rattle.kc_tree.specs.TreeFacts.{TreeFacts, ShowsEach, SymbolShown}
-use Rattle.kc_tree.specs.Words.{is_symbol_of}
+use Rattle.kc_tree.specs.Common.{is_symbol_of}
 use Rattle.kc_build.specs.Facts.{entries, entry_at, is_first_definition, places, symbol_at, symbol_facts, symbol_of}
 use Rattle.kc_build.specs.Trees.{facts_with}
 use Rattle.kc_build.proofs.ElementLemmas.{kept_at, same_is}

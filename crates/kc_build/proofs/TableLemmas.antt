@@ -8,7 +8,7 @@ use Rattle.kc_expr.specs.declared.expression.SymId.{SymId}
 use Rattle.kc_expr.specs.Names.{symbol}
 use Rattle.kc_read.specs.Statements.{Numbered}
 use Rattle.kc_read.specs.Blocks.{numbers}
-use Rattle.kc_tree.specs.Words.{is_symbol_of}
+use Rattle.kc_tree.specs.Common.{is_symbol_of}
 use Rattle.kc_build.specs.Facts.{symbol_at, first_of}
 use Rattle.kc_read.specs.declared.statement.Line.{Line}
 use Rattle.kc_build.specs.Passes.{statements_of, change, changed}

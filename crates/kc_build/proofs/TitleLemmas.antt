@@ -30,17 +30,17 @@ use Rattle.kc_build.proofs.OpenerLemmas.{block_inside}
 use Rattle.kc_build.proofs.WalkLemmas.{choices_say_same, entry_count, main_menu_stays, no_choice_passed, walk_passes}
 
 -- What an entry depends on, by its enclosing block and its own lines.
-module _ (ss : List Numbered) (i : ℕ) (own : List Numbered) (conditions : List Condition) (b : Block) (round : block_view conditions b ≡ block_facts_at ss i) where
+module _ (ss : List Numbered) (i : ℕ) (own : List Numbered) (conditions : List Condition) (b : Block) (outside : block_view conditions b ≡ block_facts_at ss i) where
   pub dependency_is : attributes ss i ≡ own → and_all (condition_in conditions b.within.0) (filter_map depends_form own) ≡ dependency ss i
   dependency_is a =
       let lines : filter_map depends_form own ≡ own_dependencies ss i = sym (ap (filter_map depends_form) a) in
-      λ j. record { parts = (round j).parts ++ lines j; mode = (round j).mode }
+      λ j. record { parts = (outside j).parts ++ lines j; mode = (outside j).mode }
 
   -- and what is asked of what is visible
   pub visible_is : attributes ss i ≡ own → (condition_in conditions b.visible.0).parts ++ filter_map visible_form own ≡ enclosing_visible ss i ++ own_visible ss i
   visible_is a =
       let lines : filter_map visible_form own ≡ own_visible ss i = sym (ap (filter_map visible_form) a) in
-      λ j. (round j).visible ++ lines j
+      λ j. (outside j).visible ++ lines j
 
 -- What a title says that was added last.
 module _ (w : Walk) (before : List Title) (t : Title) (id : TitleId) (added : w.tables.titles.items ≡ before ++ t ∷ []) (number : id.0 ≡ length before) where
@@ -50,11 +50,11 @@ module _ (w : Walk) (before : List Title) (t : Title) (id : TitleId) (added : w.
 
   pub comment_shown : shown_of w.tables (entry.Comment id) ≡ CommentShown t.text.items (title_condition w.tables t)
   comment_shown =
-      ap (λ (o : Option Title). CommentShown (title_text w.tables o) (shown_in w.tables o)) title_found
+      ap (λ (o : Option Title). CommentShown (title_text o) (shown_in w.tables o)) title_found
 
   pub menu_shown : shown_of w.tables (entry.Menu id) ≡ MenuShown t.text.items (title_condition w.tables t)
   menu_shown =
-      ap (λ (o : Option Title). MenuShown (title_text w.tables o) (shown_in w.tables o)) title_found
+      ap (λ (o : Option Title). MenuShown (title_text o) (shown_in w.tables o)) title_found
 
 -- All rows but contexts, titles and entries are the same.
 pub record AreRest (old new : Walk) : Type 0 where
@@ -159,13 +159,13 @@ module _ (text : List ℕ) (own : List Numbered) (old new : Walk) (rest : AreRes
       let seen_still : old.blocks.innermost.visible.0 < length middle = (let l = f.longer in omega arith) in
       let k = carries_grown middle new.tables.contexts (condition_in middle old.blocks.innermost.visible.0).mode (length own) old.blocks.innermost.visible.0 seen_still refl further in
       let g = carries_both old.tables.contexts middle new.tables.contexts f k in
-      let round = w.blocks.innermost in
+      let innermost_is = w.blocks.innermost in
       let one : length new.tables.titles.items ≡ length old.tables.titles.items + 1 = ap length titles ∙ length_push old.tables.titles.items t in
       let depends : condition_in new.tables.contexts within.0 ≡ dependency ss i = k.keeps within.0 stands.there ∙ stands.is
-      ∙ dependency_is ss i own old.tables.contexts old.blocks.innermost round h.attributes_are in
+      ∙ dependency_is ss i own old.tables.contexts old.blocks.innermost innermost_is h.attributes_are in
       let shows : (condition_in new.tables.contexts visible.0).parts ≡ enclosing_visible ss i ++ own_visible ss i = ap (λ (c : Condition). c.parts) sees.is
       ∙ ap (λ (c : Condition). c.parts ++ filter_map visible_form own) (f.keeps old.blocks.innermost.visible.0 seen)
-      ∙ visible_is ss i own old.tables.contexts old.blocks.innermost round h.attributes_are in
+      ∙ visible_is ss i own old.tables.contexts old.blocks.innermost innermost_is h.attributes_are in
       let depends_t : condition_in new.tables.contexts t.within.0 ≡ dependency ss i = ap (λ x. condition_in new.tables.contexts x.0) shown_within ∙ depends in
       let shows_t : (condition_in new.tables.contexts t.visible.0).parts ≡ enclosing_visible ss i ++ own_visible ss i =
       ap (λ x. (condition_in new.tables.contexts x.0).parts) shown_visible ∙ shows in

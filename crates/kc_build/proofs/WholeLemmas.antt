@@ -20,7 +20,7 @@ use Rattle.kc_read.specs.Lines.{is_good_name}
 use Rattle.kc_read.specs.Numbering.{names_of, modules_id, numbered_lines}
 use Rattle.kc_read.specs.Statements.{Named, Numbered, Located}
 use Rattle.kc_tree.specs.TreeFacts.{Condition, EndShown, MenuShown, TreeFacts, IsSymbolName, IsWellFormed}
-use Rattle.kc_tree.specs.Words.{listed}
+use Rattle.kc_tree.specs.Common.{listed}
 use Rattle.kc_build.specs.Facts.{entries, enclosing_choice, choice_of, kind_of, of_block, symbol_facts, places}
 use Rattle.kc_build.specs.Trees.{facts_with}
 use Rattle.kc_build.specs.FirstDefinitions.{is_first_definition_at}

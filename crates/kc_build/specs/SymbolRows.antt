@@ -13,7 +13,7 @@ use Rattle.kc_tree.specs.declared.rows.ChoiceId.{ChoiceId}
 use Rattle.kc_tree.specs.declared.rows.DefinitionId.{DefinitionId}
 use Rattle.kc_tree.specs.declared.rows.Symbol.{Symbol}
 use Rattle.kc_build.specs.declared.warning.Warning.{Warning}
-use Rattle.kc_tree.specs.Words.{listed}
+use Rattle.kc_tree.specs.Common.{listed}
 use Rattle.kc_build.specs.Facts.{kind_of, choice_of, enclosing_choice, definitions_of, stated_default, enclosing_block, single_symbol, symbol_at, is_selectable, type_of}
 use Rattle.kc_build.specs.FirstDefinitions.{is_first_definition_at}
 use Rattle.kc_tree.specs.Spans.{definition_ids}

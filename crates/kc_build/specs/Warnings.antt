@@ -17,7 +17,7 @@ use Rattle.kc_build.specs.declared.warning.Warning.{Warning}
 use Rattle.kc_build.specs.declared.warning.Warning.TheVariants as warning
 use Rattle.kc_build.specs.FirstDefinitions.{is_first_definition_at}
 use Rattle.kc_build.specs.Targets.{target_of}
-use Rattle.kc_tree.specs.Words.{listed}
+use Rattle.kc_tree.specs.Common.{listed}
 use Rattle.kc_build.specs.Facts.{symbol_of, kind_of, choice_of, has_text, same_kind, type_of, prompt_of, stated_default, single_symbol, is_single, is_member, choice_number, places, enclosing_choice}
 
 -- something, where it holds

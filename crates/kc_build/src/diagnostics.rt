@@ -7,7 +7,7 @@ ghost use Rattle.kc_read.specs.StatementViews.{line_view, statement_view};
 ghost use Rattle.kc_read.specs.RefusalView.{refusal_view};
 ghost use Rattle.kc_build.specs.Diagnosed.{IsLineDiagnosed, AreLinesDiagnosed};
 ghost use Rattle.kc_build.specs.Facts as facts;
-ghost use Rattle.kc_tree.specs.Words.{listed};
+ghost use Rattle.kc_tree.specs.Common.{listed};
 ghost use Rattle.kc_build.specs.SymbolRows.{kind_by, choice_by, member_by, default_symbol, line_warnings_in};
 ghost use Rattle.kc_build.specs.WholeListRefusals as entry_refusal;
 ghost use Rattle.kc_build.specs.Warnings as spec;

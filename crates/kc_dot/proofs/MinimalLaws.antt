@@ -12,7 +12,7 @@ use Rattle.kc_user.specs.Places.{Places, place_at, no_places}
 use Rattle.kc_values.specs.Differs.{differs, default_selection, minimal_line, AllowedPlaces}
 use Rattle.kc_values.specs.Laws.{MembersAreTheirs, MembersAreBools, DifferingAreAllowed}
 use Rattle.kc_values.specs.Solution.{symbol_count, user_place, rhs, equations}
-use Rattle.kc_tree.specs.Words.{is_symbol_of}
+use Rattle.kc_tree.specs.Common.{is_symbol_of}
 use Rattle.kc_values.proofs.FixedLines.{slot_cases, named, Sel, differs-member}
 use Rattle.kc_dot.specs.Prefixes.{is_prefix}
 use Rattle.kc_dot.specs.Reading.{ReadResult, lines_from, reading, places_given}

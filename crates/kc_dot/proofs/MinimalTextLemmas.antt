@@ -20,7 +20,7 @@ use Rattle.kc_values.specs.Laws.{MembersAreTheirs, MembersAreBools, DifferingAre
 use Rattle.kc_values.specs.Lookups.{facts, choice_at}
 use Rattle.kc_values.specs.Solution as sol
 use Rattle.kc_values.specs.Solution.{symbol_count, known_from, user_place, equations}
-use Rattle.kc_tree.specs.Words.{is_symbol_of}
+use Rattle.kc_tree.specs.Common.{is_symbol_of}
 use Rattle.kc_values.proofs.FixedLines.{slot_cases, slot_of_member, names_itself, named, Sel, member_now, differs-member}
 use Rattle.kc_values.proofs.Selection.{selected_member}
 use Rattle.kc_dot.specs.Effects.{name_of}

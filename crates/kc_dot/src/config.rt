@@ -68,7 +68,7 @@ fn add_gap(after_end: bool, page: &mut Vec<u8>) -> Result<(), AllocError>
 
 // The text of a title.
 fn text_of(layout: &Layout, title: TitleId) -> &[u8]
-    ensures { result.now ≡ title_text layout.now.tables (title_at layout.now.tables title) }
+    ensures { result.now ≡ title_text (title_at layout.now.tables title) }
 {
     match layout.title(title) {
         Some(found) => &found.text,

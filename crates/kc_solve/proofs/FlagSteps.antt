@@ -17,7 +17,7 @@ use Rattle.kc_values.specs.Solution.{symbol_count, user_place, user_place_by, us
 use Rattle.kc_values.proofs.SameValue.{same_value_itself}
 use Rattle.kc_values.proofs.Uncounted.{uncounted}
 use Rattle.kc_values.specs.Differs.{same_value, selection, default_selection, differs, differs_at}
-use Rattle.kc_tree.specs.Words.{is_symbol_of}
+use Rattle.kc_tree.specs.Common.{is_symbol_of}
 use Rattle.kc_values.specs.Values.{selected, equation, by_choice, by_kind, is_n, visibility}
 use Rattle.kc_values.specs.WrittenSymbols.{written}
 use Rattle.kc_values.specs.declared.table.Value.{Value}

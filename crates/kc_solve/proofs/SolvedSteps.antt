@@ -22,7 +22,7 @@ use Rattle.kc_values.specs.Laws.{MinimalRestores, MinimalHasNothingToSpare, Idem
 use Rattle.kc_values.specs.Lookups.{choice_at, is_defined, facts, name}
 use Rattle.kc_values.specs.Solution.{equations, rhs, known_from, user_place, symbol_count}
 use Rattle.kc_values.specs.Table.{kind_in, value_in, tri_in, text_in}
-use Rattle.kc_tree.specs.Words.{is_symbol_of}
+use Rattle.kc_tree.specs.Common.{is_symbol_of}
 use Rattle.kc_values.specs.Values.{equation, selected, visibility}
 use Rattle.kc_values.specs.Warnings.{warnings_of}
 use Rattle.kc_values.specs.WrittenSymbols as writing

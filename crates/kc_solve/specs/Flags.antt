@@ -5,7 +5,7 @@ use Rattle.kc_expr.specs.Value.{SymbolValue}
 use Rattle.kc_expr.specs.declared.expression.SymId.{SymId}
 use Rattle.kc_tree.specs.TreeFacts.{SymbolFacts, TreeFacts}
 use Rattle.kc_user.specs.GivenValue.{GivenValue}
-use Rattle.kc_tree.specs.Words.{is_symbol_of}
+use Rattle.kc_tree.specs.Common.{is_symbol_of}
 use Rattle.kc_values.specs.Values.{by_kind}
 use Rattle.kc_values.specs.Differs.{same_value}
 use Rattle.kc_values.specs.Solution.{known_from}

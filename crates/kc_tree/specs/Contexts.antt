@@ -5,7 +5,7 @@ use Rattle.kc_expr.specs.Form.{Form}
 use Rattle.kc_expr.specs.When.{when_view}
 use Rattle.kc_tree.specs.declared.rows.ChoiceId.{ChoiceId}
 use Rattle.kc_tree.specs.declared.rows.Context.{Context}
-use Rattle.kc_tree.specs.Words.{listed}
+use Rattle.kc_tree.specs.Common.{listed}
 use Rattle.kc_tree.specs.TreeFacts.{Condition}
 
 -- nothing is asked for

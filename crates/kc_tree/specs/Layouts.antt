@@ -24,7 +24,7 @@ use Rattle.kc_tree.specs.declared.rows.Title.{Title}
 use Rattle.kc_tree.specs.declared.rows.TitleId.{TitleId}
 use Rattle.kc_tree.specs.Chains.{chain_of, chains_of}
 use Rattle.kc_tree.specs.Contexts.{condition_in, mode_view}
-use Rattle.kc_tree.specs.Words.{listed}
+use Rattle.kc_tree.specs.Common.{listed}
 use Rattle.kc_tree.specs.Spans.{slice_of, definition_ids}
 use Rattle.kc_tree.specs.TreeFacts.{Condition, Guarded, Bounds, SymbolFacts, ChoiceFacts, Shown, SymbolShown, MenuShown, EndShown, CommentShown, TreeFacts}
 
@@ -35,11 +35,12 @@ with_when c w = record { parts = c.parts ++ listed w; mode = c.mode }
 abbrev pub with_parts : Condition → List Form → Condition
 with_parts c fs = record { parts = c.parts ++ fs; mode = c.mode }
 
--- Under the conditions of the contexts and what an entry depends on.
-module _ (conditions : List Condition) (dependency : Condition) where
-  abbrev pub prompt_view : Prompt → Condition
-  prompt_view p = with_when (with_parts dependency (condition_in conditions p.visible.0).parts) (when_view p.when)
+-- a prompt, under the conditions of the contexts and what its entry depends on
+abbrev pub prompt_view : List Condition → Condition → Prompt → Condition
+prompt_view conditions dependency p = with_when (with_parts dependency (condition_in conditions p.visible.0).parts) (when_view p.when)
 
+-- Under what their entry depends on.
+module _ (dependency : Condition) where
   abbrev pub default_view : SymbolDefault → Guarded Form
   default_view d = record { what = form_of d.value.value; when = with_when dependency (when_view d.when) }
 
@@ -48,6 +49,10 @@ module _ (conditions : List Condition) (dependency : Condition) where
 
   abbrev pub choice_default_view : ChoiceDefault → Guarded SymId
   choice_default_view d = record { what = d.member; when = with_when dependency (when_view d.when) }
+
+abbrev pub title_text : Option Title → List ℕ
+title_text None = []
+title_text (Some title) = title.text.items
 
 -- What one `config` entry says.
 pub record DefinitionFacts : Type 0 where
@@ -77,8 +82,8 @@ module _ (t : Tables) where
     symbol = d.symbol;
     dependency = condition_in t.contexts d.within.0;
     prompt = option_map (prompt_view t.contexts (condition_in t.contexts d.within.0)) d.prompt;
-    defaults = map (default_view t.contexts (condition_in t.contexts d.within.0)) (slice_of t.defaults.items d.defaults);
-    ranges = map (range_view t.contexts (condition_in t.contexts d.within.0)) (slice_of t.ranges.items d.ranges);
+    defaults = map (default_view (condition_in t.contexts d.within.0)) (slice_of t.defaults.items d.defaults);
+    ranges = map (range_view (condition_in t.contexts d.within.0)) (slice_of t.ranges.items d.ranges);
   }
 
   abbrev pub definition_at : DefinitionId → Option DefinitionFacts
@@ -105,17 +110,13 @@ module _ (t : Tables) where
   abbrev pub choice_facts : Choice → ChoiceFacts
   choice_facts c = record {
     prompt = option_map (prompt_view t.contexts (condition_in t.contexts c.within.0)) c.prompt;
-    defaults = map (choice_default_view t.contexts (condition_in t.contexts c.within.0)) c.defaults.items;
+    defaults = map (choice_default_view (condition_in t.contexts c.within.0)) c.defaults.items;
     members = c.members.items;
   }
 
   -- when a title is shown
   abbrev pub title_condition : Title → Condition
   title_condition title = with_parts (condition_in t.contexts title.within.0) (condition_in t.contexts title.visible.0).parts
-
-  abbrev pub title_text : Option Title → List ℕ
-  title_text None = []
-  title_text (Some title) = title.text.items
 
   abbrev pub shown_when : Option Title → Condition
   shown_when None = condition_in t.contexts 0

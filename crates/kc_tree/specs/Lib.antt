@@ -10,4 +10,4 @@ pub mod TreeCode
 pub mod TreeFacts
 pub mod TreeView
 pub mod Wholes
-pub mod Words
+pub mod Common

@@ -3,7 +3,7 @@ use Rattle.std.specs.Prelude.{◌-◌, ◌&&◌, List, [], ◌++◌, length, tak
 use Rattle.kc_tree.specs.declared.rows.DefinitionId.{DefinitionId}
 use Rattle.kc_tree.specs.declared.rows.Span.{Span}
 use Rattle.kc_tree.specs.declared.rows.Symbol.{Symbol}
-use Rattle.kc_tree.specs.Words.{listed}
+use Rattle.kc_tree.specs.Common.{listed}
 
 -- the slice of a table that a span names; an empty one where it is not there
 abbrev pub slice_of : {X : Type 0} → List X → Span → List X

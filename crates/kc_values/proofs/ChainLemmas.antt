@@ -14,7 +14,7 @@ use Rattle.kc_tree.specs.declared.rows.ReverseId.{ReverseId}
 use Rattle.kc_tree.specs.Chains.{chain_of, chains_from, chains_of, AreChained}
 use Rattle.kc_tree.specs.Layouts.{reverse_at, reverse_facts, reverses_from}
 use Rattle.kc_tree.specs.TreeFacts.{Guarded, TreeFacts}
-use Rattle.kc_tree.specs.Words.{listed}
+use Rattle.kc_tree.specs.Common.{listed}
 use Rattle.kc_values.specs.Values.{condition, reverse_values}
 use Rattle.kc_values.proofs.DefinitionLemmas.{greatest-cons}
 use Rattle.kc_values.proofs.TriLemmas.{greatest-reverse}

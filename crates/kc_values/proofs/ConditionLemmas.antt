@@ -12,7 +12,7 @@ use Rattle.kc_tree.specs.declared.rows.Prompt.{Prompt}
 use Rattle.kc_tree.specs.Contexts.{condition_in, IsPlain, IsContextAt}
 use Rattle.kc_tree.specs.Layouts.{with_when, with_parts, prompt_view}
 use Rattle.kc_tree.specs.TreeFacts.{Condition, TreeFacts}
-use Rattle.kc_tree.specs.Words.{listed}
+use Rattle.kc_tree.specs.Common.{listed}
 use Rattle.kc_values.specs.Computed.{when_value}
 use Rattle.kc_values.specs.Values.{and_value, mode_value, condition}
 use Rattle.kc_values.proofs.TriLemmas.{lesser_y, lesser_comm, lesser_assoc, least-append}

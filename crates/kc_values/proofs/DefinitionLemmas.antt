@@ -15,7 +15,7 @@ use Rattle.kc_tree.specs.declared.rows.Symbol.{Symbol}
 use Rattle.kc_tree.specs.Layouts.{DefinitionFacts, definition_at, definition_facts}
 use Rattle.kc_tree.specs.Spans.{definition_ids}
 use Rattle.kc_tree.specs.TreeFacts.{Guarded, TreeFacts}
-use Rattle.kc_tree.specs.Words.{listed}
+use Rattle.kc_tree.specs.Common.{listed}
 use Rattle.kc_values.specs.Values.{is_n, condition, conditions, first_met}
 use Rattle.kc_values.proofs.TriLemmas.{greater_n}
 

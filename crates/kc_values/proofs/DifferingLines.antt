@@ -15,7 +15,7 @@ use Rattle.kc_values.specs.Numbers.{is_inside, if_inside, clamped}
 use Rattle.kc_values.specs.Values as v
 use Rattle.kc_user.specs.GivenValue.{GivenValue, GivenTruth, GivenText, Member, SymbolPlace, ChoicePlace}
 use Rattle.kc_user.specs.Places.{allowed_truth, allowed_text, allowed_by, allowed_for, allowed}
-use Rattle.kc_tree.specs.Words.{is_symbol_of}
+use Rattle.kc_tree.specs.Common.{is_symbol_of}
 use Rattle.kc_values.specs.Solution as sol
 use Rattle.kc_values.specs.Solution.{known_from, rhs}
 use Rattle.kc_values.specs.Differs.{given_of, default_selection}

@@ -17,7 +17,7 @@ use Rattle.kc_values.specs.Lookups.{facts, choice_at}
 use Rattle.kc_values.specs.Numbers.{is_inside, if_inside, clamped}
 use Rattle.kc_values.specs.Values as v
 use Rattle.kc_user.specs.GivenValue.{GivenValue, GivenTruth, GivenText, Member, UserPlace, SymbolPlace, ChoicePlace}
-use Rattle.kc_tree.specs.Words.{is_symbol_of}
+use Rattle.kc_tree.specs.Common.{is_symbol_of}
 use Rattle.kc_values.specs.Values.{is_n}
 use Rattle.kc_values.specs.Solution as sol
 use Rattle.kc_values.specs.Solution.{symbol_count, known_from, rhs, user_place, equations}

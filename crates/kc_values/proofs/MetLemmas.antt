@@ -35,9 +35,9 @@ module _ (t : Table) where
   range-none (Some g) others h = absurd h
 
   -- and its bounds are those of the row that was found
-  pub range-bounds : (kind : Kind) (o : Option (Guarded Bounds)) (found : Bor SymbolRange) (conditions : List Condition) (dep : Condition) → IsMetRange t o (Some found) →
-      interval (known_at t) kind (Some (range_view conditions dep found.now)) ≡ interval (known_at t) kind o
-  range-bounds kind None found conditions dep h = absurd cc
-  range-bounds kind (Some g) found conditions dep h =
+  pub range-bounds : (kind : Kind) (o : Option (Guarded Bounds)) (found : Bor SymbolRange) (dep : Condition) → IsMetRange t o (Some found) →
+      interval (known_at t) kind (Some (range_view dep found.now)) ≡ interval (known_at t) kind o
+  range-bounds kind None found dep h = absurd cc
+  range-bounds kind (Some g) found dep h =
       let F : Leaf → Leaf → Option Interval = λ x y. Some (record { low = number_or_zero kind (text (known_at t) x); high = number_or_zero kind (text (known_at t) y) }) in
       ap (λ x. F x (leaf_of found.now.high)) h.0 ∙ ap (F g.what.low) h.1

@@ -20,7 +20,7 @@ use Rattle.kc_order.specs.Needs.{AreAlike, needs_in}
 use Rattle.kc_tree.specs.Contexts.{IsPlain, condition_in, mode_view}
 use Rattle.kc_tree.specs.Layouts.{IsLayoutOf, choice_facts, facts_of}
 use Rattle.kc_tree.specs.TreeFacts.{TreeFacts}
-use Rattle.kc_tree.specs.Words.{listed}
+use Rattle.kc_tree.specs.Common.{listed}
 use Rattle.kc_tree.specs.declared.layout.Layout.{Layout}
 use Rattle.kc_tree.specs.declared.rows.Choice.{Choice}
 use Rattle.kc_tree.specs.declared.rows.ChoiceId.{ChoiceId}
@@ -76,7 +76,7 @@ module _ (tree : TreeFacts) (l : Layout) (laid : IsLayoutOf tree l) (g : Nodes) 
   module _ (bound : ℕ) (told : Told bound) where
     mode_row : (k : ℕ) (o : Option Choice) → slice_get l.tables.choices.items k ≡ o →
         ((c : Choice) → o ≡ Some c → (c.within.0 < bound) × ((p : Prompt) → c.prompt ≡ Some p → p.visible.0 < bound)) →
-        (list_any st (rows.nodes_of_choice l o) || names tree l v (rows.names_of_choice l o)) ≡ names tree l v (spec.prompt_names (option_map (choice_facts l.tables) o))
+        (list_any st (rows.nodes_of_choice l o) || names tree l v (rows.names_of_choice o)) ≡ names tree l v (spec.prompt_names (option_map (choice_facts l.tables) o))
     mode_row k None e there = refl
     mode_row k (Some c) e there =
         let h = there c refl in

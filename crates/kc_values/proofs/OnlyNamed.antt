@@ -17,7 +17,7 @@ use Rattle.kc_values.specs.Lookups.{facts, name, choice_at, is_defined}
 use Rattle.kc_values.specs.Numbers.{number_or_zero}
 use Rattle.kc_values.specs.Values as v
 use Rattle.kc_user.specs.GivenValue.{GivenValue, GivenTruth, GivenText, Member, UserPlace}
-use Rattle.kc_tree.specs.Words.{same_symbol, is_symbol_of}
+use Rattle.kc_tree.specs.Common.{same_symbol, is_symbol_of}
 use Rattle.kc_values.specs.Values.{is_n, upgrade}
 use Rattle.kc_values.specs.Needs as n
 use Rattle.kc_values.specs.Needs.{needs_of}

@@ -18,7 +18,7 @@ use Rattle.kc_tree.specs.Layouts as laid
 use Rattle.kc_tree.specs.Layouts.{DefinitionFacts, IsLayoutOf, choice_facts, definition_facts, facts_of, prompt_view, default_view, range_view, choice_default_view, with_parts, with_when, reverse_at, reverse_facts, reverses_from}
 use Rattle.kc_tree.specs.Spans.{definition_ids}
 use Rattle.kc_tree.specs.TreeFacts.{Condition, Guarded, TreeFacts}
-use Rattle.kc_tree.specs.Words.{listed}
+use Rattle.kc_tree.specs.Common.{listed}
 use Rattle.kc_tree.specs.declared.layout.Layout.{Layout}
 use Rattle.kc_tree.specs.declared.rows.Choice.{Choice}
 use Rattle.kc_tree.specs.declared.rows.ChoiceDefault.{ChoiceDefault}
@@ -131,8 +131,8 @@ module _ (tree : TreeFacts) (l : Layout) (v : ℕ) where
       ∙ ap (λ b. (has_some ys && a) || b) (sym (any_flat hit own ys))
 
   defaults_names : (c : Condition) (ds : List SymbolDefault) →
-      names (spec.guarded_names tree symbols (map (default_view l.tables.contexts c) ds)) ≡ ((has_some ds && asks c) || names (flat_map rows.default_names ds))
-  defaults_names c = guarded (default_view l.tables.contexts c) symbols rows.default_names (asks c) one
+      names (spec.guarded_names tree symbols (map (default_view c) ds)) ≡ ((has_some ds && asks c) || names (flat_map rows.default_names ds))
+  defaults_names c = guarded (default_view c) symbols rows.default_names (asks c) one
     where
       turned : (x a w : Bool) → (x || (a || w)) ≡ (a || (x || w))
       turned x a w = grind arith
@@ -144,8 +144,8 @@ module _ (tree : TreeFacts) (l : Layout) (v : ℕ) where
           ∙ ap (λ b. asks c || b) (sym (list_any-append hit (symbols (form_of d.value.value)) (rows.when_names (when_view d.when))))
 
   ranges_names : (c : Condition) (rs : List SymbolRange) →
-      names (spec.guarded_names tree spec.bounds_names (map (range_view l.tables.contexts c) rs)) ≡ ((has_some rs && asks c) || names (flat_map rows.range_names rs))
-  ranges_names c = guarded (range_view l.tables.contexts c) spec.bounds_names rows.range_names (asks c) one
+      names (spec.guarded_names tree spec.bounds_names (map (range_view c) rs)) ≡ ((has_some rs && asks c) || names (flat_map rows.range_names rs))
+  ranges_names c = guarded (range_view c) spec.bounds_names rows.range_names (asks c) one
     where
       turned : (x a w : Bool) → (x || (a || w)) ≡ (a || (x || w))
       turned x a w = grind arith
@@ -157,8 +157,8 @@ module _ (tree : TreeFacts) (l : Layout) (v : ℕ) where
           ∙ ap (λ b. asks c || b) (sym (list_any-append hit bounds (rows.when_names (when_view r.when))))
 
   choice_defaults_names : (c : Condition) (ds : List ChoiceDefault) →
-      names (spec.guarded_names tree spec.no_name (map (choice_default_view l.tables.contexts c) ds)) ≡ ((has_some ds && asks c) || names (flat_map rows.choice_default_names ds))
-  choice_defaults_names c = guarded (choice_default_view l.tables.contexts c) spec.no_name rows.choice_default_names (asks c) (λ d. asks_when c (when_view d.when))
+      names (spec.guarded_names tree spec.no_name (map (choice_default_view c) ds)) ≡ ((has_some ds && asks c) || names (flat_map rows.choice_default_names ds))
+  choice_defaults_names c = guarded (choice_default_view c) spec.no_name rows.choice_default_names (asks c) (λ d. asks_when c (when_view d.when))
 
 -- Under what each node stands for: of contexts below a bound what their conditions name.
 module _ (tree : TreeFacts) (l : Layout) (v : ℕ) (st : ℕ → Bool) (bound : ℕ)
@@ -231,7 +231,7 @@ module _ (tree : TreeFacts) (l : Layout) (v : ℕ) (st : ℕ → Bool) (bound : 
   -- a definition whose context is below the bound
   module _ (d : Definition) (within : d.within.0 < bound) (prompt : IsBelow d.prompt) where
     -- its prompt alone
-    entry_needs : (known (rows.entry_nodes l d) || names tree l v (rows.entry_names l d)) ≡ passes (asks tree l v) (definition_facts l.tables d).prompt
+    entry_needs : (known (rows.entry_nodes l d) || names tree l v (rows.entry_names d)) ≡ passes (asks tree l v) (definition_facts l.tables d).prompt
     entry_needs = prompt_needs d.within.0 d.prompt within prompt
 
     definition_needs : (kind : Kind) → (known (rows.definition_nodes l kind d) || names tree l v (rows.definition_names l kind d)) ≡
@@ -330,9 +330,9 @@ module _ (tree : TreeFacts) (l : Layout) (v : ℕ) (st : ℕ → Bool)
   prompts_needs i s =
       let ids = definition_ids s in
       let node : Definition → Bool = λ d. list_any st (rows.entry_nodes l d) in
-      let name : Definition → Bool = λ d. names tree l v (rows.entry_names l d) in
+      let name : Definition → Bool = λ d. names tree l v (rows.entry_names d) in
       ap (λ b. b || names tree l v (rows.prompts_names l s)) (any_flat st (rows.entry_nodes l) (rows.definitions_of l ids))
-      ∙ ap (λ b. list_any node (rows.definitions_of l ids) || b) (any_flat (hit tree l v) (rows.entry_names l) (rows.definitions_of l ids))
+      ∙ ap (λ b. list_any node (rows.definitions_of l ids) || b) (any_flat (hit tree l v) rows.entry_names (rows.definitions_of l ids))
       ∙ sym (any_or node name (rows.definitions_of l ids))
       ∙ found_same (λ d. node d || name d) prompt_of (rows.definition_at l)
       (λ id d e. entry_needs tree l v st (length l.tables.contexts) at d (l.tables.within id.0 d e) (definition_there id d e)) ids
@@ -358,7 +358,7 @@ module _ (tree : TreeFacts) (l : Layout) (v : ℕ) (st : ℕ → Bool)
   line g = names tree l v (spec.one_name g.what ++ spec.condition_names tree g.when)
 
   source_needs : (r : Reverse) (o : Option Definition) → rows.definition_at l r.source ≡ o →
-      (list_any st (rows.source_nodes l o) || names tree l v (rows.source_names l r o)) ≡
+      (list_any st (rows.source_nodes l o) || names tree l v (rows.source_names r o)) ≡
       passes line (option_map (λ (d : DefinitionFacts). record { what = d.symbol; when = with_when d.dependency (when_view r.when) }) (option_map (definition_facts l.tables) o))
   source_needs r None e = refl
   source_needs r (Some d) e =
@@ -371,7 +371,7 @@ module _ (tree : TreeFacts) (l : Layout) (v : ℕ) (st : ℕ → Bool)
       turned a x w = grind arith
 
   reverse_needs : (o : Option Reverse) →
-      (passes (λ (r : Reverse). list_any st (rows.source_nodes l (rows.definition_at l r.source)) || names tree l v (rows.source_names l r (rows.definition_at l r.source))) o) ≡
+      (passes (λ (r : Reverse). list_any st (rows.source_nodes l (rows.definition_at l r.source)) || names tree l v (rows.source_names r (rows.definition_at l r.source))) o) ≡
       passes line (option_and_then (reverse_facts l.tables) o)
   reverse_needs None = refl
   reverse_needs (Some r) = source_needs r (rows.definition_at l r.source) refl
@@ -381,10 +381,10 @@ module _ (tree : TreeFacts) (l : Layout) (v : ℕ) (st : ℕ → Bool)
   reverses_needs last =
       let chain = chain_of (chains_of l.tables.reverses.lines.items) last in
       let node : Reverse → Bool = λ r. list_any st (rows.source_nodes l (rows.definition_at l r.source)) in
-      let name : Reverse → Bool = λ r. names tree l v (rows.source_names l r (rows.definition_at l r.source)) in
+      let name : Reverse → Bool = λ r. names tree l v (rows.source_names r (rows.definition_at l r.source)) in
       let each : Guarded SymId → List SymId = λ g. spec.one_name g.what ++ spec.condition_names tree g.when in
       ap (λ b. b || names tree l v (rows.reverses_names l last)) (any_flat st (λ (r : Reverse). rows.source_nodes l (rows.definition_at l r.source)) (rows.lines_from l last))
-      ∙ ap (λ b. list_any node (rows.lines_from l last) || b) (any_flat (hit tree l v) (λ (r : Reverse). rows.source_names l r (rows.definition_at l r.source)) (rows.lines_from l last))
+      ∙ ap (λ b. list_any node (rows.lines_from l last) || b) (any_flat (hit tree l v) (λ (r : Reverse). rows.source_names r (rows.definition_at l r.source)) (rows.lines_from l last))
       ∙ sym (any_or node name (rows.lines_from l last))
       ∙ any_found (λ r. node r || name r) (rows.reverse_row l) chain
       ∙ any_same (λ i. passes (λ r. node r || name r) (rows.reverse_row l i)) (λ i. passes line (reverse_at l.tables i)) (λ i. reverse_needs (rows.reverse_row l i)) chain

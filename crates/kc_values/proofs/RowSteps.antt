@@ -5,7 +5,7 @@ use Rattle.std.specs.Option.{option_and_then}
 use Rattle.std.specs.List.{filter_map, flat_map, cons_option}
 use Rattle.std.proofs.lemmas.Grind.{flat_map-append}
 use Rattle.kc_expr.specs.declared.expression.SymId.{SymId}
-use Rattle.kc_tree.specs.Words.{listed}
+use Rattle.kc_tree.specs.Common.{listed}
 use Rattle.kc_values.specs.declared.needs.Row.{Row}
 use Rattle.kc_values.specs.NeedRows.{Adds}
 

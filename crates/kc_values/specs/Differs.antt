@@ -13,7 +13,7 @@ use Rattle.kc_tree.specs.TreeFacts.{TreeFacts}
 use Rattle.kc_values.specs.Lookups.{facts, choice_at}
 use Rattle.kc_user.specs.GivenValue.{GivenValue, GivenTruth, GivenText, Member, UserPlace, SymbolPlace, ChoicePlace}
 use Rattle.kc_user.specs.Places.{allowed, members_of}
-use Rattle.kc_tree.specs.Words.{is_symbol_of}
+use Rattle.kc_tree.specs.Common.{is_symbol_of}
 use Rattle.kc_values.specs.Values.{selected}
 use Rattle.kc_values.specs.Solution.{symbol_count, known_from, user_place, rhs}
 use Rattle.kc_values.specs.WrittenSymbols.{written, changes_on_reread_facts}

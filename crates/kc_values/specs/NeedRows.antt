@@ -51,6 +51,19 @@ abbrev pub prompt_names : Option Prompt → List SymId
 prompt_names None = []
 prompt_names (Some p) = when_names (when_view p.when)
 
+abbrev pub names_of_choice : Option Choice → List SymId
+names_of_choice None = []
+names_of_choice (Some c) = prompt_names c.prompt
+
+-- of a definition, those of its prompt alone
+abbrev pub entry_names : Definition → List SymId
+entry_names d = prompt_names d.prompt
+
+-- of a line that selects or implies
+abbrev pub source_names : Reverse → Option Definition → List SymId
+source_names r None = []
+source_names r (Some d) = d.symbol ∷ when_names (when_view r.when)
+
 abbrev pub default_names : SymbolDefault → List SymId
 default_names d = symbols (form_of d.value.value) ++ when_names (when_view d.when)
 
@@ -100,10 +113,6 @@ module _ (l : Layout) where
   nodes_of_choice None = []
   nodes_of_choice (Some c) = choice_prompt_nodes c
 
-  abbrev pub names_of_choice : Option Choice → List SymId
-  names_of_choice None = []
-  names_of_choice (Some c) = prompt_names c.prompt
-
   abbrev pub mode_nodes : Option ChoiceId → List ℕ
   mode_nodes o = nodes_of_choice (choice_row o)
 
@@ -136,9 +145,6 @@ module _ (l : Layout) where
   -- of their prompts alone
   abbrev pub entry_nodes : Definition → List ℕ
   entry_nodes d = (if is_some d.prompt then context_nodes d.within.0 else []) ++ prompt_nodes d.prompt
-
-  abbrev pub entry_names : Definition → List SymId
-  entry_names d = prompt_names d.prompt
 
   abbrev pub prompts_nodes_of : List DefinitionId → List ℕ
   prompts_nodes_of ids = flat_map entry_nodes (definitions_of ids)
@@ -185,10 +191,6 @@ module _ (l : Layout) where
   abbrev pub source_nodes : Option Definition → List ℕ
   source_nodes None = []
   source_nodes (Some d) = context_nodes d.within.0
-
-  abbrev pub source_names : Reverse → Option Definition → List SymId
-  source_names r None = []
-  source_names r (Some d) = d.symbol ∷ when_names (when_view r.when)
 
   abbrev pub reverses_nodes : Option ReverseId → List ℕ
   reverses_nodes last = flat_map (λ (r : Reverse). source_nodes (definition_at r.source)) (lines_from last)

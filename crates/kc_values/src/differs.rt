@@ -2,7 +2,7 @@
 
 ghost use Rattle.std.specs.Prelude.{◌≡◌, ◌&&◌, None, not, IfOk};
 ghost use Rattle.std.specs.Option.{is_some};
-ghost use Rattle.kc_tree.specs.Words.{is_symbol_of};
+ghost use Rattle.kc_tree.specs.Common.{is_symbol_of};
 ghost use Rattle.kc_tree.specs.Layouts.{facts_of};
 ghost use Rattle.kc_values.specs.Differs.{same_value};
 ghost use Rattle.kc_values.specs.TableFacts.{known_at, IsRowOf};

@@ -1,6 +1,7 @@
 //! Ranges of numbers, and the equation of an int or hex symbol.
 
-ghost use Rattle.std.specs.Prelude.{◌≡◌, ◌<◌, ◌^◌, Some, IfOk, IfSome, unsigned_abs};
+ghost use Rattle.std.specs.Prelude.{◌≡◌, ◌<◌, Some, IfOk, IfSome, unsigned_abs};
+ghost use Rattle.kc_text.specs.Limits.{hex_limit};
 ghost use Rattle.kc_tree.specs.Layouts.{definition_facts, facts_of, range_view};
 ghost use Rattle.kc_tree.specs.Contexts.{condition_in};
 ghost use Rattle.kc_values.specs.TableFacts.{known_at, IsMetRange};
@@ -46,14 +47,14 @@ pub fn number_as(kind: Kind, text: &[u8]) -> Option<i128>
 #[tactic(auto, using(crate::proofs::SmallNumbers::number_or_zero_below))]
 fn number_or_zero(kind: Kind, text: &[u8]) -> i128
     ensures number { result ≡ digits.number_or_zero kind text.now }
-    ensures small { unsigned_abs result < 2 ^ 64 }
+    ensures small { unsigned_abs result < hex_limit }
 {
     number_as(kind, text).unwrap_or(0)
 }
 
 // The bounds of a range.
 fn bounds_of(table: &Table<'_>, kind: Kind, range: &SymbolRange) -> Interval
-    ensures range { Some result ≡ spec.interval (known_at table.now) kind (Some (range_view table.now.layout.now.tables.contexts (condition_in table.now.layout.now.tables.contexts 0) range.now)) }
+    ensures range { Some result ≡ spec.interval (known_at table.now) kind (Some (range_view (condition_in table.now.layout.now.tables.contexts 0) range.now)) }
     ensures small { HasSmallBounds result }
 {
     Interval {
@@ -117,7 +118,7 @@ pub fn if_inside(kind: Kind, range: Option<Interval>, given: Option<&[u8]>) -> O
 /// A number as it is written: decimal for int, `0x` and lower-case digits for hex (kconfiglib's `str_value`). Fails only when
 /// it is out of memory.
 pub fn number_text(alloc: Global, kind: Kind, number: i128) -> Result<Vec<u8>, AllocError>
-    requires { unsigned_abs number < 2 ^ 64 }
+    requires { unsigned_abs number < hex_limit }
     ensures { IfOk result (λ v. v.items ≡ digits.number_text kind number) }
 {
     let text = match kind {

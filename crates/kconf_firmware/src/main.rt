@@ -3,10 +3,12 @@
 
 use kc_disk::{exit_status, kconf_of};
 use std::alloc::{AllocError, Global};
+use std::os::unix::fs::MetadataExt;
+use std::time::SystemTime;
 use std::{fs, io};
 
 // Runs that write nothing: a bad command line, refused trees, and devices that fail.
-const WITHOUT_FILES: [&str; 8] = [
+const WITHOUT_FILES: [&str; 9] = [
     "--out bad.config",
     "--out bad.config none/Kconfig",
     "--out bad.config start.config",
@@ -15,7 +17,24 @@ const WITHOUT_FILES: [&str; 8] = [
     "--out bad.config Kconfig none.cfg",
     "--out /dev/full --header bad.config Kconfig",
     "--out bad.folder/config Kconfig",
+    "--must-exist --config absent.config --out bad.config Kconfig",
 ];
+
+// Runs with --replace on one file: it is made, its text stays, other text takes its place, and warnings are refused.
+const REPLACES: [&str; 5] = [
+    "--replace --config start.config --out kept.config Kconfig site.config",
+    "--replace --config start.config --out kept.config Kconfig site.config",
+    "--replace --config start.config --out kept.config Kconfig",
+    "--replace --strict --config start.config --out kept.config Kconfig site.config",
+    "--replace --config start.config --out kept.config Kconfig none.cfg",
+];
+
+// Which file lies in a place, and when it was written.
+#[derive(Clone, Copy, PartialEq)]
+struct Placed {
+    inode: u64,
+    written: SystemTime,
+}
 
 // The arguments between the blanks.
 fn arguments_of(alloc: Global, line: &str) -> Result<Vec<String>, AllocError> {
@@ -37,6 +56,37 @@ fn run(rt: &HostRuntime, line: &str) -> io::Result<()> {
 fn show(rt: &HostRuntime, name: &str) -> io::Result<()> {
     let text = fs::read_to_string(rt, name)?;
     print!(rt; "== {name}\n{text}")
+}
+
+// What lies in a place, if anything does.
+fn placed(rt: &HostRuntime, name: &str) -> io::Result<Option<Placed>> {
+    if !fs::exists(rt, name)? {
+        return Ok(None);
+    }
+    let metadata = fs::metadata(rt, name)?;
+    Ok(Some(Placed {
+        inode: metadata.ino(),
+        written: metadata.modified()?,
+    }))
+}
+
+// Runs with --replace, and prints of each whether the file in the place is another one then. A link to the file that the first
+// one made shows that it is not written to.
+fn replace(rt: &HostRuntime) -> io::Result<()> {
+    for line in REPLACES {
+        let before = placed(rt, "kept.config")?;
+        run(rt, line)?;
+        let is_same = placed(rt, "kept.config")? == before;
+        println!(rt; "kept.config is the file that it was: {is_same}")?;
+        if before.is_none() {
+            fs::hard_link(rt, "kept.config", "first.config")?;
+        }
+    }
+    let is_first = fs::read(rt, "first.config")? == fs::read(rt, "full.config")?;
+    println!(rt; "first.config is full.config: {is_first}")?;
+    run(rt, "--config start.config --out plain.config Kconfig")?;
+    let is_plain = fs::read(rt, "kept.config")? == fs::read(rt, "plain.config")?;
+    println!(rt; "kept.config is plain.config: {is_plain}")
 }
 
 fn main(rt: HostRuntime) -> io::Result<()> {
@@ -72,6 +122,15 @@ fn main(rt: HostRuntime) -> io::Result<()> {
     )?;
     show(&rt, "br2.config")?;
     show(&rt, "br2.h")?;
+    run(
+        &rt,
+        "--root rows --config rows/lost.config --out lost.config --strict Kconfig",
+    )?;
+    run(
+        &rt,
+        "--root rows --config rows/lost.config --out bad.config --strict --warn-lost Kconfig",
+    )?;
+    replace(&rt)?;
     for line in WITHOUT_FILES {
         run(&rt, line)?;
     }

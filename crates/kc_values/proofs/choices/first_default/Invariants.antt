@@ -8,5 +8,5 @@ abbrev pub invariant-loop-default : goal.invariant-loop-default
 invariant-loop-default l =
     let k = known_at l.table in
     let facts = choice_facts l.table.layout.now.tables l.choice in
-    spec.first_default l.table.tree.now k facts (map (choice_default_view l.table.layout.now.tables.contexts (condition_at l.table l.choice.within.0)) (drop l.default-index l.choice.defaults.items))
+    spec.first_default l.table.tree.now k facts (map (choice_default_view (condition_at l.table l.choice.within.0)) (drop l.default-index l.choice.defaults.items))
     ≡ spec.first_default l.table.tree.now k facts facts.defaults

@@ -43,10 +43,10 @@ lines-preserved c =
           adds_of_left now next (rows.context_nodes l d.within.0 ++ []) leftNodes _ (d.symbol ∷ rows.when_names (when_view r.when)) leftNames _ _ _
           (rw w.out-is three)
           (allNodes ∙ ap (λ o. rows.source_nodes l o ++ leftNodes) found ∙ ap (λ x. x ++ leftNodes) (sym (append-nil (rows.context_nodes l d.within.0))))
-          (allNames ∙ ap (λ o. rows.source_names l r o ++ leftNames) found)
+          (allNames ∙ ap (λ o. rows.source_names r o ++ leftNames) found)
           c.lines.invariant
       | in_default-definition w ↦
           let found = sym w.in_default-definition.ensures in
           adds_of_left now next [] leftNodes _ [] leftNames _ _ _ (rw w.out-is (adds_nothing now)) (allNodes ∙ ap (λ o. rows.source_nodes l o ++ leftNodes) found)
-          (allNames ∙ ap (λ o. rows.source_names l r o ++ leftNames) found) c.lines.invariant
+          (allNames ∙ ap (λ o. rows.source_names r o ++ leftNames) found) c.lines.invariant
     ]

@@ -6,5 +6,5 @@ use Rattle.kc_values.proofs.truths.first_met.Given as goal
 
 abbrev pub invariant-loop-default : goal.invariant-loop-default
 invariant-loop-default l =
-    first_met l.table.tree.now (known_at l.table) (map (default_view l.table.layout.now.tables.contexts (condition_at l.table l.definition.within.0)) (drop l.default-index l.default-items))
+    first_met l.table.tree.now (known_at l.table) (map (default_view (condition_at l.table l.definition.within.0)) (drop l.default-index l.default-items))
     ≡ first_met l.table.tree.now (known_at l.table) (definition_facts l.table.layout.now.tables l.definition).defaults

@@ -1,4 +1,4 @@
--- Trusted: Words that definitions on trees share.
+-- Trusted: What definitions on trees share: an option as a list, and the same symbol.
 use Rattle.std.specs.Prelude.{List, [], ◌∷◌, Bool, false, ◌==◌, Option, Some, None}
 use Rattle.kc_expr.specs.declared.expression.SymId.{SymId}
 
