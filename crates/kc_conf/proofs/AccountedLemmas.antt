@@ -1,6 +1,6 @@
 -- That no line of the streams goes unaccounted for where lost values are warned of.
 use Rattle.std.proofs.Common.{◌≡◌, ◌⊎◌, inl, inr, ℕ, ◌+◌, ◌<◌, zero, suc, Bool, true, false, List, [], ◌∷◌, ◌++◌, length, Some, None, refl, sym, ap, subst, ◌∙◌, append_assoc, append-nil, arith, codes, eqb}
-use Rattle.std.specs.Prelude.{not, bytes_eq, find, take_while, is_some, if◌then◌else◌}
+use Rattle.std.specs.Prelude.{not, find, is_some, if◌then◌else◌}
 use Rattle.std.specs.List.{flat_map, range_with_len}
 use Rattle.std.specs.Option.{option_map}
 use Rattle.std.proofs.lemmas.Grind.{flat_map-append}
@@ -13,6 +13,7 @@ use Rattle.kc_expr.specs.declared.expression.SymId.{SymId}
 use Rattle.kc_expr.specs.declared.expression.Tri.{Tri}
 use Rattle.kc_expr.specs.declared.expression.Tri.TheVariants.{N, M, Y}
 use Rattle.kc_read.specs.Files.{Files}
+use Rattle.kc_read.specs.Sources.{Holds}
 use Rattle.kc_tree.specs.TreeFacts.{SymbolFacts, TreeFacts}
 use Rattle.kc_user.specs.GivenValue.{GivenValue, GivenTruth, GivenText, Member, SymbolPlace}
 use Rattle.kc_user.specs.Places.{ArePlacesOf, Places, no_places, place_at}
@@ -21,23 +22,27 @@ use Rattle.kc_values.specs.Lookups.{facts, name}
 use Rattle.kc_values.specs.Solution.{symbol_count}
 use Rattle.kc_solve.specs.Solved.{Solution, known, warnings as value_warnings}
 use Rattle.kc_dot.specs.Effects.{Effect, Silent, Warns, Assigns, SetAgain, LineWarning, warning_line}
-use Rattle.kc_dot.specs.Reading.{Line, assignments, before_too_long, effect, is_within, lines_of, places_after, places_given, reading, stream_location, effect_warning, warning, warning_line_if, warnings}
+use Rattle.kc_dot.specs.Reading.{Line, assignments, before_too_long, effect, is_within, lines_of, places_after, reading, stream_location, effect_warning, warning, warning_line_if, warnings}
 use Rattle.kc_dot.proofs.PlaceLemmas.{ArePlacesOf-given, places_given-nothing, places_given-one}
 use Rattle.kc_dot.proofs.ReadingLemmas.{places_after-append}
+use Rattle.kc_dot.specs.SolvedView.{solution_view}
+use Rattle.kc_dot.specs.Texts.{config_text}
 use Rattle.kc_conf.specs.declared.options.Options.{Options}
-use Rattle.kc_conf.specs.Accounted.{IsAccountedFor, IsKeptOrTold, IsSetAgain, NothingIsLost, StandsIn}
+use Rattle.kc_conf.specs.Accounted.{IsAccountedFor, IsKeptOrTold, IsSetAgain, NothingIsLost}
 use Rattle.kc_conf.specs.Lost.{has_prompt, lost_at, lost_by, lost_line, lost_lines, lost_of, same_given}
 use Rattle.kc_conf.specs.Outcome.{Outcome, lines_text, lost_warnings, names_of, noted, outcome_of, read_of, streams, with_rule}
 use Rattle.kc_conf.specs.Reruns.{RefusesNothing, WrittenAreWhole}
 
 -- ---- texts that stand in others
 
+abbrev StandsIn : List ℕ → List ℕ → Type 0
+StandsIn part text = Holds text part
+
 stands_after : (front part text : List ℕ) → StandsIn part text → StandsIn part (front ++ text)
-stands_after front part text (before, after, is) = (front ++ before, after, ap (λ t. front ++ t) is ∙ sym (append_assoc front before (part ++ after)))
+stands_after front part text (before, after, is) = (front ++ before, after, ap (λ t. front ++ t) is ∙ simp append_assoc)
 
 stands_before : (back part text : List ℕ) → StandsIn part text → StandsIn part (text ++ back)
-stands_before back part text (before, after, is) =
-    (before, after ++ back, ap (λ t. t ++ back) is ∙ append_assoc before (part ++ after) back ∙ ap (λ t. before ++ t) (append_assoc part after back))
+stands_before back part text (before, after, is) = (before, after ++ back, ap (λ t. t ++ back) is ∙ append_assoc (before ++ part) after back)
 
 stands_first : (part back : List ℕ) → StandsIn part (part ++ back)
 stands_first part back = ([], back, refl)
@@ -79,7 +84,7 @@ line_stands : (line : List ℕ) (lines before after : List (List ℕ)) → lines
 line_stands line lines before after is = (
   lines_text before,
   lines_text after,
-  ap lines_text is ∙ flat_map-append (λ l. l ++ codes "\n") before (line ∷ after),
+  ap lines_text is ∙ flat_map-append (λ l. l ++ codes "\n") before (line ∷ after) ∙ sym (append_assoc (lines_text before) (line ++ codes "\n") (lines_text after)),
 )
 
 module _ (s : Solution) (id : SymId) (f : SymbolFacts) (given : GivenValue) (defined : facts s.tree id ≡ Some f) (prompted : has_prompt f.prompts ≡ true)
@@ -290,4 +295,7 @@ module _ (files : Files) (options : Options) (all : List (List ℕ)) (tree : Tre
 pub nothing_lost : WrittenAreWhole → NothingIsLost
 nothing_lost written files options all outcome text is_outcome there asked =
     let (tree, solution, is_whole, (opened, are, is)) = written files options all outcome text is_outcome there in
-    (tree, solution, is_whole, each_accounted_for files options all tree solution is_whole asked outcome opened is)
+    let text_is : text ≡ config_text tree options.prefix (solution_view solution) =
+    let same : Some text ≡ Some (config_text tree options.prefix (solution_view solution)) = sym there ∙ ap (λ (o : Outcome). o.config) is in cc
+    in
+    (tree, solution, is_whole, text_is, each_accounted_for files options all tree solution is_whole asked outcome opened is)

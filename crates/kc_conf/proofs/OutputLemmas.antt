@@ -4,11 +4,11 @@ use Rattle.std.proofs.lemmas.List.{take-append-drop, take_more}
 use Rattle.std.proofs.lemmas.Grind.{flat_map-append}
 use Rattle.std.specs.Prelude.{flat_map}
 use Rattle.kc_dot.proofs.SinkLemmas.{extended-extended}
-use Rattle.kc_dot.specs.Sink.{extended, next_failure}
+use Rattle.kc_dot.specs.Sink.{extended}
 use Rattle.kc_conf.specs.declared.options.Options.{Options}
-use Rattle.kc_conf.specs.Faults.{after_fault, error_line, NotesLine, Reports, StrikesNotes}
-use Rattle.kc_conf.specs.OutputStates.{OutputState, OutputStates, at, with_state, grown, failed, with_text, ChangesOnly, ChangesOnly-same, BreaksOutput}
-use Rattle.kc_conf.specs.Reads.{notes_failures_after}
+use Rattle.kc_conf.specs.Faults.{error_line, NotesLine, Reports}
+use Rattle.kc_conf.specs.OutputStates.{OutputState, OutputStates, at, with_state, grown, failed, with_text, ChangesOnly, BreaksOutput}
+use Rattle.kc_conf.specs.ChangeLemmas.{ChangesOnly-same}
 use Rattle.kc_conf.specs.declared.run_fault.RunFault.{RunFault}
 use Rattle.kc_conf.specs.declared.run_fault.RunFault.TheVariants.{Read, Write, Memory}
 use Rattle.kc_conf.specs.declared.outputs.Output.{Output}
@@ -54,17 +54,6 @@ ChangesOnly-text output old new text failures only first second = rw (← first,
 pub with_text-only : (old new : OutputStates) (text : List ℕ) → ChangesOnly Notes old new → new.notes.text ≡ extended old.notes.text text →
     new.notes.failures ≡ old.notes.failures → new ≡ with_text Notes text old
 with_text-only old new text only grew quiet = ChangesOnly-text Notes old new (extended old.notes.text text) old.notes.failures only grew quiet
-
--- and broke off for this cause
-pub after_fault-only : (cause : RunFault) (old new : OutputStates) (text : List ℕ) → StrikesNotes cause → ChangesOnly Notes old new → new.notes.text ≡ extended old.notes.text text →
-    new.notes.failures ≡ notes_failures_after cause old.notes.failures → new ≡ after_fault cause (with_text Notes text old)
-after_fault-only (Read input) old new text strikes only grew counts = with_text-only old new text only grew counts
-after_fault-only Memory old new text strikes only grew counts = with_text-only old new text only grew counts
-after_fault-only (Write Notes) old new text strikes only grew counts = ChangesOnly-text Notes old new (extended old.notes.text text) (next_failure old.notes.failures) only grew counts
-after_fault-only (Write Config) old new text strikes only grew counts = absurd (let e : Config ≡ Notes = strikes in cc)
-after_fault-only (Write Header) old new text strikes only grew counts = absurd (let e : Header ≡ Notes = strikes in cc)
-after_fault-only (Write Minimal) old new text strikes only grew counts = absurd (let e : Minimal ≡ Notes = strikes in cc)
-after_fault-only (Write Depfile) old new text strikes only grew counts = absurd (let e : Depfile ≡ Notes = strikes in cc)
 
 -- an error line changes the notes alone
 NotesLine-only : (line : List ℕ) (old new : OutputStates) → NotesLine line old new → ChangesOnly Notes old new

@@ -68,3 +68,15 @@ strict_line = codes "error E21: warnings are refused\n"
 -- the error line of a line of a stream that is too long
 abbrev pub too_long_line : StreamLocation → List ℕ
 too_long_line stop = error_at stop.stream stop.number (codes "E17: line longer than " ++ decimal longest_config_line ++ codes " bytes\n")
+
+-- the error line of a file that cannot be read
+abbrev pub cannot_read_line : List ℕ → List ℕ
+cannot_read_line name = codes "error E18: cannot read " ++ name ++ codes "\n"
+
+-- the error line of a file that cannot be written
+abbrev pub cannot_write_line : List ℕ → List ℕ
+cannot_write_line name = codes "error E19: cannot write " ++ name ++ codes "\n"
+
+-- the error line where no memory is to be had
+abbrev pub out_of_memory_line : List ℕ
+out_of_memory_line = codes "error " ++ message_before code.Memory ++ codes "\n"

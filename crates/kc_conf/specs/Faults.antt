@@ -1,10 +1,11 @@
 -- Trusted: What a run leaves, with and without a fault.
-use Rattle.std.specs.Prelude.{◌≡◌, ◌⊎◌, ℕ, ◌<◌, List, [], ◌++◌, length, Option, None, Some, codes, string_bytes, slice_index, slice_index_or, slice_set, ⊤}
+use Rattle.std.specs.Prelude.{◌≡◌, ◌⊎◌, ℕ, ◌<◌, List, [], length, Option, None, Some, string_bytes, slice_index, slice_index_or, slice_set, ⊤}
 use Rattle.std.specs.Option.{option_map_or}
 use Rattle.kc_dot.specs.Sink.{BeginsWith, next_failure}
 use Rattle.kc_dot.specs.declared.fault.WriteFault.{WriteFault}
 use Rattle.kc_dot.specs.declared.fault.WriteFault.TheVariants as write
 use Rattle.kc_conf.specs.declared.options.Options.{Options}
+use Rattle.kc_conf.specs.ErrorLines.{cannot_read_line, cannot_write_line, out_of_memory_line}
 use Rattle.kc_conf.specs.Outcome.{Outcome, names_of}
 use Rattle.kc_conf.specs.OutputStates.{OutputStates, at, with_state, failed, with_text, begun_with, made_if, BreaksOutput}
 use Rattle.kc_conf.specs.declared.outputs.Output.{Output}
@@ -101,9 +102,9 @@ stream_name options input = slice_index_or (names_of options) input []
 
 -- the one error line of a fault
 abbrev pub error_line : Options → RunFault → List ℕ
-error_line options (Read input) = codes "error E18: cannot read " ++ stream_name options input ++ codes "\n"
-error_line options (Write output) = codes "error E19: cannot write " ++ name_of options output ++ codes "\n"
-error_line options Memory = codes "error E20: out of memory\n"
+error_line options (Read input) = cannot_read_line (stream_name options input)
+error_line options (Write output) = cannot_write_line (name_of options output)
+error_line options Memory = out_of_memory_line
 
 -- the line was written to the notes, or a beginning of it and they failed
 abbrev pub NotesLine : List ℕ → OutputStates → OutputStates → Type 0

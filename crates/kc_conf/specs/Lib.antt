@@ -4,6 +4,7 @@ pub mod Faults
 pub mod InputBytes
 pub mod Accounted
 pub mod AcceptedTree
+pub mod ChangeLemmas
 pub mod Lost
 pub mod LostView
 pub mod Outcome

@@ -1,5 +1,5 @@
 -- Trusted: What is known of the five outputs.
-use Rattle.std.specs.Prelude.{◌≡◌, ℕ, Bool, true, false, List, [], Option, None, Some, refl}
+use Rattle.std.specs.Prelude.{◌≡◌, ℕ, Bool, true, false, List, [], Option, None, Some}
 use Rattle.std.specs.Option.{option_map}
 use Rattle.kc_dot.specs.Sink.{extended, next_failure, BeginsWith}
 use Rattle.kc_conf.specs.declared.outputs.Output.{Output}
@@ -78,17 +78,3 @@ made output text states = with_state states output (ended (grown (begun (at stat
 abbrev pub made_if : Output → Option (List ℕ) → OutputStates → OutputStates
 made_if output None states = states
 made_if output (Some text) states = made output text states
-
-pub ChangesOnly-same : (output : Output) (states : OutputStates) → ChangesOnly output states states
-ChangesOnly-same Config states = refl
-ChangesOnly-same Header states = refl
-ChangesOnly-same Minimal states = refl
-ChangesOnly-same Depfile states = refl
-ChangesOnly-same Notes states = refl
-
-pub ChangesOnly-only : (output : Output) (old mid new : OutputStates) → ChangesOnly output old mid → ChangesOnly output mid new → ChangesOnly output old new
-ChangesOnly-only Config old mid new first second = rw first at second
-ChangesOnly-only Header old mid new first second = rw first at second
-ChangesOnly-only Minimal old mid new first second = rw first at second
-ChangesOnly-only Depfile old mid new first second = rw first at second
-ChangesOnly-only Notes old mid new first second = rw first at second

@@ -19,9 +19,10 @@ pub fn written_are_whole()
 {}
 
 /// With `warn_lost`, where files are written: each line of the streams that is warned of stands in the notes with its
-/// warning, and what any other gives a symbol with a prompt is the symbol's value; or the notes tell that it is not; or a
-/// later line gives that symbol a value, and the notes tell that it is set again. (What says nothing is not told: comments,
-/// empty lines, and `# NAME is not set` of a string, int or hex. Our own.)
+/// warning, and what any other gives a symbol with a prompt is the symbol's value, one of those whose text the written
+/// `.config` is; or the notes tell that it is not; or a later line gives that symbol a value, and the notes tell that it is
+/// set again. (What says nothing is not told: comments, empty lines, and `# NAME is not set` of a string, int or hex. Our
+/// own.)
 pub fn nothing_is_lost()
     ensures { NothingIsLost }
 {

@@ -1,6 +1,7 @@
 //! The run: from a map of files and streams of `.config` text to the files written.
 #![tactic(auto)]
 
+pub mod error_lines;
 mod input;
 pub mod laws;
 mod lost;

@@ -7,6 +7,7 @@ ghost use Rattle.kc_conf.specs.Outcome.{lines_text};
 ghost use Rattle.kc_conf.specs.OutputStates.{with_text, BreaksOutput};
 ghost use Rattle.kc_conf.specs.Reads.{stop_of};
 
+use crate::error_lines::{cannot_read, cannot_write, out_of_memory};
 use crate::options::{Options, name_of, stream_name};
 use crate::outputs::{Output, Outputs, put_to};
 use crate::reading::LongLine;
@@ -183,19 +184,9 @@ pub fn report<O: Outputs>(options: &Options, cause: RunFault, outputs: &mut O)
     ensures { Reports options.now cause (O.states outputs.old) (O.states outputs.new) }
 {
     match cause {
-        RunFault::Read(input) => note_line(
-            outputs,
-            &[
-                b"error E18: cannot read ",
-                stream_name(options, input),
-                b"\n",
-            ],
-        ),
+        RunFault::Read(input) => note_line(outputs, &cannot_read(stream_name(options, input))),
         RunFault::Write(Output::Notes) => {}
-        RunFault::Write(output) => note_line(
-            outputs,
-            &[b"error E19: cannot write ", name_of(options, output), b"\n"],
-        ),
-        RunFault::Memory => note_line(outputs, &[b"error E20: out of memory\n"]),
+        RunFault::Write(output) => note_line(outputs, &cannot_write(name_of(options, output))),
+        RunFault::Memory => note_line(outputs, &[out_of_memory().as_bytes()]),
     }
 }

@@ -1,6 +1,8 @@
 pub mod DraftLemmas
+pub mod KeptLemmas
 pub mod LineLemmas
 pub mod OutputLemmas
+pub mod PlaceLemmas
 pub mod RanLemmas
 pub mod ReachedLemmas
 pub mod ReportLemmas

@@ -15,6 +15,7 @@ use Rattle.kc_disk.proofs.OutputLemmas.{unwaiting}
 file-reached : (name : List ℕ) (r : OutputRecord) (made : MadeFile) (o : Option Output) (w : Output) (bytes : List ℕ) → made.is_open ≡ is_current o w → IsConsistent name r made →
     FileReached name (state_of r (Some (made.bytes ++ waiting o w bytes))) made
 file-reached name r made o w bytes is h = record {
+  none = h.2;
   named = h.0;
   front = (waiting o w bytes, refl);
   whole = λ e.
@@ -33,6 +34,7 @@ notes-whole out (b ∷ line) not ends =
 reached-some : (options : Options) (o : Option Output) (bytes line : List ℕ) (r : OutputRecords) (t : MakerState) →
     (r.notes.failures ≡ 0 → ends_line line ≡ false) → AreConsistent options o r t → Reached (states_of options (Some t) o bytes line r) t
 reached-some options o bytes line r t waits h = record {
+  made = h.9;
   config = file-reached _ r.config t.config o Config bytes h.0 h.5;
   header = file-reached _ r.header t.header o Header bytes h.1 h.6;
   minimal = file-reached _ r.minimal t.minimal o Minimal bytes h.2 h.7;

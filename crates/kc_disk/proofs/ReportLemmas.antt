@@ -1,5 +1,5 @@
 -- What was reported of a text.
-use Rattle.std.proofs.Common.{◌≡◌, ℕ, ◌<◌, suc, Bool, true, List, [], ◌++◌, ◌⊎◌, inl, inr, length, take, drop, slice_index_or, sym, ap, ◌∙◌, subst, Option, append_assoc, append-nil, option_map, arith}
+use Rattle.std.proofs.Common.{◌≡◌, ℕ, ◌<◌, suc, Bool, true, List, [], ◌++◌, ◌⊎◌, inl, inr, length, take, drop, slice_index_or, sym, ap, ◌∙◌, subst, Option, append_assoc, option_map, arith}
 use Rattle.std.specs.Prelude.{flat_map}
 use Rattle.std.proofs.Math.Seq.{drop-cons, take-length}
 use Rattle.std.proofs.lemmas.List.{take-append-drop}
@@ -47,7 +47,3 @@ reports-from text state mid new was is same stays reports =
 -- the same text
 pub reports-same : (given text : List ℕ) (maker : MakerCall) → given ≡ text → Reports given maker → Reports text maker
 reports-same given text maker e reports = subst (λ (t : List ℕ). Reports t maker) e reports
-
--- a line with a name in it
-pub line-of : (front given name back : List ℕ) → given ≡ name → front ++ (given ++ (back ++ [])) ≡ front ++ name ++ back
-line-of front given name back e = rw e (simp (append_assoc, append-nil))

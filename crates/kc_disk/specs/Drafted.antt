@@ -21,9 +21,10 @@ longer bytes made = record { name = made.name; bytes = made.bytes ++ bytes; is_o
 abbrev pub shut : MadeFile → MadeFile
 shut made = record { name = made.name; bytes = made.bytes; is_open = false }
 
--- the drafts of the files, and the notes of a maker
-abbrev pub drafted : Draft → Draft → Draft → Draft → Option MakerState → Option MakerState
-drafted config header minimal depfile = option_map (λ t. record { config = made_from config; header = made_from header; minimal = made_from minimal; depfile = made_from depfile; notes = t.notes })
+-- the drafts of the files, the outputs for which they were made, and the notes of a maker
+abbrev pub drafted : List Output → Draft → Draft → Draft → Draft → Option MakerState → Option MakerState
+drafted made config header minimal depfile =
+    option_map (λ t. record { config = made_from config; header = made_from header; minimal = made_from minimal; depfile = made_from depfile; notes = t.notes; made = made })
 
 -- a draft fails for want of memory, and the notes where their maker may
 abbrev pub drafts_failing : (Output → Bool) → Output → Bool

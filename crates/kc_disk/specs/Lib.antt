@@ -4,6 +4,7 @@ pub mod Drafted
 pub mod Lines
 pub mod Makers
 pub mod Flushed
+pub mod Laws
 pub mod Openers
 pub mod Movers
 pub mod Program

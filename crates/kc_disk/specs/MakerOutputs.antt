@@ -1,12 +1,12 @@
 -- For proofs: The states of the outputs over a maker of files.
-use Rattle.std.specs.Prelude.{◌≡◌, ℕ, Bool, true, false, List, [], ◌++◌, Option, Some, option_map}
+use Rattle.std.specs.Prelude.{◌≡◌, ℕ, Bool, true, false, ◌||◌, List, [], ◌∷◌, ◌++◌, filter, Option, Some, option_map}
 use Rattle.kc_dot.specs.Sink.{next_failure}
 use Rattle.kc_conf.specs.OutputStates.{OutputState, OutputStates}
 use Rattle.kc_conf.specs.Faults.{name_of}
 use Rattle.kc_conf.specs.declared.outputs.Output.{Output}
 use Rattle.kc_conf.specs.declared.outputs.Output.TheVariants.{Config, Header, Minimal, Depfile, Notes}
 use Rattle.kc_conf.specs.declared.options.Options.{Options}
-use Rattle.kc_disk.specs.Makers.{MakerState, MadeFile, made_of}
+use Rattle.kc_disk.specs.Makers.{MakerState, MadeFile, made_of, no_file}
 use Rattle.kc_disk.specs.declared.records.OutputRecord.{OutputRecord}
 use Rattle.kc_disk.specs.declared.records.OutputRecords.{OutputRecords}
 
@@ -66,6 +66,18 @@ record_ended r = record { is_begun = r.is_begun; is_ended = true; failures = r.f
 abbrev pub record_failed : OutputRecord → OutputRecord
 record_failed r = record { is_begun = r.is_begun; is_ended = r.is_ended; failures = next_failure r.failures }
 
+-- the files that were begun, in the order in which they are made
+abbrev pub begun_of : OutputRecords → List Output
+begun_of r = filter (λ output. (record_at r output).is_begun) (Config ∷ Header ∷ Minimal ∷ Depfile ∷ [])
+
+-- whether this file was begun, or one behind it
+abbrev pub begun_from : OutputRecords → Output → Bool
+begun_from r Config = r.config.is_begun || r.header.is_begun || r.minimal.is_begun || r.depfile.is_begun
+begun_from r Header = r.header.is_begun || r.minimal.is_begun || r.depfile.is_begun
+begun_from r Minimal = r.minimal.is_begun || r.depfile.is_begun
+begun_from r Depfile = r.depfile.is_begun
+begun_from r Notes = false
+
 -- ---- what the outputs keep
 
 -- whether this file is the open one
@@ -76,14 +88,16 @@ is_current (Some Minimal) Minimal = true
 is_current (Some Depfile) Depfile = true
 is_current _ _ = false
 
--- record and file of one output agree: a file that was begun has its output's name, and one that was ended is closed
+-- record and file of one output agree: a file that was begun has its output's name, one that was ended is closed, and where
+-- none was begun there is none
 abbrev pub IsConsistent : List ℕ → OutputRecord → MadeFile → Type 0
-IsConsistent name r made = (r.is_begun ≡ true → made.name ≡ name) × (r.is_ended ≡ true → made.is_open ≡ false)
+IsConsistent name r made = (r.is_begun ≡ true → made.name ≡ name) × (r.is_ended ≡ true → made.is_open ≡ false) × (r.is_begun ≡ false → made ≡ no_file)
 
--- those of all outputs agree, and only the current file is open
+-- those of all outputs agree, only the current file is open, and those were made that were begun
 abbrev pub AreConsistent : Options → Option Output → OutputRecords → MakerState → Type 0
 AreConsistent options current r t =
     (t.config.is_open ≡ is_current current Config) × (t.header.is_open ≡ is_current current Header) × (t.minimal.is_open ≡ is_current current Minimal)
     × (t.depfile.is_open ≡ is_current current Depfile) × (t.notes.is_open ≡ true)
     × IsConsistent (name_of options Config) r.config t.config × IsConsistent (name_of options Header) r.header t.header
     × IsConsistent (name_of options Minimal) r.minimal t.minimal × IsConsistent (name_of options Depfile) r.depfile t.depfile
+    × (t.made ≡ begun_of r)

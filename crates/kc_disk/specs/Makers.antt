@@ -1,5 +1,5 @@
 -- Trusted: What a maker of files tells.
-use Rattle.std.specs.Prelude.{◌≡◌, ℕ, Bool, true, false, List, [], ◌++◌, Option, Some}
+use Rattle.std.specs.Prelude.{◌≡◌, ℕ, Bool, true, false, List, [], ◌∷◌, ◌++◌, Option, Some}
 use Rattle.kc_conf.specs.declared.outputs.Output.{Output}
 use Rattle.kc_conf.specs.declared.outputs.Output.TheVariants.{Config, Header, Minimal, Depfile, Notes}
 
@@ -10,13 +10,14 @@ pub record MadeFile : Type 0 where
   pub is_open : Bool
 
 -- the state of a maker: the last file that was made for each output; for the notes standard error, which is open from the
--- start
+-- start; and for each file that was made, in order, its output
 pub record MakerState : Type 0 where
   pub config : MadeFile
   pub header : MadeFile
   pub minimal : MadeFile
   pub depfile : MadeFile
   pub notes : MadeFile
+  pub made : List Output
 
 abbrev pub made_of : MakerState → Output → MadeFile
 made_of state Config = state.config
@@ -33,9 +34,18 @@ with_made state Minimal made = record state { minimal = made }
 with_made state Depfile made = record state { depfile = made }
 with_made state Notes made = record state { notes = made }
 
+-- one output more behind those for which files were made; the notes have no file
+abbrev pub with_file : List Output → Output → List Output
+with_file made Notes = made
+with_file made Config = made ++ Config ∷ []
+with_file made Header = made ++ Header ∷ []
+with_file made Minimal = made ++ Minimal ∷ []
+with_file made Depfile = made ++ Depfile ∷ []
+
 -- a file of this name is made for that output: it is empty, and open
 abbrev pub opened : Output → List ℕ → MakerState → MakerState
-opened output name state = with_made state output (record { name = name; bytes = []; is_open = true })
+opened output name state =
+    record (with_made state output (record { name = name; bytes = []; is_open = true })) { made = with_file state.made output }
 
 -- the file of that output has these bytes after its own
 abbrev pub appended : Output → List ℕ → MakerState → MakerState
@@ -52,10 +62,13 @@ IsOpen output state = (made_of state output).is_open ≡ true
 abbrev pub AreClosed : MakerState → Type 0
 AreClosed state = (state.config.is_open ≡ false) × (state.header.is_open ≡ false) × (state.minimal.is_open ≡ false) × (state.depfile.is_open ≡ false)
 
+-- where no file was made
+abbrev pub no_file : MadeFile
+no_file = record { name = []; bytes = []; is_open = false }
+
 -- nothing was made, and nothing was written to standard error
 abbrev pub none_made : MakerState
-none_made = let none : MadeFile = record { name = []; bytes = []; is_open = false }
-    in record { config = none; header = none; minimal = none; depfile = none; notes = record { name = []; bytes = []; is_open = true } }
+none_made = record { config = no_file; header = no_file; minimal = no_file; depfile = no_file; notes = record no_file { is_open = true }; made = [] }
 
 -- a maker in a call: what it tells before and after, and whether it may fail at the notes
 pub record MakerCall : Type 0 where

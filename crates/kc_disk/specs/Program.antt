@@ -1,5 +1,5 @@
 -- Trusted: How a run over devices ends.
-use Rattle.std.specs.Prelude.{◌≡◌, ◌≢◌, ◌⊎◌, ℕ, Bool, true, false, not, List, ◌∷◌, ◌++◌, map, option_map, codes, slice_index, string_bytes}
+use Rattle.std.specs.Prelude.{◌≡◌, ◌≢◌, ◌⊎◌, ℕ, Bool, true, false, not, List, ◌∷◌, map, option_map, slice_index, string_bytes}
 use Rattle.kc_read.specs.Files.{Files}
 use Rattle.kc_dot.specs.Sink.{BeginsWith}
 use Rattle.kc_words.specs.Refusals.{text_of}
@@ -10,6 +10,7 @@ use Rattle.kc_load.specs.Expanding.{AreFilesOf}
 use Rattle.kc_load.specs.Faults.{IsLoadFault}
 use Rattle.kc_load.specs.declared.fault.LoadFault.{LoadFault}
 use Rattle.kc_load.specs.declared.fault.LoadFault.TheVariants.{CannotRead, Memory}
+use Rattle.kc_conf.specs.ErrorLines.{cannot_read_line, out_of_memory_line}
 use Rattle.kc_conf.specs.Outcome.{names_of, root_file}
 use Rattle.kc_conf.specs.OutputStates.{OutputStates}
 use Rattle.kc_conf.specs.declared.options.Status.{Status}
@@ -55,8 +56,8 @@ Reports text maker = Wrote text maker ⊎ WroteFront text maker
 
 -- the line of a fault of loading
 abbrev pub load_line : LoadFault → List ℕ
-load_line (CannotRead name) = codes "error E18: cannot read " ++ name.items ++ codes "\n"
-load_line Memory = codes "error E20: out of memory\n"
+load_line (CannotRead name) = cannot_read_line name.items
+load_line Memory = out_of_memory_line
 
 -- a run: as above, or the tree could not be loaded, which its one line tells
 pub data Ends (folder opened : ReadDevice) (options : Options) (status : Status) (maker : MakerCall) : Type 0 where

@@ -1,5 +1,5 @@
 -- Trusted: What a run leaves whose files take their places at the end.
-use Rattle.std.specs.Prelude.{◌≡◌, ℕ, Bool, true, false, List, [], ◌∷◌, ◌++◌, Option, None, Some, codes, map, option_map, string_bytes, Result, Ok, Err}
+use Rattle.std.specs.Prelude.{◌≡◌, ℕ, Bool, true, false, List, [], ◌∷◌, ◌++◌, Option, None, Some, map, option_map, string_bytes, Result, Ok, Err}
 use Rattle.std.specs.declared.string.String.{String}
 use Rattle.std.specs.declared.alloc.Global.{Global}
 use Rattle.kc_read.specs.Files.{Files}
@@ -7,12 +7,14 @@ use Rattle.kc_conf.specs.declared.options.Options.{Options}
 use Rattle.kc_load.specs.Expanding.{AreFilesOf}
 use Rattle.kc_load.specs.Faults.{IsLoadFault}
 use Rattle.kc_load.specs.declared.fault.LoadFault.{LoadFault}
+use Rattle.kc_conf.specs.ErrorLines.{cannot_write_line, out_of_memory_line}
 use Rattle.kc_conf.specs.Outcome.{names_of, root_file}
 use Rattle.kc_conf.specs.OutputStates.{OutputStates}
 use Rattle.kc_conf.specs.declared.options.Status.{Status}
 use Rattle.kc_conf.specs.declared.options.Status.TheVariants as ended
+use Rattle.kc_conf.specs.declared.outputs.Output.TheVariants.{Notes}
 use Rattle.kc_configure.specs.Configured.{Leaves}
-use Rattle.kc_disk.specs.Makers.{MakerCall, Tells, MakerState, since, until}
+use Rattle.kc_disk.specs.Makers.{MakerCall, Tells, MakerState, none_made, since, until, with_made}
 use Rattle.kc_disk.specs.Openers.{ReadDevice, contents, one_may_fail}
 use Rattle.kc_disk.specs.Movers.{IsStill, MoverCall, NamedText, replaced}
 use Rattle.kc_disk.specs.Program.{Ends, Fails, Reports, load_line, streams_of}
@@ -48,26 +50,29 @@ abbrev pub Replaces : List NamedText → Status → Result Status ReplaceFault �
 Replaces texts ran (Ok s) mover = (s ≡ ran) × Placed ran texts mover
 Replaces texts ran (Err stop) mover = (ran ≡ ended.Done) × IsReplaceFault stop texts mover
 
+-- no file was made, and only the notes were taken
+abbrev pub MadeNoFile : MakerState → Type 0
+MadeNoFile t = t ≡ with_made none_made Notes t.notes
+
 -- A run over the folder's files and over what the opener holds under the names of the streams: it leaves their outcome, or a
--- part of it and a cause; what it handed out was made, and took its places where the run is done.
+-- part of it and a cause. What it handed out is in drafts, of which the maker took the notes alone, and the drafts took their
+-- places where the run is done.
 pub record RanReplacing (folder opened : ReadDevice) (options : Options) (result : Result Status ReplaceFault) (maker : MakerCall) (mover : MoverCall) : Type 0 where
   pub files : Files
   pub are_files : AreFilesOf folder.files (string_bytes options.root) files
   pub counts : List ℕ
   pub ran : Status
   pub states : OutputStates
+  pub drafts : MakerState
   pub leaves : Leaves files options (map (contents opened.files) (names_of options)) (map (λ _. 0) (names_of options)) counts ran (unused options maker.state) states
   pub fails : Fails (one_may_fail opened (streams_of options)) maker.may_fail counts states
-  pub reached : Tells maker.state_after (λ n. (t : MakerState) × (t.notes ≡ n.notes) × Reached states t × Replaces (texts_made options t) ran result mover)
+  pub reached : Tells maker.state_after (λ t. MadeNoFile t × Reached states (with_made drafts Notes t.notes))
+  pub replaces : Replaces (texts_made options drafts) ran result mover
 
 -- the line of a text that could not take its place
 abbrev pub replace_fault_line : ReplaceFault → List ℕ
-replace_fault_line Memory = codes "error E20: out of memory\n"
-replace_fault_line (Write name moved) = codes "error E19: cannot write " ++ name.now ++ codes "\n"
-
--- standard error is as it was
-abbrev pub SameNotes : MakerCall → Type 0
-SameNotes maker = option_map (λ t. t.notes) maker.state_after ≡ option_map (λ t. t.notes) maker.state
+replace_fault_line Memory = out_of_memory_line
+replace_fault_line (Write name moved) = cannot_write_line name.now
 
 -- A run: as above, or some text could not take its place, which its one line tells; or the tree could not be loaded, and no
 -- place was touched.
@@ -75,8 +80,8 @@ pub data EndsReplacing (folder opened : ReadDevice) (options : Options) (status 
   ran : RanReplacing folder opened options (Ok status) maker mover → EndsReplacing folder opened options status maker mover
   stopped : (stop : ReplaceFault) (state : Option MakerState) → RanReplacing folder opened options (Err stop) (until state maker) mover → status ≡ ended.Faulted →
       Reports (replace_fault_line stop) (since state maker) → EndsReplacing folder opened options status maker mover
-  unloaded : (fault : LoadFault) (state : Option MakerState) → IsLoadFault folder.files folder.failing (string_bytes options.root) (root_file options) fault → status ≡ ended.Faulted →
-      SameNotes (until state maker) → Reports (load_line fault) (since state maker) → IsStill mover → EndsReplacing folder opened options status maker mover
+  unloaded : (fault : LoadFault) → IsLoadFault folder.files folder.failing (string_bytes options.root) (root_file options) fault → status ≡ ended.Faulted →
+      Reports (load_line fault) maker → IsStill mover → EndsReplacing folder opened options status maker mover
 
 -- A run with --replace ends so; one without touches no place beside its own.
 abbrev pub EndsBy : Bool → ReadDevice → ReadDevice → Options → Status → MakerCall → MoverCall → Type 0

@@ -1,5 +1,7 @@
 //! The files of a run, kept in memory until all of them are whole.
-ghost use Rattle.std.specs.Prelude.{◌≡◌, ◌<◌, ◌≤◌, length, take, IfOk, OnOk, OnErr};
+ghost use Rattle.std.specs.Prelude.{◌≡◌, ◌<◌, ◌≤◌, [], ◌∷◌, ◌++◌, length, take, IfOk, OnOk, OnErr};
+ghost use Rattle.kc_disk.specs.Makers.{Tells, none_made};
+ghost use Rattle.kc_disk.specs.Replacing.{MadeNoFile};
 
 use crate::maker::Maker;
 use kc_conf::Output;
@@ -28,19 +30,29 @@ impl Draft {
         }
     }
 
-    fn begin(&mut self, alloc: Global, name: &str) -> Result<(), Fault>
+    // Makes the file of this name for an output, which stands behind those that were made then.
+    fn begin(
+        &mut self,
+        alloc: Global,
+        name: &str,
+        output: Output,
+        made: &mut Vec<Output>,
+    ) -> Result<(), Fault>
         ensures ok { OnOk result (made_from self.new ≡ opened_as name.now) }
+        ensures made { OnOk result (made.new.items ≡ made.old.items ++ output ∷ []) }
         ensures err { OnErr result (self.new ≡ self.old) }
+        ensures none_made { OnErr result (made.new.items ≡ made.old.items) }
     {
-        match String::from_str(alloc, name) {
-            Ok(name) => {
-                self.name = name;
-                self.bytes.clear();
-                self.is_open = true;
-                Ok(())
-            }
-            Err(_) => Err(Fault),
+        let Ok(name) = String::from_str(alloc, name) else {
+            return Err(Fault);
+        };
+        if made.push(output).is_err() {
+            return Err(Fault);
         }
+        self.name = name;
+        self.bytes.clear();
+        self.is_open = true;
+        Ok(())
     }
 
     // Takes all of the bytes, or none where there is no memory.
@@ -64,7 +76,7 @@ impl Draft {
     }
 }
 
-/// The files of a run in memory, and a maker that takes its notes.
+/// The files of a run in memory, and a maker that takes its notes and makes no file.
 #[derive(Drop)]
 pub(crate) struct Drafts<M: Maker + Drop> {
     alloc: Global,
@@ -73,18 +85,23 @@ pub(crate) struct Drafts<M: Maker + Drop> {
     pub(crate) minimal: Draft,
     pub(crate) depfile: Draft,
     pub(crate) notes: M,
+    // The outputs for which drafts were made, in order.
+    made: Vec<Output>,
+    ghost notes_alone: { Tells (M.state notes) MadeNoFile },
 }
 
 impl<M: Maker + Drop> Drafts<M> {
     ghost use Rattle.kc_disk.specs.Drafted.{made_from, unmade};
 
-    /// Nothing was made. The notes are those of this maker.
+    /// Nothing was made. The notes are those of this maker, which made nothing either.
     pub(crate) fn new(alloc: Global, notes: M) -> Drafts<M>
+        requires { Tells (M.state notes) (λ t. t ≡ none_made) }
         ensures config { made_from result.config ≡ unmade }
         ensures header { made_from result.header ≡ unmade }
         ensures minimal { made_from result.minimal ≡ unmade }
         ensures depfile { made_from result.depfile ≡ unmade }
         ensures notes { result.notes ≡ notes }
+        ensures made { result.made.items ≡ [] }
     {
         Drafts {
             alloc,
@@ -93,12 +110,14 @@ impl<M: Maker + Drop> Drafts<M> {
             minimal: Draft::new(alloc),
             depfile: Draft::new(alloc),
             notes,
+            made: Vec::new(alloc),
         }
     }
 
     /// The maker of the notes.
     pub(crate) fn into_notes(self) -> M
-        ensures { result ≡ self.notes }
+        ensures notes { result ≡ self.notes }
+        ensures notes_alone { Tells (M.state result) MadeNoFile }
     {
         self.notes
     }
@@ -107,16 +126,16 @@ impl<M: Maker + Drop> Drafts<M> {
 impl<M: Maker + Drop> Maker for Drafts<M> {
     ghost use Rattle.kc_disk.specs.Drafted.{drafted, drafts_failing};
 
-    ghost state = { λ s. drafted s.config s.header s.minimal s.depfile (M.state s.notes) };
+    ghost state = { λ s. drafted s.made.items s.config s.header s.minimal s.depfile (M.state s.notes) };
 
     ghost failing = { λ s. drafts_failing (M.failing s.notes) };
 
     fn create(&mut self, output: Output, name: &str) -> Result<(), Fault> {
         match output {
-            Output::Config => self.config.begin(self.alloc, name),
-            Output::Header => self.header.begin(self.alloc, name),
-            Output::Minimal => self.minimal.begin(self.alloc, name),
-            Output::Depfile => self.depfile.begin(self.alloc, name),
+            Output::Config => self.config.begin(self.alloc, name, output, &mut self.made),
+            Output::Header => self.header.begin(self.alloc, name, output, &mut self.made),
+            Output::Minimal => self.minimal.begin(self.alloc, name, output, &mut self.made),
+            Output::Depfile => self.depfile.begin(self.alloc, name, output, &mut self.made),
             Output::Notes => self.notes.create(Output::Notes, name),
         }
     }

@@ -8,6 +8,7 @@ mod drafts;
 mod folder;
 mod input;
 mod inputs;
+pub mod laws;
 mod maker;
 mod mover;
 mod opener;

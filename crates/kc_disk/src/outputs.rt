@@ -20,7 +20,8 @@ use std::marker::PhantomData;
 /// error.
 ///
 /// The bytes of a file wait in one buffer until then, so a file's fault is seen at its end at the latest. A file is begun
-/// only where the one before was ended; after a fault it takes no more, and no other is begun.
+/// only where the one before was ended, each once and in the order above; after a fault it takes no more, and no other is
+/// begun.
 ///
 /// A line of the notes waits until its line feed has come and goes out in one write, so that lines of several processes
 /// on one log do not mix. A line of more than 65,536 bytes goes out in pieces. The notes fail only where the maker does.
@@ -209,6 +210,9 @@ impl<'a, M: Maker + Drop, K: Devices> Outputs for FileOutputs<'a, M, K> {
     fn begin(&mut self, output: Output) -> Result<(), Fault> {
         if output == Output::Notes {
             return self.begin_notes();
+        }
+        if self.records.is_begun_from(output) {
+            return Err(self.records.fail(output));
         }
         match self.current {
             None => {}

@@ -56,7 +56,7 @@ pub(crate) struct OutputRecords {
 }
 
 impl OutputRecords {
-    ghost use Rattle.kc_disk.specs.MakerOutputs.{new_record, record_at, record_begun, record_ended, record_failed, with_record};
+    ghost use Rattle.kc_disk.specs.MakerOutputs.{begun_from, new_record, record_at, record_begun, record_ended, record_failed, with_record};
 
     /// Records of outputs of which none was begun or has failed.
     pub(crate) fn new() -> OutputRecords
@@ -68,6 +68,24 @@ impl OutputRecords {
             minimal: OutputRecord::new(),
             depfile: OutputRecord::new(),
             notes: OutputRecord::new(),
+        }
+    }
+
+    /// Whether a file was begun, or one behind it: it may then not be made any more.
+    pub(crate) fn is_begun_from(&self, output: Output) -> bool
+        ensures { result ≡ begun_from self.now output }
+    {
+        match output {
+            Output::Config => self.config.is_begun
+                || self.header.is_begun
+                || self.minimal.is_begun
+                || self.depfile.is_begun,
+            Output::Header => self.header.is_begun
+                || self.minimal.is_begun
+                || self.depfile.is_begun,
+            Output::Minimal => self.minimal.is_begun || self.depfile.is_begun,
+            Output::Depfile => self.depfile.is_begun,
+            Output::Notes => false,
         }
     }
 

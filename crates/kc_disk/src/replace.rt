@@ -6,7 +6,7 @@ ghost use Rattle.kc_conf.specs.declared.outputs.Output.TheVariants.{Notes};
 ghost use Rattle.kc_disk.specs.Openers.{read_device};
 ghost use Rattle.kc_disk.specs.Makers.{Tells, maker_call, none_made};
 ghost use Rattle.kc_disk.specs.Movers.{IsClear, Shows, mover_call};
-ghost use Rattle.kc_disk.specs.Replacing.{EndsReplacing, RanReplacing, Replaces, SameNotes, text_at, wanted_texts};
+ghost use Rattle.kc_disk.specs.Replacing.{EndsReplacing, RanReplacing, Replaces, text_at, wanted_texts};
 ghost use Rattle.kc_disk.specs.Texts.{texts_of};
 
 use crate::drafts::Drafts;
@@ -106,12 +106,12 @@ pub fn replace_over<'n, F: Folder, P: Opener, N: Maker + Drop, M: Mover>(
     requires notes { Tells (N.state notes) (λ t. t ≡ none_made) }
     requires clear { Shows (M.state mover.old) IsClear }
     // The run leaves the outcome of the folder's files and of the streams by their names, or a part of it and a cause; what it
-    // handed out was made, and took its places where it is done.
+    // handed out took its places where it is done, and the maker made no file.
     ensures ran { IfOk result.0 (λ ended. RanReplacing (read_device (F.files folder.old) (F.failing folder.old)) (read_device (P.files opener.now) (P.failing opener.now)) options.now ended (maker_call (N.state notes) (N.state result.1) (N.failing notes Notes)) (mover_call (M.state mover.old) (M.state mover.new) (M.failing mover.old))) }
     // A file of the tree that could not be read is one whose turn it was.
     ensures fault { IfErr result.0 (IsLoadFault (F.files folder.old) (F.failing folder.old) (string_bytes options.now.root) (root_file options.now)) }
-    // After a fault of loading nothing was told or moved.
-    ensures silent { OnErr result.0 (SameNotes (maker_call (N.state notes) (N.state result.1) (N.failing notes Notes))) }
+    // After a fault of loading nothing was made, told or moved.
+    ensures silent { OnErr result.0 (N.state result.1 ≡ N.state notes) }
     ensures untouched { OnErr result.0 (M.state mover.new ≡ M.state mover.old) }
     ensures failing_stays { N.failing result.1 Notes ≡ N.failing notes Notes }
 {

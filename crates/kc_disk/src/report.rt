@@ -8,6 +8,7 @@ use crate::buffer::write_front;
 use crate::maker::Maker;
 use crate::replace_files::ReplaceFault;
 use kc_conf::Output;
+use kc_conf::error_lines::{cannot_read, cannot_write, out_of_memory};
 use kc_load::LoadFault;
 use std::alloc::{AllocError, Global};
 
@@ -54,12 +55,8 @@ pub(crate) fn report_load_fault<M: Maker>(alloc: Global, maker: &mut M, fault: &
     ensures { Reports (load_line fault.now) (maker_call (M.state maker.old) (M.state maker.new) (M.failing maker.old Output.Notes)) }
 {
     match fault {
-        LoadFault::CannotRead(name) => report_line(
-            alloc,
-            maker,
-            &[b"error E18: cannot read ", name, b"\n"],
-        ),
-        LoadFault::Memory => report_line(alloc, maker, &[b"error E20: out of memory\n"]),
+        LoadFault::CannotRead(name) => report_line(alloc, maker, &cannot_read(name)),
+        LoadFault::Memory => report_line(alloc, maker, &[out_of_memory().as_bytes()]),
     }
 }
 
@@ -72,8 +69,8 @@ pub(crate) fn report_replace_fault<M: Maker>(alloc: Global, maker: &mut M, stop:
         ReplaceFault::Write { name, .. } => report_line(
             alloc,
             maker,
-            &[b"error E19: cannot write ", name.as_bytes(), b"\n"],
+            &cannot_write(name.as_bytes()),
         ),
-        ReplaceFault::Memory => report_line(alloc, maker, &[b"error E20: out of memory\n"]),
+        ReplaceFault::Memory => report_line(alloc, maker, &[out_of_memory().as_bytes()]),
     }
 }

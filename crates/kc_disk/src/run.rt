@@ -71,11 +71,12 @@ fn over_devices<F: Folder, P: Opener, M: Maker + Drop, K: Devices>(
 /// maker, which is handed back (our own).
 ///
 /// The caller owes a maker that has made nothing. The `.config` and then each fragment is opened at its first read; only the
-/// `.config` may be missing, and only without `--must-exist`. Where the run ended a file, all that it handed out for it is in
-/// the file of that output's name; a file that it did not end holds a beginning of it. Of the notes all is out but a line
-/// that has not ended, where none of them failed. A fault of a byte that waited is one of its own file, and `Done` is
-/// answered only where each file is whole. A failure of an input is counted only where one of the streams may fail, and one of
-/// the notes only where the maker may fail at them.
+/// `.config` may be missing, and only without `--must-exist`. A file is made for each output that the run began, once and in
+/// the order `.config`, header, minimal file, rule for make, and no other. Where the run ended a file, all that it handed out
+/// for it is in the file of that output's name; a file that it did not end holds a beginning of it. A beginning of the notes
+/// is out, and all of them where they end with a line feed and none of them failed. A fault of a byte that waited is one of
+/// its own file, and `Done` is answered only where each file is whole. A failure of an input is counted only where one of the
+/// streams may fail, and one of the notes only where the maker may fail at them.
 ///
 /// An error is a fault of loading, or E20 where there is no memory for the inputs and the buffers. No file was made then, and
 /// nothing was written.

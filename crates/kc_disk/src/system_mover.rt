@@ -37,7 +37,7 @@ struct TemporaryFile {
 ///
 /// The destination of a text is the end of the links of its name. A temporary file stands beside it, as `DESTINATION.kconf-N`
 /// with the first N from 0 on that is free, and has the permissions of the file that it replaces. What is no regular file, or
-/// lies under `/dev/` or `/proc/`, takes its text at once and is not moved.
+/// lies under `/dev/fd/` or `/proc/`, takes its text at once and is not moved.
 #[derive(Drop)]
 pub(crate) struct SystemMover<'a> {
     rt: &'a HostRuntime,
@@ -73,7 +73,7 @@ fn destination_of(rt: &HostRuntime, name: &str) -> io::Result<Destination> {
     let mut path = Path::new(name).to_path_buf(rt.alloc())?;
     for _ in 0..MOST_LINKS {
         let text = path.as_path().as_str();
-        if text.starts_with("/dev/") || text.starts_with("/proc/") {
+        if text.starts_with("/dev/fd/") || text.starts_with("/proc/") {
             return Ok(Destination::Other);
         }
         match fs::symlink_metadata(rt, path.as_path()) {

@@ -1,5 +1,6 @@
 //! Worked rows of whole runs of the program over devices in memory that tell what they hold: tests alone, in a crate of
-//! their own so that they do not have kc_disk proved once more. The maker is no test's own, since a definition speaks of it.
+//! their own so that they do not have kc_disk proved once more. The maker and the mover are no test's own, since definitions
+//! speak of them.
 #![tactic(auto)]
 
 #[cfg(test)]
@@ -9,7 +10,6 @@ mod files;
 #[cfg(test)]
 mod loads;
 mod maker;
-#[cfg(test)]
 mod mover;
 #[cfg(test)]
 mod replaced;

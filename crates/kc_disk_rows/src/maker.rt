@@ -25,19 +25,14 @@ impl MakerFile {
         }
     }
 
-    fn open(&mut self, alloc: Global, name: &str) -> Result<(), Fault>
-        ensures name { OnOk result (string_bytes self.new.name ≡ name.now) }
-        ensures bytes { OnOk result (self.new.bytes.items ≡ []) }
-        ensures is_open { OnOk result (self.new.is_open ≡ true) }
-        ensures err { OnErr result (self.new ≡ self.old) }
+    fn open(&mut self, name: String)
+        ensures name { string_bytes self.new.name ≡ string_bytes name }
+        ensures bytes { self.new.bytes.items ≡ [] }
+        ensures is_open { self.new.is_open ≡ true }
     {
-        let Ok(copy) = String::from_str(alloc, name) else {
-            return Err(Fault);
-        };
-        self.name = copy;
+        self.name = name;
         self.bytes.clear();
         self.is_open = true;
-        Ok(())
     }
 
     // Takes at most so many bytes.
@@ -70,6 +65,8 @@ pub(crate) struct MemoryMaker {
     pub minimal: MakerFile,
     pub depfile: MakerFile,
     pub notes: MakerFile,
+    /// The outputs for which files were made, in order.
+    made: Vec<Output>,
     /// A line for each file that was made and for each that was closed, in order.
     pub log: String,
     /// The writes to standard error so far.
@@ -82,7 +79,7 @@ pub(crate) struct MemoryMaker {
 }
 
 impl MemoryMaker {
-    ghost use Rattle.kc_disk.specs.Makers.{none_made};
+    ghost use Rattle.kc_disk.specs.Makers.{none_made, with_file};
     ghost use Rattle.kc_disk_rows.specs.Memory.{state_by};
 
     /// A maker that has made nothing.
@@ -95,6 +92,7 @@ impl MemoryMaker {
             minimal: MakerFile::new(alloc, false),
             depfile: MakerFile::new(alloc, false),
             notes: MakerFile::new(alloc, true),
+            made: Vec::new(alloc),
             log: String::new(alloc),
             note_writes: 0,
             calls: 0,
@@ -118,6 +116,20 @@ impl MemoryMaker {
         self.log.push_str(word)?;
         self.log.push_str(name)?;
         self.log.push_str("\n")
+    }
+
+    // Puts an output behind those for which files were made, where it is a file.
+    fn put(&mut self, output: Output) -> Result<(), Fault>
+        ensures ok { OnOk result (state_by self.new ≡ record (state_by self.old) { made = with_file (state_by self.old).made output }) }
+        ensures err { OnErr result (state_by self.new ≡ state_by self.old) }
+    {
+        if output == Output::Notes {
+            return Ok(());
+        }
+        match self.made.push(output) {
+            Ok(()) => Ok(()),
+            Err(_) => Err(Fault),
+        }
     }
 }
 
@@ -144,14 +156,18 @@ impl Maker for MemoryMaker {
         if self.fails() || self.note("make ", name).is_err() {
             return Err(Fault);
         }
-        let alloc = self.alloc;
+        let Ok(name) = String::from_str(self.alloc, name) else {
+            return Err(Fault);
+        };
+        self.put(output)?;
         match output {
-            Output::Config => self.config.open(alloc, name),
-            Output::Header => self.header.open(alloc, name),
-            Output::Minimal => self.minimal.open(alloc, name),
-            Output::Depfile => self.depfile.open(alloc, name),
-            Output::Notes => self.notes.open(alloc, name),
+            Output::Config => self.config.open(name),
+            Output::Header => self.header.open(name),
+            Output::Minimal => self.minimal.open(name),
+            Output::Depfile => self.depfile.open(name),
+            Output::Notes => self.notes.open(name),
         }
+        Ok(())
     }
 
     fn write(&mut self, output: Output, bytes: &[u8]) -> Result<usize, Fault> {

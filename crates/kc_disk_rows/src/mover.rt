@@ -1,5 +1,6 @@
 //! Places in memory, and files that are moved there.
-ghost use Rattle.std.specs.Prelude.{true, None};
+ghost use Rattle.std.specs.Prelude.{◌≡◌, [], true, None, Some, map, option_map, string_bytes, IfOk, OnOk, OnErr};
+ghost use Rattle.kc_disk.specs.Movers.{IsClear, put_all};
 
 use kc_disk::Mover;
 use kc_dot::Fault;
@@ -14,22 +15,26 @@ pub(crate) struct HeldFile {
     pub bytes: Vec<u8>,
 }
 
-/// Places in memory, and the names of those that were taken, in order. It tells nothing.
+/// Places in memory.
 ///
 /// The call of one number fails, counted from 1; 0 for none.
 #[derive(Drop)]
 pub(crate) struct MemoryMover {
     alloc: Global,
-    pub(crate) held: Vec<HeldFile>,
-    begun: Option<HeldFile>,
-    whole: Vec<HeldFile>,
-    pub(crate) moved: String,
+    /// The files that took their places, in order, behind those that stood there at first.
+    pub placed: Vec<HeldFile>,
+    /// How many stood there at first.
+    first: usize,
+    pub begun: Option<HeldFile>,
+    pub whole: Vec<HeldFile>,
     calls: u64,
     fail_at: u64,
 }
 
 // A file of these bytes.
-fn made(alloc: Global, name: &str, bytes: &[u8]) -> Result<HeldFile, AllocError> {
+fn made(alloc: Global, name: &str, bytes: &[u8]) -> Result<HeldFile, AllocError>
+    ensures { IfOk result (λ file. (string_bytes file.name ≡ name.now) × (file.bytes.items ≡ bytes.now)) }
+{
     Ok(HeldFile {
         name: String::from_str(alloc, name)?,
         bytes: Vec::from_slice(alloc, bytes)?,
@@ -37,22 +42,26 @@ fn made(alloc: Global, name: &str, bytes: &[u8]) -> Result<HeldFile, AllocError>
 }
 
 impl MemoryMover {
-    /// Places that hold these files.
+    ghost use Rattle.kc_disk_rows.specs.Memory.{nothing_held, places_by, text_by};
+
+    /// Places that hold these files, beside which nothing stands.
     pub(crate) fn new(
         alloc: Global,
         held: &[(&str, &[u8])],
         fail_at: u64,
-    ) -> Result<MemoryMover, AllocError> {
-        let mut files = Vec::new(alloc);
+    ) -> Result<MemoryMover, AllocError>
+        ensures { IfOk result (λ mover. IsClear (places_by mover)) }
+    {
+        let mut placed = Vec::new(alloc);
         for (name, bytes) in held {
-            files.push(made(alloc, name, bytes)?)?;
+            placed.push(made(alloc, name, bytes)?)?;
         }
         Ok(MemoryMover {
             alloc,
-            held: files,
+            placed,
+            first: held.len(),
             begun: None,
             whole: Vec::new(alloc),
-            moved: String::new(alloc),
             calls: 0,
             fail_at,
         })
@@ -63,8 +72,33 @@ impl MemoryMover {
         self.begun.is_none() && self.whole.is_empty()
     }
 
+    /// What the file of this name holds.
+    pub(crate) fn bytes_of(&self, name: &str) -> Option<&[u8]>
+        ensures { option_map (λ b. b.now) result ≡ (places_by self.now).held.bytes name.now }
+    {
+        let mut found = None;
+        for file in &self.placed {
+            if name == file.name.as_str() {
+                found = Some(file.bytes.as_slice());
+            }
+        }
+        found
+    }
+
+    /// The names of the places that were taken, in order, a line each.
+    pub(crate) fn moved(&self) -> Result<String, AllocError> {
+        let mut names = String::new(self.alloc);
+        for file in self.placed.iter().skip(self.first) {
+            names.push_str(file.name.as_str())?;
+            names.push_str("\n")?;
+        }
+        Ok(names)
+    }
+
     // Counts a call.
-    fn call(&mut self) -> Result<(), Fault> {
+    fn call(&mut self) -> Result<(), Fault>
+        ensures { places_by self.new ≡ places_by self.old }
+    {
         self.calls = self.calls.saturating_add(1);
         if self.calls == self.fail_at {
             Err(Fault)
@@ -74,30 +108,19 @@ impl MemoryMover {
     }
 }
 
-/// What the file of this name holds.
-pub(crate) fn bytes_of<'a>(held: &'a [HeldFile], name: &str) -> Option<&'a [u8]> {
-    for file in held {
-        if file.name.as_str() == name {
-            return Some(&file.bytes);
-        }
-    }
-    None
-}
-
-// Notes the name of a place that was taken.
-fn note(moved: &mut String, name: &str) -> Result<(), AllocError> {
-    moved.push_str(name)?;
-    moved.push_str("\n")?;
-    Ok(())
-}
-
 impl Mover for MemoryMover {
-    ghost state = { λ _. None };
+    ghost use Rattle.kc_disk_rows.specs.Memory.{places_by};
 
+    ghost state = { λ s. Some (places_by s) };
+
+    // Memory may be refused.
     ghost failing = { λ _. true };
 
     fn holds(&self, name: &str, bytes: &[u8]) -> bool {
-        bytes_of(&self.held, name) == Some(bytes)
+        match self.bytes_of(name) {
+            Some(held) => held == bytes,
+            None => false,
+        }
     }
 
     fn start(&mut self, name: &str) -> Result<(), Fault> {
@@ -113,10 +136,12 @@ impl Mover for MemoryMover {
 
     fn write(&mut self, bytes: &[u8]) -> Result<usize, Fault> {
         self.call()?;
-        let Some(file) = &mut self.begun else {
+        let Some(mut file) = self.begun.take() else {
             return Err(Fault);
         };
-        match file.bytes.extend_from_slice(bytes) {
+        let taken = file.bytes.extend_from_slice(bytes);
+        self.begun = Some(file);
+        match taken {
             Ok(()) => Ok(bytes.len()),
             Err(_) => Err(Fault),
         }
@@ -124,6 +149,9 @@ impl Mover for MemoryMover {
 
     fn finish(&mut self) -> Result<(), Fault> {
         self.call()?;
+        if self.whole.reserve(1).is_err() {
+            return Err(Fault);
+        }
         let Some(file) = self.begun.take() else {
             return Err(Fault);
         };
@@ -135,16 +163,13 @@ impl Mover for MemoryMover {
 
     fn move_first(&mut self) -> Result<(), Fault> {
         self.call()?;
-        if self.whole.is_empty() {
+        if self.whole.is_empty() || self.placed.reserve(1).is_err() {
             return Err(Fault);
         }
         let file = self.whole.remove(0);
-        let noted = note(&mut self.moved, file.name.as_str());
-        self.held
-            .retain(|it| it.name.as_str() != file.name.as_str());
-        match (noted, self.held.push(file)) {
-            (Ok(()), Ok(())) => Ok(()),
-            _ => Err(Fault),
+        match self.placed.push(file) {
+            Ok(()) => Ok(()),
+            Err(_) => Err(Fault),
         }
     }
 

@@ -1,8 +1,9 @@
 //! Runs whose files take their places at the end.
-use crate::mover::{MemoryMover, bytes_of};
+use crate::mover::MemoryMover;
 use crate::row::{DONE, Row};
 use crate::runs::{is_so, run_into};
 use kc_conf::Status;
+use std::alloc::AllocError;
 use std::test::Fail;
 
 // A run, what the places hold before and after it, and which of them were taken.
@@ -122,12 +123,15 @@ const CALLS: &[(u64, Replaced)] = &[
 ];
 
 // Whether the places hold what the row says, and nothing stands beside one.
-fn holds(row: &Replaced, mover: &MemoryMover) -> bool {
-    bytes_of(&mover.held, ".config") == row.config
-        && bytes_of(&mover.held, "h") == row.header
-        && bytes_of(&mover.held, "d") == row.rule
-        && mover.is_clear()
-        && mover.moved.as_str() == row.moved
+fn holds(row: &Replaced, mover: &MemoryMover) -> Result<bool, AllocError> {
+    let moved = mover.moved()?;
+    Ok(
+        mover.bytes_of(".config") == row.config
+            && mover.bytes_of("h") == row.header
+            && mover.bytes_of("d") == row.rule
+            && mover.is_clear()
+            && moved.as_str() == row.moved,
+    )
 }
 
 // The run gives what the row says where this call fails, and the maker made no file.
@@ -142,10 +146,8 @@ fn gives_at(rt: &HostRuntime, row: &Replaced, fail_at: u64) -> Result<(), Fail> 
     let (status, maker) = run_into(rt, &asked, &tree, &mut mover)?;
     let is_told = maker.notes.bytes.as_slice() == row.notes && maker.log.is_empty();
     drop(maker);
-    is_so(
-        is_told && status == row.status && holds(row, &mover),
-        row.name,
-    )
+    let is_placed = holds(row, &mover)?;
+    is_so(is_told && status == row.status && is_placed, row.name)
 }
 
 #[test]

@@ -1,4 +1,7 @@
 //! The run of a row.
+ghost use Rattle.kc_disk.specs.Movers.{IsClear};
+ghost use Rattle.kc_disk_rows.specs.Memory.{places_by};
+
 use crate::files::{MemoryFolder, MemoryOpener, files_of};
 use crate::maker::MemoryMaker;
 use crate::mover::MemoryMover;
@@ -26,7 +29,9 @@ fn run_over_files(
     streams: &FileMap,
     mover: &mut MemoryMover,
     fail_at: u64,
-) -> (Status, MemoryMaker) {
+) -> (Status, MemoryMaker)
+    requires { IsClear (places_by mover.old) }
+{
     let alloc = rt.alloc();
     let mut folder = MemoryFolder {
         files: tree,
@@ -63,7 +68,9 @@ fn run_streams(
     streams: &[(&str, &[u8])],
     mover: &mut MemoryMover,
     fail_at: u64,
-) -> Result<(Status, MemoryMaker), Fail> {
+) -> Result<(Status, MemoryMaker), Fail>
+    requires { IsClear (places_by mover.old) }
+{
     let arguments = arguments_of(rt.alloc(), row.arguments)?;
     let tree = files_of(rt.alloc(), tree)?;
     let streams = files_of(rt.alloc(), streams)?;
@@ -86,7 +93,9 @@ pub(crate) fn run_into(
     row: &Row,
     tree: &[(&str, &[u8])],
     mover: &mut MemoryMover,
-) -> Result<(Status, MemoryMaker), Fail> {
+) -> Result<(Status, MemoryMaker), Fail>
+    requires { IsClear (places_by mover.old) }
+{
     run_streams(rt, row, tree, row.streams, mover, 0)
 }
 
@@ -125,7 +134,7 @@ pub(crate) fn gives_over(
 ) -> Result<(), Fail> {
     let mut mover = MemoryMover::new(rt.alloc(), &[], 0)?;
     let (status, maker) = run_streams(rt, row, row.tree, streams, &mut mover, 0)?;
-    let is_left = holds(row, &maker) && mover.held.is_empty();
+    let is_left = holds(row, &maker) && mover.placed.is_empty();
     drop(maker);
     is_so(is_left && status == row.status, row.name)
 }

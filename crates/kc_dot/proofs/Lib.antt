@@ -31,3 +31,4 @@ pub mod TextBytes
 pub mod TextLemmas
 pub mod ValueTextLemmas
 pub mod WarningLemmas
+pub mod WritingLemmas

@@ -1,6 +1,7 @@
 -- Trusted: What a reader of .config text stands for.
 use Rattle.std.specs.Prelude.{ℕ, List, Option, refl}
-use Rattle.std.specs.Coded.{Coded, code_by, coded×, coded_ℕ, coded_list, coded_option}
+use Rattle.std.specs.Coded.{Coded, code_by, coded×, coded_ℕ, coded_option}
+use Rattle.kc_expr.specs.FormCode.{bytes_code}
 use Rattle.kc_tree.specs.TreeFacts.{TreeFacts}
 use Rattle.kc_tree.specs.TreeCode.{tree_code}
 use Rattle.kc_dot.specs.declared.fault.DotFault.{DotFault}
@@ -14,9 +15,6 @@ pub record ReaderState : Type 0 where
   pub name : List ℕ
   pub position : StreamPosition
   pub refusal : Option DotFault
-
-abbrev bytes_code : Coded (List ℕ)
-bytes_code = coded_list coded_ℕ
 
 abbrev pub position_code : Coded StreamPosition
 position_code = code_by (ℕ × List ℕ) (coded× coded_ℕ bytes_code) (λ s. (s.number, s.pending)) (λ p. record { number = p.0; pending = p.1 }) (λ _. refl)

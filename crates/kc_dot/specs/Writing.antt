@@ -1,10 +1,20 @@
--- Trusted: How writing a text fails.
-use Rattle.std.specs.Prelude.{ℕ}
+-- Trusted: What a call that writes a text to a sink leaves.
+use Rattle.std.specs.Prelude.{◌≡◌, ℕ, List, Result, OnOk, OnErr, IfErr}
 use Rattle.kc_dot.specs.declared.fault.WriteFault.{WriteFault}
 use Rattle.kc_dot.specs.declared.fault.WriteFault.TheVariants.{Sink, Memory}
-use Rattle.kc_dot.specs.Sink.{next_failure}
+use Rattle.kc_dot.specs.declared.sink.Sink.{Ghosts}
+use Rattle.kc_dot.specs.Sink.{extended, next_failure, HandsOut}
 
 -- a count of failures after a fault: the sink's alone counts
 abbrev pub failures_after_write : WriteFault → ℕ → ℕ
 failures_after_write Sink count = next_failure count
 failures_after_write Memory count = count
+
+-- The sink took the whole text, and did not fail. Or there is a fault, and it took a beginning of the text: where the fault
+-- is the sink's, one failure more is counted.
+pub record Writes {S : Type 0} (sink : Ghosts S) (text : List ℕ) (result : Result (Unit {0}) WriteFault) (old new : S) : Type 0 where
+  pub whole : OnOk result (sink.taken new ≡ extended (sink.taken old) text)
+  pub quiet : OnOk result (sink.failures new ≡ sink.failures old)
+  pub beginning : OnErr result (HandsOut text (sink.taken old) (sink.taken new))
+  pub counted : IfErr result (λ fault. sink.failures new ≡ failures_after_write fault (sink.failures old))
+  pub keeps : sink.goes_to old new

@@ -1,15 +1,14 @@
 //! The writer of the `.config`.
-ghost use Rattle.std.specs.Prelude.{◌≡◌, ◌++◌, ◌<◌, length, slice_get, Some, true, false, OnOk, OnErr, IfOk, IfErr, if◌then◌else◌};
+ghost use Rattle.std.specs.Prelude.{◌≡◌, ◌++◌, ◌<◌, length, slice_get, Some, true, false, OnOk, IfOk, if◌then◌else◌};
 ghost use Rattle.std.specs.Option.{option_copied};
 ghost use Rattle.kc_tree.specs.TreeFacts.{SymbolShown};
 ghost use Rattle.kc_tree.specs.Layouts.{IsLayoutOf, shown_of, title_at, title_text};
 ghost use Rattle.kc_dot.specs.Laws.{ConfigGivesBack, HasShortLines};
-ghost use Rattle.kc_dot.specs.Sink.{extended, HandsOut};
 ghost use Rattle.kc_dot.specs.SolvedView.{solution_view};
 ghost use Rattle.kc_dot.specs.Texts.{title_if, end_if, gap, is_title, shown_title, entry_text, ends_after, entries_text, config_heading, config_text};
 ghost use Rattle.kc_dot.specs.SolutionView.{is_shown};
 ghost use Rattle.kc_dot.specs.Named.{HasName};
-ghost use Rattle.kc_dot.specs.Writing.{failures_after_write};
+ghost use Rattle.kc_dot.specs.Writing.{Writes};
 ghost use Rattle.kc_solve.specs.Solved.{value_of};
 ghost use Rattle.kc_user.specs.Places.{ArePlaces};
 
@@ -180,11 +179,7 @@ fn put_entries<S: Sink>(
     sink: &mut S,
 ) -> Result<(), WriteFault>
     requires { solved.now.tree ≡ tree.now }
-    ensures whole { OnOk result (S.taken sink.new ≡ extended (S.taken sink.old) (page.old.items ++ entries_text tree.now prefix.now (solution_view solved.now) false tree.now.entries)) }
-    ensures quiet { OnOk result (S.failures sink.new ≡ S.failures sink.old) }
-    ensures beginning { OnErr result (HandsOut (page.old.items ++ entries_text tree.now prefix.now (solution_view solved.now) false tree.now.entries) (S.taken sink.old) (S.taken sink.new)) }
-    ensures counted { IfErr result (λ fault. S.failures sink.new ≡ failures_after_write fault (S.failures sink.old)) }
-    ensures keeps { S.goes_to sink.old sink.new }
+    ensures { Writes S.Sink (page.old.items ++ entries_text tree.now prefix.now (solution_view solved.now) false tree.now.entries) result sink.old sink.new }
 {
     // The entries name symbols of the tree alone: `symbol_count` says so.
     let _ = tree.symbol_count();
@@ -222,11 +217,7 @@ fn put_config<S: Sink>(
     sink: &mut S,
 ) -> Result<(), WriteFault>
     requires { solved.now.tree ≡ tree.now }
-    ensures whole { OnOk result (S.taken sink.new ≡ extended (S.taken sink.old) (config_text tree.now prefix.now (solution_view solved.now))) }
-    ensures quiet { OnOk result (S.failures sink.new ≡ S.failures sink.old) }
-    ensures beginning { OnErr result (HandsOut (config_text tree.now prefix.now (solution_view solved.now)) (S.taken sink.old) (S.taken sink.new)) }
-    ensures counted { IfErr result (λ fault. S.failures sink.new ≡ failures_after_write fault (S.failures sink.old)) }
-    ensures keeps { S.goes_to sink.old sink.new }
+    ensures { Writes S.Sink (config_text tree.now prefix.now (solution_view solved.now)) result sink.old sink.new }
 {
     let mut page = new_page(alloc)?;
     add_heading(tree.main_menu(), &mut page)?;
@@ -252,11 +243,7 @@ pub fn write_config<S: Sink>(
     sink: &mut S,
 ) -> Result<(), WriteFault>
     requires { solved.now.tree ≡ tree.now }
-    ensures whole { OnOk result (S.taken sink.new ≡ extended (S.taken sink.old) (config_text tree.now prefix.now (solution_view solved.now))) }
-    ensures quiet { OnOk result (S.failures sink.new ≡ S.failures sink.old) }
-    ensures beginning { OnErr result (HandsOut (config_text tree.now prefix.now (solution_view solved.now)) (S.taken sink.old) (S.taken sink.new)) }
-    ensures counted { IfErr result (λ fault. S.failures sink.new ≡ failures_after_write fault (S.failures sink.old)) }
-    ensures keeps { S.goes_to sink.old sink.new }
+    ensures written { Writes S.Sink (config_text tree.now prefix.now (solution_view solved.now)) result sink.old sink.new }
     ensures short { ArePlaces tree.now solved.now.places → HasShortLines (config_text tree.now prefix.now (solution_view solved.now)) }
     ensures idempotent { ArePlaces tree.now solved.now.places → ConfigGivesBack tree.now prefix.now solved.now.places (value_of solved.now) }
 {

@@ -1,10 +1,9 @@
 //! The writers of the header and of the minimal file.
-ghost use Rattle.std.specs.Prelude.{◌≡◌, ◌<◌, ◌++◌, length, OnOk, OnErr, IfErr, flat_map};
+ghost use Rattle.std.specs.Prelude.{◌≡◌, ◌<◌, ◌++◌, length, OnOk, flat_map};
 ghost use Rattle.kc_dot.specs.Laws.{HasShortLines, MinimalGivesBack, MinimalNeedsEach};
-ghost use Rattle.kc_dot.specs.Sink.{extended, HandsOut};
 ghost use Rattle.kc_dot.specs.Texts.{header_heading, header_text, minimal_text, header_if, minimal_if, symbols_of};
 ghost use Rattle.kc_dot.specs.SolvedView.{solution_view};
-ghost use Rattle.kc_dot.specs.Writing.{failures_after_write};
+ghost use Rattle.kc_dot.specs.Writing.{Writes};
 ghost use Rattle.kc_solve.specs.Solved.{value_of};
 ghost use Rattle.kc_user.specs.Places.{ArePlaces};
 ghost use Rattle.kc_values.specs.Solution.{symbol_count};
@@ -63,11 +62,7 @@ fn put_header_lines<S: Sink>(
     page: &mut Vec<u8>,
     sink: &mut S,
 ) -> Result<(), WriteFault>
-    ensures whole { OnOk result (S.taken sink.new ≡ extended (S.taken sink.old) (page.old.items ++ flat_map (header_if tree.now prefix.now (solution_view solved.now)) (symbols_of tree.now))) }
-    ensures quiet { OnOk result (S.failures sink.new ≡ S.failures sink.old) }
-    ensures beginning { OnErr result (HandsOut (page.old.items ++ flat_map (header_if tree.now prefix.now (solution_view solved.now)) (symbols_of tree.now)) (S.taken sink.old) (S.taken sink.new)) }
-    ensures counted { IfErr result (λ fault. S.failures sink.new ≡ failures_after_write fault (S.failures sink.old)) }
-    ensures keeps { S.goes_to sink.old sink.new }
+    ensures { Writes S.Sink (page.old.items ++ flat_map (header_if tree.now prefix.now (solution_view solved.now)) (symbols_of tree.now)) result sink.old sink.new }
 {
     for i in 0..tree.symbol_count() {
         add_header_if(tree, solved, prefix, tree.symbol(i), page)?;
@@ -100,11 +95,7 @@ fn put_minimal<S: Sink>(
     sink: &mut S,
 ) -> Result<(), WriteFault>
     requires { solved.now.tree ≡ tree.now }
-    ensures whole { OnOk result (S.taken sink.new ≡ extended (S.taken sink.old) (minimal_text tree.now prefix.now (solution_view solved.now))) }
-    ensures quiet { OnOk result (S.failures sink.new ≡ S.failures sink.old) }
-    ensures beginning { OnErr result (HandsOut (minimal_text tree.now prefix.now (solution_view solved.now)) (S.taken sink.old) (S.taken sink.new)) }
-    ensures counted { IfErr result (λ fault. S.failures sink.new ≡ failures_after_write fault (S.failures sink.old)) }
-    ensures keeps { S.goes_to sink.old sink.new }
+    ensures { Writes S.Sink (minimal_text tree.now prefix.now (solution_view solved.now)) result sink.old sink.new }
 {
     let mut page = new_page(alloc)?;
     for i in 0..tree.symbol_count() {
@@ -126,11 +117,7 @@ pub fn write_header<S: Sink>(
     sink: &mut S,
 ) -> Result<(), WriteFault>
     requires { solved.now.tree ≡ tree.now }
-    ensures whole { OnOk result (S.taken sink.new ≡ extended (S.taken sink.old) (header_text tree.now prefix.now (solution_view solved.now))) }
-    ensures quiet { OnOk result (S.failures sink.new ≡ S.failures sink.old) }
-    ensures beginning { OnErr result (HandsOut (header_text tree.now prefix.now (solution_view solved.now)) (S.taken sink.old) (S.taken sink.new)) }
-    ensures counted { IfErr result (λ fault. S.failures sink.new ≡ failures_after_write fault (S.failures sink.old)) }
-    ensures keeps { S.goes_to sink.old sink.new }
+    ensures { Writes S.Sink (header_text tree.now prefix.now (solution_view solved.now)) result sink.old sink.new }
 {
     let mut page = new_page(alloc)?;
     add_heading(tree.main_menu(), &mut page)?;
@@ -151,11 +138,7 @@ pub fn write_minimal<S: Sink>(
     sink: &mut S,
 ) -> Result<(), WriteFault>
     requires { solved.now.tree ≡ tree.now }
-    ensures whole { OnOk result (S.taken sink.new ≡ extended (S.taken sink.old) (minimal_text tree.now prefix.now (solution_view solved.now))) }
-    ensures quiet { OnOk result (S.failures sink.new ≡ S.failures sink.old) }
-    ensures beginning { OnErr result (HandsOut (minimal_text tree.now prefix.now (solution_view solved.now)) (S.taken sink.old) (S.taken sink.new)) }
-    ensures counted { IfErr result (λ fault. S.failures sink.new ≡ failures_after_write fault (S.failures sink.old)) }
-    ensures keeps { S.goes_to sink.old sink.new }
+    ensures written { Writes S.Sink (minimal_text tree.now prefix.now (solution_view solved.now)) result sink.old sink.new }
     ensures short { ArePlaces tree.now solved.now.places → HasShortLines (minimal_text tree.now prefix.now (solution_view solved.now)) }
     ensures restores { ArePlaces tree.now solved.now.places → MinimalGivesBack tree.now prefix.now solved.now.places (value_of solved.now) }
     ensures nothing_to_spare { ArePlaces tree.now solved.now.places → MinimalNeedsEach tree.now prefix.now solved.now.places (value_of solved.now) }

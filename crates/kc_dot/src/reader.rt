@@ -120,15 +120,14 @@ impl<'a> DotReader<'a> {
         ensures keeps { S.goes_to sink.old sink.new }
         ensures user { ArePlacesOf self.new.tree user.new }
     {
-        if let Some(fault) = self.refusal {
-            return Err(fault);
-        }
-        let Err(fault) = end_stream(self.alloc, &self.stream, &mut self.line_buffer, user, sink)
-        else {
-            return Ok(());
+        let ended = match self.refusal {
+            None => end_stream(self.alloc, &self.stream, &mut self.line_buffer, user, sink),
+            Some(fault) => Err(fault),
         };
-        self.refusal = Some(fault);
-        Err(fault)
+        if let Err(fault) = ended {
+            self.refusal = Some(fault);
+        }
+        ended
     }
 
     /// Ends the last line, and goes on at line 1 of another stream. After an error it is as after one of `finish`, and the
@@ -150,19 +149,9 @@ impl<'a> DotReader<'a> {
         ensures keeps { S.goes_to sink.old sink.new }
         ensures user { ArePlacesOf self.new.tree user.new }
     {
-        if let Some(fault) = self.refusal {
-            return Err(fault);
-        }
-        match end_stream(self.alloc, &self.stream, &mut self.line_buffer, user, sink) {
-            Ok(()) => {
-                self.stream.name = name;
-                self.line_buffer.number = 1;
-                Ok(())
-            }
-            Err(fault) => {
-                self.refusal = Some(fault);
-                Err(fault)
-            }
-        }
+        self.finish(user, sink)?;
+        self.stream.name = name;
+        self.line_buffer.number = 1;
+        Ok(())
     }
 }

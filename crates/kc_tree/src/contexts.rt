@@ -46,7 +46,7 @@ fn context_in(inner: &[Context], id: ContextId) -> Option<&Context>
 
 impl Contexts {
     /// The top alone, and room for so many more. Fails only when it is out of memory.
-    pub fn with_room(alloc: Global, count: usize) -> Result<Contexts, AllocError>
+    pub(crate) fn with_room(alloc: Global, count: usize) -> Result<Contexts, AllocError>
         ensures { IfOk result (λ c. c ≡ top ∷ []) }
     {
         let inner = Vec::with_capacity(alloc, count)?;
@@ -54,14 +54,14 @@ impl Contexts {
     }
 
     /// How many contexts there are, with the top.
-    pub fn count(&self) -> usize
+    pub(crate) fn count(&self) -> usize
         ensures { result ≡ length self.now }
     {
         self.inner.len() + 1
     }
 
     /// A context and what it asks for; none at the top.
-    pub fn context(&self, id: ContextId) -> Option<&Context>
+    pub(crate) fn context(&self, id: ContextId) -> Option<&Context>
         ensures { IsContext self.now id.0 result }
     {
         context_in(&self.inner, id)

@@ -21,7 +21,7 @@ pub struct Reverses {
 
 impl Reverses {
     /// No line yet, of this many symbols. Fails only when it is out of memory.
-    pub fn new(alloc: Global, count: usize) -> Result<Reverses, AllocError>
+    pub(crate) fn new(alloc: Global, count: usize) -> Result<Reverses, AllocError>
         ensures lines { IfOk result (λ r. r.lines.items ≡ []) }
         ensures selects { IfOk result (λ r. r.selects.items ≡ replicate count None) }
         ensures implies { IfOk result (λ r. r.implies.items ≡ replicate count None) }
@@ -36,7 +36,7 @@ impl Reverses {
     }
 
     /// The last line that selects a symbol.
-    pub fn last_select(&self, symbol: SymId) -> Option<ReverseId>
+    pub(crate) fn last_select(&self, symbol: SymId) -> Option<ReverseId>
         ensures { result ≡ slice_index_or self.now.selects.items symbol.0 None }
     {
         match self.selects.get(symbol.0) {
@@ -46,7 +46,7 @@ impl Reverses {
     }
 
     /// The last line that implies a symbol.
-    pub fn last_imply(&self, symbol: SymId) -> Option<ReverseId>
+    pub(crate) fn last_imply(&self, symbol: SymId) -> Option<ReverseId>
         ensures { result ≡ slice_index_or self.now.implies.items symbol.0 None }
     {
         match self.implies.get(symbol.0) {
@@ -56,7 +56,7 @@ impl Reverses {
     }
 
     /// A line that selects or implies; it leads on to one with a smaller number.
-    pub fn line(&self, id: ReverseId) -> Option<&Reverse>
+    pub(crate) fn line(&self, id: ReverseId) -> Option<&Reverse>
         ensures line { option_map (λ r. r.now) result ≡ slice_get self.now.lines.items id.0 }
         ensures smaller { IfSome result (λ r. IfSome r.now.next (λ next. next.0 < id.0)) }
     {

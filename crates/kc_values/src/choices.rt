@@ -18,7 +18,7 @@ use kc_tree::rows::{Choice, ChoiceId};
 
 /// Whether a prompt of the symbol has a condition that is not n; a name that is not defined has none (kconfiglib's
 /// `visibility`).
-pub fn visible(table: &Table<'_>, id: SymId) -> bool
+pub(crate) fn visible(table: &Table<'_>, id: SymId) -> bool
     ensures { result ≡ spec.visible table.now.tree.now (known_at table.now) id }
 {
     match table.layout.symbol(id) {
@@ -104,7 +104,12 @@ pub fn selected_in(table: &Table<'_>, choice: ChoiceId, user: Option<SymId>) -> 
 
 /// The value of a member: y where it is selected, else n; its own defaults count for nothing (the kernel's kconfig-language
 /// document on choices). A selection that is computed is not found again; `user` is the member that was given for the choice.
-pub fn member_equation(table: &Table<'_>, id: SymId, choice: ChoiceId, user: Option<SymId>) -> Tri
+pub(crate) fn member_equation(
+    table: &Table<'_>,
+    id: SymId,
+    choice: ChoiceId,
+    user: Option<SymId>,
+) -> Tri
     requires { IsSelected table.now choice.0 user }
     ensures { result ≡ spec.member_equation table.now.tree.now (known_at table.now) id choice.0 (member_place user) }
 {

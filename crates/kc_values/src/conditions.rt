@@ -28,7 +28,7 @@ pub fn upgrade(value: Tri) -> Tri
 }
 
 /// Whether it is n, by which a condition fails (the kernel's kconfig-language document, "Menu dependencies").
-pub fn is_n(value: Tri) -> bool
+pub(crate) fn is_n(value: Tri) -> bool
     ensures { result ≡ spec.is_n value }
 {
     match value {
@@ -38,7 +38,7 @@ pub fn is_n(value: Tri) -> bool
 }
 
 /// The value of an `if`, y where there is none.
-pub fn if_value(when: &Option<Rc<Expr>>, table: &Table<'_>) -> Tri
+pub(crate) fn if_value(when: &Option<Rc<Expr>>, table: &Table<'_>) -> Tri
     ensures { result ≡ when_value (known_at table.now) (when_view when.now) }
 {
     match when {
@@ -122,14 +122,14 @@ fn guarded(first: Tri, when: &Option<Rc<Expr>>, table: &Table<'_>) -> Tri
 }
 
 /// What a line is worth that depends on a context and on its own `if`.
-pub fn condition(table: &Table<'_>, within: ContextId, when: &Option<Rc<Expr>>) -> Tri
+pub(crate) fn condition(table: &Table<'_>, within: ContextId, when: &Option<Rc<Expr>>) -> Tri
     ensures { result ≡ spec.condition table.now.tree.now (known_at table.now) (with_when (condition_at table.now within.0) (when_view when.now)) }
 {
     guarded(context(table, within), when, table)
 }
 
 /// The condition of a prompt, whose entry depends on a context.
-pub fn prompt_condition(table: &Table<'_>, within: ContextId, prompt: &Prompt) -> Tri
+pub(crate) fn prompt_condition(table: &Table<'_>, within: ContextId, prompt: &Prompt) -> Tri
     requires { IsPlain table.now.layout.now.tables.contexts prompt.now.visible.0 }
     ensures { result ≡ spec.condition table.now.tree.now (known_at table.now) (prompt_view table.now.layout.now.tables.contexts (condition_at table.now within.0) prompt.now) }
 {

@@ -33,7 +33,7 @@ pub struct Interval {
 
 /// The number that a text writes, read by the type: decimal for int, with or without `0x` for hex; none for another type or
 /// text (our own limits, 64 bits each).
-pub fn number_as(kind: Kind, text: &[u8]) -> Option<i128>
+pub(crate) fn number_as(kind: Kind, text: &[u8]) -> Option<i128>
     ensures { result ≡ digits.number_as kind text.now }
 {
     match kind {
@@ -77,7 +77,7 @@ fn first_met<'t>(table: &Table<'t>, definition: &Definition) -> Option<&'t Symbo
 
 /// The active range of a symbol: the first whose condition is not n (the kernel's kconfig-language document, "Menu
 /// attributes": numerical ranges). A bound that is no number counts as 0 (our own).
-pub fn active_range(table: &Table<'_>, symbol: &Symbol) -> Option<Interval>
+pub(crate) fn active_range(table: &Table<'_>, symbol: &Symbol) -> Option<Interval>
     ensures range { result ≡ spec.active_range table.now.tree.now (known_at table.now) (facts_of table.now.layout.now 0 symbol.now) }
     ensures small { IfSome result HasSmallBounds }
 {
@@ -160,7 +160,7 @@ pub fn clamped(
 /// The value of an int or hex symbol outside a choice: the visible user text that is inside the active range, in exactly its
 /// text, else the first default's text, clamped (kconfiglib's `str_value`); without both it is empty (our own). Fails only when
 /// it is out of memory.
-pub fn number_equation(
+pub(crate) fn number_equation(
     alloc: Global,
     table: &Table<'_>,
     symbol: &Symbol,

@@ -80,7 +80,7 @@ impl<'t> Table<'t> {
     }
 
     /// What a context is worth, if that is computed.
-    pub fn computed_context(&self, id: ContextId) -> Option<Tri>
+    pub(crate) fn computed_context(&self, id: ContextId) -> Option<Tri>
         ensures { result ≡ slice_index_or self.now.contexts.items id.0 None }
     {
         match self.contexts.get(id.0 as usize) {
@@ -90,7 +90,7 @@ impl<'t> Table<'t> {
     }
 
     /// What a choice selects, if that is computed.
-    pub fn computed_selection(&self, id: ChoiceId) -> Option<Option<SymId>>
+    pub(crate) fn computed_selection(&self, id: ChoiceId) -> Option<Option<SymId>>
         ensures { result ≡ slice_index_or self.now.selections.items id.0 None }
     {
         match self.selections.get(id.0) {

@@ -30,7 +30,7 @@ pub fn single_text<'a, V: Values>(expr: &'a Expr, values: &'a V) -> &'a [u8]
 }
 
 /// The text of the first default whose condition is not n, if there is one.
-pub fn met_text<'a>(table: &'a Table<'_>, symbol: &Symbol) -> Option<&'a [u8]>
+pub(crate) fn met_text<'a>(table: &'a Table<'_>, symbol: &Symbol) -> Option<&'a [u8]>
     ensures { text_at result ≡ met_text (known_at table.now) (spec.first_met table.now.tree.now (known_at table.now) (facts_of table.now.layout.now 0 symbol.now).defaults) }
 {
     match met_default(table, symbol) {
@@ -41,14 +41,14 @@ pub fn met_text<'a>(table: &'a Table<'_>, symbol: &Symbol) -> Option<&'a [u8]>
 
 /// The text of the first default whose condition is not n, or nothing (the kernel's kconfig-language document, "Menu
 /// attributes": default value).
-pub fn default_text<'a>(table: &'a Table<'_>, symbol: &Symbol) -> &'a [u8]
+pub(crate) fn default_text<'a>(table: &'a Table<'_>, symbol: &Symbol) -> &'a [u8]
     ensures { result.now ≡ spec.default_text (known_at table.now) (spec.first_met table.now.tree.now (known_at table.now) (facts_of table.now.layout.now 0 symbol.now).defaults) }
 {
     met_text(table, symbol).unwrap_or(b"")
 }
 
 /// The user's text where the symbol is visible (kconfiglib's `str_value`).
-pub fn visible_text(user: Option<&UserValue>, visibility: Tri) -> Option<&[u8]>
+pub(crate) fn visible_text(user: Option<&UserValue>, visibility: Tri) -> Option<&[u8]>
     ensures { text_at result ≡ spec.visible_text (given_in user.entry) visibility }
 {
     if is_n(visibility) {
@@ -61,7 +61,7 @@ pub fn visible_text(user: Option<&UserValue>, visibility: Tri) -> Option<&[u8]>
 }
 
 /// The same of a symbol, whose visibility is looked at only where the user gave a text (kconfiglib's `str_value`).
-pub fn visible_text_of<'a>(
+pub(crate) fn visible_text_of<'a>(
     table: &Table<'_>,
     symbol: &Symbol,
     user: Option<&'a UserValue>,
@@ -76,7 +76,7 @@ pub fn visible_text_of<'a>(
 
 /// The value of a string symbol outside a choice: the user's text where it is visible, else the text of the first default
 /// whose condition is not n, else nothing (kconfiglib's `str_value`). Fails only when it is out of memory.
-pub fn text_equation(
+pub(crate) fn text_equation(
     alloc: Global,
     table: &Table<'_>,
     symbol: &Symbol,

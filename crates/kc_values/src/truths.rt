@@ -28,7 +28,7 @@ pub fn truth_of<V: Values>(id: SymId, values: &V) -> Tri
 
 /// The tristate upgrade: m as y where the type is not tristate under the values: where it is written as another one, or
 /// where the modules symbol is n, or is no bool or tristate, or is not there (kconfiglib's `tri_value`).
-pub fn upgraded(table: &Table<'_>, kind: Kind, value: Tri) -> Tri
+pub(crate) fn upgraded(table: &Table<'_>, kind: Kind, value: Tri) -> Tri
     ensures { result ≡ spec.upgraded table.now.tree.now (known_at table.now) kind value }
 {
     if kind != Kind::Tristate {
@@ -45,7 +45,7 @@ pub fn upgraded(table: &Table<'_>, kind: Kind, value: Tri) -> Tri
 }
 
 /// The definition of a symbol by its number among those of the symbol, if there is one.
-pub fn definition<'t>(table: &Table<'t>, symbol: &Symbol, i: usize) -> Option<&'t Definition>
+pub(crate) fn definition<'t>(table: &Table<'t>, symbol: &Symbol, i: usize) -> Option<&'t Definition>
     ensures { IsDefinitionOf table.now symbol.now i result }
 {
     match symbol.definition(i) {
@@ -66,7 +66,7 @@ fn shown_by(table: &Table<'_>, definition: &Definition) -> Tri
 }
 
 /// The greatest condition of the prompts of a symbol; n without a prompt.
-pub fn prompts_condition(table: &Table<'_>, symbol: &Symbol) -> Tri
+pub(crate) fn prompts_condition(table: &Table<'_>, symbol: &Symbol) -> Tri
     ensures { result ≡ spec.conditions table.now.tree.now (known_at table.now) (facts_of table.now.layout.now 0 symbol.now).prompts }
 {
     let mut greatest = Tri::N;
@@ -100,7 +100,10 @@ fn first_met<'t>(table: &Table<'t>, definition: &Definition) -> Option<(&'t Symb
 }
 
 /// The first default of a symbol whose condition is not n, and that condition.
-pub fn met_default<'t>(table: &Table<'t>, symbol: &Symbol) -> Option<(&'t SymbolDefault, Tri)>
+pub(crate) fn met_default<'t>(
+    table: &Table<'t>,
+    symbol: &Symbol,
+) -> Option<(&'t SymbolDefault, Tri)>
     ensures { IsMetDefault table.now (spec.first_met table.now.tree.now (known_at table.now) (facts_of table.now.layout.now 0 symbol.now).defaults) result }
 {
     for i in 0..symbol.definition_count() {
@@ -115,7 +118,7 @@ pub fn met_default<'t>(table: &Table<'t>, symbol: &Symbol) -> Option<(&'t Symbol
 
 /// min(value, condition) of the first default whose condition is not n, or n (the kernel's kconfig-language document, "Menu
 /// attributes": default value).
-pub fn default_truth(table: &Table<'_>, symbol: &Symbol) -> Tri
+pub(crate) fn default_truth(table: &Table<'_>, symbol: &Symbol) -> Tri
     ensures { result ≡ spec.default_value table.now.tree.now (known_at table.now) (spec.first_met table.now.tree.now (known_at table.now) (facts_of table.now.layout.now 0 symbol.now).defaults) }
 {
     match met_default(table, symbol) {
@@ -170,7 +173,7 @@ pub fn direct(table: &Table<'_>, symbol: &Symbol) -> Tri
 
 /// The reverse dependency of a symbol: the greatest min(value of the selecting symbol, condition), m being y where the symbol
 /// can't be m (the kernel's kconfig-language document, "Menu attributes": reverse dependencies).
-pub fn reverse(table: &Table<'_>, id: SymId, symbol: &Symbol) -> Tri
+pub(crate) fn reverse(table: &Table<'_>, id: SymId, symbol: &Symbol) -> Tri
     ensures { result ≡ spec.reverse table.now.tree.now (known_at table.now) (facts_of table.now.layout.now id.0 symbol.now) }
 {
     let selected = reverse_values(table, table.layout.last_select(id));
@@ -179,7 +182,7 @@ pub fn reverse(table: &Table<'_>, id: SymId, symbol: &Symbol) -> Tri
 
 /// The weak reverse dependency of a symbol: the same over what implies it (the kernel's kconfig-language document, "Menu
 /// attributes": weak reverse dependencies).
-pub fn weak_reverse(table: &Table<'_>, id: SymId, symbol: &Symbol) -> Tri
+pub(crate) fn weak_reverse(table: &Table<'_>, id: SymId, symbol: &Symbol) -> Tri
     ensures { result ≡ spec.weak_reverse table.now.tree.now (known_at table.now) (facts_of table.now.layout.now id.0 symbol.now) }
 {
     let implied = reverse_values(table, table.layout.last_imply(id));
@@ -215,7 +218,7 @@ fn given_or_implied(table: &Table<'_>, id: SymId, symbol: &Symbol, user: Option<
 /// default, which an imply raises up to the direct dependency (that order is our own); at least the reverse dependency,
 /// even against the direct one; m being y where the symbol can't be m (the kernel's kconfig-language document, "Menu
 /// attributes"; kconfiglib's `tri_value`).
-pub fn truth_equation(
+pub(crate) fn truth_equation(
     table: &Table<'_>,
     id: SymId,
     symbol: &Symbol,

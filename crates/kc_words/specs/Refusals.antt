@@ -1,9 +1,10 @@
 -- Trusted: Why words give no options.
-use Rattle.std.specs.Prelude.{◌≡◌, ◌≢◌, ◌⊎◌, [], false, codes, string_bytes}
+use Rattle.std.specs.Prelude.{◌≡◌, ◌≢◌, ◌⊎◌, [], false, string_bytes}
 use Rattle.clap.specs.Words.{Kinds, IsAmong, Text}
 use Rattle.clap.specs.declared.error.kind.ErrorKind.{ErrorKind}
 use Rattle.clap.specs.declared.error.kind.ErrorKind.TheVariants as kind
 use Rattle.kc_dot.specs.Prefixes.{is_prefix}
+use Rattle.kc_conf.specs.ErrorLines.{out_of_memory_line}
 use Rattle.kc_words.specs.declared.usage.UsageError.{UsageError}
 use Rattle.kc_words.specs.declared.usage.UsageError.TheVariants as usage
 
@@ -12,7 +13,7 @@ abbrev pub text_of : UsageError → Text
 text_of (usage.Help text) = string_bytes text
 text_of (usage.Version text) = string_bytes text
 text_of (usage.Bad text) = string_bytes text
-text_of usage.Memory = codes "error E20: out of memory\n"
+text_of usage.Memory = out_of_memory_line
 
 -- what an error of this kind is told as; any may be told as out of memory, since its text needs some
 abbrev pub IsKindOf : ErrorKind → UsageError → Type 0

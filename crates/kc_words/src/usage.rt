@@ -4,6 +4,7 @@ ghost use Rattle.std.specs.Prelude.{◌≡◌};
 ghost use Rattle.kc_words.specs.Refusals.{text_of};
 ghost use Rattle.kc_words.specs.declared.usage.UsageError.TheVariants.{Memory};
 
+use kc_conf::error_lines::out_of_memory;
 use std::alloc::AllocError;
 
 /// Why words give no options. The texts are `clap`'s, but for that of a prefix that is none.
@@ -35,7 +36,7 @@ impl UsageError {
         match self {
             UsageError::Help(text) | UsageError::Version(text) | UsageError::Bad(text) =>
                 text.as_str(),
-            UsageError::Memory => "error E20: out of memory\n",
+            UsageError::Memory => out_of_memory(),
         }
     }
 }

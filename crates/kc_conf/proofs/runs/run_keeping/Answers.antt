@@ -1,7 +1,7 @@
 -- A fault is reported after the run broke off.
 use Rattle.kc_read.specs.Files.{bytes_in}
-use Rattle.kc_conf.specs.OutputStates.{ChangesOnly-only}
 use Rattle.kc_conf.specs.declared.outputs.Output.TheVariants.{Notes}
+use Rattle.kc_conf.specs.ChangeLemmas.{ChangesOnly-only}
 use Rattle.kc_conf.proofs.OutputLemmas.{Reports-only}
 use Rattle.kc_conf.proofs.runs.run_keeping.Goals as goal
 

@@ -1,12 +1,13 @@
 -- What the run made took its places.
-use Rattle.std.proofs.Common.{◌≡◌, ◌∙◌, ap, refl, sym, Option, Some, option_map}
+use Rattle.std.proofs.Common.{◌≡◌, ◌∙◌, ap, sym, Some}
 use Rattle.kc_disk.specs.Drafted.{drafted, made_from}
 use Rattle.kc_conf.specs.declared.outputs.Output.TheVariants.{Notes}
-use Rattle.kc_disk.specs.Makers.{MadeFile, MakerState, maker_call}
+use Rattle.kc_disk.specs.Makers.{MakerState, Tells, maker_call, none_made, with_made}
 use Rattle.kc_disk.specs.Openers.{read_device}
 use Rattle.kc_disk.specs.Program.{Ran}
 use Rattle.kc_disk.specs.Reached.{unused}
-use Rattle.kc_disk.proofs.DraftLemmas.{notes-drafted, unused-drafted}
+use Rattle.kc_disk.specs.Replacing.{MadeNoFile}
+use Rattle.kc_disk.proofs.DraftLemmas.{no-file-yet, same-notes, unused-drafted}
 use Rattle.kc_disk.proofs.replace.replace_over.Goals as goal
 
 pub returns-in-Ok-clause-ran : goal.returns-in-Ok-clause-ran
@@ -16,10 +17,13 @@ returns-in-Ok-clause-ran g c =
     let options = c.args.options.now in
     let r : Ran (read_device (g.F.Folder.files c.args.folder.now) (g.F.Folder.failing c.args.folder.now))
     (read_device (g.P.Opener.files c.args.opener.now) (g.P.Opener.failing c.args.opener.now)) options c.in-Ok.ran
-    (maker_call (drafted fresh.config fresh.header fresh.minimal fresh.depfile (g.N.Maker.state fresh.notes))
-    (drafted d.config d.header d.minimal d.depfile (g.N.Maker.state d.notes)) (g.N.Maker.failing fresh.notes Notes)) =
+    (maker_call (drafted fresh.made.items fresh.config fresh.header fresh.minimal fresh.depfile (g.N.Maker.state fresh.notes))
+    (drafted d.made.items d.config d.header d.minimal d.depfile (g.N.Maker.state d.notes)) (g.N.Maker.failing fresh.notes Notes)) =
     rw c.in-Ok.is at c.configure_over-ran.ensures.ran in
-    let first = unused-drafted options fresh.config fresh.header fresh.minimal fresh.depfile (g.N.Maker.state fresh.notes) ∙ ap (λ n. unused options (g.N.Maker.state n)) c.new-drafts.ensures.notes in
+    let first = unused-drafted options fresh.made.items fresh.config fresh.header fresh.minimal fresh.depfile (g.N.Maker.state fresh.notes)
+    ∙ ap (λ n. unused options (g.N.Maker.state n)) c.new-drafts.ensures.notes in
+    let drafts : MakerState =
+    record { config = made_from d.config; header = made_from d.header; minimal = made_from d.minimal; depfile = made_from d.depfile; notes = none_made.notes; made = d.made.items } in
     record {
       files = r.files;
       are_files = r.are_files;
@@ -28,21 +32,25 @@ returns-in-Ok-clause-ran g c =
       states = r.states;
       leaves = rw (sym first) r.leaves;
       fails = rw (sym c.new-drafts.ensures.notes) r.fails;
-      reached = λ n is.
-          let t : MakerState = record { config = made_from d.config; header = made_from d.header; minimal = made_from d.minimal; depfile = made_from d.depfile; notes = n.notes } in
-          let here : g.N.Maker.state d.notes ≡ Some n = ap (g.N.Maker.state) (sym c.into_notes.ensures) ∙ is in
-          (t, refl, r.reached t (ap (drafted d.config d.header d.minimal d.depfile) here), c.replace_drafts-ended.ensures);
+      drafts = drafts;
+      reached = λ t is.
+          let here : g.N.Maker.state d.notes ≡ Some t = ap (g.N.Maker.state) (sym c.into_notes.ensures.notes) ∙ is in
+          (c.into_notes.ensures.notes_alone t is, r.reached (with_made drafts Notes t.notes) (ap (drafted d.made.items d.config d.header d.minimal d.depfile) here));
+      replaces = c.replace_drafts-ended.ensures;
     }
 
 pub returns-in-Err-clause-silent : goal.returns-in-Err-clause-silent
 returns-in-Err-clause-silent g c =
     let fresh = c.new-drafts.result in
     let d = c.configure_over-ran.result.1 in
-    let same : drafted d.config d.header d.minimal d.depfile (g.N.Maker.state d.notes) ≡ drafted fresh.config fresh.header fresh.minimal fresh.depfile (g.N.Maker.state fresh.notes) =
+    let same : drafted d.made.items d.config d.header d.minimal d.depfile (g.N.Maker.state d.notes)
+    ≡ drafted fresh.made.items fresh.config fresh.header fresh.minimal fresh.depfile (g.N.Maker.state fresh.notes) =
     rw c.in-Err.is at c.configure_over-ran.ensures.untouched in
-    let notes : Option MakerState → Option MadeFile = option_map (λ t. t.notes) in
-    ap (λ n. notes (g.N.Maker.state n)) c.into_notes-in-Err.ensures
-    ∙ sym (notes-drafted d.config d.header d.minimal d.depfile (g.N.Maker.state d.notes))
-    ∙ ap notes same
-    ∙ notes-drafted fresh.config fresh.header fresh.minimal fresh.depfile (g.N.Maker.state fresh.notes)
-    ∙ ap (λ n. notes (g.N.Maker.state n)) c.new-drafts.ensures.notes
+    let result = c.into_notes-in-Err in
+    let last : g.N.Maker.state result.result ≡ g.N.Maker.state d.notes = ap (g.N.Maker.state) result.ensures.notes in
+    let first : g.N.Maker.state fresh.notes ≡ g.N.Maker.state c.args.notes = ap (g.N.Maker.state) c.new-drafts.ensures.notes in
+    let after : Tells (g.N.Maker.state d.notes) MadeNoFile = rw last at result.ensures.notes_alone in
+    let before : Tells (g.N.Maker.state fresh.notes) MadeNoFile = rw first (no-file-yet (g.N.Maker.state c.args.notes) c.requires.notes) in
+    last
+    ∙ same-notes d.made.items fresh.made.items d.config d.header d.minimal d.depfile fresh.config fresh.header fresh.minimal fresh.depfile _ _ same after before
+    ∙ first

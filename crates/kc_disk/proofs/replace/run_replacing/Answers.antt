@@ -5,8 +5,9 @@ use Rattle.kc_conf.specs.declared.options.Options.{Options}
 use Rattle.kc_load.specs.declared.fault.LoadFault.{LoadFault}
 use Rattle.kc_conf.specs.declared.options.Status.{Status}
 use Rattle.kc_conf.specs.declared.options.Status.TheVariants.{Faulted}
+use Rattle.kc_conf.specs.declared.outputs.Output.TheVariants.{Notes}
 use Rattle.kc_disk.specs.Openers.{ReadDevice}
-use Rattle.kc_disk.specs.Makers.{MakerState, maker_call}
+use Rattle.kc_disk.specs.Makers.{IsOpen, MakerCall, MakerState, Tells, maker_call}
 use Rattle.kc_disk.specs.Movers.{MoverCall}
 use Rattle.kc_disk.specs.Program.{Reports}
 use Rattle.kc_disk.specs.Replacing.{EndsReplacing, RanReplacing, replace_fault_line, stopped, unloaded}
@@ -24,6 +25,16 @@ stopped-of folder opened options ended placed stop state mid state_after was may
     let second : RanReplacing folder opened options (Err stop) (maker_call state mid may_fail) mover = rw is_stop at first in
     stopped stop mid second refl (reports-from (replace_fault_line stop) mid mid state_after was may_fail refl stays reports)
 
+-- standard error stays open
+open-after : (folder opened : ReadDevice) (options : Options) (ended : Result (Result Status ReplaceFault) LoadFault) (placed : Result Status ReplaceFault) (maker : MakerCall) (mover : MoverCall) →
+    ended ≡ Ok placed → IfOk ended (λ e. RanReplacing folder opened options e maker mover) → Tells maker.state_after (IsOpen Notes)
+open-after folder opened options ended placed maker mover is h =
+    let ran : RanReplacing folder opened options placed maker mover = rw is at h in
+    λ t told. (ran.reached t told).1.notes.stays_open
+
+pub report_replace_fault-requires : goal.report_replace_fault-requires
+report_replace_fault-requires g c = open-after _ _ _ _ _ _ _ c.in-Ok.is c.replace_over-ended.ensures.ran
+
 pub returns-in-Err-placed : goal.returns-in-Err-placed
 returns-in-Err-placed g c =
     let o = c.replace_over-ended.ensures in
@@ -33,5 +44,7 @@ pub returns-in-Err : goal.returns-in-Err
 returns-in-Err g c =
     let o = c.replace_over-ended.ensures in
     let mid = g.N.Maker.state c.replace_over-ended.result.1 in
-    unloaded c.in-Err.fault mid (rw c.in-Err.is at o.fault) refl (rw c.in-Err.is at o.silent)
-    (reports-from _ mid mid _ _ _ refl o.failing_stays c.report_load_fault.ensures) (rw c.in-Err.is at o.untouched)
+    let first = g.N.Maker.state c.args.notes in
+    let same : mid ≡ first = rw c.in-Err.is at o.silent in
+    unloaded c.in-Err.fault (rw c.in-Err.is at o.fault) refl
+    (reports-from _ first mid _ _ _ same o.failing_stays c.report_load_fault.ensures) (rw c.in-Err.is at o.untouched)

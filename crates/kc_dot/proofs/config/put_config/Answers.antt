@@ -1,36 +1,21 @@
-use Rattle.std.proofs.Common.{◌≡◌, ◌++◌, List, ℕ, ap, subst, OnOk, OnErr}
-use Rattle.std.proofs.lemmas.Result.{err_from_is_err_and}
+use Rattle.std.proofs.Common.{◌++◌, List, ℕ, ap, subst}
 use Rattle.std.specs.Prelude.{false}
-use Rattle.kc_dot.specs.Sink.{extended, HandsOut}
 use Rattle.kc_dot.specs.Texts.{config_text, entries_text}
-use Rattle.kc_dot.proofs.PageLemmas.{HandsOut-nothing}
+use Rattle.kc_dot.specs.Writing.{Writes}
+use Rattle.kc_dot.proofs.WritingLemmas.{writes_nothing}
 use Rattle.kc_dot.specs.SolvedView.{solution_view}
 use Rattle.kc_dot.proofs.config.put_config.Goals as goal
 
-pub returns-in_err-page-clause-beginning : goal.returns-in_err-page-clause-beginning
-returns-in_err-page-clause-beginning g c =
-    let p = err_from_is_err_and c.from_residual.result c.from_residual.ensures.1 in
-    rw p.1 (HandsOut-nothing _ (g.S.Sink.taken c.args.sink.now))
+pub returns-in_err-page : goal.returns-in_err-page
+returns-in_err-page g c = writes_nothing g.S.Sink _ _ _ c.from_residual.ensures.1 (g.met.S.Sink.stays c.args.sink.now)
 
-pub returns-in_err-add_heading-clause-beginning : goal.returns-in_err-add_heading-clause-beginning
-returns-in_err-add_heading-clause-beginning g c =
-    let p = err_from_is_err_and c.from_residual-in_err-add_heading.result c.from_residual-in_err-add_heading.ensures.1 in
-    rw p.1 (HandsOut-nothing _ (g.S.Sink.taken c.args.sink.now))
+pub returns-in_err-add_heading : goal.returns-in_err-add_heading
+returns-in_err-add_heading g c = writes_nothing g.S.Sink _ _ _ c.from_residual-in_err-add_heading.ensures.1 (g.met.S.Sink.stays c.args.sink.now)
 
-pub returns-clause-whole : goal.returns-clause-whole
+pub returns : goal.returns
 unfolding config_text
-returns-clause-whole g c =
-    let tree = c.args.tree.now in
-    let lines = entries_text tree c.args.prefix.now (solution_view c.args.solved.now) false tree.entries in
+returns g c =
+    let lines = entries_text c.args.tree.now c.args.prefix.now (solution_view c.args.solved.now) false c.args.tree.now.entries in
     let page = rw (c.in_ok-page.ensures, c.main_menu.ensures) at c.in_ok-add_heading.ensures in
-    let P : List ℕ → Type 0 = λ text. OnOk c.put_entries.result (g.S.Sink.taken c.put_entries.new.sink ≡ extended (g.S.Sink.taken c.args.sink.now) text) in
-    subst P (ap (λ t. t ++ lines) page) c.put_entries.ensures.whole
-
-pub returns-clause-beginning : goal.returns-clause-beginning
-unfolding config_text
-returns-clause-beginning g c =
-    let tree = c.args.tree.now in
-    let lines = entries_text tree c.args.prefix.now (solution_view c.args.solved.now) false tree.entries in
-    let page = rw (c.in_ok-page.ensures, c.main_menu.ensures) at c.in_ok-add_heading.ensures in
-    let P : List ℕ → Type 0 = λ text. OnErr c.put_entries.result (HandsOut text (g.S.Sink.taken c.args.sink.now) (g.S.Sink.taken c.put_entries.new.sink)) in
-    subst P (ap (λ t. t ++ lines) page) c.put_entries.ensures.beginning
+    let P : List ℕ → Type 0 = λ text. Writes g.S.Sink text c.put_entries.result c.args.sink.now c.put_entries.new.sink in
+    subst P (ap (λ t. t ++ lines) page) c.put_entries.ensures

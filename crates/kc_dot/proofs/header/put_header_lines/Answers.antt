@@ -1,53 +1,44 @@
-use Rattle.std.proofs.Common.{◌∙◌, ◌<◌, ◌≤◌, length, drop, arith, refl}
+use Rattle.std.proofs.Common.{◌<◌, ◌≤◌, length, arith, refl}
 use Rattle.std.specs.Prelude.{flat_map}
-use Rattle.std.proofs.lemmas.Result.{err_from_is_err_and}
 use Rattle.kc_dot.specs.Texts.{header_if, symbols_of}
-use Rattle.kc_dot.proofs.PageLemmas.{waits_from, waits_more, waits_on, waits_stop, waits_broke, waits_all}
 use Rattle.kc_dot.proofs.TextLemmas.{symbols_next, symbols_end}
+use Rattle.kc_dot.proofs.WritingLemmas.{way_from, way_more, way_on, writes_front, writes_broken, writes_all}
 use Rattle.kc_dot.specs.SolvedView.{solution_view}
 use Rattle.kc_dot.proofs.header.put_header_lines.Goals as goal
 
 pub loop-i-init : goal.loop-i-init
-loop-i-init g c = record {
-  text = waits_from c.args.page.now.items (flat_map (header_if c.args.tree.now c.args.prefix.now (solution_view c.args.solved.now))
-      (symbols_of c.args.tree.now)) _ (g.S.Sink.taken c.args.sink.now) refl;
-  quiet = refl;
-  keeps = g.met.S.Sink.stays c.args.sink.now;
-}
+loop-i-init g c =
+    let lines = flat_map (header_if c.args.tree.now c.args.prefix.now (solution_view c.args.solved.now)) (symbols_of c.args.tree.now) in
+    way_from g.S.Sink c.args.page.now.items lines lines c.args.sink.now refl (g.met.S.Sink.stays c.args.sink.now)
 
 pub loop-i-preserved : goal.loop-i-preserved
 loop-i-preserved g c =
-    let invariant = c.loop-i.invariant in
     let put = c.in_ok-put_full.ensures in
     let lt : c.loop-i.i < length c.args.tree.now.symbols = omega arith in
     let next = symbols_next c.args.tree.now (header_if c.args.tree.now c.args.prefix.now (solution_view c.args.solved.now)) c.loop-i.i lt in
-    record {
-      text = waits_on _ _ _ _ _ _ _ (waits_more _ _ _ _ _ _ _ _ next (rw c.symbol.ensures at c.in_ok-add_header_if.ensures) invariant.text) put.on;
-      quiet = put.quiet ∙ invariant.quiet;
-      keeps = g.met.S.Sink.goes_on _ _ _ invariant.keeps put.keeps;
-    }
+    let way = way_more g.S.Sink _ _ _ _ _ _ _ _ next (rw c.symbol.ensures at c.in_ok-add_header_if.ensures) c.loop-i.invariant in
+    way_on g.S.Sink g.met.S.Sink.goes_on way put.on put.quiet put.keeps
 
-pub returns-clause-whole : goal.returns-clause-whole
-returns-clause-whole g c =
+pub returns : goal.returns
+returns g c =
+    let put = c.in_ok-put.ensures in
     let all : length c.args.tree.now.symbols ≤ c.loop-i.i = omega arith in
     let none = symbols_end c.args.tree.now (header_if c.args.tree.now c.args.prefix.now (solution_view c.args.solved.now)) c.loop-i.i all in
-    waits_all _ _ _ _ _ _ none c.loop-i.invariant.text (rw c.deref.ensures.value at c.in_ok-put.ensures.whole)
+    writes_all g.S.Sink g.met.S.Sink.goes_on none c.loop-i.invariant (rw c.deref.ensures.value at put.whole) put.quiet put.keeps
 
-pub returns-in_err-add_header_if-clause-beginning : goal.returns-in_err-add_header_if-clause-beginning
-returns-in_err-add_header_if-clause-beginning g c =
-    let p = err_from_is_err_and c.from_residual.result c.from_residual.ensures.1 in
-    rw p.1 (waits_stop _ c.loop-i.page.items (flat_map (header_if c.args.tree.now c.args.prefix.now (solution_view c.args.solved.now))
-    (drop c.loop-i.i (symbols_of c.args.tree.now))) _ _ c.loop-i.invariant.text)
+pub returns-in_err-add_header_if : goal.returns-in_err-add_header_if
+returns-in_err-add_header_if g c = writes_front g.S.Sink _ c.from_residual.ensures.1 c.loop-i.invariant
 
-pub returns-in_err-put_full-clause-beginning : goal.returns-in_err-put_full-clause-beginning
-returns-in_err-put_full-clause-beginning g c =
-    let p = err_from_is_err_and c.from_residual-in_err-put_full.result c.from_residual-in_err-put_full.ensures.1 in
+pub returns-in_err-put_full : goal.returns-in_err-put_full
+returns-in_err-put_full g c =
+    let put = c.in_err-put_full.ensures in
     let lt : c.loop-i.i < length c.args.tree.now.symbols = omega arith in
     let next = symbols_next c.args.tree.now (header_if c.args.tree.now c.args.prefix.now (solution_view c.args.solved.now)) c.loop-i.i lt in
-    rw p.1 (waits_broke _ _ _ _ _ _ (waits_more _ _ _ _ _ _ _ _ next (rw c.symbol.ensures at c.in_ok-add_header_if.ensures) c.loop-i.invariant.text) c.in_err-put_full.ensures.beginning)
+    let way = way_more g.S.Sink _ _ _ _ _ _ _ _ next (rw c.symbol.ensures at c.in_ok-add_header_if.ensures) c.loop-i.invariant in
+    writes_broken g.S.Sink g.met.S.Sink.goes_on _ c.from_residual-in_err-put_full.ensures.1 way put.beginning put.counted put.keeps
 
-pub returns-in_err-put-clause-beginning : goal.returns-in_err-put-clause-beginning
-returns-in_err-put-clause-beginning g c =
-    let p = err_from_is_err_and c.from_residual-in_err-put.result c.from_residual-in_err-put.ensures.1 in
-    rw p.1 (waits_broke _ c.loop-i.page.items (flat_map (header_if c.args.tree.now c.args.prefix.now (solution_view c.args.solved.now))
-    (drop c.loop-i.i (symbols_of c.args.tree.now))) _ _ _ c.loop-i.invariant.text (rw c.deref.ensures.value at c.in_err-put.ensures.beginning))
+pub returns-in_err-put : goal.returns-in_err-put
+returns-in_err-put g c =
+    let put = c.in_err-put.ensures in
+    writes_broken g.S.Sink g.met.S.Sink.goes_on _ c.from_residual-in_err-put.ensures.1 c.loop-i.invariant
+    (rw c.deref.ensures.value at put.beginning) put.counted put.keeps

@@ -10,5 +10,5 @@ pub close-requires : goal.close-requires
 close-requires g c =
     let s = c.args.self.now in
     let state = g.M.Maker.state s.notes in
-    let P : Output → Type 0 = λ w. Tells (drafted s.config s.header s.minimal s.depfile state) (IsOpen w) in
-    notes-open s.config s.header s.minimal s.depfile state (subst P c.in-Notes.is c.requires)
+    let P : Output → Type 0 = λ w. Tells (drafted s.made.items s.config s.header s.minimal s.depfile state) (IsOpen w) in
+    notes-open s.made.items s.config s.header s.minimal s.depfile state (subst P c.in-Notes.is c.requires)

@@ -1,7 +1,8 @@
 -- What is taken of the notes waits until its line ends.
-use Rattle.std.proofs.Common.{◌≡◌, ◌<◌, false, length, take, sym, ◌∙◌}
+use Rattle.std.proofs.Common.{◌≡◌, ◌<◌, false, length, rules, take, sym, ◌∙◌}
 use Rattle.std.proofs.lemmas.List.{length-take-le}
 use Rattle.kc_disk.specs.Lines.{ends_line}
+use Rattle.kc_disk.proofs.KeptLemmas.{kept-told}
 use Rattle.kc_disk.proofs.LineLemmas.{ends-chunk, noted-none, noted-states, noted-some}
 use Rattle.kc_disk.proofs.outputs.FileOutputs.note.Goals as goal
 
@@ -40,3 +41,26 @@ returns-in_default-give_back-clause-ok g c =
     (noted-states now.options.now before (g.M.Maker.state c.take.new.maker)
     after now.current now.buffer.bytes.items now.records old c.take.new.self.bytes.items text c.flush.new.self.bytes.items new c.in-Ok.count
     c.give_back.result c.in-Ok.ensures.within c.in-Ok.ensures.ok c.flush.ensures.flushes c.give_back.ensures.items c.give_back.ensures.gone)
+
+pub invariant_of-self-then-is_ok-clause-consistent : goal.invariant_of-self-then-is_ok-clause-consistent
+invariant_of-self-then-is_ok-clause-consistent g c =
+    let s = c.args.self.now in
+    kept-told s.options.now s.current s.records _ _ _ _ c.flush.ensures.flushes
+    (kept-told s.options.now s.current s.records _ _ _ _ c.in-Ok.ensures.ok.1 s.consistent)
+
+pub invariant_of-self-in-0-clause-consistent : goal.invariant_of-self-in-0-clause-consistent
+invariant_of-self-in-0-clause-consistent g c =
+    let s = c.args.self.now in
+    rw c.fail-in-0.ensures (kept-told s.options.now s.current s.records _ _ _ _ c.flush.ensures.flushes
+    (kept-told s.options.now s.current s.records _ _ _ _ c.in-Ok.ensures.ok.1 s.consistent))
+
+pub invariant_of-self-in_default-1 : goal.invariant_of-self-in_default-1
+invariant_of-self-in_default-1 g c =
+    let s = c.args.self.now in
+    record {
+      line_waits = search rules;
+      consistent = kept-told s.options.now s.current s.records _ _ _ _ c.flush.ensures.flushes
+          (kept-told s.options.now s.current s.records _ _ _ _ c.in-Ok.ensures.ok.1 s.consistent);
+      failing = search rules;
+      notes_fail = search rules;
+    }
