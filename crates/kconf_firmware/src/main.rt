@@ -59,7 +59,7 @@ fn show(rt: &HostRuntime, name: &str) -> io::Result<()> {
 }
 
 // What lies in a place, if anything does.
-fn placed(rt: &HostRuntime, name: &str) -> io::Result<Option<Placed>> {
+fn file_in(rt: &HostRuntime, name: &str) -> io::Result<Option<Placed>> {
     if !fs::exists(rt, name)? {
         return Ok(None);
     }
@@ -74,9 +74,9 @@ fn placed(rt: &HostRuntime, name: &str) -> io::Result<Option<Placed>> {
 // one made shows that it is not written to.
 fn replace(rt: &HostRuntime) -> io::Result<()> {
     for line in REPLACES {
-        let before = placed(rt, "kept.config")?;
+        let before = file_in(rt, "kept.config")?;
         run(rt, line)?;
-        let is_same = placed(rt, "kept.config")? == before;
+        let is_same = file_in(rt, "kept.config")? == before;
         println!(rt; "kept.config is the file that it was: {is_same}")?;
         if before.is_none() {
             fs::hard_link(rt, "kept.config", "first.config")?;
