@@ -183,6 +183,19 @@ def standard_output_and_a_pipe_are_written(folder):
     want("a link to it", folder.run("--replace", "--out", "link", "Kconfig").stdout, folder.get("plain"))
 
 
+def a_regular_file_below_dev_is_replaced(folder):
+    if not os.path.isdir("/dev/shm"):
+        return
+    with tempfile.TemporaryDirectory(dir="/dev/shm") as place:
+        out = os.path.join(place, "out")
+        folder.run("--replace", "--out", out, "Kconfig")
+        os.link(out, os.path.join(place, "first"))
+        folder.put("changed", "CONFIG_A=y\n")
+        folder.run("--replace", "--out", out, "Kconfig", "changed")
+        want("another file took its place", os.path.samefile(out, os.path.join(place, "first")), False)
+        want("what lies there", sorted(os.listdir(place)), ["first", "out"])
+
+
 def a_taken_name_beside_stays(folder):
     folder.put(".config.kconf-0", "mine\n")
     folder.run("--replace", "Kconfig")
@@ -255,6 +268,7 @@ def main():
         a_fault_leaves_all,
         a_file_without_room_leaves_all,
         standard_output_and_a_pipe_are_written,
+        a_regular_file_below_dev_is_replaced,
         a_taken_name_beside_stays,
         two_outputs_of_one_name_leave_the_later,
         runs_at_once_leave_one_of_the_texts,
