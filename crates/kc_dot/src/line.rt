@@ -6,6 +6,7 @@ ghost use Rattle.kc_text.specs.Lexemes.{is_blank};
 ghost use Rattle.kc_dot.specs.DotLine as spec;
 
 use bstr::ByteSlice;
+use kc_text::is_blank;
 
 /// What one line says under a prefix, whatever the tree.
 #[derive(Clone, Copy, Debug, PartialEq, Eq)]
@@ -51,13 +52,6 @@ fn trimmed(bytes: &[u8]) -> &[u8]
         Some(last) => &bytes[..last + 1],
         None => &[],
     }
-}
-
-// Space and tab.
-fn is_blank(byte: u8) -> bool
-    ensures { result ≡ is_blank byte }
-{
-    byte == b' ' || byte == b'\t'
 }
 
 // Whether the text holds a blank.

@@ -11,8 +11,9 @@ ghost use Rattle.kc_dot.specs.Sink.{extended};
 
 use crate::fault::DotFault;
 use crate::sink::Sink;
-use crate::step::{NamedStream, read_line, without_carriage_return};
+use crate::step::{NamedStream, read_line};
 use bstr::ByteSlice;
+use kc_text::without_carriage_return;
 use kc_user::user::User;
 use std::alloc::Global;
 

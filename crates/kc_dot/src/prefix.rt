@@ -1,9 +1,8 @@
 //! What stands before the name of a symbol in the files that are read and written.
 ghost use Rattle.std.specs.Prelude.{◌≡◌, true, IfOk};
-ghost use Rattle.std.specs.List.{list_all};
-ghost use Rattle.kc_expr.specs.Names as names;
 ghost use Rattle.kc_dot.specs.Prefixes as spec;
 
+use kc_expr::names::are_name_bytes;
 use std::alloc::{AllocError, Global};
 use std::marker::Model;
 
@@ -49,13 +48,6 @@ impl Prefix {
     }
 }
 
-// Whether the byte may stand in a name.
-fn is_name_byte(byte: u8) -> bool
-    ensures { result ≡ names.is_name_byte byte }
-{
-    byte.is_ascii_alphanumeric() || byte == b'_'
-}
-
 // Whether the first byte is a digit.
 fn begins_with_digit(text: &[u8]) -> bool
     ensures { result ≡ spec.begins_with_digit text.now }
@@ -66,16 +58,9 @@ fn begins_with_digit(text: &[u8]) -> bool
     }
 }
 
-// Whether each byte may stand in a name.
-fn has_name_bytes(text: &[u8]) -> bool
-    ensures { result ≡ list_all names.is_name_byte text.now }
-{
-    text.iter().all(|b| is_name_byte(*b))
-}
-
 // Whether the text is a prefix.
 fn is_prefix(text: &[u8]) -> bool
     ensures { result ≡ spec.is_prefix text.now }
 {
-    !begins_with_digit(text) && text.len() <= LONGEST && has_name_bytes(text)
+    !begins_with_digit(text) && text.len() <= LONGEST && are_name_bytes(text)
 }

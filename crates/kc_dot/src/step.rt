@@ -1,7 +1,6 @@
 //! What one line of a stream does to the user's places.
 ghost use Rattle.std.specs.Prelude.{◌≡◌, ◌<◌, true, [], ◌∷◌, length, None, OnOk, OnErr, IfOk, IfErr, IfSome};
 ghost use Rattle.std.specs.Option.{option_map};
-ghost use Rattle.std.specs.Str.Lines.{strip_carriage_return};
 ghost use Rattle.kc_user.specs.ValueView.{given_of_value};
 ghost use Rattle.kc_dot.specs.DotLine.{meaning_of};
 ghost use Rattle.kc_dot.specs.Effects.{effect_of};
@@ -29,18 +28,6 @@ pub struct NamedStream<'a> {
     pub tree: &'a Tree,
     pub prefix: &'a Prefix,
     pub name: &'a [u8],
-}
-
-// The line without the one carriage return at its end, if it has one.
-pub fn without_carriage_return(line: &[u8]) -> &[u8]
-    ensures { result.now ≡ strip_carriage_return line.now }
-{
-    let n = line.len();
-    if n > 0 && line[n - 1] == b'\r' {
-        &line[..n - 1]
-    } else {
-        line
-    }
 }
 
 // The choice that the symbol is a member of.

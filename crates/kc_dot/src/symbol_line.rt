@@ -1,7 +1,6 @@
 //! A symbol's value, and the line that tells it.
 ghost use Rattle.std.specs.Prelude.{◌≡◌, ◌++◌, OnOk, codes, flat_map};
 ghost use Rattle.kc_text.specs.Escapes.{escape};
-ghost use Rattle.kc_text.specs.Numbers as numbers;
 ghost use Rattle.kc_dot.specs.SolvedView.{solution_view};
 ghost use Rattle.kc_dot.specs.SymbolLines.{config_line, header_line, hex_text};
 ghost use Rattle.kc_dot.specs.KnownValue.{value_view};
@@ -12,7 +11,7 @@ use crate::prefix::Prefix;
 use kc_expr::expression::{Kind, SymId, Tri};
 use kc_expr::values::Values;
 use kc_solve::solved::Solved;
-use kc_text::escape_into;
+use kc_text::{escape_into, has_hex_prefix};
 use std::alloc::AllocError;
 
 /// The value of a symbol: of a bool or tristate, or the text of another with its type.
@@ -51,16 +50,6 @@ fn add_string_line(before: &[&[u8]], text: &[u8], page: &mut Vec<u8>) -> Result<
     add_parts(before, page)?;
     escape_into(text, page)?;
     page.extend_from_slice(b"\"\n")
-}
-
-// Whether `0x` or `0X` stands first.
-fn has_hex_prefix(text: &[u8]) -> bool
-    ensures { result ≡ numbers.has_hex_prefix text.now }
-{
-    match text {
-        [b'0', b'x' | b'X', ..] => true,
-        _ => false,
-    }
 }
 
 // What a header has before a hex.

@@ -210,3 +210,12 @@ IsOp o tokens at b =
 -- neither ! nor ( comes
 abbrev pub StartsNoOperand : List Terminal → Type 0
 StartsNoOperand ts = (starts_bang ts ≡ false) × (starts_open ts ≡ false)
+
+-- no operator comes that an operand goes on with
+abbrev pub StartsNoOp : List Terminal → Type 0
+StartsNoOp ts = (starts_compares ts ≡ false) × (starts_joins And ts ≡ false) × (starts_joins Or ts ≡ false)
+
+-- whether an operand would stand alone at a place
+abbrev pub IsLone : List Token → ℕ → Bool → Type 0
+IsLone tokens at true = StartsNoOperand (terminals_from tokens at) × StartsNoOp (terminals_from tokens (at + 1))
+IsLone tokens at false = Unit {0}

@@ -2,11 +2,13 @@
 
 ghost use Rattle.std.specs.Prelude.{◌≡◌, ℕ, ◌+◌, ◌≤◌, ◌<◌, ◌≢◌, Bool, true, false, List, length, [], ◌∷◌, ◌++◌, map, IfOk, IfErr, OnOk};
 ghost use Rattle.kc_expr.specs.declared.parse.ExprFault.TheVariants.{Memory};
+ghost use Rattle.kc_expr.specs.Limits.{most_levels};
+ghost use Rattle.kc_expr.specs.declared.parse.Connective.TheVariants.{Or};
 ghost use Rattle.kc_expr.specs.Form.{form_of, forms, leaf_of};
 ghost use Rattle.kc_expr.specs.Grammar as spec;
 ghost use Rattle.kc_expr.specs.Grammar.{terminals_from, is_m_leaf, plain_form, IsUnambiguous, Terminal, HasOneLongestFront};
 ghost use Rattle.kc_expr.specs.Parsing.{IsParsed, IsDetermined, IsRefused, OneAnswer};
-ghost use Rattle.kc_expr.specs.Reading.{ParsedNot, ParsedPart, ParsedChain, FailsNot, FailsPart, FailsChain, IsNext, ReadsOperand, ReadsRelation, IsMemory, IsMemoryAt, IsOp, IsJoined, StartsNoOperand};
+ghost use Rattle.kc_expr.specs.Reading.{ParsedNot, ParsedPart, ParsedChain, FailsNot, FailsPart, FailsChain, IsLone, IsNext, ReadsOperand, ReadsRelation, IsMemory, IsMemoryAt, IsOp, IsJoined, StartsNoOp, StartsNoOperand};
 ghost use Rattle.kc_expr.specs.Names.{Extends, mention};
 
 use crate::expression::{Expr, Operand, Sides, SymId, Tri};
@@ -80,6 +82,9 @@ pub fn parse(
     ensures refused { IfErr result (λ f. IsRefused f (terminals_from tokens.now at)) }
     ensures names { Extends names.old names.new }
 {
+    if is_lone(tokens, at) {
+        return lone(alloc, tokens, at, condition, names);
+    }
     chain(
         alloc,
         tokens,
@@ -113,7 +118,44 @@ pub fn one_answer()
     ensures { OneAnswer }
 {}
 
-/// What joins the parts of a chain.
+/// Whether a word or a quoted text stands at a place, and no operator behind it.
+fn is_lone(tokens: &[Token], at: usize) -> bool
+    ensures { IsLone tokens.now at result }
+{
+    match next(tokens, at) {
+        Some(TokenKind::Word(_) | TokenKind::Quoted(_)) => !stands_op(tokens, at + 1),
+        _ => false,
+    }
+}
+
+// Whether an operator or a parenthesis stands at a place.
+fn stands_op(tokens: &[Token], at: usize) -> bool
+    ensures { result ≡ false → StartsNoOp (terminals_from tokens.now at) }
+{
+    matches!(next(tokens, at), Some(TokenKind::Op(_)))
+}
+
+// An operand that is a whole expression, which nearly every one is: read without the way down the grammar.
+fn lone(
+    alloc: Global,
+    tokens: &[Token],
+    at: usize,
+    condition: Option<SymId>,
+    names: &mut Names,
+) -> Result<(Expr, usize), ExprFault>
+    requires { IsLone tokens.now at true }
+    ensures parsed { IfOk result (λ r. ParsedChain Or condition most_levels (terminals_from tokens.now at) (terminals_from tokens.now r.1) names.old names.new (form_of r.0)) }
+    ensures within { IfOk result (λ r. (at ≤ r.1) × (r.1 ≤ length tokens.now)) }
+    ensures fails { IfErr result (λ f. FailsChain Or f most_levels (terminals_from tokens.now at)) }
+    ensures names { Extends names.old names.new }
+{
+    let Some(found) = operand(alloc, tokens, at, names)? else {
+        return Err(ExprFault::Syntax);
+    };
+    Ok((plain(alloc, found, condition)?, at + 1))
+}
+
+// What joins the parts of a chain.
 #[derive(Clone, Copy)]
 enum Connective {
     And,

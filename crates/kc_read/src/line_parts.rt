@@ -3,8 +3,7 @@
 ghost use Rattle.std.specs.Prelude.{◌≡◌, ◌≤◌, ◌+◌, [], length, IfOk, IfErr, OnOk, option_map, false, Ok, Some, None, Err, IsTrue, ◌<◌};
 ghost use Rattle.kc_expr.specs.Form.{form_of, leaf_of};
 ghost use Rattle.kc_expr.specs.Grammar.{lexemes_from, if_word, is_tristate_constant};
-ghost use Rattle.kc_expr.specs.Names.{IsNumber, is_name_byte, same_name, mention, Extends};
-ghost use Rattle.std.specs.List.{list_all};
+ghost use Rattle.kc_expr.specs.Names.{IsNumber, same_name, mention, Extends};
 ghost use Rattle.kc_read.specs.declared.refusal.Code.TheVariants.{Memory};
 ghost use Rattle.kc_read.specs.Lines as spec;
 ghost use Rattle.kc_read.specs.Lines.{syntax_cause, IsMore, ExpressionFault, WholeFault, ConditionFault};
@@ -16,7 +15,7 @@ ghost use Rattle.kc_read.specs.LineReads.{IsToken, IsFault, IsPart, IsFront, IsW
 use crate::refusal::Code;
 use crate::statement::Fault;
 use kc_expr::expression::{Expr, Operand, SymId};
-use kc_expr::names::Names;
+use kc_expr::names::{Names, are_name_bytes};
 use kc_expr::parse::{ExprFault, parse};
 use kc_expr::values::tristate_constant;
 use kc_text::{Token, TokenKind, unescape_into};
@@ -258,13 +257,6 @@ pub fn operand_at<'a>(
         }
         _ => Err(syntax()),
     }
-}
-
-// Whether each byte may stand in a symbol's name.
-pub fn are_name_bytes(word: &[u8]) -> bool
-    ensures { result ≡ list_all is_name_byte word.now }
-{
-    word.iter().all(|b| b.is_ascii_alphanumeric() || *b == b'_')
 }
 
 // Whether a symbol may have the name.

@@ -1,9 +1,9 @@
 //! The physical lines of a file.
 ghost use Rattle.std.specs.Prelude.{◌≡◌, ◌==◌, ◌<◌, ◌≤◌, ◌∷◌, length, count_by};
-ghost use Rattle.std.specs.Str.Lines.{strip_carriage_return};
 ghost use Rattle.kc_text.specs.Bytes.{byte};
 ghost use Rattle.kc_text.specs.Lines.{physical_lines, Physical, continues, without_continuation};
 
+use crate::bytes::without_carriage_return;
 use bstr::ByteSlice;
 
 // A physical line without its end, whether it has one, and the bytes after it.
@@ -40,18 +40,6 @@ impl<'a> PhysicalLine<'a> {
 pub(crate) struct Unread<'a> {
     pub(crate) rest: &'a [u8],
     pub(crate) number: u32,
-}
-
-// The line without the one carriage return at its end, if it has one.
-fn without_carriage_return(line: &[u8]) -> &[u8]
-    ensures { result.now ≡ strip_carriage_return line.now }
-{
-    let n = line.len();
-    if n > 0 && line[n - 1] == b'\r' {
-        &line[..n - 1]
-    } else {
-        line
-    }
 }
 
 // The first physical line of what is left of a file.
