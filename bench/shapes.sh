@@ -3,7 +3,7 @@
 # of one run of kconf: bench/shapes.sh [SHAPE ..], all shapes without one.
 #
 # kconf is crates/kconf/out/kconf (make build), or the program that KCONF names. It fails where a doubling of a shape makes time or
-# memory more than 2.6 times as much.
+# memory more than 2.6 times as much, and where a run ends with another status than the shape's: 1 for one with a loop, and else 0.
 # Time is the least of ten runs, and of thirty where it would be too much. What takes less than 0.05 seconds or 16 MiB counts as so
 # much, and a run may have 6 GiB. The machine should have nothing else to do.
 set -eu
@@ -183,12 +183,79 @@ def hidden_menu_round_selects(count):
     return names + config("T", "bool") + menu_with(visible(depends), selects(count))
 
 
+def implies(count):
+    """So many symbols that imply one symbol."""
+    return "".join(config(f"S_{i}", 'bool "s"', "imply T") for i in range(count))
+
+
+def menu_round_implies(count):
+    """A menu with so many dependencies round as many symbols that imply one symbol."""
+    names, depends = dependencies(count)
+    return names + config("T", "bool") + menu_with(depends, implies(count))
+
+
+def blocks_one_in_another(count):
+    """Of 62 `if` blocks one in the other, each with so many symbols, so that the innermost depends on 62 names."""
+    names, _ = dependencies(62)
+    opened = "".join(f"if D_{i}\n" + "".join(config(f"S_{i}_{k}", 'bool "s"') for k in range(count)) for i in range(62))
+    return names + opened + "endif\n" * 62
+
+
+def blocks_behind_one_another(count):
+    """So many `if` blocks, each with one symbol, which ask for the same long condition."""
+    names, _ = dependencies(500)
+    asked = " && ".join(f"D_{i}" for i in range(500))
+    return names + "".join(f"if {asked}\n" + config(f"S_{i}", 'bool "s"') + "endif\n" for i in range(count))
+
+
+def conditions_of_one_choice(count):
+    """A choice with so many dependencies round as many members, each with a default."""
+    names, depends = dependencies(count)
+    asked = "".join(f"\t{line}\n" for line in depends)
+    return names + 'choice\n\tprompt "c"\n' + asked + "\n" + "".join(config(f"M_{i}", 'bool "m"') for i in range(count)) + "endchoice\n"
+
+
+def own_dependencies(count):
+    """So many symbols, each with 20 dependencies of its own and a default."""
+    names, depends = dependencies(20)
+    return names + "".join(config(f"S_{i}", 'bool "s"', *depends, "default y") for i in range(count))
+
+
+def comments_with_conditions(count):
+    """So many comments with as many dependencies of their own, one each, in a menu with as many more."""
+    names, depends = dependencies(count)
+    return names + menu_with(depends, "".join(f'comment "c {i}"\n\tdepends on D_{i}\n' for i in range(count)))
+
+
+def a_chain_of_defaults(count):
+    """So many symbols, each with the next one as its default, and the last y."""
+    return "".join(config(f"S_{i}", 'bool "s"', f"default S_{i + 1}") for i in range(count)) + config(f"S_{count}", "def_bool y")
+
+
+def a_chain_of_selects(count):
+    """So many symbols, each of which selects the next one."""
+    return "".join(config(f"S_{i}", 'bool "s"', f"select S_{i + 1}") for i in range(count)) + config(f"S_{count}", "bool")
+
+
+def long_expressions(count):
+    """So many symbols with conditions of 400 names in parentheses and negations."""
+    names, _ = dependencies(400)
+    asked = " || ".join(f"!(D_{i} && !D_{i + 1})" for i in range(0, 400, 2))
+    return names + "".join(config(f"S_{i}", 'bool "s"', f"depends on {asked}") for i in range(count))
+
+
+def help_texts(count):
+    """So many symbols with help texts of 50 lines."""
+    text = "".join(f"\t  line {i} of a text that nobody keeps\n" for i in range(50))
+    return "".join(config(f"S_{i}", 'bool "s"', "help") + text for i in range(count))
+
+
 def unknown_names(count):
     """A .config with so many lines, each of a symbol that the tree has not; so each is a warning."""
     return config("A", "bool"), "".join(f"CONFIG_U_{i}=y\n" for i in range(count))
 
 
-# Each shape with its least size. A tree has at most 65,535 symbols.
+# Each shape with its least size. A tree has at most 65,535 symbols and 1,000,000 lines.
 SHAPES = [
     (loop_beside_a_chain, 16000),
     (loop_beside_wide_conditions, 1000),
@@ -202,14 +269,26 @@ SHAPES = [
     (menu_round_comments, 16000),
     (menu_round_one_symbol, 16000),
     (menu_round_selects, 8000),
+    (menu_round_implies, 8000),
     (menu_at_the_limits, 16384),
     (hidden_menu_round_symbols, 8000),
     (hidden_menu_round_choices, 8000),
     (hidden_menu_round_comments, 16000),
     (hidden_menu_round_one_symbol, 16000),
     (hidden_menu_round_selects, 8000),
+    (blocks_one_in_another, 250),
+    (blocks_behind_one_another, 500),
+    (conditions_of_one_choice, 8000),
+    (own_dependencies, 8000),
+    (comments_with_conditions, 8000),
+    (a_chain_of_defaults, 16000),
+    (a_chain_of_selects, 16000),
+    (long_expressions, 1000),
+    (help_texts, 4000),
     (unknown_names, 500000),
 ]
+# Those that are refused, for their loop.
+REFUSED = {loop_beside_a_chain, loop_beside_wide_conditions}
 
 
 def write(shape, count, folder):
@@ -225,8 +304,8 @@ def write(shape, count, folder):
         sys.exit(f"{shape.__name__} was not written")
 
 
-def spent(program, folder):
-    """The least processor time of some runs in seconds, and the greatest peak memory in MiB."""
+def spent(program, folder, wanted):
+    """The least processor time of some runs in seconds, and the greatest peak memory in MiB. Each has to end with this status."""
     times, peaks = [], []
     for _ in range(TIMES):
         process = subprocess.Popen(
@@ -235,8 +314,8 @@ def spent(program, folder):
             preexec_fn=lambda: resource.setrlimit(resource.RLIMIT_AS, (ROOM, ROOM)))
         _, status, usage = os.wait4(process.pid, 0)
         code = os.waitstatus_to_exitcode(status)
-        if code not in (0, 1):
-            sys.exit(f"a run ended with status {code}")
+        if code != wanted:
+            sys.exit(f"a run ended with status {code} and not {wanted}")
         times.append(usage.ru_utime + usage.ru_stime)
         peaks.append(usage.ru_maxrss / 1024)
         if times[-1] > 5:
@@ -263,7 +342,7 @@ def measured(program, shape, least, times):
             os.mkdir(f"{folder}/{count}")
             write(shape, count, f"{folder}/{count}")
         for _ in range(times):
-            found = [spent(program, f"{folder}/{count}") for count, _, _ in rows]
+            found = [spent(program, f"{folder}/{count}", 1 if shape in REFUSED else 0) for count, _, _ in rows]
             rows = [(count, min(old, new), max(peak, more)) for (count, old, peak), (new, more) in zip(rows, found)]
             if not grown(rows):
                 break

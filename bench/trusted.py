@@ -15,7 +15,7 @@ import sys
 
 TOP = os.path.dirname(os.path.dirname(os.path.abspath(__file__)))
 # The calls that a user of the program rests on: the run, the laws over runs (all of that room), the program.
-RUN = {("kc_conf", "runs"): {"run"}, ("kc_conf", "laws"): None, ("kc_disk", "program"): {"kconf_over"}, ("kc_disk", "report"): {"exit_status"}}
+RUN = {("kc_conf", "runs"): {"run"}, ("kc_conf", "laws"): None, ("kc_disk", "program"): {"kconf_over", "kconf_of", "exit_status"}}
 HEADS = {"-- Trusted: ": True, "-- For proofs: ": False}
 WORD = re.compile(r"[A-Za-z_][\w'«»-]*(?:\.[A-Za-z_0-9][\w'-]*)*")
 
@@ -164,7 +164,17 @@ def cited(calls=None):
     return found
 
 
+def missing_calls():
+    """The calls of RUN that no room has, each with its room."""
+    for (crate, module), names in RUN.items():
+        text = read(os.path.join(TOP, "crates", crate, "src", f"{module}.rt"))
+        yield from (f"{crate} {module} has no {name}" for name in sorted(names or ()) if not re.search(rf"^pub fn {name}\b", text, re.M))
+
+
 def main():
+    missing = list(missing_calls())
+    if missing:
+        sys.exit("\n".join(missing))
     compare, of_run = "--cited" in sys.argv[1:], "--run" in sys.argv[1:]
     found = cited(RUN if of_run else None) if compare or of_run else set()
     wrong, files, lines = 0, 0, 0
