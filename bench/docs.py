@@ -87,6 +87,14 @@ class Built:
         with open(os.path.join(self.folder, name), encoding="utf-8") as file:
             return file.read()
 
+    def beside(self):
+        """The files that stand beside the outputs and are none of them."""
+        return sorted(it for it in os.listdir(self.folder) if re.fullmatch(r"(\.config|autoconf\.h|configured\.d)\..+", it))
+
+    def age(self, name):
+        """A file's time."""
+        return os.stat(os.path.join(self.folder, name)).st_mtime_ns
+
     def make(self):
         """Runs make. The answer: its status, and whether it ran kconf and the compiler."""
         told = dict(os.environ, KCONF=self.kconf, CC="cc", LC_ALL="C")
@@ -126,7 +134,10 @@ def makefile(kconf, name, text):
         expect("the first make", it.make()[:3], (0, True, True))
         expect("the next make", it.make()[:3], (0, False, False))
         it.touch("Kconfig")
+        stood = it.age(".config"), it.age("autoconf.h")
         expect("a Kconfig file is newer", it.make()[:3], (0, True, False))
+        expect("the .config is touched, the header not", (it.age(".config") != stood[0], it.age("autoconf.h") != stood[1]), (name == "--depfile", False))
+        expect("nothing stands beside", it.beside(), [])
         it.touch(".config")
         expect("the .config is newer", it.make()[:3], (0, True, False))
         it.put("site.config", it.get("site.config").replace("RELAYS=7", "RELAYS=6"))
@@ -152,6 +163,7 @@ def makefile(kconf, name, text):
         status, *_, said = it.make()
         expect("a file cannot be made", (status, "Error 3" in said), (2, True))
         expect("the files behind that", (it.get(".config"), it.get("autoconf.h")) == before, True)
+        expect("what it leaves", set(it.beside()) <= ({".config.new", "autoconf.h.new"} if name == "plain" else set()), True)
     return complaints
 
 
