@@ -8,25 +8,8 @@ use Rattle.std.proofs.lemmas.List.Sums.{suffix_len_is, position_or_len_is}
 use Rattle.bstr.specs.Bytes.{is_in, not_in}
 use Rattle.bstr.specs.Find.{NoneAfter, NoneBefore, Nowhere, Passes, is_byte}
 use Rattle.kc_text.specs.Lexemes.{is_blank}
+use Rattle.kc_text.proofs.Blanks.{blanks, fails_not, passes_not}
 use Rattle.kc_dot.specs.DotLine.{trimmed, split_at_equals, is_equals}
-
-abbrev blanks : List ℕ
-blanks = 32 ∷ 9 ∷ []
-
-not_in_is : (b : ℕ) → not_in blanks b ≡ not (is_blank b)
-unfolding is_in
-not_in_is b = ap not (same (b == 32) (b == 9))
-  where
-    same : (x y : Bool) → (x || (y || false)) ≡ (x || y)
-    same true y = refl
-    same false true = refl
-    same false false = refl
-
-passes_not : (b : ℕ) → not_in blanks b ≡ true → is_blank b ≡ false
-passes_not b e = not-true _ (sym (not_in_is b) ∙ e)
-
-fails_not : (b : ℕ) → (not_in blanks b ≡ true → ⊥) → is_blank b ≡ true
-fails_not b h = true_from_ne_false _ (λ e. h (not_in_is b ∙ not_from_false _ e))
 
 -- the last byte that is no blank ends the line
 pub trimmed_to : (bytes : List ℕ) (last : ℕ) → NoneAfter (Passes (not_in blanks) bytes) 0 (length bytes) last → Passes (not_in blanks) bytes last → take (last + 1) bytes ≡ trimmed bytes

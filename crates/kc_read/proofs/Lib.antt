@@ -14,7 +14,8 @@ pub mod PartLemmas
 pub mod ReplacedLemmas
 pub mod RestLemmas
 pub mod ShapeLemmas
-pub mod SilentFiles
+pub mod SourceSearch
+pub mod QuietFiles
 pub mod SourceLemmas
 pub mod SourceLines
 pub mod SourceWord

@@ -15,4 +15,5 @@ pub mod Existing
 pub mod Expanded
 pub mod Replaced
 pub mod Progress
+pub mod QuietFiles
 pub mod Sources

@@ -5,6 +5,7 @@ ghost use Rattle.kc_text.specs.Limits.{longest_line};
 ghost use Rattle.kc_text.specs.Lines.{UnreadLines, TakesLine, unread_lines};
 ghost use Rattle.kc_text.specs.declared.faults.TextFault.TheVariants.{Memory};
 ghost use Rattle.kc_read.specs.declared.sources.NextSource.TheVariants.{Nothing};
+ghost use Rattle.kc_read.specs.QuietFiles.{BeginsLine, EndsLine, HasNoJoin, HasNoSource, IsQuiet};
 ghost use Rattle.kc_read.specs.Sources as spec;
 ghost use Rattle.kc_read.specs.Sources.{HasMoreLines, Holds, IsFound, IsSilent};
 
@@ -93,12 +94,64 @@ fn next_source<'a>(
     source_of_line(alloc, text, &mut own, lines)
 }
 
+// Whether nothing but blanks stands between a place and the beginning of its line; `before` is what stands before the place.
+fn begins_line(before: &[u8]) -> bool
+    ensures { result ≡ false → BeginsLine before.now → ⊥ }
+{
+    match before.rfind_not_byteset(b" \t") {
+        Some(last) => before[last] == b'\n',
+        None => true,
+    }
+}
+
+// Whether these bytes begin with the end of a line.
+fn ends_line(after: &[u8]) -> bool
+    ensures { result ≡ false → EndsLine after.now → ⊥ }
+{
+    matches!(after, [b'\n', ..] | [b'\r', b'\n', ..])
+}
+
+// Whether a line begins with `source`.
+fn has_source(file: &[u8]) -> bool
+    ensures silent { result ≡ false → HasNoSource file.now }
+    ensures heard { result ≡ true → Holds file.now (codes "source") }
+{
+    let mut at = 0;
+    'words: loop {
+        let Some(found) = (&file[at..]).find(b"source") else {
+            return false;
+        };
+        let place = at + found;
+        if begins_line(&file[..place]) {
+            return true;
+        }
+        at = place + 1;
+    }
+}
+
+// Whether a line ends with a `\`, which joins it with the next one.
+fn has_join(file: &[u8]) -> bool
+    ensures silent { result ≡ false → HasNoJoin file.now }
+    ensures heard { result ≡ true → Holds file.now (codes "\\") }
+{
+    let mut at = 0;
+    'backslashes: loop {
+        let Some(found) = (&file[at..]).find_byte(b'\\') else {
+            return false;
+        };
+        at += found + 1;
+        if ends_line(&file[at..]) {
+            return true;
+        }
+    }
+}
+
 // Whether a file may have a `source` line, seen without cutting it into tokens. A `\` may join the parts of the word.
 fn may_source(file: &[u8]) -> bool
-    ensures silent { result ≡ false → IsSilent file.now }
+    ensures silent { result ≡ false → IsQuiet file.now }
     ensures heard { result ≡ true → Holds file.now (codes "source") ⊎ Holds file.now (codes "\\") }
 {
-    file.find(b"source").is_some() || file.find_byte(b'\\').is_some()
+    has_source(file) || has_join(file)
 }
 
 /// The names of the file's `source` lines in order, up to the first line that is too long or cannot be cut into tokens,

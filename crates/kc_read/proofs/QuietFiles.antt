@@ -1,0 +1,195 @@
+-- A file in which no line begins with the bytes of `source`, and none ends with a `\`, has no `source` line.
+use Rattle.std.proofs.Common.{◌≡◌, inl, inr, ℕ, suc, ◌+◌, ◌-◌, ◌<◌, Bool, true, false, cond, ◌&&◌, eqb, List, [], ◌∷◌, ◌++◌, length, take, drop, get_or, codes, None, refl, sym, ap, ◌∙◌, subst, append_assoc, append-nil, length-append, length-drop, get_or-drop, drop-cons, ◌≤◌, arith}
+use Rattle.std.specs.Prelude.{Some, IsTrue}
+use Rattle.std.specs.List.{slice_split, join_with_byte}
+use Rattle.std.specs.Str.Lines.{strip_carriage_return}
+use Rattle.std.proofs.lemmas.Bool.{both_ways, cases_Bool, eqb-true}
+use Rattle.std.proofs.lemmas.List.{get_or-take, length-take-le, take-append-drop}
+use Rattle.std.proofs.lemmas.List.Splits.{join_with_byte-slice_split}
+use Rattle.std.proofs.Math.Seq.{take-append_seam}
+use Rattle.bstr.specs.Find.{OccursAt, Passes, is_byte}
+use Rattle.kc_text.specs.Help.{after_text, column, from_other, is_help_line}
+use Rattle.kc_text.specs.Lexemes.{Lexeme, AWord, AQuoted, AnOp, Spells, is_blank}
+use Rattle.kc_text.specs.Lines.{IsFirstLine, UnreadLines, Physical, continues, joined_text, unread_lines, lines_of_parts, physical_lines}
+use Rattle.kc_text.specs.Tokens.{AreBlanks, Cuts, TokenView}
+use Rattle.kc_text.proofs.Physicals.{lf}
+use Rattle.kc_read.specs.Expansion.{NextLine, is_help, lexemes, without_help}
+use Rattle.kc_read.specs.Lines.{begins_with}
+use Rattle.kc_read.specs.QuietFiles.{AreAllBlank, EndsLine, EndsLineBefore, IsQuiet}
+use Rattle.kc_read.specs.Sources.{Holds, IsSource, SourceNames, none, here, past}
+use Rattle.kc_read.specs.Sources as spec
+use Rattle.kc_read.proofs.FileLemmas.{same_name_eq}
+
+-- ---- What a search that finds something says
+
+front_read : (text bytes : List ℕ) → length bytes ≤ length text → ((j : ℕ) → j < length bytes → get_or text j 0 ≡ get_or bytes j 0) → text ≡ bytes ++ drop (length bytes) text
+front_read text [] fits reads = refl
+front_read [] (b ∷ bytes) fits reads = absurd (omega arith)
+front_read (a ∷ text) (b ∷ bytes) fits reads = λ i. reads 0 (omega arith) i ∷ front_read text bytes (omega arith) (λ j lt. reads (suc j) (omega arith)) i
+
+stands_at : (text bytes : List ℕ) (k : ℕ) → OccursAt text bytes k → Holds text bytes
+stands_at text bytes k o =
+    let long = length-drop k text in
+    let fits = o.fits in
+    let front = front_read (drop k text) bytes (omega arith) (λ j lt. get_or-drop k text j 0 ∙ o.reads j lt) in
+    (take k text, drop (length bytes) (drop k text), sym (take-append-drop k text) ∙ ap (λ l. take k text ++ l) front ∙ sym (append_assoc (take k text) bytes _))
+
+byte_at : (text : List ℕ) (b k : ℕ) → k < length text → Passes (is_byte b) text k → Holds text (b ∷ [])
+byte_at text b k lt p =
+    let same : get_or text k 0 ≡ b = eqb-true (get_or text k 0) b p in (
+      take k text,
+      drop (suc k) text,
+      sym (take-append-drop k text) ∙ ap (λ l. take k text ++ l) (drop-cons text k 0 lt ∙ ap (λ x. x ∷ drop (suc k) text) same)
+          ∙ sym (append_assoc (take k text) (b ∷ []) _),
+    )
+
+-- ---- Parts of a text
+
+held_within : (text part bytes : List ℕ) → Holds text part → Holds part bytes → Holds text bytes
+held_within text part bytes (a, d, e) (b, c, f) = (a ++ b, c ++ d, e ∙ ap (λ p. (a ++ p) ++ d) f ∙ simp append_assoc refl)
+
+drop_held : (n : ℕ) (text : List ℕ) → Holds text (drop n text)
+drop_held n text = (take n text, [], sym (append-nil (take n text ++ drop n text) ∙ take-append-drop n text))
+
+-- the word stands in a file in whose rest it is found
+pub source_found : (file : List ℕ) (at k : ℕ) → OccursAt (drop at file) (codes "source") k → Holds file (codes "source")
+source_found file at k o = held_within file (drop at file) (codes "source") (drop_held at file) (stands_at (drop at file) (codes "source") k o)
+
+pub backslash_found : (file : List ℕ) (at k : ℕ) → k < length (drop at file) → Passes (is_byte 92) (drop at file) k → Holds file (92 ∷ [])
+backslash_found file at k lt p = held_within file (drop at file) (92 ∷ []) (drop_held at file) (byte_at (drop at file) 92 k lt p)
+
+-- ---- The physical lines
+
+-- no more than blanks stand before no `source`
+abbrev NoSourceFirst : List ℕ → Type 0
+NoSourceFirst text = (blanks after : List ℕ) → text ≡ blanks ++ codes "source" ++ after → AreAllBlank blanks → ⊥
+
+abbrev AreQuiet : List Physical → Type 0
+AreQuiet [] = Unit {0}
+AreQuiet (l ∷ ls) = ((continues l ≡ false) × NoSourceFirst l.text) × AreQuiet ls
+
+-- what stands before a part of a file, and what stands behind it
+no_source_in : (before text after : List ℕ) → EndsLineBefore before → IsQuiet (before ++ text ++ after) → NoSourceFirst text
+no_source_in before text after ends q blanks rest e blank =
+    q.no_source (before ++ blanks) (rest ++ after) (ap (λ t. before ++ t ++ after) e ∙ simp append_assoc refl) (before, blanks, refl, ends, blank)
+
+last_split : (text : List ℕ) (b : ℕ) → 0 < b → get_or text (length text - 1) 0 ≡ b → (front : List ℕ) × (text ≡ front ++ b ∷ [])
+last_split [] b some e = absurd (omega arith)
+last_split (c ∷ []) b some e = ([], ap (λ x. x ∷ []) e)
+last_split (c ∷ d ∷ text) b some e =
+    let place : length (c ∷ d ∷ text) - 1 ≡ suc (length (d ∷ text) - 1) = omega arith in
+    let (front, f) = last_split (d ∷ text) b some (rw place at e) in
+    (c ∷ front, ap (λ t. c ∷ t) f)
+
+both_or_none : (a : Bool) → (a && false) ≡ false
+both_or_none true = refl
+both_or_none false = refl
+
+not_joined : (before text after : List ℕ) → EndsLine after → IsQuiet (before ++ text ++ after) → (ended : Bool) → continues (record { text = text; ended = ended }) ≡ false
+not_joined before text after ends q ended = elim (cases_Bool (eqb (get_or text (length text - 1) 0) 92)) [
+  | inl e ↦
+      let (front, f) = last_split text 92 (omega arith) (eqb-true _ 92 e) in
+      absurd (q.no_join (before ++ front) after (ap (λ t. before ++ t ++ after) f ∙ simp append_assoc refl) ends)
+  | inr e ↦ rw e (both_or_none ended)
+]
+
+-- a line's text and the carriage return that was dropped
+stripped_split : (text : List ℕ) → (end : List ℕ) × (text ≡ strip_carriage_return text ++ end) × ((rest : List ℕ) → EndsLine (end ++ 10 ∷ rest))
+stripped_split text = elim (cases_Bool (eqb (get_or text (length text - 1) 0) 13)) [
+  | inl e ↦
+      let (front, f) = last_split text 13 (omega arith) (eqb-true _ 13 e) in
+      let long : length text - 1 ≡ length front = omega (arith, ap length f, length-append front (13 ∷ [])) in
+      let kept : take (length text - 1) text ≡ front = ap (λ n. take n text) long ∙ ap (take (length front)) f ∙ take-append_seam front (13 ∷ []) in
+      rw e (13 ∷ [], f ∙ ap (λ t. t ++ 13 ∷ []) (sym kept), λ rest. inr (rest, refl))
+  | inr e ↦ rw e ([], sym (append-nil text), λ rest. inl (rest, refl))
+]
+
+parts_quiet : (before : List ℕ) (parts : List (List ℕ)) → EndsLineBefore before → IsQuiet (before ++ join_with_byte 10 parts) → AreQuiet (lines_of_parts parts)
+parts_quiet before [] ends q = tt
+parts_quiet before (x ∷ []) ends q = elim (cases_Bool (eqb (length x) 0)) [
+  | inl e ↦ rw e tt
+  | inr e ↦ rw e ((refl, no_source_in before x [] ends (subst IsQuiet (sym (append-nil (before ++ x))) q)), tt)
+]
+parts_quiet before (x ∷ y ∷ more) ends q =
+    let rest = join_with_byte 10 (y ∷ more) in
+    let whole : IsQuiet (before ++ (x ++ 10 ∷ rest)) = q in
+    let (end, split, closes) = stripped_split x in
+    let text = strip_carriage_return x in
+    let apart : before ++ (x ++ 10 ∷ rest) ≡ before ++ text ++ (end ++ 10 ∷ rest) = ap (λ t. before ++ (t ++ 10 ∷ rest)) split ∙ simp append_assoc refl in
+    let own : IsQuiet (before ++ text ++ (end ++ 10 ∷ rest)) = subst IsQuiet apart whole in
+    let later : before ++ (x ++ 10 ∷ rest) ≡ (before ++ x ++ 10 ∷ []) ++ rest = simp append_assoc refl in (
+      (not_joined before text (end ++ 10 ∷ rest) (closes rest) own true, no_source_in before text (end ++ 10 ∷ rest) ends own),
+      parts_quiet (before ++ x ++ 10 ∷ []) (y ∷ more) (inr (before ++ x, refl)) (subst IsQuiet later whole),
+    )
+
+file_quiet : (file : List ℕ) → IsQuiet file → AreQuiet (physical_lines file)
+unfolding physical_lines
+file_quiet file q = parts_quiet [] (slice_split lf file) (inl refl) (subst IsQuiet (sym (join_with_byte-slice_split 10 file)) q)
+
+-- ---- Help lines
+
+other_quiet : (p : Physical → Bool) (ls : List Physical) → AreQuiet ls → AreQuiet (from_other p ls)
+other_quiet p [] s = tt
+other_quiet p (l ∷ ls) s = elim (cases_Bool (p l)) [
+  | inl e ↦ rw e (other_quiet p ls s.1)
+  | inr e ↦ rw e s
+]
+
+text_quiet : (ls : List Physical) → AreQuiet ls → AreQuiet (after_text ls)
+text_quiet [] s = tt
+text_quiet (l ∷ ls) s = elim (cases_Bool (eqb (column 0 l.text) 0)) [
+  | inl e ↦ rw e s
+  | inr e ↦ rw e (other_quiet (is_help_line (Some (column 0 l.text))) (l ∷ ls) s)
+]
+
+help_quiet : (b : Bool) (m : UnreadLines) → AreQuiet m.lines → AreQuiet (cond b (without_help m) m).lines
+help_quiet true m s = text_quiet (from_other (is_help_line None) m.lines) (other_quiet (is_help_line None) m.lines s)
+help_quiet false m s = s
+
+-- ---- The next line
+
+-- one physical line is the next line
+first_quiet : (lines front after : List Physical) → AreQuiet lines → IsFirstLine lines front after → NoSourceFirst (joined_text front) × AreQuiet after
+first_quiet lines [] after s f = absurd f.joined
+first_quiet lines (l ∷ []) after s f =
+    let all : AreQuiet (l ∷ after) = subst AreQuiet f.split s in
+    let stops : continues l ≡ false = all.0.0 in
+    let text : joined_text (l ∷ []) ≡ l.text = rw stops (append-nil l.text) in
+    (subst NoSourceFirst (sym text) all.0.1, all.1)
+first_quiet lines (l ∷ m ∷ more) after s f =
+    let all : AreQuiet (l ∷ m ∷ (more ++ after)) = subst AreQuiet f.split s in
+    absurd (both_ways (continues l) all.0.0 f.joined.0)
+
+word_first : (text : List ℕ) (n k : ℕ) (x : Lexeme) (xs : List Lexeme) → NoSourceFirst text → AreBlanks text 0 k → Spells (take n (drop k text)) x →
+    begins_with (codes "source") (x ∷ xs) ≡ true → ⊥
+word_first text n k (AWord w) xs q blank spelled b =
+    let word : take n (drop k text) ≡ codes "source" = spelled.0 ∙ same_name_eq w (codes "source") b in
+    let rest : drop k text ≡ codes "source" ++ drop n (drop k text) = sym (take-append-drop n (drop k text)) ∙ ap (λ t. t ++ drop n (drop k text)) word in
+    let whole : text ≡ take k text ++ codes "source" ++ drop n (drop k text) = sym (take-append-drop k text) ∙ ap (λ t. take k text ++ t) rest ∙ sym (append_assoc (take k text) (codes "source") _) in
+    let some : length (drop k text) ≡ 6 + length (drop n (drop k text)) = ap length rest ∙ length-append (codes "source") (drop n (drop k text)) in
+    let long : length (take k text) ≡ k = length-take-le k text (omega (arith, length-drop k text)) in
+    q (take k text) (drop n (drop k text)) whole (λ j lt. subst (λ b. IsTrue (is_blank b)) (sym (get_or-take k text j 0 (omega arith))) (blank.1 j (omega arith) (omega arith)))
+word_first text n k (AQuoted t) xs q blank spelled b = absurd cc
+word_first text n k (AnOp o) xs q blank spelled b = absurd cc
+
+no_source_word : (text : List ℕ) (ts : List TokenView) (q : ℕ) → NoSourceFirst text → Cuts text 0 ts q → begins_with (codes "source") (lexemes ts) ≡ true → ⊥
+no_source_word text [] q s cut b = absurd cc
+no_source_word text (t ∷ ts) q s cut b = word_first text (t.end - t.start) t.start t.lexeme (lexemes ts) s cut.0 cut.1.longest.spelled b
+
+quiet_after : (l m : UnreadLines) (ts : List TokenView) → AreQuiet l.lines → NextLine l m ts None → AreQuiet m.lines
+quiet_after l m ts s n =
+    let after = (first_quiet l.lines n.taken.0 n.middle.lines s n.taken.1).1 in
+    subst (λ (k : UnreadLines). AreQuiet k.lines) (sym n.left_after) (help_quiet (is_help (lexemes ts)) n.middle after)
+
+no_source_line : (l m : UnreadLines) (name : List ℕ) → AreQuiet l.lines → IsSource l m name → ⊥
+no_source_line l m name s line =
+    let (ts, next, begins, reads) = line in
+    let text = (first_quiet l.lines next.taken.0 next.middle.lines s next.taken.1).0 in
+    no_source_word next.text ts next.cut.0 (subst NoSourceFirst (sym next.taken.2) text) next.cut.2 begins
+
+nothing_passed : (l m n : UnreadLines) (name : List ℕ) → AreQuiet l.lines → spec.Passes l m → IsSource m n name → ⊥
+nothing_passed l m n name s (here k) line = no_source_line l n name s line
+nothing_passed l m n name s (past k j i o p) line = nothing_passed j m n name (quiet_after l j o.0 s o.1) p line
+
+pub no_names : (file : List ℕ) → IsQuiet file → SourceNames (unread_lines file 1) []
+no_names file s = none (unread_lines file 1) (λ m n name p line. nothing_passed (unread_lines file 1) m n name (file_quiet file s) p line)

@@ -1,0 +1,33 @@
+-- For proofs: Files in which no line can be a `source` line, as it is seen without cutting one into tokens.
+use Rattle.std.specs.Prelude.{◌≡◌, ℕ, ◌<◌, ◌⊎◌, List, [], ◌∷◌, ◌++◌, length, slice_index, IsTrue, codes}
+use Rattle.kc_text.specs.Bytes.{byte}
+use Rattle.kc_text.specs.Lexemes.{is_blank}
+
+-- nothing but blanks
+abbrev pub AreAllBlank : List ℕ → Type 0
+AreAllBlank bytes = (k : ℕ) → k < length bytes → IsTrue (is_blank (slice_index bytes k))
+
+-- what stands before the beginning of a line: nothing, or a line feed is its last byte
+abbrev pub EndsLineBefore : List ℕ → Type 0
+EndsLineBefore start = (start ≡ []) ⊎ ((front : List ℕ) × (start ≡ front ++ byte "\n" ∷ []))
+
+-- what stands before the first byte of a line that is no blank
+abbrev pub BeginsLine : List ℕ → Type 0
+BeginsLine before = (start blanks : List ℕ) × (before ≡ start ++ blanks) × EndsLineBefore start × AreAllBlank blanks
+
+-- what follows the last byte of a line
+abbrev pub EndsLine : List ℕ → Type 0
+EndsLine after = ((rest : List ℕ) × (after ≡ byte "\n" ∷ rest)) ⊎ ((rest : List ℕ) × (after ≡ byte "\r" ∷ (byte "\n" ∷ rest)))
+
+-- no line begins with `source`
+abbrev pub HasNoSource : List ℕ → Type 0
+HasNoSource file = (before after : List ℕ) → file ≡ before ++ codes "source" ++ after → BeginsLine before → ⊥
+
+-- no line ends with a `\`
+abbrev pub HasNoJoin : List ℕ → Type 0
+HasNoJoin file = (before after : List ℕ) → file ≡ before ++ byte "\\" ∷ after → EndsLine after → ⊥
+
+-- no line is joined with the next one, and none begins with `source`
+pub record IsQuiet (file : List ℕ) : Type 0 where
+  pub no_source : HasNoSource file
+  pub no_join : HasNoJoin file
