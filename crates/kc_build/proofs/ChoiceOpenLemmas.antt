@@ -16,7 +16,7 @@ use Rattle.kc_tree.specs.declared.rows.Choice.{Choice}
 use Rattle.kc_tree.specs.declared.rows.ChoiceDefault.{ChoiceDefault}
 use Rattle.kc_tree.specs.declared.rows.ContextId.{ContextId}
 use Rattle.kc_tree.specs.declared.rows.Definition.{Definition}
-use Rattle.kc_tree.specs.declared.rows.Prompt.{Prompt}
+use Rattle.kc_tree.specs.declared.rows.EntryPrompt.{EntryPrompt}
 use Rattle.kc_tree.specs.declared.rows.Symbol.{Symbol}
 use Rattle.kc_tree.specs.declared.rows.Title.{Title}
 use Rattle.kc_tree.specs.Contexts.{IsPlain, condition_in, in_choice, top}
@@ -47,7 +47,7 @@ use Rattle.kc_build.proofs.WalkLemmas.{choice_count, choice_passed, entry_count,
 -- What the tables keep with one choice more.
 module _ (conditions : List Condition) (ds : List Definition) (cs new : List Choice) (ts : List Title) (b : Bool) (c : Choice) (added : new ≡ pushed b cs c)
     (k : AreKept conditions ds cs ts) (there : c.within.0 < length conditions) (plain : IsPlain conditions c.within.0)
-    (seen : (p : Prompt) → c.prompt ≡ Some p → p.visible.0 < length conditions) (shown : (p : Prompt) → c.prompt ≡ Some p → IsPlain conditions p.visible.0) where
+    (seen : (p : EntryPrompt) → c.prompt ≡ Some p → p.visible.0 < length conditions) (shown : (p : EntryPrompt) → c.prompt ≡ Some p → IsPlain conditions p.visible.0) where
   by_row : (P : Choice → Type 0) → ((n : ℕ) (x : Choice) → slice_get cs n ≡ Some x → P x) → P c → (n : ℕ) (x : Choice) → slice_get new n ≡ Some x → P x
   by_row P old here n x at = one (get_pushed_if b cs new c n x added at)
     where
@@ -76,9 +76,9 @@ module _ (conditions : List Condition) (ds : List Definition) (cs new : List Cho
     prompts_plain = k.prompts_plain;
     choices_within = by_row (λ (x : Choice). x.within.0 < length conditions) k.choices_within there;
     choices_plain = by_row (λ (x : Choice). IsPlain conditions x.within.0) k.choices_plain plain;
-    choice_prompts_within = λ n x p at e. by_row (λ (x : Choice). (p : Prompt) → x.prompt ≡ Some p → p.visible.0 < length conditions)
+    choice_prompts_within = λ n x p at e. by_row (λ (x : Choice). (p : EntryPrompt) → x.prompt ≡ Some p → p.visible.0 < length conditions)
         (λ n x at p e. k.choice_prompts_within n x p at e) seen n x at p e;
-    choice_prompts_plain = λ n x p at e. by_row (λ (x : Choice). (p : Prompt) → x.prompt ≡ Some p → IsPlain conditions p.visible.0)
+    choice_prompts_plain = λ n x p at e. by_row (λ (x : Choice). (p : EntryPrompt) → x.prompt ≡ Some p → IsPlain conditions p.visible.0)
         (λ n x at p e. k.choice_prompts_plain n x p at e) shown n x at p e;
     titles_plain = k.titles_plain;
     modes_below = λ i n e. (let l = longer in let m = k.modes_below i n e in omega arith);
@@ -130,7 +130,7 @@ module _ (conditions new : List Condition) (x : Condition) (k : ℕ) (added : ne
     behind i n c (inl e) at = h.modes_behind i n c e at
     behind i n c (inr e) at = let s = e.0 in let l = h.choices_within n c at in omega arith
 
-    prompt_behind : (i n : ℕ) (c : Choice) (p : Prompt) → Counts i n → slice_get cs n ≡ Some c → c.prompt ≡ Some p → p.visible.0 < i
+    prompt_behind : (i n : ℕ) (c : Choice) (p : EntryPrompt) → Counts i n → slice_get cs n ≡ Some c → c.prompt ≡ Some p → p.visible.0 < i
     prompt_behind i n c p (inl e) at q = h.mode_prompts_behind i n c p e at q
     prompt_behind i n c p (inr e) at q = let s = e.0 in let l = h.choice_prompts_within n c p at q in omega arith
 

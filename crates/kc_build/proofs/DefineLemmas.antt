@@ -17,9 +17,9 @@ use Rattle.kc_tree.specs.declared.rows.Choice.{Choice}
 use Rattle.kc_tree.specs.declared.rows.ContextId.{ContextId}
 use Rattle.kc_tree.specs.declared.rows.Definition.{Definition}
 use Rattle.kc_tree.specs.declared.rows.ShownEntry.{ShownEntry}
-use Rattle.kc_tree.specs.declared.rows.Prompt.{Prompt}
+use Rattle.kc_tree.specs.declared.rows.EntryPrompt.{EntryPrompt}
 use Rattle.kc_tree.specs.declared.rows.Reverse.{Reverse}
-use Rattle.kc_tree.specs.declared.rows.Span.{Span}
+use Rattle.kc_tree.specs.declared.rows.RowSpan.{RowSpan}
 use Rattle.kc_tree.specs.declared.rows.Title.{Title}
 use Rattle.kc_tree.specs.declared.reverses.Reverses.{Reverses}
 use Rattle.kc_tree.specs.Contexts.{IsPlain, condition_in}
@@ -39,19 +39,19 @@ use Rattle.kc_build.specs.WalkSteps.{AddsDefinition, dependency_in, made_definit
 use Rattle.kc_build.proofs.GrownLemmas.{AreKept, Carries, Keeping, guarded_bounds, carries_grown, guarded_default, defaults_by_row, definition_carries, get_pushed, get_pushed_if, held_by, held_carries, Holding, holding, keeping, kept_by, kept_carries, map_alike, plain_carries, pushed, ranges_by_row, titles_stay}
 
 -- Prompts.
-pub prompt_visible : (o : Option Prompt) (v : ℕ) (x : Option (InputPrompt Form)) →
-    option_map prompt_line o ≡ option_map (λ (p : InputPrompt Form). (v, p.when)) x → (p : Prompt) → o ≡ Some p → p.visible.0 ≡ v
+pub prompt_visible : (o : Option EntryPrompt) (v : ℕ) (x : Option (InputPrompt Form)) →
+    option_map prompt_line o ≡ option_map (λ (p : InputPrompt Form). (v, p.when)) x → (p : EntryPrompt) → o ≡ Some p → p.visible.0 ≡ v
 prompt_visible None v x e p q = absurd cc
 prompt_visible (Some r) v None e p q = absurd cc
 prompt_visible (Some r) v (Some a) e p q =
     let same : r ≡ p = cc in
     let line : prompt_line r ≡ (v, a.when) = cc in
-    ap (λ (s : Prompt). s.visible.0) (sym same) ∙ ap (λ (l : ℕ × Option Form). l.0) line
+    ap (λ (s : EntryPrompt). s.visible.0) (sym same) ∙ ap (λ (l : ℕ × Option Form). l.0) line
 
 abbrev pub prompt_under : List Condition → Condition → ℕ × Option Form → Condition
 prompt_under conditions dependency q = with_when (with_parts dependency (condition_in conditions q.0).parts) q.1
 
-pub prompt_by_line : (conditions : List Condition) (dependency : Condition) (o : Option Prompt) →
+pub prompt_by_line : (conditions : List Condition) (dependency : Condition) (o : Option EntryPrompt) →
     option_map (prompt_view conditions dependency) o ≡ option_map (prompt_under conditions dependency) (option_map prompt_line o)
 prompt_by_line conditions dependency None = refl
 prompt_by_line conditions dependency (Some p) = refl
@@ -63,14 +63,14 @@ by_asked conditions dependency v None = refl
 by_asked conditions dependency v (Some p) = refl
 
 -- The slice of a table that was added last.
-abbrev spanned : {X : Type 0} → List X → Span → Bool → List X
+abbrev spanned : {X : Type 0} → List X → RowSpan → Bool → List X
 spanned table s b = if b then take (s.end - s.start) (drop s.start table) else []
 
 longer_by : {X Y : Type 0} (v : X → Y) (old new : List X) (more : List Y) → map v new ≡ map v old ++ more → length new ≡ length old + length more
 longer_by v old new more e =
     sym (length-map new v) ∙ ap length e ∙ length-append (map v old) more ∙ ap (λ (k : ℕ). k + length more) (length-map old v)
 
-part_last : {X Y : Type 0} (v : X → Y) (old new : List X) (more : List Y) (s : Span) → s.start ≡ length old → s.end ≡ length new → map v new ≡ map v old ++ more → map v (slice_of new s) ≡ more
+part_last : {X Y : Type 0} (v : X → Y) (old new : List X) (more : List Y) (s : RowSpan) → s.start ≡ length old → s.end ≡ length new → map v new ≡ map v old ++ more → map v (slice_of new s) ≡ more
 part_last v old new more s a b e =
     let n = longer_by v old new more e in
     let up : nat_le s.start s.end ≡ true = grind (arith, nat_tests) in
@@ -94,7 +94,7 @@ fewer {A} {B} f (x ∷ xs) = by (f x) (fewer f xs)
 
 -- What the walk keeps with one definition more.
 module _ (w : Walk) (new : List Condition) (g : Carries w.tables.contexts new) (d : Definition) (l : d.within.0 < length new)
-    (q : (p : Prompt) → d.prompt ≡ Some p → p.visible.0 ≡ w.blocks.innermost.visible.0) where
+    (q : (p : EntryPrompt) → d.prompt ≡ Some p → p.visible.0 ≡ w.blocks.innermost.visible.0) where
   kept : AreKept new w.tables.definitions.items w.tables.choices.items w.tables.titles.items
   kept = kept_carries w.tables.contexts new g w.tables.definitions.items w.tables.choices.items w.tables.titles.items w.titles (kept_by w.tables)
 
@@ -105,7 +105,7 @@ module _ (w : Walk) (new : List Condition) (g : Carries w.tables.contexts new) (
   within_by i x (inl a) = kept.within i x a
   within_by i x (inr a) = subst (λ (y : Definition). y.within.0 < length new) a l
 
-  prompt_by : (i : ℕ) (x : Definition) (p : Prompt) → x.prompt ≡ Some p → (slice_get w.tables.definitions.items i ≡ Some x) ⊎ (d ≡ x) → p.visible.0 < length new
+  prompt_by : (i : ℕ) (x : Definition) (p : EntryPrompt) → x.prompt ≡ Some p → (slice_get w.tables.definitions.items i ≡ Some x) ⊎ (d ≡ x) → p.visible.0 < length new
   prompt_by i x p e (inl a) = kept.prompts_within i x p a e
   prompt_by i x p e (inr a) =
       let n : p.visible.0 ≡ w.blocks.innermost.visible.0 = q p (ap (λ (y : Definition). y.prompt) a ∙ e) in
@@ -113,7 +113,7 @@ module _ (w : Walk) (new : List Condition) (g : Carries w.tables.contexts new) (
       let m = g.longer in
       omega arith
 
-  plain_by : (i : ℕ) (x : Definition) (p : Prompt) → x.prompt ≡ Some p → (slice_get w.tables.definitions.items i ≡ Some x) ⊎ (d ≡ x) → IsPlain new p.visible.0
+  plain_by : (i : ℕ) (x : Definition) (p : EntryPrompt) → x.prompt ≡ Some p → (slice_get w.tables.definitions.items i ≡ Some x) ⊎ (d ≡ x) → IsPlain new p.visible.0
   plain_by i x p e (inl a) = kept.prompts_plain i x p a e
   plain_by i x p e (inr a) =
       let n : p.visible.0 ≡ w.blocks.innermost.visible.0 = q p (ap (λ (y : Definition). y.prompt) a ∙ e) in
@@ -294,7 +294,7 @@ pub outer_stands : (w : Walk) (outer : Block) (new : List Condition) (i : ℕ) (
     Stands new i (and_all (condition_in w.tables.contexts outer.within.0) fs) → Stands new i (and_all (condition_in w.tables.contexts w.blocks.innermost.within.0) fs)
 outer_stands w outer new i fs e h = subst (λ (b : Block). Stands new i (and_all (condition_in w.tables.contexts b.within.0) fs)) e h
 
-pub outer_prompt : (w : Walk) (outer : Block) (o : Option Prompt) (x : Option (InputPrompt Form)) → outer ≡ w.blocks.innermost →
+pub outer_prompt : (w : Walk) (outer : Block) (o : Option EntryPrompt) (x : Option (InputPrompt Form)) → outer ≡ w.blocks.innermost →
     option_map prompt_line o ≡ option_map (λ (p : InputPrompt Form). (outer.visible.0, p.when)) x →
     option_map prompt_line o ≡ option_map (λ (p : InputPrompt Form). (w.blocks.innermost.visible.0, p.when)) x
 outer_prompt w outer o x e h = subst (λ (b : Block). option_map prompt_line o ≡ option_map (λ (p : InputPrompt Form). (b.visible.0, p.when)) x) e h

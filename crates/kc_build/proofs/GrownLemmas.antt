@@ -16,10 +16,10 @@ use Rattle.kc_tree.specs.declared.rows.Definition.{Definition}
 use Rattle.kc_tree.specs.declared.rows.DefinitionId.{DefinitionId}
 use Rattle.kc_tree.specs.declared.rows.ShownEntry.{ShownEntry}
 use Rattle.kc_tree.specs.declared.rows.ShownEntry.TheVariants as entry
-use Rattle.kc_tree.specs.declared.rows.Prompt.{Prompt}
+use Rattle.kc_tree.specs.declared.rows.EntryPrompt.{EntryPrompt}
 use Rattle.kc_tree.specs.declared.rows.Reverse.{Reverse}
 use Rattle.kc_tree.specs.declared.rows.ReverseId.{ReverseId}
-use Rattle.kc_tree.specs.declared.rows.Span.{Span}
+use Rattle.kc_tree.specs.declared.rows.RowSpan.{RowSpan}
 use Rattle.kc_tree.specs.declared.rows.SymbolDefault.{SymbolDefault}
 use Rattle.kc_tree.specs.declared.rows.SymbolRange.{SymbolRange}
 use Rattle.kc_tree.specs.declared.rows.Title.{Title}
@@ -211,7 +211,7 @@ module _ (old new : List Condition) (g : Carries old new) where
   }
 
 -- One definition says the same: where the contexts that it leads to and its parts of the other tables do.
-prompt_alike : (old new : List Condition) (dependency : Condition) (o : Option Prompt) → ((p : Prompt) → o ≡ Some p → condition_in new p.visible.0 ≡ condition_in old p.visible.0) →
+prompt_alike : (old new : List Condition) (dependency : Condition) (o : Option EntryPrompt) → ((p : EntryPrompt) → o ≡ Some p → condition_in new p.visible.0 ≡ condition_in old p.visible.0) →
     option_map (prompt_view new dependency) o ≡ option_map (prompt_view old dependency) o
 prompt_alike old new dependency None h = refl
 prompt_alike old new dependency (Some p) h = rw (h p refl) refl
@@ -232,10 +232,10 @@ ranges_by_row dependency [] = refl
 ranges_by_row dependency (x ∷ xs) = rw (ranges_by_row dependency xs) refl
 
 -- the slice of a table that a span names, when the table has more
-abbrev spanned : {X : Type 0} → List X → Span → Bool → List X
+abbrev spanned : {X : Type 0} → List X → RowSpan → Bool → List X
 spanned table s b = if b then take (s.end - s.start) (drop s.start table) else []
 
-spans : (s : Span) (n m : ℕ) → IsSpanBelow n s → n ≤ m → (nat_le s.start s.end && nat_le s.end m) ≡ true
+spans : (s : RowSpan) (n m : ℕ) → IsSpanBelow n s → n ≤ m → (nat_le s.start s.end && nat_le s.end m) ≡ true
 spans s n m h l =
     let up = h.goes_up in
     let within = h.within in
@@ -243,7 +243,7 @@ spans s n m h l =
     let b : nat_le s.end m ≡ true = grind (arith, nat_tests) in
     rw (a, b) refl
 
-pub part_grown : {X Y : Type 0} (v : X → Y) (old new : List X) (more : List Y) (s : Span) → IsSpanBelow (length old) s → map v new ≡ map v old ++ more →
+pub part_grown : {X Y : Type 0} (v : X → Y) (old new : List X) (more : List Y) (s : RowSpan) → IsSpanBelow (length old) s → map v new ≡ map v old ++ more →
     map v (slice_of new s) ≡ map v (slice_of old s)
 part_grown v old new more s h e =
     let n : length new ≡ length old + length more = sym (length-map new v) ∙ ap length e ∙ length-append (map v old) more ∙ ap (λ (k : ℕ). k + length more) (length-map old v) in
@@ -261,7 +261,7 @@ part_grown v old new more s h e =
 
 module _ (old new : Tables) where
   pub definition_alike : (d : Definition) → condition_in new.contexts d.within.0 ≡ condition_in old.contexts d.within.0 →
-      ((p : Prompt) → d.prompt ≡ Some p → condition_in new.contexts p.visible.0 ≡ condition_in old.contexts p.visible.0) →
+      ((p : EntryPrompt) → d.prompt ≡ Some p → condition_in new.contexts p.visible.0 ≡ condition_in old.contexts p.visible.0) →
       map default_row (slice_of new.defaults.items d.defaults) ≡ map default_row (slice_of old.defaults.items d.defaults) →
       map range_row (slice_of new.ranges.items d.ranges) ≡ map range_row (slice_of old.ranges.items d.ranges) → definition_facts new d ≡ definition_facts old d
   definition_alike d within visible defaults ranges =
@@ -280,7 +280,7 @@ module _ (old new : Tables) where
       λ i. record { symbol = d.symbol; dependency = within i; prompt = prompt i; defaults = given i; ranges = bounds i }
 
   pub choice_alike : (c : Choice) → condition_in new.contexts c.within.0 ≡ condition_in old.contexts c.within.0 →
-      ((p : Prompt) → c.prompt ≡ Some p → condition_in new.contexts p.visible.0 ≡ condition_in old.contexts p.visible.0) → choice_facts new c ≡ choice_facts old c
+      ((p : EntryPrompt) → c.prompt ≡ Some p → condition_in new.contexts p.visible.0 ≡ condition_in old.contexts p.visible.0) → choice_facts new c ≡ choice_facts old c
   choice_alike c within visible =
       let before = condition_in old.contexts c.within.0 in
       let prompt : option_map (prompt_view new.contexts (condition_in new.contexts c.within.0)) c.prompt ≡ option_map (prompt_view old.contexts before) c.prompt =

@@ -6,7 +6,7 @@ use Rattle.kc_expr.specs.Form.{Form, Leaf, form_of, leaf_of}
 use Rattle.kc_expr.specs.When.{when_view}
 use Rattle.kc_read.specs.Statements.{Numbered, RangeLine}
 use Rattle.kc_tree.specs.declared.rows.ChoiceDefault.{ChoiceDefault}
-use Rattle.kc_tree.specs.declared.rows.Prompt.{Prompt}
+use Rattle.kc_tree.specs.declared.rows.EntryPrompt.{EntryPrompt}
 use Rattle.kc_tree.specs.declared.rows.Symbol.{Symbol}
 use Rattle.kc_tree.specs.declared.rows.SymbolDefault.{SymbolDefault}
 use Rattle.kc_tree.specs.declared.rows.SymbolRange.{SymbolRange}
@@ -14,7 +14,7 @@ use Rattle.kc_build.specs.Facts.{StatedDefault, stated_default, single_symbol}
 use Rattle.kc_build.specs.SymbolRows.{member_by}
 
 -- a prompt by the number of its context; a default, a range, a choice's default
-abbrev pub prompt_line : Prompt → ℕ × Option Form
+abbrev pub prompt_line : EntryPrompt → ℕ × Option Form
 prompt_line p = (p.visible.0, when_view p.when)
 
 abbrev pub default_row : SymbolDefault → Form × Option Form

@@ -10,7 +10,7 @@ use Rattle.kc_tree.specs.declared.layout.Tables.{Tables}
 use Rattle.kc_tree.specs.declared.rows.Definition.{Definition}
 use Rattle.kc_tree.specs.declared.rows.ShownEntry.{ShownEntry}
 use Rattle.kc_tree.specs.declared.rows.ShownEntry.TheVariants as entry
-use Rattle.kc_tree.specs.declared.rows.Span.{Span}
+use Rattle.kc_tree.specs.declared.rows.RowSpan.{RowSpan}
 use Rattle.kc_tree.specs.declared.rows.Symbol.{Symbol}
 use Rattle.kc_tree.specs.declared.rows.Title.{Title}
 use Rattle.kc_build.specs.Before.{choices_before, definitions_before, entries_before, impliers_before, main_menu_before, selectors_before}
@@ -33,7 +33,7 @@ pub record IsSmall (i : ℕ) (t : Tables) : Type 0 where
   pub choices : length t.choices.items ≤ i
 
 -- a span lies within a table of this length
-pub record IsSpanBelow (n : ℕ) (s : Span) : Type 0 where
+pub record IsSpanBelow (n : ℕ) (s : RowSpan) : Type 0 where
   pub goes_up : s.start ≤ s.end
   pub within : s.end ≤ n
 

@@ -23,7 +23,7 @@ use kc_read::statement;
 use kc_read::statement::Line;
 use kc_tree::contexts::Contexts;
 use kc_tree::rows::{
-    ChoiceDefault, ChoiceId, ContextId, Prompt, Span, Symbol, SymbolDefault, SymbolRange,
+    ChoiceDefault, ChoiceId, ContextId, EntryPrompt, RowSpan, Symbol, SymbolDefault, SymbolRange,
 };
 use std::alloc::{AllocError, Global};
 use std::rc::Rc;
@@ -84,11 +84,11 @@ pub fn shared_condition(when: Option<&Rc<Expr>>) -> Result<Option<Rc<Expr>>, All
 }
 
 /// The prompt of an entry, where it has one; `visible` is what the enclosing menus ask of what is visible.
-pub fn prompt(attributes: &[Line], visible: ContextId) -> Result<Option<Prompt>, AllocError>
+pub fn prompt(attributes: &[Line], visible: ContextId) -> Result<Option<EntryPrompt>, AllocError>
     ensures { IfOk result (λ o. option_map prompt_line o ≡ option_map (λ p. (visible.0, p.when)) (blocks.last_of (filter_map facts.prompt_of (statements_of attributes.now)))) }
 {
     match last_prompt(attributes) {
-        Some(prompt) => Ok(Some(Prompt {
+        Some(prompt) => Ok(Some(EntryPrompt {
             visible,
             when: shared_condition(prompt.when.as_ref())?,
         })),
@@ -141,7 +141,7 @@ pub fn visible_context(
 pub fn add_defaults(
     attributes: &[Line],
     defaults: &mut Vec<SymbolDefault>,
-) -> Result<Span, AllocError>
+) -> Result<RowSpan, AllocError>
     requires few { length defaults.old.items + length attributes.now < 2 ^ 32 }
     ensures added { OnOk result (map default_row defaults.new.items ≡ map default_row defaults.old.items ++ filter_map default_line (statements_of attributes.now)) }
     ensures start { IfOk result (λ s. s.start ≡ length defaults.old.items) }
@@ -156,7 +156,7 @@ pub fn add_defaults(
             defaults.push(SymbolDefault { value, when })?;
         }
     }
-    Ok(Span {
+    Ok(RowSpan {
         start,
         end: defaults.len() as u32,
     })
@@ -167,7 +167,7 @@ pub fn add_ranges(
     alloc: Global,
     attributes: &[Line],
     ranges: &mut Vec<SymbolRange>,
-) -> Result<Span, AllocError>
+) -> Result<RowSpan, AllocError>
     requires few { length ranges.old.items + length attributes.now < 2 ^ 32 }
     ensures added { OnOk result (map range_row ranges.new.items ≡ map range_row ranges.old.items ++ filter_map range_line (statements_of attributes.now)) }
     ensures start { IfOk result (λ s. s.start ≡ length ranges.old.items) }
@@ -183,7 +183,7 @@ pub fn add_ranges(
             ranges.push(SymbolRange { low, high, when })?;
         }
     }
-    Ok(Span {
+    Ok(RowSpan {
         start,
         end: ranges.len() as u32,
     })

@@ -1,5 +1,5 @@
--- Trusted: What definitions on trees share: an option as a list, and the same symbol.
-use Rattle.std.specs.Prelude.{List, [], ◌∷◌, Bool, false, ◌==◌, Option, Some, None}
+-- Trusted: What definitions on trees share: an option as a list, the same symbol, and the name of a symbol.
+use Rattle.std.specs.Prelude.{ℕ, List, [], ◌∷◌, Bool, false, ◌==◌, Option, Some, None, slice_index_or}
 use Rattle.kc_expr.specs.declared.expression.SymId.{SymId}
 
 -- an option as a list
@@ -13,3 +13,7 @@ same_symbol s t = s.0 == t.0
 abbrev pub is_symbol_of : SymId → Option SymId → Bool
 is_symbol_of s None = false
 is_symbol_of s (Some t) = same_symbol s t
+
+-- the name of a symbol by these names; none that has no name there
+abbrev pub name_by : List (List ℕ) → SymId → List ℕ
+name_by names s = slice_index_or names s.0 []

@@ -14,7 +14,7 @@ use Rattle.kc_tree.specs.declared.rows.Definition.{Definition}
 use Rattle.kc_tree.specs.declared.rows.DefinitionId.{DefinitionId}
 use Rattle.kc_tree.specs.declared.rows.ShownEntry.{ShownEntry}
 use Rattle.kc_tree.specs.declared.rows.ShownEntry.TheVariants as entry
-use Rattle.kc_tree.specs.declared.rows.Prompt.{Prompt}
+use Rattle.kc_tree.specs.declared.rows.EntryPrompt.{EntryPrompt}
 use Rattle.kc_tree.specs.declared.rows.Reverse.{Reverse}
 use Rattle.kc_tree.specs.declared.rows.ReverseId.{ReverseId}
 use Rattle.kc_tree.specs.declared.rows.Symbol.{Symbol}
@@ -36,7 +36,7 @@ abbrev pub with_parts : Condition → List Form → Condition
 with_parts c fs = record { parts = c.parts ++ fs; mode = c.mode }
 
 -- a prompt, under the conditions of the contexts and what its entry depends on
-abbrev pub prompt_view : List Condition → Condition → Prompt → Condition
+abbrev pub prompt_view : List Condition → Condition → EntryPrompt → Condition
 prompt_view conditions dependency p = with_when (with_parts dependency (condition_in conditions p.visible.0).parts) (when_view p.when)
 
 -- Under what their entry depends on.

@@ -1,6 +1,5 @@
 pub mod Chains
 pub mod Contexts
-pub mod ContextsCode
 pub mod Empty
 pub mod RowFacts
 pub mod Layouts

@@ -5,7 +5,7 @@ use Rattle.std.specs.Prelude.{◌≡◌, ◌<◌, ℕ, List, length, Option, Som
 use Rattle.kc_tree.specs.TreeFacts.{Condition}
 use Rattle.kc_tree.specs.declared.rows.Choice.{Choice}
 use Rattle.kc_tree.specs.declared.rows.Definition.{Definition}
-use Rattle.kc_tree.specs.declared.rows.Prompt.{Prompt}
+use Rattle.kc_tree.specs.declared.rows.EntryPrompt.{EntryPrompt}
 use Rattle.kc_tree.specs.declared.rows.Title.{Title}
 use Rattle.kc_tree.specs.Contexts.{IsPlain, condition_in}
 
@@ -15,10 +15,10 @@ AreWithin conditions ds = (i : ℕ) (d : Definition) → slice_get ds i ≡ Some
 
 -- what their prompts ask for is there, and no mode counts in it
 abbrev pub ArePromptsWithin : List Condition → List Definition → Type 0
-ArePromptsWithin conditions ds = (i : ℕ) (d : Definition) (p : Prompt) → slice_get ds i ≡ Some d → d.prompt ≡ Some p → p.visible.0 < length conditions
+ArePromptsWithin conditions ds = (i : ℕ) (d : Definition) (p : EntryPrompt) → slice_get ds i ≡ Some d → d.prompt ≡ Some p → p.visible.0 < length conditions
 
 abbrev pub ArePromptsPlain : List Condition → List Definition → Type 0
-ArePromptsPlain conditions ds = (i : ℕ) (d : Definition) (p : Prompt) → slice_get ds i ≡ Some d → d.prompt ≡ Some p → IsPlain conditions p.visible.0
+ArePromptsPlain conditions ds = (i : ℕ) (d : Definition) (p : EntryPrompt) → slice_get ds i ≡ Some d → d.prompt ≡ Some p → IsPlain conditions p.visible.0
 
 -- the same of choices, which no mode counts for
 abbrev pub AreChoicesWithin : List Condition → List Choice → Type 0
@@ -28,10 +28,10 @@ abbrev pub AreChoicesPlain : List Condition → List Choice → Type 0
 AreChoicesPlain conditions cs = (k : ℕ) (c : Choice) → slice_get cs k ≡ Some c → IsPlain conditions c.within.0
 
 abbrev pub AreChoicePromptsWithin : List Condition → List Choice → Type 0
-AreChoicePromptsWithin conditions cs = (k : ℕ) (c : Choice) (p : Prompt) → slice_get cs k ≡ Some c → c.prompt ≡ Some p → p.visible.0 < length conditions
+AreChoicePromptsWithin conditions cs = (k : ℕ) (c : Choice) (p : EntryPrompt) → slice_get cs k ≡ Some c → c.prompt ≡ Some p → p.visible.0 < length conditions
 
 abbrev pub AreChoicePromptsPlain : List Condition → List Choice → Type 0
-AreChoicePromptsPlain conditions cs = (k : ℕ) (c : Choice) (p : Prompt) → slice_get cs k ≡ Some c → c.prompt ≡ Some p → IsPlain conditions p.visible.0
+AreChoicePromptsPlain conditions cs = (k : ℕ) (c : Choice) (p : EntryPrompt) → slice_get cs k ≡ Some c → c.prompt ≡ Some p → IsPlain conditions p.visible.0
 
 -- what the enclosing menus of a title ask of what is visible
 abbrev pub AreTitlesPlain : List Condition → List Title → Type 0
@@ -45,10 +45,10 @@ abbrev pub AreModesBehind : List Condition → List Choice → Type 0
 AreModesBehind conditions cs = (i k : ℕ) (c : Choice) → (condition_in conditions i).mode ≡ Some k → slice_get cs k ≡ Some c → c.within.0 < i
 
 abbrev pub AreModePromptsBehind : List Condition → List Choice → Type 0
-AreModePromptsBehind conditions cs = (i k : ℕ) (c : Choice) (p : Prompt) → (condition_in conditions i).mode ≡ Some k → slice_get cs k ≡ Some c → c.prompt ≡ Some p → p.visible.0 < i
+AreModePromptsBehind conditions cs = (i k : ℕ) (c : Choice) (p : EntryPrompt) → (condition_in conditions i).mode ≡ Some k → slice_get cs k ≡ Some c → c.prompt ≡ Some p → p.visible.0 < i
 
 -- the same of one row, as it is asked for
-abbrev pub IsPromptThere : List Condition → Option Prompt → Type 0
+abbrev pub IsPromptThere : List Condition → Option EntryPrompt → Type 0
 IsPromptThere conditions None = Unit {0}
 IsPromptThere conditions (Some p) = (p.visible.0 < length conditions) × IsPlain conditions p.visible.0
 

@@ -6,12 +6,9 @@ use Rattle.kc_expr.specs.declared.expression.SymId.{SymId}
 use Rattle.kc_expr.specs.declared.expression.Kind.{Kind}
 use Rattle.kc_expr.specs.contracts.expression.SymId as sym_id
 use Rattle.kc_expr.specs.contracts.expression.Kind as kind
-use Rattle.kc_expr.specs.Form.{Form, Leaf, Text, Symbol}
-use Rattle.kc_expr.specs.FormCode.{form_code}
+use Rattle.kc_expr.specs.Form.{Form, Leaf}
+use Rattle.kc_expr.specs.FormCode.{bytes_code, form_code, leaf_code}
 use Rattle.kc_tree.specs.TreeFacts.{Condition, Guarded, Bounds, SymbolFacts, ChoiceFacts, Shown, SymbolShown, MenuShown, EndShown, CommentShown, TreeFacts}
-
-abbrev bytes_code : Coded (List ℕ)
-bytes_code = coded_list coded_ℕ
 
 abbrev sym_code : Coded SymId
 sym_code = sym_id.the_row.coded
@@ -27,25 +24,10 @@ module _ {X : Type 0} (code : Coded X) where
   abbrev pub guarded_code : Coded (Guarded X)
   guarded_code = code_by (X × Condition) (coded× code condition_code) (λ g. (g.what, g.when)) (λ p. record { what = p.0; when = p.1 }) (λ _. refl)
 
-abbrev split_leaf : Leaf → List ℕ ⊎ SymId
-split_leaf (Text t) = inl t
-split_leaf (Symbol s) = inr s
-
-abbrev join_leaf : List ℕ ⊎ SymId → Leaf
-join_leaf (inl t) = Text t
-join_leaf (inr s) = Symbol s
-
-pub join-split_leaf : (l : Leaf) → join_leaf (split_leaf l) ≡ l
-join-split_leaf (Text t) = refl
-join-split_leaf (Symbol s) = refl
-
-abbrev pub leaf_code : Coded Leaf
-leaf_code = code_by (List ℕ ⊎ SymId) (coded⊎ bytes_code sym_code) split_leaf join_leaf join-split_leaf
-
 abbrev pub bounds_code : Coded Bounds
 bounds_code = code_by (Leaf × Leaf) (coded× leaf_code leaf_code) (λ b. (b.low, b.high)) (λ p. record { low = p.0; high = p.1 }) (λ _. refl)
 
-abbrev conditions_code : Coded (List Condition)
+abbrev pub conditions_code : Coded (List Condition)
 conditions_code = coded_list condition_code
 
 abbrev named_code : Coded (List (Guarded SymId))

@@ -2,14 +2,14 @@
 
 ghost use Rattle.std.specs.Prelude.{◌≡◌, ◌<◌, ◌+◌, ◌^◌, None, length, option_map, slice_get, slice_index_or, IfSome};
 ghost use Rattle.kc_tree.specs.Contexts.{condition_in, mode_view, IsContext};
-ghost use Rattle.kc_tree.specs.Spans.{slice_of, definition_ids};
+ghost use Rattle.kc_tree.specs.Spans.{slice_of, definition_ids, definition_of};
 ghost use Rattle.kc_tree.specs.Soundness.{AreChoicePromptsPlain, AreChoicePromptsWithin, AreChoicesPlain, AreChoicesWithin, AreModePromptsBehind, AreModesBehind, AreModesBelow, ArePromptsPlain, ArePromptsWithin, AreTitlesPlain, AreWithin};
 
 use crate::contexts::Contexts;
 use crate::reverses::Reverses;
 use crate::rows::{
-    Choice, ChoiceId, Context, ContextId, Definition, DefinitionId, Reverse, ReverseId, ShownEntry,
-    Span, Symbol, SymbolDefault, SymbolRange, Title, TitleId,
+    Choice, ChoiceId, Context, ContextId, Definition, DefinitionId, Reverse, ReverseId, RowSpan,
+    ShownEntry, Symbol, SymbolDefault, SymbolRange, Title, TitleId,
 };
 use kc_expr::expression::SymId;
 use std::alloc::{AllocError, Global};
@@ -80,7 +80,7 @@ pub struct TreeParts {
 }
 
 // The slice of a table that a span names; an empty one where it is not there.
-fn part<T>(table: &[T], span: Span) -> &[T]
+fn part<T>(table: &[T], span: RowSpan) -> &[T]
     ensures { result.now ≡ slice_of table.now span }
 {
     let (start, end) = (span.start as usize, span.end as usize);
@@ -153,6 +153,17 @@ impl Layout {
         ensures { option_map (λ d. d.now) result ≡ slice_get self.now.tables.definitions.items id.0 }
     {
         self.tables.definitions.get(id.0 as usize)
+    }
+
+    /// The definition of a symbol with a number among those of the symbol, in the order of the lines; none from
+    /// `definition_count` on.
+    pub fn definition_of(&self, symbol: &Symbol, i: usize) -> Option<&Definition>
+        ensures { option_map (λ d. d.now) result ≡ definition_of self.now.tables.definitions.items symbol.now i }
+    {
+        match symbol.definition(i) {
+            Some(id) => self.definition(id),
+            None => None,
+        }
     }
 
     /// The defaults of a definition, in the order of its lines.

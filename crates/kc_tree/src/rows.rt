@@ -38,7 +38,7 @@ pub struct Context {
 /// A prompt: the context of what the enclosing menus ask of what is visible, and its own `if` (the kernel's
 /// kconfig-language document, "Menu attributes": input prompt).
 #[derive(Debug, Drop)]
-pub struct Prompt {
+pub struct EntryPrompt {
     pub visible: ContextId,
     pub when: Option<Rc<Expr>>,
 }
@@ -60,7 +60,7 @@ pub struct SymbolRange {
 
 /// Consecutive places of a table, from `start` up to `end`.
 #[derive(Clone, Copy, PartialEq, Eq, Debug)]
-pub struct Span {
+pub struct RowSpan {
     pub start: u32,
     pub end: u32,
 }
@@ -71,9 +71,9 @@ pub struct Span {
 pub struct Definition {
     pub symbol: SymId,
     pub within: ContextId,
-    pub prompt: Option<Prompt>,
-    pub defaults: Span,
-    pub ranges: Span,
+    pub prompt: Option<EntryPrompt>,
+    pub defaults: RowSpan,
+    pub ranges: RowSpan,
 }
 
 /// A `select` or `imply` line that has an effect: the definition that it stands in, and its own `if` (the kernel's
@@ -108,7 +108,7 @@ pub struct ChoiceDefault {
 #[derive(Debug, Drop)]
 pub struct Choice {
     pub within: ContextId,
-    pub prompt: Option<Prompt>,
+    pub prompt: Option<EntryPrompt>,
     pub defaults: Vec<ChoiceDefault>,
     pub members: Vec<SymId>,
 }

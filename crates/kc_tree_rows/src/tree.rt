@@ -7,7 +7,7 @@ use kc_read::file_map::FileMap;
 use kc_read::refusal::{Code, Refusal};
 use kc_tree::layout::Layout;
 use kc_tree::rows::{
-    Choice, ContextId, Definition, Prompt, ReverseId, ShownEntry, Symbol, TitleId,
+    Choice, ContextId, Definition, EntryPrompt, ReverseId, ShownEntry, Symbol, TitleId,
 };
 use kc_tree::tree::Tree;
 use std::alloc::{AllocError, Global};
@@ -115,7 +115,7 @@ fn prompt(
     out: &mut String,
     view: View<'_>,
     within: ContextId,
-    prompt: &Option<Prompt>,
+    prompt: &Option<EntryPrompt>,
 ) -> Result<(), AllocError> {
     match prompt {
         Some(prompt) => {

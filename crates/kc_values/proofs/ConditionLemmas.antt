@@ -8,7 +8,7 @@ use Rattle.kc_expr.specs.Form.{Form}
 use Rattle.kc_expr.specs.Value.{SymbolValue, value, lesser, least}
 use Rattle.kc_expr.specs.When.{when_view}
 use Rattle.kc_tree.specs.declared.rows.Context.{Context}
-use Rattle.kc_tree.specs.declared.rows.Prompt.{Prompt}
+use Rattle.kc_tree.specs.declared.rows.EntryPrompt.{EntryPrompt}
 use Rattle.kc_tree.specs.Contexts.{condition_in, IsPlain, IsContextAt}
 use Rattle.kc_tree.specs.Layouts.{with_when, with_parts, prompt_view}
 use Rattle.kc_tree.specs.TreeFacts.{Condition, TreeFacts}
@@ -36,7 +36,7 @@ swapped : (a b c : Tri) → lesser (lesser a b) c ≡ lesser (lesser a c) b
 swapped a b c = lesser_assoc a b c ∙ ap (lesser a) (lesser_comm b c) ∙ sym (lesser_assoc a c b)
 
 -- what the prompt of a choice asks for
-pub prompt_asked : (known : SymId → SymbolValue) (conditions : List Condition) (dep : Condition) (p : Prompt) →
+pub prompt_asked : (known : SymId → SymbolValue) (conditions : List Condition) (dep : Condition) (p : EntryPrompt) →
     and_value known (prompt_view conditions dep p).parts
     ≡ lesser (lesser (when_value known (when_view p.when)) (and_value known (condition_in conditions p.visible.0).parts)) (and_value known dep.parts)
 prompt_asked known conditions dep p =
@@ -69,7 +69,7 @@ module _ (tree : TreeFacts) (known : SymId → SymbolValue) where
   pub condition-both : (c d : Condition) → is_some d.mode ≡ false → condition tree known (with_parts c d.parts) ≡ lesser (condition tree known c) (condition tree known d)
   condition-both c d e = condition-with_parts c d.parts ∙ ap (lesser (condition tree known c)) (sym (condition-plain d e))
 
-  pub condition-prompt : (conditions : List Condition) (dep : Condition) (p : Prompt) → IsPlain conditions p.visible.0 →
+  pub condition-prompt : (conditions : List Condition) (dep : Condition) (p : EntryPrompt) → IsPlain conditions p.visible.0 →
       condition tree known (prompt_view conditions dep p) ≡ lesser
       (lesser (condition tree known dep) (condition tree known (condition_in conditions p.visible.0))) (when_value known (when_view p.when))
   condition-prompt conditions dep p e =

@@ -16,7 +16,7 @@ use Rattle.kc_tree.specs.declared.layout.Layout.{Layout}
 use Rattle.kc_tree.specs.declared.rows.Choice.{Choice}
 use Rattle.kc_tree.specs.declared.rows.ChoiceId.{ChoiceId}
 use Rattle.kc_tree.specs.declared.rows.Context.{Context}
-use Rattle.kc_tree.specs.declared.rows.Prompt.{Prompt}
+use Rattle.kc_tree.specs.declared.rows.EntryPrompt.{EntryPrompt}
 use Rattle.kc_tree.specs.declared.rows.Symbol.{Symbol}
 use Rattle.kc_values.specs.NeedRows as rows
 use Rattle.kc_values.specs.NeedRows.{AreChoicesThere, AreNodeRows, IsContextRow, asks_nothing, asks_this}
@@ -73,10 +73,10 @@ module _ (tree : TreeFacts) (l : Layout) (g : Nodes) (made : AreNodeRows tree l 
 
   -- a choice whose mode counts in a context depends on those before it
   pub behind : (i : ℕ) (c : Context) → IsContextAt l.tables.contexts i c → (k : Choice) → rows.choice_row l c.mode ≡ Some k →
-      (k.within.0 < i) × ((p : Prompt) → k.prompt ≡ Some p → p.visible.0 < i)
+      (k.within.0 < i) × ((p : EntryPrompt) → k.prompt ≡ Some p → p.visible.0 < i)
   behind i c step k e = by_mode c.mode refl e
     where
-      by_mode : (o : Option ChoiceId) → c.mode ≡ o → rows.choice_row l o ≡ Some k → (k.within.0 < i) × ((p : Prompt) → k.prompt ≡ Some p → p.visible.0 < i)
+      by_mode : (o : Option ChoiceId) → c.mode ≡ o → rows.choice_row l o ≡ Some k → (k.within.0 < i) × ((p : EntryPrompt) → k.prompt ≡ Some p → p.visible.0 < i)
       by_mode None same found = cc
       by_mode (Some id) same found =
           let is : (condition_in l.tables.contexts i).mode ≡ Some id.0 = ap (λ (x : Condition). x.mode) step.is ∙ ap mode_view same in

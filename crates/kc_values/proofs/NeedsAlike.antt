@@ -24,7 +24,7 @@ use Rattle.kc_tree.specs.Common.{listed}
 use Rattle.kc_tree.specs.declared.layout.Layout.{Layout}
 use Rattle.kc_tree.specs.declared.rows.Choice.{Choice}
 use Rattle.kc_tree.specs.declared.rows.ChoiceId.{ChoiceId}
-use Rattle.kc_tree.specs.declared.rows.Prompt.{Prompt}
+use Rattle.kc_tree.specs.declared.rows.EntryPrompt.{EntryPrompt}
 use Rattle.kc_values.specs.Lookups.{choice_at, facts, is_defined}
 use Rattle.kc_values.specs.NeedRows as rows
 use Rattle.kc_values.specs.NeedRows.{AreChoicesThere, AreNodeRows, IsContextRow, asks_nothing, asks_this}
@@ -75,14 +75,14 @@ module _ (tree : TreeFacts) (l : Layout) (laid : IsLayoutOf tree l) (g : Nodes) 
   -- the mode of a choice
   module _ (bound : ℕ) (told : Told bound) where
     mode_row : (k : ℕ) (o : Option Choice) → slice_get l.tables.choices.items k ≡ o →
-        ((c : Choice) → o ≡ Some c → (c.within.0 < bound) × ((p : Prompt) → c.prompt ≡ Some p → p.visible.0 < bound)) →
+        ((c : Choice) → o ≡ Some c → (c.within.0 < bound) × ((p : EntryPrompt) → c.prompt ≡ Some p → p.visible.0 < bound)) →
         (list_any st (rows.nodes_of_choice l o) || names tree l v (rows.names_of_choice o)) ≡ names tree l v (spec.prompt_names (option_map (choice_facts l.tables) o))
     mode_row k None e there = refl
     mode_row k (Some c) e there =
         let h = there c refl in
         choice_prompt_needs tree l v st bound told c.within.0 c.prompt h.0 (l.tables.choices_plain k c e) (λ p q. (h.1 p q, l.tables.choice_prompts_plain k c p e q))
 
-    mode_needs : (o : Option ChoiceId) → ((c : Choice) → rows.choice_row l o ≡ Some c → (c.within.0 < bound) × ((p : Prompt) → c.prompt ≡ Some p → p.visible.0 < bound)) →
+    mode_needs : (o : Option ChoiceId) → ((c : Choice) → rows.choice_row l o ≡ Some c → (c.within.0 < bound) × ((p : EntryPrompt) → c.prompt ≡ Some p → p.visible.0 < bound)) →
         (list_any st (rows.mode_nodes l o) || names tree l v (rows.mode_names l o)) ≡ mode tree l v (mode_view o)
     mode_needs None there = refl
     mode_needs (Some k) there =
@@ -91,7 +91,7 @@ module _ (tree : TreeFacts) (l : Layout) (laid : IsLayoutOf tree l) (g : Nodes) 
     -- what a context asks for besides the one outside it
     asked_needs : (outer : ℕ) (w : Option (Rc Expr Global)) (o : Option ChoiceId) → outer < bound →
         ((e : Form) → when_view w ≡ Some e → mode_view o ≡ (condition_in l.tables.contexts outer).mode) → (when_view w ≡ None → IsPlain l.tables.contexts outer) →
-        ((c : Choice) → rows.choice_row l o ≡ Some c → (c.within.0 < bound) × ((p : Prompt) → c.prompt ≡ Some p → p.visible.0 < bound)) →
+        ((c : Choice) → rows.choice_row l o ≡ Some c → (c.within.0 < bound) × ((p : EntryPrompt) → c.prompt ≡ Some p → p.visible.0 < bound)) →
         (list_any st (rows.context_nodes l outer ++ cond (is_some w) [] (rows.mode_nodes l o)) || names tree l v (cond (is_some w) (rows.when_names (when_view w)) (rows.mode_names l o))) ≡
         asks tree l v (record { parts = (condition_in l.tables.contexts outer).parts ++ listed (when_view w); mode = mode_view o })
     asked_needs outer (Some e) o b keeps begins there =

@@ -14,7 +14,7 @@ use Rattle.kc_tree.specs.declared.rows.ChoiceId.{ChoiceId}
 use Rattle.kc_tree.specs.declared.rows.Context.{Context}
 use Rattle.kc_tree.specs.declared.rows.Definition.{Definition}
 use Rattle.kc_tree.specs.declared.rows.DefinitionId.{DefinitionId}
-use Rattle.kc_tree.specs.declared.rows.Prompt.{Prompt}
+use Rattle.kc_tree.specs.declared.rows.EntryPrompt.{EntryPrompt}
 use Rattle.kc_tree.specs.declared.rows.Reverse.{Reverse}
 use Rattle.kc_tree.specs.declared.rows.ReverseId.{ReverseId}
 use Rattle.kc_tree.specs.declared.rows.Symbol.{Symbol}
@@ -72,7 +72,7 @@ module _ (l : Layout) (b m : ℕ) (fits : length l.symbols.items + m ≤ b) wher
       let one : none b (context_number l i ∷ []) = ap (λ x. x || false) (near b (context_number l i) low) in
       none_unless b (i == 0) (context_number l i ∷ []) one
 
-  prompt_below : (o : Option Prompt) → ((p : Prompt) → o ≡ Some p → p.visible.0 < m) → none b (rows.prompt_nodes l o)
+  prompt_below : (o : Option EntryPrompt) → ((p : EntryPrompt) → o ≡ Some p → p.visible.0 < m) → none b (rows.prompt_nodes l o)
   prompt_below None h = refl
   prompt_below (Some p) h = context_below p.visible.0 (h p refl)
 
@@ -87,17 +87,17 @@ module _ (l : Layout) (b m : ℕ) (fits : length l.symbols.items + m ≤ b) wher
       one : (k : ℕ) → (nat_lt k (length l.symbols.items) && far b k) ≡ false
       one k = grind arith
 
-  choice_prompt_below : (c : Choice) → c.within.0 < m → ((p : Prompt) → c.prompt ≡ Some p → p.visible.0 < m) → none b (rows.choice_prompt_nodes l c)
+  choice_prompt_below : (c : Choice) → c.within.0 < m → ((p : EntryPrompt) → c.prompt ≡ Some p → p.visible.0 < m) → none b (rows.choice_prompt_nodes l c)
   choice_prompt_below c w h =
       none_both b (cond (is_some c.prompt) (rows.context_nodes l c.within.0) []) (rows.prompt_nodes l c.prompt)
       (none_if b (is_some c.prompt) (rows.context_nodes l c.within.0) (context_below c.within.0 w)) (prompt_below c.prompt h)
 
   -- what a context asks for
-  mode_below : (o : Option Choice) → ((c : Choice) → o ≡ Some c → (c.within.0 < m) × ((p : Prompt) → c.prompt ≡ Some p → p.visible.0 < m)) → none b (rows.nodes_of_choice l o)
+  mode_below : (o : Option Choice) → ((c : Choice) → o ≡ Some c → (c.within.0 < m) × ((p : EntryPrompt) → c.prompt ≡ Some p → p.visible.0 < m)) → none b (rows.nodes_of_choice l o)
   mode_below None h = refl
   mode_below (Some c) h = let there = h c refl in choice_prompt_below c there.0 there.1
 
-  pub asked_below : (c : Context) → c.outer.0 < m → ((k : Choice) → rows.choice_row l c.mode ≡ Some k → (k.within.0 < m) × ((p : Prompt) → k.prompt ≡ Some p → p.visible.0 < m)) →
+  pub asked_below : (c : Context) → c.outer.0 < m → ((k : Choice) → rows.choice_row l c.mode ≡ Some k → (k.within.0 < m) × ((p : EntryPrompt) → k.prompt ≡ Some p → p.visible.0 < m)) →
       none b (rows.context_row_nodes l c ++ rows.defined l (rows.context_row_names l c))
   asked_below c outer h =
       none_both b (rows.context_row_nodes l c) (rows.defined l (rows.context_row_names l c))

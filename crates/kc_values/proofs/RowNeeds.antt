@@ -25,7 +25,7 @@ use Rattle.kc_tree.specs.declared.rows.ChoiceDefault.{ChoiceDefault}
 use Rattle.kc_tree.specs.declared.rows.ChoiceId.{ChoiceId}
 use Rattle.kc_tree.specs.declared.rows.Definition.{Definition}
 use Rattle.kc_tree.specs.declared.rows.DefinitionId.{DefinitionId}
-use Rattle.kc_tree.specs.declared.rows.Prompt.{Prompt}
+use Rattle.kc_tree.specs.declared.rows.EntryPrompt.{EntryPrompt}
 use Rattle.kc_tree.specs.declared.rows.Reverse.{Reverse}
 use Rattle.kc_tree.specs.declared.rows.ReverseId.{ReverseId}
 use Rattle.kc_tree.specs.declared.rows.Symbol.{Symbol}
@@ -170,13 +170,13 @@ module _ (tree : TreeFacts) (l : Layout) (v : ℕ) (st : ℕ → Bool) (bound : 
   cond_at i = condition_in l.tables.contexts i
 
   -- a prompt asks for contexts below the bound, in which no mode counts
-  abbrev pub IsBelow : Option Prompt → Type 0
-  IsBelow o = (p : Prompt) → o ≡ Some p → (p.visible.0 < bound) × IsPlain l.tables.contexts p.visible.0
+  abbrev pub IsBelow : Option EntryPrompt → Type 0
+  IsBelow o = (p : EntryPrompt) → o ≡ Some p → (p.visible.0 < bound) × IsPlain l.tables.contexts p.visible.0
 
-  abbrev prompt_own : Option Prompt → Bool
+  abbrev prompt_own : Option EntryPrompt → Bool
   prompt_own o = known (rows.prompt_nodes l o) || names tree l v (rows.prompt_names o)
 
-  prompt_asks : (c : Condition) (o : Option Prompt) → IsBelow o → passes (asks tree l v) (option_map (prompt_view l.tables.contexts c) o) ≡ ((is_some o && asks tree l v c) || prompt_own o)
+  prompt_asks : (c : Condition) (o : Option EntryPrompt) → IsBelow o → passes (asks tree l v) (option_map (prompt_view l.tables.contexts c) o) ≡ ((is_some o && asks tree l v c) || prompt_own o)
   prompt_asks c None h = refl
   prompt_asks c (Some p) h =
       let visible = (cond_at p.visible.0).parts in
@@ -200,14 +200,14 @@ module _ (tree : TreeFacts) (l : Layout) (v : ℕ) (st : ℕ → Bool) (bound : 
       drop_false : (b : Bool) → (b || false) ≡ b
       drop_false b = grind arith
 
-  view_plain : (c : Condition) (o : Option Prompt) → is_some c.mode ≡ false → (d : Condition) → option_map (prompt_view l.tables.contexts c) o ≡ Some d → is_some d.mode ≡ false
+  view_plain : (c : Condition) (o : Option EntryPrompt) → is_some c.mode ≡ false → (d : Condition) → option_map (prompt_view l.tables.contexts c) o ≡ Some d → is_some d.mode ≡ false
   view_plain c None h d e = cc
   view_plain c (Some p) h d e =
       let same : prompt_view l.tables.contexts c p ≡ d = cc in
       ap (λ (x : Condition). is_some x.mode) (sym same) ∙ h
 
   -- a prompt and the context that it stands in
-  prompt_needs : (within : ℕ) (o : Option Prompt) → within < bound → IsBelow o →
+  prompt_needs : (within : ℕ) (o : Option EntryPrompt) → within < bound → IsBelow o →
       (known (cond (is_some o) (rows.context_nodes l within) [] ++ rows.prompt_nodes l o) || names tree l v (rows.prompt_names o)) ≡
       passes (asks tree l v) (option_map (prompt_view l.tables.contexts (cond_at within)) o)
   prompt_needs within o b h =
@@ -222,7 +222,7 @@ module _ (tree : TreeFacts) (l : Layout) (v : ℕ) (st : ℕ → Bool) (bound : 
       regroup a b c = grind arith
 
   -- that of a choice, whose parts alone count
-  pub choice_prompt_needs : (within : ℕ) (o : Option Prompt) → within < bound → IsPlain l.tables.contexts within → IsBelow o →
+  pub choice_prompt_needs : (within : ℕ) (o : Option EntryPrompt) → within < bound → IsPlain l.tables.contexts within → IsBelow o →
       (known (cond (is_some o) (rows.context_nodes l within) [] ++ rows.prompt_nodes l o) || names tree l v (rows.prompt_names o)) ≡
       names tree l v (spec.parts_names (option_map (prompt_view l.tables.contexts (cond_at within)) o))
   choice_prompt_needs within o b plain h =

@@ -1,6 +1,7 @@
 -- Trusted: What a tree says of a symbol and of a choice, by its number.
-use Rattle.std.specs.Prelude.{ℕ, Bool, List, [], Option, length, nat_lt, slice_get, slice_index_or}
+use Rattle.std.specs.Prelude.{ℕ, Bool, List, Option, length, nat_lt, slice_get}
 use Rattle.kc_expr.specs.declared.expression.SymId.{SymId}
+use Rattle.kc_tree.specs.Common.{name_by}
 use Rattle.kc_tree.specs.TreeFacts.{SymbolFacts, ChoiceFacts, TreeFacts}
 
 -- the defined symbols have the first numbers
@@ -11,7 +12,7 @@ abbrev pub facts : TreeFacts → SymId → Option SymbolFacts
 facts tree s = slice_get tree.symbols s.0
 
 abbrev pub name : TreeFacts → SymId → List ℕ
-name tree s = slice_index_or tree.names s.0 []
+name tree s = name_by tree.names s
 
 abbrev pub choice_at : TreeFacts → ℕ → Option ChoiceFacts
 choice_at tree c = slice_get tree.choices c

@@ -15,7 +15,7 @@ use Rattle.kc_tree.specs.declared.rows.ChoiceId.{ChoiceId}
 use Rattle.kc_tree.specs.declared.rows.Context.{Context}
 use Rattle.kc_tree.specs.declared.rows.Definition.{Definition}
 use Rattle.kc_tree.specs.declared.rows.DefinitionId.{DefinitionId}
-use Rattle.kc_tree.specs.declared.rows.Prompt.{Prompt}
+use Rattle.kc_tree.specs.declared.rows.EntryPrompt.{EntryPrompt}
 use Rattle.kc_tree.specs.declared.rows.Reverse.{Reverse}
 use Rattle.kc_tree.specs.declared.rows.ReverseId.{ReverseId}
 use Rattle.kc_tree.specs.declared.rows.Symbol.{Symbol}
@@ -47,7 +47,7 @@ abbrev pub when_names : Option Form → List SymId
 when_names None = []
 when_names (Some f) = symbols f
 
-abbrev pub prompt_names : Option Prompt → List SymId
+abbrev pub prompt_names : Option EntryPrompt → List SymId
 prompt_names None = []
 prompt_names (Some p) = when_names (when_view p.when)
 
@@ -99,7 +99,7 @@ module _ (l : Layout) where
   abbrev pub context_nodes : ℕ → List ℕ
   context_nodes c = if c == 0 then [] else context_number l c ∷ []
 
-  abbrev pub prompt_nodes : Option Prompt → List ℕ
+  abbrev pub prompt_nodes : Option EntryPrompt → List ℕ
   prompt_nodes None = []
   prompt_nodes (Some p) = context_nodes p.visible.0
 

@@ -14,7 +14,7 @@ ghost use Rattle.kc_values.specs.Values as spec;
 use crate::table::Table;
 use kc_expr::expression::{Expr, Tri};
 use kc_expr::values::{eval, lesser};
-use kc_tree::rows::{Choice, ChoiceId, ContextId, Prompt, Title};
+use kc_tree::rows::{Choice, ChoiceId, ContextId, EntryPrompt, Title};
 use std::rc::Rc;
 
 /// The tristate upgrade: m as y, which counts where m can't be (kconfiglib, of symbols that are not tristate).
@@ -129,7 +129,7 @@ pub(crate) fn condition(table: &Table<'_>, within: ContextId, when: &Option<Rc<E
 }
 
 /// The condition of a prompt, whose entry depends on a context.
-pub(crate) fn prompt_condition(table: &Table<'_>, within: ContextId, prompt: &Prompt) -> Tri
+pub(crate) fn prompt_condition(table: &Table<'_>, within: ContextId, prompt: &EntryPrompt) -> Tri
     requires { IsPlain table.now.layout.now.tables.contexts prompt.now.visible.0 }
     ensures { result ≡ spec.condition table.now.tree.now (known_at table.now) (prompt_view table.now.layout.now.tables.contexts (condition_at table.now within.0) prompt.now) }
 {

@@ -19,8 +19,8 @@ use kc_expr::values::symbols_into;
 use kc_order::Graph;
 use kc_tree::layout::Layout;
 use kc_tree::rows::{
-    Choice, ChoiceId, Context, ContextId, Definition, Prompt, ReverseId, Symbol, SymbolDefault,
-    SymbolRange,
+    Choice, ChoiceId, Context, ContextId, Definition, EntryPrompt, ReverseId, Symbol,
+    SymbolDefault, SymbolRange,
 };
 use kc_tree::tree::Tree;
 use std::alloc::{AllocError, Global};
@@ -55,7 +55,11 @@ fn context_into(layout: &Layout, id: ContextId, out: &mut Row) -> Result<(), All
 }
 
 // Adds a prompt, where there is one, but for what its entry depends on.
-fn prompt_into(layout: &Layout, prompt: &Option<Prompt>, out: &mut Row) -> Result<(), AllocError>
+fn prompt_into(
+    layout: &Layout,
+    prompt: &Option<EntryPrompt>,
+    out: &mut Row,
+) -> Result<(), AllocError>
     requires there { IsPromptThere layout.now.tables.contexts prompt.now }
     ensures { OnOk result (Adds out.old out.new (rows.prompt_nodes layout.now prompt.now) (rows.prompt_names prompt.now)) }
 {
