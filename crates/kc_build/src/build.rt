@@ -6,7 +6,7 @@ ghost use Rattle.kc_read.specs.RefusalView.{IsMemory, refusal_view};
 ghost use Rattle.kc_read.specs.declared.refusal.Code.TheVariants.{Memory};
 ghost use Rattle.kc_build.specs.Trees.{IsTreeOf};
 
-use crate::numbering::{Listing, memory, read_listing};
+use crate::numbering::{Listing, read_listing};
 use crate::tree_parts::build_parts;
 use kc_read::file_map::FileMap;
 use kc_read::refusal::Refusal;
@@ -39,7 +39,7 @@ pub fn build_tree(alloc: Global, map: &FileMap, root: &[u8]) -> Result<Tree, Ref
     } = read_listing(alloc, map, root)?;
     let assembled = match build_parts(alloc, &names, &lines, count, modules) {
         Ok(assembled) => assembled,
-        Err(_) => return Err(memory(alloc)),
+        Err(_) => return Err(Refusal::out_of_memory(alloc)),
     };
     match assembled {
         Err(refusal) => Err(refusal),
