@@ -157,7 +157,7 @@ source_line name = SourceLine name
 pub one_name : (name other : List ℕ) → source_line name ≡ source_line other → name ≡ other
 one_name name other e = cc
 
-same_source : (s : Named) (name other : List ℕ) → s ≡ SourceLine name → s ≡ SourceLine other → name ≡ other
+pub same_source : (s : Named) (name other : List ℕ) → s ≡ SourceLine name → s ≡ SourceLine other → name ≡ other
 same_source s name other e f = one_name name other (sym e ∙ f)
 
 -- a `source` line opens no block and defines nothing
