@@ -58,10 +58,3 @@ module _ (ss : List Numbered) where
       let test : of_block ss block.Choice i ≡ is_block block.Choice (opened (bracket s)) = rw h refl in
       by_line s (choice_number ss i) ∙ sym (ap (count_by (of_block ss block.Choice)) (numbers-next i)
       ∙ count_next (of_block ss block.Choice) i ∙ ap (λ (b : Bool). choice_number ss i + cond b 1 0) test)
-
--- The same for a walk over lines.
-module _ (ls : List Line) where
-  pub count-is : (i count next : ℕ) (x : Line) → i < length ls → x ≡ get_or ls i x → count ≡ choice_number (statements_of ls) i → next ≡ next_count (statement_view x.statement) count →
-      next ≡ choice_number (statements_of ls) (i + 1)
-  count-is i count next x h at n e =
-      e ∙ ap (next_count (statement_view x.statement)) n ∙ choice_number-next (statements_of ls) i (statement_view x.statement) (statement_at ls i x h at)

@@ -4,10 +4,6 @@ use Rattle.kc_expr.specs.Form.{Form}
 use Rattle.kc_tree.specs.TreeFacts.{Condition}
 use Rattle.kc_tree.specs.Contexts.{condition_in}
 
--- a condition and these things more
-abbrev pub and_all : Condition → List Form → Condition
-and_all c fs = record { parts = c.parts ++ fs; mode = c.mode }
-
 -- a condition stands at a number
 pub record Stands (conditions : List Condition) (i : ℕ) (c : Condition) : Type 0 where
   pub there : i < length conditions

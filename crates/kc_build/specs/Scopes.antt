@@ -13,9 +13,6 @@ pub record Scope : Type 0 where
   pub mode : Option ℕ
   pub opener : Option ℕ
 
-abbrev pub nothing : Scope
-nothing = record { parts = []; visible = []; mode = None; opener = None }
-
 abbrev pub next_count : Numbered → ℕ → ℕ
 next_count ChoiceLine n = n + 1
 next_count _ n = n

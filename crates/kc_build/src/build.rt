@@ -37,13 +37,10 @@ pub fn build_tree(alloc: Global, map: &FileMap, root: &[u8]) -> Result<Tree, Ref
         modules,
         lines,
     } = read_listing(alloc, map, root)?;
-    let assembled = match build_parts(alloc, &names, &lines, count, modules) {
-        Ok(assembled) => assembled,
-        Err(_) => return Err(memory(alloc)),
-    };
-    match assembled {
-        Err(refusal) => Err(refusal),
-        Ok(parts) => {
+    match build_parts(alloc, &names, &lines, count, modules) {
+        Err(_) => Err(memory(alloc)),
+        Ok(Err(refusal)) => Err(refusal),
+        Ok(Ok(parts)) => {
             names.are_distinct();
             Ok(Tree::of(names, parts))
         }

@@ -140,7 +140,7 @@ fn default_symbol(statement: &Statement) -> Option<SymId>
     ensures { result ≡ default_symbol (statement_view statement.now) }
 {
     match stated_default(statement) {
-        Some(given) => single_symbol(given.value),
+        Some(stated) => single_symbol(stated.value),
         None => None,
     }
 }
@@ -219,9 +219,9 @@ fn is_bad_default(statement: &Statement, entry: MenuEntry, symbols: &[Symbol]) -
     ensures { result ≡ spec.is_bad_default (kind_by symbols.now) entry (statement_view statement.now) }
 {
     match stated_default(statement) {
-        Some(given) => {
-            (is_text_entry(entry, symbols) && !is_single(given.value))
-                || (entry_choice(entry).is_some() && single_symbol(given.value).is_none())
+        Some(stated) => {
+            (is_text_entry(entry, symbols) && !is_single(stated.value))
+                || (entry_choice(entry).is_some() && single_symbol(stated.value).is_none())
         }
         None => false,
     }

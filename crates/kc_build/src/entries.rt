@@ -15,7 +15,7 @@ ghost use Rattle.kc_tree.specs.Layouts.{choice_facts as choice_in};
 use crate::attributes::{
     add_defaults, add_ranges, choice_defaults, entry_context, entry_end, prompt, visible_context,
 };
-use crate::blocks::{Block, Blocks, choice_block, if_block};
+use crate::blocks::{BlockScope, Blocks, choice_block, if_block};
 use crate::diagnostics::{Diagnostics, EntrySummary, MenuEntry};
 use crate::reverse_lines::add_reverses;
 use crate::symbols::is_first;
@@ -170,7 +170,7 @@ impl Walk {
         let visible = visible_context(&mut self.tables.contexts, outer.visible, own)?;
         let title = self.add_title(alloc, text, within, visible)?;
         self.tables.entries.push(ShownEntry::Menu(title))?;
-        self.blocks.open(Block {
+        self.blocks.open(BlockScope {
             within,
             visible,
             entry: Some(entry),
@@ -335,8 +335,8 @@ pub fn walk_entries(
         let end = entry_end(lines, place);
         let head = &lines[place];
         let own = &lines[place + 1..end];
-        let known = walk.summary_of(symbols, &head.statement);
-        diagnostics.diagnose_entry(alloc, names, symbols, known, head, own)?;
+        let summary = walk.summary_of(symbols, &head.statement);
+        diagnostics.diagnose_entry(alloc, names, symbols, summary, head, own)?;
         walk.enter(alloc, symbols, &head.statement, own)?;
         place = end;
     }

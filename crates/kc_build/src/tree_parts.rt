@@ -4,7 +4,7 @@ ghost use Rattle.std.specs.Prelude.{◌≡◌, ◌<◌, ◌≤◌, ◌+◌, ◌*
 ghost use Rattle.kc_expr.specs.Limits.{most_symbols};
 ghost use Rattle.kc_read.specs.StatementViews.{line_view};
 ghost use Rattle.kc_build.specs.PartsView.{parts_view};
-ghost use Rattle.kc_build.specs.SymbolRows.{AreBelow, AreChoicesApart, AreMenusOpened, AreTyped};
+ghost use Rattle.kc_build.specs.SymbolRows.{AreBelow, AreChoicesApart, AreMenusOpened, AreTypesDefined};
 ghost use Rattle.kc_build.specs.Passes.{statements_of};
 ghost use Rattle.kc_build.specs.Trees.{tree_with};
 
@@ -35,7 +35,7 @@ pub fn build_parts(
     modules: SymId,
 ) -> Result<Result<TreeParts, Refusal>, AllocError>
     requires below { AreBelow count (statements_of lines.now) }
-    requires typed { AreTyped (statements_of lines.now) }
+    requires types { AreTypesDefined (statements_of lines.now) }
     requires apart { AreChoicesApart (statements_of lines.now) }
     requires ends { AreMenusOpened (statements_of lines.now) }
     requires defined { count ≤ most_symbols }
