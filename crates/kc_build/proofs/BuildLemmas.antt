@@ -92,7 +92,8 @@ module _ (log : Log) (l : Listing) (h : IsListing log l) where
 
   pub lines-typed : (files : Files) (root : List ℕ) → Expands files root (Ok log) → (ls : List Line) → ls ≡ l.lines.items → AreTypesDefined (statements_of ls)
   lines-typed files root x ls same =
-      subst AreTypesDefined (statements_here ls same) (numbered_typed (Some (modules_id (statements log.lines))) (number_of (names_of (statements log.lines))) log.lines (expanded_allowed files root log x))
+      subst AreTypesDefined (statements_here ls same)
+      (numbered_typed (Some (modules_id (statements log.lines))) (number_of (names_of (statements log.lines))) log.lines (expanded_allowed files root log x))
 
   pub lines-opened : (files : Files) (root : List ℕ) → Expands files root (Ok log) → (ls : List Line) → ls ≡ l.lines.items → AreMenusOpened (statements_of ls)
   lines-opened files root x ls same =

@@ -68,7 +68,8 @@ module _ (names : List (List ℕ)) (count : ℕ) (modules : SymId) (ls : List (L
         (All-map_each NamesSound (guarded_symbol line_statements i s) (λ w. (d, sound_at line_statements i (guarded_symbol line_statements i s w).when refl))
         (filter_map line (attributes line_statements i))) (All-nil NamesSound)
 
-    names_sound : (line : Numbered → Option (Option Form)) (t : SymId) → All NamesSound (if can_be_target line_statements t then flat_map (naming_at line_statements line) (places line_statements) else [])
+    names_sound : (line : Numbered → Option (Option Form)) (t : SymId) →
+        All NamesSound (if can_be_target line_statements t then flat_map (naming_at line_statements line) (places line_statements) else [])
     names_sound line t =
         All-if NamesSound (can_be_target line_statements t) (flat_map (naming_at line_statements line) (places line_statements))
         (All-flat_map NamesSound (naming_at line_statements line) (λ i. names_by line i (symbol_at line_statements i) refl) (places line_statements))
@@ -78,10 +79,12 @@ module _ (names : List (List ℕ)) (count : ℕ) (modules : SymId) (ls : List (L
       dependencies = All-map_each (IsSound line_statements) (dependency line_statements) (λ i. sound_at line_statements i (dependency line_statements i) refl) (definitions_of line_statements s);
       prompts = All-filter_map (IsSound line_statements) (prompt_at line_statements) (λ i c h. sound_at line_statements i c (prompt_mode line_statements i c h)) (definitions_of line_statements s);
       defaults = All-flat_map (λ (g : Guarded Form). IsSound line_statements g.when) (defaults_at line_statements)
-          (λ i. All-map_each (λ (g : Guarded Form). IsSound line_statements g.when) (guarded_default line_statements i) (λ g. sound_at line_statements i (guarded_default line_statements i g).when refl)
+          (λ i. All-map_each (λ (g : Guarded Form). IsSound line_statements g.when) (guarded_default line_statements i)
+          (λ g. sound_at line_statements i (guarded_default line_statements i g).when refl)
           (filter_map stated_default (attributes line_statements i))) (definitions_of line_statements s);
       ranges = All-flat_map (λ (g : Guarded Bounds). IsSound line_statements g.when) (λ i. filter_map (guarded_range line_statements i) (attributes line_statements i))
-          (λ i. All-filter_map (λ (g : Guarded Bounds). IsSound line_statements g.when) (guarded_range line_statements i) (λ x g h. sound_at line_statements i g.when (range_mode line_statements i x g h))
+          (λ i. All-filter_map (λ (g : Guarded Bounds). IsSound line_statements g.when) (guarded_range line_statements i)
+          (λ x g h. sound_at line_statements i g.when (range_mode line_statements i x g h))
           (attributes line_statements i)) (definitions_of line_statements s);
       selectors = names_sound (select_of s) s;
       impliers = names_sound (imply_of s) s;

@@ -111,7 +111,8 @@ impl Walk {
 
     // Adds a symbol to the choice that encloses it, where there is one.
     fn add_member(&mut self, symbol: SymId) -> Result<(), AllocError>
-        ensures choices { OnOk result (map (choice_in self.new.tables) self.new.tables.choices.items ≡ with_member (condition_in self.old.tables.contexts self.old.blocks.innermost.within.0).mode symbol (map (choice_in self.old.tables) self.old.tables.choices.items)) }
+        ensures choices { OnOk result (map (choice_in self.new.tables) self.new.tables.choices.items
+            ≡ with_member (condition_in self.old.tables.contexts self.old.blocks.innermost.within.0).mode symbol (map (choice_in self.old.tables) self.old.tables.choices.items)) }
         ensures others { OnOk result (KeepsAllButChoices self.old self.new) }
     {
         let outer = self.blocks.innermost();
@@ -274,7 +275,8 @@ impl Walk {
     // The summary of the entry that a statement begins, before the walk goes into it.
     fn summary_of(&self, symbols: &[Symbol], head: &Statement) -> EntrySummary
         requires { length self.now.tables.definitions.items < 2 ^ 32 }
-        ensures { (ss : List Numbered) (i : ℕ) (own : List Numbered) → IsWhole ss symbols.now → IsHead ss i (statement_view head.now) own → IsWalk ss symbols.now i self.now → IsEntrySummary ss i result }
+        ensures { (ss : List Numbered) (i : ℕ) (own : List Numbered) → IsWhole ss symbols.now → IsHead ss i (statement_view head.now) own
+            → IsWalk ss symbols.now i self.now → IsEntrySummary ss i result }
     {
         let within_choice = self.tables.contexts.mode(self.blocks.innermost().within);
         match head {
@@ -320,7 +322,7 @@ pub fn walk_entries(
     requires apart { AreChoicesApart (statements_of lines.now) }
     requires ends { AreMenusOpened (statements_of lines.now) }
     requires few { 4 * length lines.now + 8 < 2 ^ 32 }
-    ensures said { IfOk result (λ s. IsWalkResult (statements_of lines.now) symbols.now s.tables s.main_menu.items) }
+    ensures tables { IfOk result (λ s. IsWalkResult (statements_of lines.now) symbols.now s.tables s.main_menu.items) }
     ensures small { IfOk result (λ s. IsSmall (length lines.now) s.tables) }
     ensures diagnosed { IfOk result (λ s. IsDiagnosed names.now (map line_view lines.now) (length lines.now) s.diagnostics) }
 {

@@ -82,7 +82,8 @@ fn note_definition(
     own: &[Line],
 ) -> Result<(), AllocError>
     requires { HaveFirstIfMore symbols.old.items }
-    ensures rows { OnOk result (map row_view symbols.new.items ≡ noted scope.now.definitions (first_of (filter_map facts.type_of (statements_of own.now))) (option_map (λ k. k.0) scope.now.choice) symbol (map row_view symbols.old.items)) }
+    ensures rows { OnOk result (map row_view symbols.new.items
+        ≡ noted scope.now.definitions (first_of (filter_map facts.type_of (statements_of own.now))) (option_map (λ k. k.0) scope.now.choice) symbol (map row_view symbols.old.items)) }
     ensures first { OnOk result (HaveFirstIfMore symbols.new.items) }
 {
     if symbol.0 < symbols.len() {
