@@ -9,7 +9,7 @@ use Rattle.kc_expr.specs.Form.{Form, Leaf, form_of, leaf_of}
 use Rattle.kc_expr.specs.When.{when_view}
 use Rattle.kc_read.specs.declared.statement.Line.{Line}
 use Rattle.kc_read.specs.StatementViews.{statement_view}
-use Rattle.kc_read.specs.Statements.{Numbered, RangeLine}
+use Rattle.kc_read.specs.Statements.{Numbered}
 use Rattle.kc_tree.specs.declared.rows.ChoiceDefault.{ChoiceDefault}
 use Rattle.kc_tree.specs.declared.rows.Symbol.{Symbol}
 use Rattle.kc_tree.specs.declared.rows.SymbolDefault.{SymbolDefault}

@@ -28,7 +28,7 @@ use Rattle.kc_build.specs.declared.diagnostics.Diagnostics.{Diagnostics}
 use Rattle.kc_build.specs.declared.diagnostics.EntrySummary.{EntrySummary}
 use Rattle.kc_build.specs.declared.diagnostics.MenuEntry.{MenuEntry}
 use Rattle.kc_build.specs.Diagnosed.{Diagnosis, AreLinesDiagnosed, lines_diagnosed, diagnosis_view, line_diagnosed}
-use Rattle.kc_build.specs.Facts.{prompt_of, choice_of, enclosing_choice, first_of, is_member, kind_of, symbol_of}
+use Rattle.kc_build.specs.Facts.{prompt_of, choice_of, enclosing_choice, first_of, is_member, kind_of}
 use Rattle.kc_build.specs.FirstDefinitions.{is_first_definition_at}
 use Rattle.kc_build.specs.SymbolRows.{AreBelow, AreSymbols, IsEntrySummary, choice_by, kind_by, member_by, line_warnings_in}
 use Rattle.kc_build.specs.WholeListRefusals.{entry_refusal}

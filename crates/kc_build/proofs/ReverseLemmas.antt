@@ -1,7 +1,7 @@
 -- The lines of a definition that select and imply, as they are added.
 use Rattle.std.proofs.Common.{◌≡◌, ◌≢◌, ℕ, ◌+◌, ◌<◌, ◌≤◌, Bool, true, false, ◌&&◌, ◌==◌, if◌then◌else◌, List, [], ◌∷◌, ◌++◌, length, drop, Option, Some, None, refl, ap, sym, ◌∙◌, arith, get_or, slice_set, append_assoc, length-append, subst, inl, inr, nat_lt}
 use Rattle.std.specs.Prelude.{◌⊎◌, OnOk, OnErr, Result, Ok, Err}
-use Rattle.std.specs.List.{slice_get, flat_map}
+use Rattle.std.specs.List.{slice_get}
 use Rattle.std.specs.Global.{Vec}
 use Rattle.std.specs.Vec.{with_items}
 use Rattle.std.specs.Option.{option_map}
@@ -24,7 +24,6 @@ use Rattle.kc_tree.specs.declared.rows.ReverseId.{ReverseId}
 use Rattle.kc_tree.specs.declared.rows.Symbol.{Symbol}
 use Rattle.kc_tree.specs.declared.reverses.Reverses.{Reverses}
 use Rattle.kc_tree.specs.Chains.{AreChained, AreHeads}
-use Rattle.kc_tree.specs.Common.{listed}
 use Rattle.kc_build.specs.declared.lines.ReverseKind.{ReverseKind}
 use Rattle.kc_build.specs.declared.lines.ReverseKind.TheVariants as reverse_kind
 use Rattle.kc_build.specs.SymbolRows.{can_be_target}

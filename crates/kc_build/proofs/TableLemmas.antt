@@ -2,18 +2,16 @@
 use Rattle.std.proofs.Common.{◌≡◌, ℕ, zero, suc, ◌+◌, ◌<◌, ◌≤◌, Bool, true, false, if◌then◌else◌, List, [], ◌∷◌, ◌++◌, length, filter, map, Option, Some, None, refl, ap, sym, ◌∙◌, arith, get_or, slice_set}
 use Rattle.std.proofs.lemmas.Bool.{eq-eqb, ne_eqb}
 use Rattle.std.specs.Prelude.{◌==◌}
-use Rattle.std.specs.List.{cons_option}
 use Rattle.std.proofs.lemmas.List.{append-nil, length-map}
 use Rattle.kc_expr.specs.declared.expression.SymId.{SymId}
 use Rattle.kc_expr.specs.Names.{symbol}
 use Rattle.kc_read.specs.Statements.{Numbered}
 use Rattle.kc_read.specs.Blocks.{numbers}
 use Rattle.kc_tree.specs.Common.{is_symbol_of}
-use Rattle.kc_build.specs.Facts.{symbol_at, first_of}
-use Rattle.kc_read.specs.declared.statement.Line.{Line}
-use Rattle.kc_build.specs.Passes.{statements_of, change, changed}
+use Rattle.kc_build.specs.Facts.{symbol_at}
+use Rattle.kc_build.specs.Passes.{change, changed}
 use Rattle.kc_build.proofs.BlockLemmas.{numbers_from, numbers-from}
-use Rattle.kc_build.proofs.PlaceLemmas.{filter-next, length-statements_of}
+use Rattle.kc_build.proofs.PlaceLemmas.{filter-next}
 
 same_from : {A : Type 0} (f h : ℕ → A) (p n : ℕ) → ((j : ℕ) → f (p + j) ≡ h (p + j)) → map f (numbers_from p n) ≡ map h (numbers_from p n)
 same_from f h p zero e = refl

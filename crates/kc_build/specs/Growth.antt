@@ -1,6 +1,5 @@
 -- For proofs: How the conditions of contexts grow by an entry.
-use Rattle.std.specs.Prelude.{◌≡◌, ◌<◌, ◌≤◌, ◌+◌, ℕ, List, ◌++◌, length, Option}
-use Rattle.kc_expr.specs.Form.{Form}
+use Rattle.std.specs.Prelude.{◌≡◌, ◌<◌, ◌≤◌, ◌+◌, ℕ, List, length, Option}
 use Rattle.kc_tree.specs.TreeFacts.{Condition}
 use Rattle.kc_tree.specs.Contexts.{condition_in}
 

@@ -89,10 +89,13 @@ pub fn build_tree(alloc: Global, map: &FileMap, root: &[u8]) -> Result<Tree, Ref
         modules,
         lines,
     } = read_listing(alloc, map, root)?;
-    match build_parts(alloc, &names, &lines, count, modules) {
-        Err(_) => Err(memory(alloc)),
-        Ok(Err(refusal)) => Err(refusal),
-        Ok(Ok(parts)) => {
+    let outcome = match build_parts(alloc, &names, &lines, count, modules) {
+        Ok(outcome) => outcome,
+        Err(_) => return Err(memory(alloc)),
+    };
+    match outcome {
+        Err(refusal) => Err(refusal),
+        Ok(parts) => {
             names.are_distinct();
             Ok(Tree::of(names, parts))
         }

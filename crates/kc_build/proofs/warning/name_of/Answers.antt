@@ -1,4 +1,4 @@
-use Rattle.std.proofs.Common.{◌≡◌, ℕ, zero, suc, List, [], ◌∷◌, get_or, None}
+use Rattle.std.proofs.Common.{◌≡◌, ℕ, zero, suc, List, [], ◌∷◌, get_or, None, refl}
 use Rattle.std.specs.List.{slice_get}
 use Rattle.kc_build.proofs.warning.name_of.Goals as goal
 
