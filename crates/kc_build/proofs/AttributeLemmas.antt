@@ -9,7 +9,7 @@ use Rattle.kc_expr.specs.Form.{Form, Leaf, form_of, leaf_of}
 use Rattle.kc_expr.specs.When.{when_view}
 use Rattle.kc_read.specs.declared.statement.Line.{Line}
 use Rattle.kc_read.specs.StatementViews.{statement_view}
-use Rattle.kc_read.specs.Statements.{Numbered, RangeLine}
+use Rattle.kc_read.specs.Statements.{Numbered}
 use Rattle.kc_tree.specs.declared.rows.ChoiceDefault.{ChoiceDefault}
 use Rattle.kc_tree.specs.declared.rows.Symbol.{Symbol}
 use Rattle.kc_tree.specs.declared.rows.SymbolDefault.{SymbolDefault}
@@ -18,10 +18,11 @@ use Rattle.kc_tree.specs.Contexts.{and_also, condition_in, top}
 use Rattle.kc_tree.specs.TreeFacts.{Condition}
 use Rattle.kc_build.specs.EntryLines.{choice_default_line, default_line, default_row, member_line, range_line, range_row}
 use Rattle.kc_build.specs.Facts.{StatedDefault, stated_default, single_symbol}
-use Rattle.kc_build.specs.Growth.{IsGrown, Stands, and_all}
+use Rattle.kc_build.specs.Growth.{IsGrown, Stands}
 use Rattle.kc_build.specs.SymbolRows.{member_by}
-use Rattle.kc_build.specs.Passes.{range_of, statements_of}
-use Rattle.kc_build.proofs.ScanLemmas.{said_end, said_from}
+use Rattle.kc_build.specs.Passes.{statements_of}
+use Rattle.kc_build.proofs.ScanLemmas.{statements_end, statements_from}
+use Rattle.kc_tree.specs.Layouts.{with_parts}
 
 -- The conditions of contexts grow.
 module _ (old : List Condition) (mode : Option ℕ) where
@@ -54,10 +55,10 @@ module _ (old : List Condition) (mode : Option ℕ) where
           ap (λ k. (condition_in new k).mode) at ∙ ap (λ (d : Condition). d.mode) last ∙ m
 
 -- one thing more
-more_asked : (c : Condition) (e : Form) (fs : List Form) → and_all (and_also c e) fs ≡ and_all c (e ∷ fs)
+more_asked : (c : Condition) (e : Form) (fs : List Form) → with_parts (and_also c e) fs ≡ with_parts c (e ∷ fs)
 more_asked c e fs = λ i. record { parts = append_assoc c.parts (e ∷ []) fs i; mode = c.mode }
 
-all_asked : (c : Condition) → and_all c [] ≡ c
+all_asked : (c : Condition) → with_parts c [] ≡ c
 all_asked c = λ i. record { parts = append-nil c.parts i; mode = c.mode }
 
 -- The contexts of an entry: the last one and what is left to ask for is what the whole entry asks for.
@@ -65,7 +66,7 @@ module _ (f : Numbered → Option Form) (old : List Condition) (outer : ℕ) whe
   pub record Asks (ls : List Line) (i : ℕ) (now : List Condition) (at : ℕ) : Type 0 where
     pub grown : IsGrown old now (condition_in old outer).mode i
     pub there : at < length now
-    pub asks : and_all (condition_in now at) (filter_map f (drop i (statements_of ls))) ≡ and_all (condition_in old outer) (filter_map f (statements_of ls))
+    pub asks : with_parts (condition_in now at) (filter_map f (drop i (statements_of ls))) ≡ with_parts (condition_in old outer) (filter_map f (statements_of ls))
 
   pub asks_start : (ls : List Line) → outer < length old → Asks ls 0 old outer
   asks_start ls h = record { grown = grown_none old (condition_in old outer).mode; there = h; asks = refl }
@@ -75,7 +76,7 @@ module _ (f : Numbered → Option Form) (old : List Condition) (outer : ℕ) whe
   asks_none ls i x now at a h n e = record {
     grown = grown_more old (condition_in old outer).mode now i (i + 1) (omega arith) a.grown;
     there = a.there;
-    asks = let s = a.asks in (rw (said_from ls i x h n, e) at s);
+    asks = let s = a.asks in (rw (statements_from ls i x h n, e) at s);
   }
 
   pub asks_more : (ls : List Line) (i : ℕ) (x : Line) (now new : List Condition) (at next : ℕ) (e : Form) → Asks ls i now at → i < length ls →
@@ -90,16 +91,16 @@ module _ (f : Numbered → Option Form) (old : List Condition) (outer : ℕ) whe
       record {
         grown = grown_push old (condition_in old outer).mode now new i (and_also (condition_in now at) e) a.grown (ap (λ (c : Condition). c.mode) s) p;
         there = omega arith;
-        asks = ap (λ c. and_all c rest) here ∙ more_asked (condition_in now at) e rest ∙ (rw (said_from ls i x h n, ← q) at s);
+        asks = ap (λ c. with_parts c rest) here ∙ more_asked (condition_in now at) e rest ∙ (rw (statements_from ls i x h n, ← q) at s);
       }
 
   pub asks_grown : (ls : List Line) (i : ℕ) (now : List Condition) (at : ℕ) → Asks ls i now at → i ≤ length ls → IsGrown old now (condition_in old outer).mode (length ls)
   asks_grown ls i now at a h = grown_more old (condition_in old outer).mode now i (length ls) h a.grown
 
-  pub asks_end : (ls : List Line) (i : ℕ) (now : List Condition) (at : ℕ) → Asks ls i now at → length ls ≤ i → Stands now at (and_all (condition_in old outer) (filter_map f (statements_of ls)))
+  pub asks_end : (ls : List Line) (i : ℕ) (now : List Condition) (at : ℕ) → Asks ls i now at → length ls ≤ i → Stands now at (with_parts (condition_in old outer) (filter_map f (statements_of ls)))
   asks_end ls i now at a h =
       let s = a.asks in
-      record { there = a.there; is = sym (all_asked (condition_in now at)) ∙ (rw (said_end ls i h) at s) }
+      record { there = a.there; is = sym (all_asked (condition_in now at)) ∙ (rw (statements_end ls i h) at s) }
 
 -- A default.
 pub default_made : (s : Numbered) (g : StatedDefault) (d : SymbolDefault) → Some g ≡ stated_default s → form_of d.value.value ≡ g.value →
@@ -110,16 +111,12 @@ pub default_missing : (s : Numbered) → None ≡ stated_default s → default_l
 default_missing s h = rw (← h) refl
 
 -- A range.
-range_line-is : (s : Numbered) → range_line s ≡ range_of s
-range_line-is (RangeLine a b w) = refl
-range_line-is _ = refl
-
-pub range_made : (s : Numbered) (r : Leaf × Leaf × Option Form) (d : SymbolRange) → Some r ≡ range_of s → leaf_of d.low ≡ r.0 → leaf_of d.high ≡ r.1 →
+pub range_made : (s : Numbered) (r : Leaf × Leaf × Option Form) (d : SymbolRange) → Some r ≡ range_line s → leaf_of d.low ≡ r.0 → leaf_of d.high ≡ r.1 →
     when_view d.when ≡ r.2 → range_line s ≡ Some (range_row d)
-range_made s r d h a b w = range_line-is s ∙ sym h ∙ (λ i. Some (sym a i, sym b i, sym w i))
+range_made s r d h a b w = sym h ∙ (λ i. Some (sym a i, sym b i, sym w i))
 
-pub range_missing : (s : Numbered) → None ≡ range_of s → range_line s ≡ None
-range_missing s h = range_line-is s ∙ sym h
+pub range_missing : (s : Numbered) → None ≡ range_line s → range_line s ≡ None
+range_missing s h = sym h
 
 -- A default of a choice.
 module _ (symbols : List Symbol) (k : ℕ) (s : Numbered) where

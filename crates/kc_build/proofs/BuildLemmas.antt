@@ -19,7 +19,7 @@ use Rattle.kc_read.specs.RefusalView.{IsMemory, refusal_view}
 use Rattle.kc_build.specs.declared.numbering.Listing.{Listing}
 use Rattle.kc_build.specs.PartsView.{parts_view}
 use Rattle.kc_tree.specs.Common.{listed}
-use Rattle.kc_build.specs.SymbolRows.{AreBelow, AreChoicesApart, AreMenusOpened, AreTyped}
+use Rattle.kc_build.specs.SymbolRows.{AreBelow, AreChoicesApart, AreMenusOpened, AreTypesDefined}
 use Rattle.kc_build.specs.Numberings.{IsListing}
 use Rattle.kc_build.specs.Passes.{statements_of}
 use Rattle.kc_tree.specs.TreeFacts.{TreeFacts, IsWellFormed}
@@ -36,19 +36,19 @@ use Rattle.kc_build.proofs.ShapeLemmas.{nested}
 use Rattle.kc_build.proofs.WholeLemmas.{IsShaped, shaped, well_formed}
 
 -- Each refusal of the whole list is of a member or of a default.
-late_codes : (names : List (List ℕ)) (ls : List (Located Numbered)) → All (λ r. r.code ≢ code.Memory) (whole_list_refusals names ls)
-late_codes names ls =
-    All-append (λ r. r.code ≢ code.Memory) (flat_map (refused_at names ls code.ChoiceMember) (bad_members said))
-    (flat_map (refused_at names ls code.BadDefault) (bad_defaults said))
-    (All-flat_map (λ r. r.code ≢ code.Memory) (refused_at names ls code.ChoiceMember) (one_code code.ChoiceMember (λ h. cc)) (bad_members said))
-    (All-flat_map (λ r. r.code ≢ code.Memory) (refused_at names ls code.BadDefault) (one_code code.BadDefault (λ h. cc)) (bad_defaults said))
+refusal_codes : (names : List (List ℕ)) (ls : List (Located Numbered)) → All (λ r. r.code ≢ code.Memory) (whole_list_refusals names ls)
+refusal_codes names ls =
+    All-append (λ r. r.code ≢ code.Memory) (flat_map (refused_at names ls code.ChoiceMember) (bad_members line_statements))
+    (flat_map (refused_at names ls code.BadDefault) (bad_defaults line_statements))
+    (All-flat_map (λ r. r.code ≢ code.Memory) (refused_at names ls code.ChoiceMember) (one_code code.ChoiceMember (λ h. cc)) (bad_members line_statements))
+    (All-flat_map (λ r. r.code ≢ code.Memory) (refused_at names ls code.BadDefault) (one_code code.BadDefault (λ h. cc)) (bad_defaults line_statements))
   where
-    said : List Numbered
-    said = map (λ l. l.statement) ls
+    line_statements : List Numbered
+    line_statements = map (λ l. l.statement) ls
 
     one_code : (c : Code) → c ≢ code.Memory → (i : ℕ) → All (λ r. r.code ≢ code.Memory) (refused_at names ls c i)
     one_code c ne i = All-map_each (λ (r : Refused). r.code ≢ code.Memory)
-        (λ (l : Located Numbered). refused (record { code = c; detail = entry_name names (entry_symbol (menu_entry_at said i)) }) l.file l.line) (λ l. ne) (listed (slice_get ls i))
+        (λ (l : Located Numbered). refused (record { code = c; detail = entry_name names (entry_symbol (menu_entry_at line_statements i)) }) l.file l.line) (λ l. ne) (listed (slice_get ls i))
 
 not_memory : (rs : List Refused) (t : TreeFacts) (v : Refused) → All (λ r. r.code ≢ code.Memory) rs → Err v ≡ unless_refused rs t → v.code ≢ code.Memory
 not_memory [] t v a h = absurd cc
@@ -64,7 +64,7 @@ pub refused-memory : (ls : List (Located Named)) (r : Refusal) → Err (refusal_
 refused-memory ls r h m =
     absurd (not_memory (whole_list_refusals (names_of (statements ls)) (numbered_lines ls))
     (facts_with (names_of (statements ls)) (length (defined (statements ls))) (modules_id (statements ls)) (numbered_lines ls)) (refusal_view r)
-    (late_codes (names_of (statements ls)) (numbered_lines ls)) h m)
+    (refusal_codes (names_of (statements ls)) (numbered_lines ls)) h m)
 
 -- the tree that lines give is well formed
 pub whole-formed : (ls : List (Located Named)) (t : TreeFacts) → AreNames (defined (statements ls)) → AreDistinct (names_of (statements ls)) → IsShaped ls → Ok t ≡ tree_of_lines ls → IsWellFormed t
@@ -75,28 +75,29 @@ whole-formed ls t known distinct shaped h =
 
 -- what the numbered lines of an expanded list give
 module _ (log : Log) (l : Listing) (h : IsListing log l) where
-  abbrev given : List Numbered
-  given = map (λ x. x.statement) (numbered_lines log.lines)
+  abbrev line_statements : List Numbered
+  line_statements = map (λ x. x.statement) (numbered_lines log.lines)
 
-  said-are : (ls : List Line) → ls ≡ l.lines.items → given ≡ statements_of ls
-  said-are ls same =
+  statements_here : (ls : List Line) → ls ≡ l.lines.items → line_statements ≡ statements_of ls
+  statements_here ls same =
       ap (λ (ps : List (Located Numbered)). map (λ x. x.statement) ps) (sym h.lines_are) ∙ statements-are l.lines.items ∙ ap statements_of (sym same)
 
   pub lines-below : (ls : List Line) → ls ≡ l.lines.items → AreBelow l.count (statements_of ls)
   lines-below ls same =
-      subst (λ (ss : List Numbered). AreBelow l.count ss) (said-are ls same) (subst (λ (k : ℕ). AreBelow k given) (sym h.count_is) (numbered_below log.lines))
+      subst (λ (ss : List Numbered). AreBelow l.count ss) (statements_here ls same) (subst (λ (k : ℕ). AreBelow k line_statements) (sym h.count_is) (numbered_below log.lines))
 
   pub lines-apart : (files : Files) (root : List ℕ) → Expands files root (Ok log) → (ls : List Line) → ls ≡ l.lines.items → AreChoicesApart (statements_of ls)
   lines-apart files root x ls same =
-      subst AreChoicesApart (said-are ls same) (choice_alone given (nested files root log x))
+      subst AreChoicesApart (statements_here ls same) (choice_alone line_statements (nested files root log x))
 
-  pub lines-typed : (files : Files) (root : List ℕ) → Expands files root (Ok log) → (ls : List Line) → ls ≡ l.lines.items → AreTyped (statements_of ls)
+  pub lines-typed : (files : Files) (root : List ℕ) → Expands files root (Ok log) → (ls : List Line) → ls ≡ l.lines.items → AreTypesDefined (statements_of ls)
   lines-typed files root x ls same =
-      subst AreTyped (said-are ls same) (numbered_typed (Some (modules_id (statements log.lines))) (number_of (names_of (statements log.lines))) log.lines (expanded_allowed files root log x))
+      subst AreTypesDefined (statements_here ls same)
+      (numbered_typed (Some (modules_id (statements log.lines))) (number_of (names_of (statements log.lines))) log.lines (expanded_allowed files root log x))
 
   pub lines-opened : (files : Files) (root : List ℕ) → Expands files root (Ok log) → (ls : List Line) → ls ≡ l.lines.items → AreMenusOpened (statements_of ls)
   lines-opened files root x ls same =
-      subst AreMenusOpened (said-are ls same) (λ i e. ap is_some (menu_closed given (nested files root log x) i e).1)
+      subst AreMenusOpened (statements_here ls same) (λ i e. ap is_some (menu_closed line_statements (nested files root log x) i e).1)
 
   pub count-few : (files : Files) (root : List ℕ) → Expands files root (Ok log) → l.count ≤ most_symbols
   count-few files root x =
@@ -104,9 +105,9 @@ module _ (log : Log) (l : Listing) (h : IsListing log l) where
       let few = (expanded_known files root log x).few in
       omega arith
 
-  pub assembled-lines : (ls : List Line) (s : Result TreeParts Refusal) → ls ≡ l.lines.items →
+  pub parts-lines : (ls : List Line) (s : Result TreeParts Refusal) → ls ≡ l.lines.items →
       parts_view l.names s ≡ tree_with l.names l.count l.modules (map line_view ls) → parts_view l.names s ≡ tree_of_lines log.lines
-  assembled-lines ls s same a =
+  parts-lines ls s same a =
       let ss = statements log.lines in
       a
       ∙ ap (λ (xs : List Line). tree_with l.names l.count l.modules (map line_view xs)) same

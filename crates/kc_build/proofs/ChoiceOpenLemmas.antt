@@ -20,22 +20,22 @@ use Rattle.kc_tree.specs.declared.rows.EntryPrompt.{EntryPrompt}
 use Rattle.kc_tree.specs.declared.rows.Symbol.{Symbol}
 use Rattle.kc_tree.specs.declared.rows.Title.{Title}
 use Rattle.kc_tree.specs.Contexts.{IsPlain, condition_in, in_choice, top}
-use Rattle.kc_tree.specs.Layouts.{choice_default_view, choice_facts as choice_in, prompt_view, with_when}
+use Rattle.kc_tree.specs.Layouts.{choice_default_view, choice_facts as choice_in, prompt_view, with_when, with_parts}
 use Rattle.kc_tree.specs.TreeFacts.{Condition, ChoiceFacts, Guarded}
 use Rattle.kc_tree.specs.Common.{listed}
 use Rattle.kc_build.specs.Before.{choice_before, choices_before, default_by, members_before}
 use Rattle.kc_build.specs.EntryLines.{choice_default_line, member_line, named_line, prompt_line}
 use Rattle.kc_build.specs.Facts.{StatedDefault, prompt_of, prompt_condition, block_parts, choice_number, enclosing_choice, dependency, depends_form, entry_number, stated_default, is_member_place, of_block, prompt_at, single_symbol, symbol_at, enclosing_visible}
-use Rattle.kc_build.specs.Growth.{IsGrown, Stands, and_all}
+use Rattle.kc_build.specs.Growth.{IsGrown, Stands}
 use Rattle.kc_build.specs.SymbolRows.{member_by}
 use Rattle.kc_build.specs.Scopes.{block_visible}
 use Rattle.kc_build.specs.WalkResult.{IsEntryThere, IsTitleThere}
 use Rattle.kc_build.specs.Stacks.{AreTitlesWithin, block_facts_at, block_view}
 use Rattle.kc_build.specs.Walks.{Enters, place_after}
-use Rattle.kc_build.specs.declared.blocks.Block.{Block}
+use Rattle.kc_build.specs.declared.blocks.BlockScope.{BlockScope}
 use Rattle.kc_build.specs.declared.entries.Walk.{Walk}
 use Rattle.kc_build.proofs.CloserLemmas.{extends_equal, no_fewer}
-use Rattle.kc_build.proofs.DefineLemmas.{by_asked, prompt_by_line, prompt_under, prompt_visible}
+use Rattle.kc_build.proofs.DefineLemmas.{by_asked, prompt_by_line, line_prompt, prompt_visible}
 use Rattle.kc_build.proofs.GrownLemmas.{AreKept, Extends, carries_grown, choice_extends, further, get_front, get_pushed_if, grown_push, kept_by, kept_carries, map_alike, open_extends, plain_carries, plain_extends, pushed}
 use Rattle.kc_build.proofs.HeldLemmas.{carries_entry}
 use Rattle.kc_build.proofs.ListLemmas.{count_next}
@@ -249,12 +249,12 @@ pub record IsRest (old new : Walk) : Type 0 where
   pub entries : new.tables.entries ≡ old.tables.entries
   pub main_menu : new.main_menu ≡ old.main_menu
 
-module _ (symbols : List Symbol) (own : List Numbered) (old new : Walk) (rest : IsRest old new) (middle : List Condition) (c : Choice) (b : Block) (number id : ℕ) where
-  abbrev block_outside : Block
+module _ (symbols : List Symbol) (own : List Numbered) (old new : Walk) (rest : IsRest old new) (middle : List Condition) (c : Choice) (b : BlockScope) (number id : ℕ) where
+  abbrev block_outside : BlockScope
   block_outside = old.blocks.innermost
 
   pub choice_enters : IsGrown old.tables.contexts middle (condition_in old.tables.contexts old.blocks.innermost.within.0).mode (length own) →
-      Stands middle c.within.0 (and_all (condition_in old.tables.contexts old.blocks.innermost.within.0) (filter_map depends_form own)) →
+      Stands middle c.within.0 (with_parts (condition_in old.tables.contexts old.blocks.innermost.within.0) (filter_map depends_form own)) →
       new.tables.contexts ≡ middle ++ in_choice (condition_in middle old.blocks.innermost.within.0) id ∷ [] → id ≡ length old.tables.choices.items →
       new.tables.choices.items ≡ old.tables.choices.items ++ c ∷ [] →
       option_map prompt_line c.prompt ≡ option_map (λ (p : InputPrompt Form). (old.blocks.innermost.visible.0, p.when)) (last_of (filter_map prompt_of own)) →
@@ -274,12 +274,13 @@ module _ (symbols : List Symbol) (own : List Numbered) (old new : Walk) (rest : 
       let opens : of_block ss block.Choice i ≡ true = rw (h.at) refl in
       let counted : id ≡ choice_number ss i = id_is ∙ choice_count ss symbols i old w in
       let depends : condition_in new.tables.contexts c.within.0 ≡ dependency ss i = k.keeps c.within.0 stands.there ∙ stands.is ∙ dependency_is ss i own o block_outside innermost_is h.attributes_are in
-      let shows : (condition_in new.tables.contexts block_outside.visible.0).parts ≡ enclosing_visible ss i = ap (λ (y : Condition). y.parts) (g.keeps block_outside.visible.0 seen)
+      let shows : (condition_in new.tables.contexts block_outside.visible.0).parts ≡ enclosing_visible ss i =
+      ap (λ (y : Condition). y.parts) (g.keeps block_outside.visible.0 seen)
       ∙ ap (λ y. y.visible) innermost_is in
       let asked : option_map (prompt_view new.tables.contexts (condition_in new.tables.contexts c.within.0)) c.prompt ≡ prompt_at ss i =
       ap (λ (y : Condition). option_map (prompt_view new.tables.contexts y) c.prompt) depends
       ∙ prompt_by_line new.tables.contexts (dependency ss i) c.prompt
-      ∙ ap (option_map (prompt_under new.tables.contexts (dependency ss i))) prompt_is
+      ∙ ap (option_map (line_prompt new.tables.contexts (dependency ss i))) prompt_is
       ∙ by_asked new.tables.contexts (dependency ss i) block_outside.visible.0 (last_of (filter_map prompt_of own))
       ∙ ap (λ (v : List Form). option_map (λ (p : InputPrompt Form). with_when (record { parts = (dependency ss i).parts ++ v; mode = (dependency ss i).mode }) p.when)
       (last_of (filter_map prompt_of own))) shows
@@ -341,15 +342,15 @@ module _ (symbols : List Symbol) (own : List Numbered) (old new : Walk) (rest : 
       refl
 
 -- The tables with the row of a choice that was made in the innermost block.
-pub kept_row : (w : Walk) (b : Block) (middle : List Condition) (n : ℕ) (r : Bool) (row : Choice) (new : List Choice) (fs : List Form) (x : Option (InputPrompt Form)) →
+pub kept_row : (w : Walk) (b : BlockScope) (middle : List Condition) (n : ℕ) (r : Bool) (row : Choice) (new : List Choice) (fs : List Form) (x : Option (InputPrompt Form)) →
     b ≡ w.blocks.innermost → IsGrown w.tables.contexts middle (condition_in w.tables.contexts b.within.0).mode n →
-    Stands middle row.within.0 (and_all (condition_in w.tables.contexts b.within.0) fs) → IsPlain w.tables.contexts w.blocks.innermost.within.0 →
+    Stands middle row.within.0 (with_parts (condition_in w.tables.contexts b.within.0) fs) → IsPlain w.tables.contexts w.blocks.innermost.within.0 →
     option_map prompt_line row.prompt ≡ option_map (λ (p : InputPrompt Form). (b.visible.0, p.when)) x → new ≡ pushed r w.tables.choices.items row →
     AreKept middle w.tables.definitions.items new w.tables.titles.items
 kept_row w b middle n r row new fs x e grown stands plain asked added =
     let f = carries_entry w b middle n e grown in
     let row_plain : IsPlain middle row.within.0 = ap (λ (c : Condition). is_some c.mode) stands.is
-    ∙ ap (λ (y : Block). is_some (condition_in w.tables.contexts y.within.0).mode) e ∙ plain in
+    ∙ ap (λ (y : BlockScope). is_some (condition_in w.tables.contexts y.within.0).mode) e ∙ plain in
     let there : b.visible.0 < length middle = rw e (further w.tables.contexts middle f w.blocks.innermost.visible.0 (w.visible 0 w.blocks.innermost refl)) in
     let shown : IsPlain middle b.visible.0 =
     rw e (plain_carries w.tables.contexts middle f w.blocks.innermost.visible.0 (w.visible 0 w.blocks.innermost refl) (w.plain 0 w.blocks.innermost refl)) in

@@ -23,13 +23,14 @@ use Rattle.kc_build.specs.declared.symbols.ChoiceScope.{ChoiceScope}
 use Rattle.kc_build.specs.Facts.{choice_number, enclosing_choice, is_block, of_block, symbol_at, symbol_of}
 use Rattle.kc_build.specs.SymbolRows.{definition_number}
 use Rattle.kc_build.specs.Scopes as scopes
-use Rattle.kc_build.specs.SymbolWalk.{IsScopeAt, choice_view}
+use Rattle.kc_build.specs.SymbolWalk.{IsScopeAt}
 use Rattle.kc_build.specs.Walks.{IsHead, place_after}
 use Rattle.kc_build.proofs.BlockLemmas.{enclosing-closes, enclosing-last, enclosing-no, enclosing-opens, front}
 use Rattle.kc_build.proofs.EnterLemmas.{attribute_symbol, enclosing_passed, over}
 use Rattle.kc_build.proofs.PlaceLemmas.{filter_map-next, length-numbers}
 use Rattle.kc_build.proofs.ScopeLemmas.{choice_number-next, scope_snoc}
 use Rattle.kc_build.proofs.StackLemmas.{front_snoc, none_given, split_last}
+use Rattle.kc_tree.specs.Contexts.{mode_view}
 
 -- how many definitions a line makes
 abbrev pub made_by : Numbered → ℕ
@@ -68,7 +69,7 @@ module _ (ss : List Numbered) where
 
   -- At the start nothing encloses a line.
   pub scope_start : (r : ChoiceScope) → r.choice ≡ None → r.outside.items ≡ [] → r.choices ≡ 0 → r.definitions ≡ 0 → IsScopeAt ss 0 r
-  scope_start r c o n d = record { choice = ap choice_view c; outside = ap (map choice_view) o; choices = n; definitions = d }
+  scope_start r c o n d = record { choice = ap mode_view c; outside = ap (map mode_view) o; choices = n; definitions = d }
 
   -- One line more.
   module _ (i : ℕ) (s : Numbered) (old new : ChoiceScope) (at : slice_get ss i ≡ Some s) (h : IsScopeAt ss i old)
@@ -79,30 +80,30 @@ module _ (ss : List Numbered) where
     definitions_now : new.definitions ≡ definition_number ss (i + 1)
     definitions_now = made ∙ ap (λ n. n + made_by s) h.definitions ∙ sym (defined-next i s at)
 
-    passed : (places : List ℕ) → enclosing ss (suc i) ≡ places → choice_view new.choice ≡ mode_in places →
-        map choice_view new.outside.items ≡ map (enclosing_choice ss) places → IsScopeAt ss (i + 1) new
+    passed : (places : List ℕ) → enclosing ss (suc i) ≡ places → mode_view new.choice ≡ mode_in places →
+        map mode_view new.outside.items ≡ map (enclosing_choice ss) places → IsScopeAt ss (i + 1) new
     passed places e c o =
         let after : enclosing ss (i + 1) ≡ places = (rw add-one e) in
         record { choice = c ∙ sym (ap mode_in after); outside = o ∙ sym (ap (map (enclosing_choice ss)) after); choices = choices_now; definitions = definitions_now }
 
     -- one that is no bracket
     pub scope_flat : bracket s ≡ NoBracket → new.choice ≡ old.choice → new.outside.items ≡ old.outside.items → IsScopeAt ss (i + 1) new
-    scope_flat b c o = passed (enclosing ss i) (enclosing-no ss i s at b) (ap choice_view c ∙ h.choice) (ap (map choice_view) o ∙ h.outside)
+    scope_flat b c o = passed (enclosing ss i) (enclosing-no ss i s at b) (ap mode_view c ∙ h.choice) (ap (map mode_view) o ∙ h.outside)
 
     -- an opener
     opened_here : (b : opener.Block) → bracket s ≡ Opens b → of_block ss block.Choice i ≡ is_block block.Choice (Some b)
     opened_here b e = ap (λ o. is_block block.Choice (opened (bracket_of o))) at ∙ ap (λ k. is_block block.Choice (opened k)) e
 
     pub scope_opens : (b : opener.Block) → bracket s ≡ Opens b →
-        choice_view new.choice ≡ (if is_block block.Choice (Some b) then Some old.choices else choice_view old.choice) →
+        mode_view new.choice ≡ (if is_block block.Choice (Some b) then Some old.choices else mode_view old.choice) →
         new.outside.items ≡ old.outside.items ++ old.choice ∷ [] → IsScopeAt ss (i + 1) new
     scope_opens b e c o =
-        let mode : choice_view new.choice ≡ mode_in (enclosing ss i ++ i ∷ []) = c
-        ∙ ap (λ n. if is_block block.Choice (Some b) then Some n else choice_view old.choice) h.choices
+        let mode : mode_view new.choice ≡ mode_in (enclosing ss i ++ i ∷ []) = c
+        ∙ ap (λ n. if is_block block.Choice (Some b) then Some n else mode_view old.choice) h.choices
         ∙ ap (λ m. if is_block block.Choice (Some b) then Some (choice_number ss i) else m) h.choice
         ∙ sym (mode_snoc (enclosing ss i) i ∙ ap (λ t. if t then Some (choice_number ss i) else mode_in (enclosing ss i)) (opened_here b e)) in
-        let outside : map choice_view new.outside.items ≡ map (enclosing_choice ss) (enclosing ss i ++ i ∷ []) = ap (map choice_view) o
-        ∙ map-append choice_view old.outside.items (old.choice ∷ []) ∙ ap (λ l. l ++ choice_view old.choice ∷ []) h.outside
+        let outside : map mode_view new.outside.items ≡ map (enclosing_choice ss) (enclosing ss i ++ i ∷ []) = ap (map mode_view) o
+        ∙ map-append mode_view old.outside.items (old.choice ∷ []) ∙ ap (λ l. l ++ mode_view old.choice ∷ []) h.outside
         ∙ ap (λ m. map (enclosing_choice ss) (enclosing ss i) ++ m ∷ []) h.choice ∙ sym (map-append (enclosing_choice ss) (enclosing ss i) (i ∷ [])) in
         passed (enclosing ss i ++ i ∷ []) (enclosing-opens ss i s b at e) mode outside
 
@@ -110,17 +111,17 @@ module _ (ss : List Numbered) where
     pub scope_closes : (left : List (Option ChoiceId)) (last : Option ChoiceId) → bracket s ≡ Closes → old.outside.items ≡ left ++ last ∷ [] →
         new.choice ≡ last → new.outside.items ≡ left → IsScopeAt ss (i + 1) new
     scope_closes left last e p c o =
-        let split = split_last (enclosing ss i) (enclosing_choice ss) (map choice_view left) (choice_view last) (sym (ap (map choice_view) p ∙ map-append choice_view left (last ∷ [])) ∙ h.outside) in
+        let split = split_last (enclosing ss i) (enclosing_choice ss) (map mode_view left) (mode_view last) (sym (ap (map mode_view) p ∙ map-append mode_view left (last ∷ [])) ∙ h.outside) in
         let within = slice_get_within ss i s at in
         let whole = enclosing-last ss i split.k (omega arith) split.last in
         let shorter : front (enclosing ss i) ≡ enclosing ss split.k = ap front whole ∙ front_snoc (enclosing ss split.k) split.k in
-        passed (front (enclosing ss i)) (enclosing-closes ss i s at e) (ap choice_view c ∙ split.here ∙ sym (ap mode_in shorter)) (ap (map choice_view) o ∙ split.before)
+        passed (front (enclosing ss i)) (enclosing-closes ss i s at e) (ap mode_view c ∙ split.here ∙ sym (ap mode_in shorter)) (ap (map mode_view) o ∙ split.before)
 
     -- and where none is
     pub scope_closes_none : bracket s ≡ Closes → old.outside.items ≡ [] → new.choice ≡ old.choice → new.outside.items ≡ old.outside.items → IsScopeAt ss (i + 1) new
     scope_closes_none e p c o =
-        let none : enclosing ss i ≡ [] = none_given (enclosing ss i) (enclosing_choice ss) (sym (ap (map choice_view) p) ∙ h.outside) in
-        passed [] (enclosing-closes ss i s at e ∙ ap front none) (ap choice_view c ∙ h.choice ∙ ap mode_in none) (ap (map choice_view) (o ∙ p))
+        let none : enclosing ss i ≡ [] = none_given (enclosing ss i) (enclosing_choice ss) (sym (ap (map mode_view) p) ∙ h.outside) in
+        passed [] (enclosing-closes ss i s at e ∙ ap front none) (ap mode_view c ∙ h.choice ∙ ap mode_in none) (ap (map mode_view) (o ∙ p))
 
   -- Behind an entry the scope is the same as behind its first line.
   attribute_makes : (j : ℕ) (s : Numbered) → slice_get ss j ≡ Some s → is_attribute s ≡ true → definition_number ss (j + 1) ≡ definition_number ss j
@@ -138,10 +139,10 @@ module _ (ss : List Numbered) where
 
   pub scope_behind : (i : ℕ) (head : Numbered) (own : List Numbered) (r : ChoiceScope) → IsHead ss i head own → IsScopeAt ss (i + 1) r → IsScopeAt ss (place_after i own) r
   scope_behind i head own r h w =
-      let around : enclosing ss (place_after i own) ≡ enclosing ss (i + 1) = enclosing_passed ss i head own h ∙ sym (ap (enclosing ss) (add-one i)) in
+      let innermost_facts : enclosing ss (place_after i own) ≡ enclosing ss (i + 1) = enclosing_passed ss i head own h ∙ sym (ap (enclosing ss) (add-one i)) in
       record {
-        choice = w.choice ∙ sym (ap mode_in around);
-        outside = w.outside ∙ sym (ap (map (enclosing_choice ss)) around);
+        choice = w.choice ∙ sym (ap mode_in innermost_facts);
+        outside = w.outside ∙ sym (ap (map (enclosing_choice ss)) innermost_facts);
         choices = w.choices ∙ sym (over ss i head own h (choice_number ss) attribute_opens);
         definitions = w.definitions ∙ sym (over ss i head own h (definition_number ss) attribute_makes);
       }

@@ -26,11 +26,11 @@ use Rattle.kc_tree.specs.Contexts.{IsPlain, condition_in}
 use Rattle.kc_tree.specs.Layouts.{definition_facts, prompt_view, default_view, range_view, with_parts, with_when}
 use Rattle.kc_tree.specs.Spans.{slice_of}
 use Rattle.kc_tree.specs.TreeFacts.{Condition}
-use Rattle.kc_build.specs.declared.blocks.Block.{Block}
+use Rattle.kc_build.specs.declared.blocks.BlockScope.{BlockScope}
 use Rattle.kc_build.specs.declared.entries.Walk.{Walk}
 use Rattle.kc_build.specs.EntryLines.{default_line, default_row, prompt_line, range_line, range_row}
 use Rattle.kc_build.specs.Facts.{prompt_of, depends_form}
-use Rattle.kc_build.specs.Growth.{IsGrown, Stands, and_all}
+use Rattle.kc_build.specs.Growth.{IsGrown, Stands}
 use Rattle.kc_build.specs.WalkResult.{AreRowsThere, IsEntryThere, IsSpanBelow, IsTitleThere}
 use Rattle.kc_build.specs.ReverseRows.{HaveSources}
 use Rattle.kc_build.specs.Stacks as stacks
@@ -48,16 +48,16 @@ prompt_visible (Some r) v (Some a) e p q =
     let line : prompt_line r ≡ (v, a.when) = cc in
     ap (λ (s : EntryPrompt). s.visible.0) (sym same) ∙ ap (λ (l : ℕ × Option Form). l.0) line
 
-abbrev pub prompt_under : List Condition → Condition → ℕ × Option Form → Condition
-prompt_under conditions dependency q = with_when (with_parts dependency (condition_in conditions q.0).parts) q.1
+abbrev pub line_prompt : List Condition → Condition → ℕ × Option Form → Condition
+line_prompt conditions dependency q = with_when (with_parts dependency (condition_in conditions q.0).parts) q.1
 
 pub prompt_by_line : (conditions : List Condition) (dependency : Condition) (o : Option EntryPrompt) →
-    option_map (prompt_view conditions dependency) o ≡ option_map (prompt_under conditions dependency) (option_map prompt_line o)
+    option_map (prompt_view conditions dependency) o ≡ option_map (line_prompt conditions dependency) (option_map prompt_line o)
 prompt_by_line conditions dependency None = refl
 prompt_by_line conditions dependency (Some p) = refl
 
 pub by_asked : (conditions : List Condition) (dependency : Condition) (v : ℕ) (x : Option (InputPrompt Form)) →
-    option_map (prompt_under conditions dependency) (option_map (λ (p : InputPrompt Form). (v, p.when)) x) ≡ option_map
+    option_map (line_prompt conditions dependency) (option_map (λ (p : InputPrompt Form). (v, p.when)) x) ≡ option_map
     (λ (p : InputPrompt Form). with_when (with_parts dependency (condition_in conditions v).parts) p.when) x
 by_asked conditions dependency v None = refl
 by_asked conditions dependency v (Some p) = refl
@@ -144,7 +144,7 @@ pub record IsMade (symbol : SymId) (own : List Numbered) (old new : Walk) (d : D
   pub contexts : IsGrown old.tables.contexts new.tables.contexts (condition_in old.tables.contexts old.blocks.innermost.within.0).mode (length own)
   pub pushed_is : new.tables.definitions.items ≡ old.tables.definitions.items ++ d ∷ []
   pub symbol_is : d.symbol ≡ symbol
-  pub within : Stands new.tables.contexts d.within.0 (and_all (condition_in old.tables.contexts old.blocks.innermost.within.0) (filter_map depends_form own))
+  pub within : Stands new.tables.contexts d.within.0 (with_parts (condition_in old.tables.contexts old.blocks.innermost.within.0) (filter_map depends_form own))
   pub prompt : option_map prompt_line d.prompt ≡ option_map (λ (p : InputPrompt Form). (old.blocks.innermost.visible.0, p.when)) (last_of (filter_map prompt_of own))
   pub defaults : map default_row new.tables.defaults.items ≡ map default_row old.tables.defaults.items ++ filter_map default_line own
   pub defaults_start : d.defaults.start ≡ length old.tables.defaults.items
@@ -165,14 +165,14 @@ entry_carries w new n h =
     carries_grown w.tables.contexts new (condition_in w.tables.contexts w.blocks.innermost.within.0).mode n w.blocks.innermost.within.0 (w.within 0 w.blocks.innermost refl) refl h
 
 module _ (symbol : SymId) (own : List Numbered) (old new : Walk) (d : Definition) (m : IsMade symbol own old new d) where
-  abbrev around : stacks.BlockFacts
-  around = block_view old.tables.contexts old.blocks.innermost
+  abbrev innermost_facts : stacks.BlockFacts
+  innermost_facts = block_view old.tables.contexts old.blocks.innermost
 
   carried : Carries old.tables.contexts new.tables.contexts
   carried = entry_carries old new.tables.contexts (length own) m.contexts
 
   abbrev dependency : Condition
-  dependency = dependency_in around own
+  dependency = dependency_in innermost_facts own
 
   dependency_is : condition_in new.tables.contexts d.within.0 ≡ dependency
   dependency_is = m.within.is
@@ -180,11 +180,11 @@ module _ (symbol : SymId) (own : List Numbered) (old new : Walk) (d : Definition
   visible_is : condition_in new.tables.contexts old.blocks.innermost.visible.0 ≡ condition_in old.tables.contexts old.blocks.innermost.visible.0
   visible_is = carried.keeps old.blocks.innermost.visible.0 (old.visible 0 old.blocks.innermost refl)
 
-  prompt_is : option_map (prompt_view new.tables.contexts (condition_in new.tables.contexts d.within.0)) d.prompt ≡ option_map (made_prompt around own) (last_of (filter_map prompt_of own))
+  prompt_is : option_map (prompt_view new.tables.contexts (condition_in new.tables.contexts d.within.0)) d.prompt ≡ option_map (made_prompt innermost_facts own) (last_of (filter_map prompt_of own))
   prompt_is =
       ap (λ (c : Condition). option_map (prompt_view new.tables.contexts c) d.prompt) dependency_is
       ∙ prompt_by_line new.tables.contexts dependency d.prompt
-      ∙ ap (option_map (prompt_under new.tables.contexts dependency)) m.prompt
+      ∙ ap (option_map (line_prompt new.tables.contexts dependency)) m.prompt
       ∙ by_asked new.tables.contexts dependency old.blocks.innermost.visible.0 (last_of (filter_map prompt_of own))
       ∙ ap (λ (c : Condition). option_map (λ (p : InputPrompt Form). with_when (with_parts dependency c.parts) p.when) (last_of (filter_map prompt_of own))) visible_is
 
@@ -203,7 +203,7 @@ module _ (symbol : SymId) (own : List Numbered) (old new : Walk) (d : Definition
       ∙ ranges_by_row dependency (slice_of new.tables.ranges.items d.ranges)
       ∙ ap (map (guarded_bounds dependency)) (part_last range_row old.tables.ranges.items new.tables.ranges.items (filter_map range_line own) d.ranges m.ranges_start m.ranges_end m.ranges)
 
-  facts_are : definition_facts new.tables d ≡ made_definition around symbol own
+  facts_are : definition_facts new.tables d ≡ made_definition innermost_facts symbol own
   facts_are =
       let a = m.symbol_is in
       let b = dependency_is in
@@ -213,7 +213,7 @@ module _ (symbol : SymId) (own : List Numbered) (old new : Walk) (d : Definition
       λ i. record { symbol = a i; dependency = b i; prompt = c i; defaults = e i; ranges = f i }
 
   all_facts : AreRowsThere old.tables →
-      map (definition_facts new.tables) new.tables.definitions.items ≡ map (definition_facts old.tables) old.tables.definitions.items ++ made_definition around symbol own ∷ []
+      map (definition_facts new.tables) new.tables.definitions.items ≡ map (definition_facts old.tables) old.tables.definitions.items ++ made_definition innermost_facts symbol own ∷ []
   all_facts rows =
       ap (map (definition_facts new.tables)) m.pushed_is
       ∙ map_push (definition_facts new.tables) old.tables.definitions.items d
@@ -285,19 +285,19 @@ module _ (symbol : SymId) (own : List Numbered) (old new : Walk) (d : Definition
   }
 
 -- by a copy of the innermost block
-pub outer_grown : (w : Walk) (outer : Block) (new : List Condition) (n : ℕ) → outer ≡ w.blocks.innermost →
+pub outer_grown : (w : Walk) (outer : BlockScope) (new : List Condition) (n : ℕ) → outer ≡ w.blocks.innermost →
     IsGrown w.tables.contexts new (condition_in w.tables.contexts outer.within.0).mode n →
     IsGrown w.tables.contexts new (condition_in w.tables.contexts w.blocks.innermost.within.0).mode n
-outer_grown w outer new n e h = subst (λ (b : Block). IsGrown w.tables.contexts new (condition_in w.tables.contexts b.within.0).mode n) e h
+outer_grown w outer new n e h = subst (λ (b : BlockScope). IsGrown w.tables.contexts new (condition_in w.tables.contexts b.within.0).mode n) e h
 
-pub outer_stands : (w : Walk) (outer : Block) (new : List Condition) (i : ℕ) (fs : List Form) → outer ≡ w.blocks.innermost →
-    Stands new i (and_all (condition_in w.tables.contexts outer.within.0) fs) → Stands new i (and_all (condition_in w.tables.contexts w.blocks.innermost.within.0) fs)
-outer_stands w outer new i fs e h = subst (λ (b : Block). Stands new i (and_all (condition_in w.tables.contexts b.within.0) fs)) e h
+pub outer_stands : (w : Walk) (outer : BlockScope) (new : List Condition) (i : ℕ) (fs : List Form) → outer ≡ w.blocks.innermost →
+    Stands new i (with_parts (condition_in w.tables.contexts outer.within.0) fs) → Stands new i (with_parts (condition_in w.tables.contexts w.blocks.innermost.within.0) fs)
+outer_stands w outer new i fs e h = subst (λ (b : BlockScope). Stands new i (with_parts (condition_in w.tables.contexts b.within.0) fs)) e h
 
-pub outer_prompt : (w : Walk) (outer : Block) (o : Option EntryPrompt) (x : Option (InputPrompt Form)) → outer ≡ w.blocks.innermost →
+pub outer_prompt : (w : Walk) (outer : BlockScope) (o : Option EntryPrompt) (x : Option (InputPrompt Form)) → outer ≡ w.blocks.innermost →
     option_map prompt_line o ≡ option_map (λ (p : InputPrompt Form). (outer.visible.0, p.when)) x →
     option_map prompt_line o ≡ option_map (λ (p : InputPrompt Form). (w.blocks.innermost.visible.0, p.when)) x
-outer_prompt w outer o x e h = subst (λ (b : Block). option_map prompt_line o ≡ option_map (λ (p : InputPrompt Form). (b.visible.0, p.when)) x) e h
+outer_prompt w outer o x e h = subst (λ (b : BlockScope). option_map prompt_line o ≡ option_map (λ (p : InputPrompt Form). (b.visible.0, p.when)) x) e h
 
 -- A choice with one member more.
 set_found : {A : Type 0} (xs : List A) (k : ℕ) (x y : A) → k < length xs → slice_get xs k ≡ Some y → (j : ℕ) (z : A) → slice_get (slice_set xs k x) j ≡ Some z →

@@ -25,7 +25,7 @@ use Rattle.kc_read.specs.Progress.{defined_after, naming_cause}
 use Rattle.kc_read.specs.Numbering.{located_numbered}
 use Rattle.kc_read.specs.Statements.{InputPrompt, Named, Located, numbered, ConfigLine, IfLine, EndIfLine, CommentLine, SourceLine, MenuLine, EndMenuLine, ChoiceLine, EndChoiceLine, MainMenuLine, TypeLine, PromptLine, DefaultLine, DefLine, DependsLine, VisibleLine, SelectLine, ImplyLine, RangeLine, HelpLine, ModulesLine, IgnoredLine, statements}
 use Rattle.kc_build.specs.Facts.{type_of}
-use Rattle.kc_build.specs.SymbolRows.{AreTyped}
+use Rattle.kc_build.specs.SymbolRows.{AreTypesDefined}
 use Rattle.kc_build.proofs.ElementLemmas.{get_snoc}
 
 -- a statement defines no name that no symbol may have
@@ -317,7 +317,7 @@ module _ (modules : Option SymId) (number : List ℕ → ℕ) where
   untyped_not _ a e = absurd cc
 
   pub numbered_typed : (ls : List (Located Named)) → ((i : ℕ) (l : Located Named) → slice_get ls i ≡ Some l → IsAllowed l.statement) →
-      AreTyped (map (λ l. l.statement) (map (located_numbered modules number) ls))
+      AreTypesDefined (map (λ l. l.statement) (map (located_numbered modules number) ls))
   numbered_typed [] h i s e t = absurd cc
   numbered_typed (l ∷ ls) h zero s e t = untyped_not l.statement (h zero l refl) (ap type_of (let same : numbered modules number l.statement ≡ s = cc in same) ∙ t)
   numbered_typed (l ∷ ls) h (suc i) s e t = numbered_typed ls (λ j. h (suc j)) i s e t

@@ -28,7 +28,7 @@ use Rattle.kc_build.specs.declared.diagnostics.Diagnostics.{Diagnostics}
 use Rattle.kc_build.specs.declared.diagnostics.EntrySummary.{EntrySummary}
 use Rattle.kc_build.specs.declared.diagnostics.MenuEntry.{MenuEntry}
 use Rattle.kc_build.specs.Diagnosed.{Diagnosis, AreLinesDiagnosed, lines_diagnosed, diagnosis_view, line_diagnosed}
-use Rattle.kc_build.specs.Facts.{prompt_of, choice_of, enclosing_choice, first_of, is_member, kind_of, symbol_of}
+use Rattle.kc_build.specs.Facts.{prompt_of, choice_of, enclosing_choice, first_of, is_member, kind_of}
 use Rattle.kc_build.specs.FirstDefinitions.{is_first_definition_at}
 use Rattle.kc_build.specs.SymbolRows.{AreBelow, AreSymbols, IsEntrySummary, choice_by, kind_by, member_by, line_warnings_in}
 use Rattle.kc_build.specs.WholeListRefusals.{entry_refusal}
@@ -109,10 +109,6 @@ or_false true = refl
 or_false false = refl
 
 -- What is not read of a line.
-no_symbol : (s : Numbered) → is_attribute s ≡ true → symbol_of (Some s) ≡ None
-no_symbol (ConfigLine t) h = cc
-no_symbol _ h = refl
-
 no_prompt : (s : Numbered) → is_attribute s ≡ false → prompt_of s ≡ None
 no_prompt (TypeLine k p) h = cc
 no_prompt (PromptLine p) h = cc
@@ -207,10 +203,10 @@ module _ (names : List (List ℕ)) (ls : List (Located Numbered)) (symbols : Lis
       λ i c t. at c t i
 
   -- with the first walk's knowledge in place of that of the list
-  known_said : (o : MenuEntry) (before first : Bool) (s : Numbered) → bad_members (statements ls) ≡ [] →
+  warnings_known : (o : MenuEntry) (before first : Bool) (s : Numbered) → bad_members (statements ls) ≡ [] →
       line_warnings_by (kind_by symbols) (choice_by symbols) (member_by symbols) o before first s ≡ line_warnings_by (kind_of (statements ls))
       (choice_of (statements ls)) (is_member (statements ls)) o before first s
-  known_said o before first s none =
+  warnings_known o before first s none =
       ap (λ (f : SymId → Kind). line_warnings_by f (choice_by symbols) (member_by symbols) o before first s) kinds
       ∙ ap (λ (f : SymId → Option ℕ). line_warnings_by (kind_of (statements ls)) f (member_by symbols) o before first s) choices
       ∙ ap (λ (f : ℕ → SymId → Bool). line_warnings_by (kind_of (statements ls)) (choice_of (statements ls)) f o before first s) (members none)
@@ -286,7 +282,7 @@ module _ (names : List (List ℕ)) (ls : List (Located Numbered)) (symbols : Lis
             (option_map (λ (k : ChoiceId). k.0) summary.within_choice) a
             ∙ sym (no_member (kind_of ss) (choice_of ss) (member_by symbols) summary.entry l.statement (is_first_definition_at ss i) (enclosing_choice ss i) a);
         says = λ none.
-            known_said names ls symbols below are summary.entry prompted summary.first l.statement none
+            warnings_known names ls symbols below are summary.entry prompted summary.first l.statement none
             ∙ first_unread (kind_of ss) (choice_of ss) (is_member ss) summary.entry l.statement prompted summary.first (is_first_definition_at ss i) a
             ∙ ap (λ (b : Bool). line_warnings_by (kind_of ss) (choice_of ss) (is_member ss) summary.entry b (is_first_definition_at ss i) l.statement) p
             ∙ ap (λ (o : MenuEntry). line_warnings_by (kind_of ss) (choice_of ss) (is_member ss) o (prompt_before ss i) (is_first_definition_at ss i) l.statement) entry;
@@ -328,7 +324,7 @@ module _ (names : List (List ℕ)) (ls : List (Located Numbered)) (symbols : Lis
         ∙ ap (λ (r : Option ℕ). is_bad_member (kind_of (statements ls)) (choice_of (statements ls))
         (is_first_definition_at (statements ls) i) r l.statement) is.within_choice;
     says = λ none.
-        known_said names ls symbols below are summary.entry false summary.first l.statement none
+        warnings_known names ls symbols below are summary.entry false summary.first l.statement none
         ∙ ap (λ (b : Bool). line_warnings_by (kind_of (statements ls)) (choice_of (statements ls)) (is_member (statements ls)) summary.entry false b l.statement) is.first
         ∙ ap (λ (o : MenuEntry). line_warnings_by (kind_of (statements ls)) (choice_of (statements ls)) (is_member (statements ls))
         o false (is_first_definition_at (statements ls) i) l.statement) is.entry
@@ -468,8 +464,8 @@ module _ (names : List (List ℕ)) (ls : List (Located Numbered)) (d : Diagnosti
   first_default : first_of (flat_map (refused_at names ls code.BadDefault) (bad_defaults (statements ls))) ≡ option_map refusal_view d.bad_default
   first_default = ap (λ n. first_of (flat_map (refused_at names ls code.BadDefault) (filter (bad_default_at names ls) (numbers n)))) (statement_count names ls) ∙ sym all_found.default
 
-  first_late : first_of (whole_list_refusals names ls) ≡ option_or (option_map refusal_view d.bad_member) (option_map refusal_view d.bad_default)
-  first_late =
+  first_refusal : first_of (whole_list_refusals names ls) ≡ option_or (option_map refusal_view d.bad_member) (option_map refusal_view d.bad_default)
+  first_refusal =
       first_append (flat_map (refused_at names ls code.ChoiceMember) (bad_members (statements ls))) (flat_map (refused_at names ls code.BadDefault) (bad_defaults (statements ls)))
       ∙ ap (λ (o : Option Refused). option_or o (first_of (flat_map (refused_at names ls code.BadDefault) (bad_defaults (statements ls))))) first_member
       ∙ ap (option_or (option_map refusal_view d.bad_member)) first_default
@@ -493,7 +489,7 @@ module _ (names : List (List ℕ)) (ls : List (Located Numbered)) (d : Diagnosti
 
   -- the first refusal is that of the list
   pub refused_tree : (r : Refusal) (t : TreeFacts) → option_or d.bad_member d.bad_default ≡ Some r → unless_refused (whole_list_refusals names ls) t ≡ Err (refusal_view r)
-  refused_tree r t e = by (whole_list_refusals names ls) (first_late ∙ sym (by_option d.bad_member d.bad_default) ∙ ap (option_map refusal_view) e)
+  refused_tree r t e = by (whole_list_refusals names ls) (first_refusal ∙ sym (by_option d.bad_member d.bad_default) ∙ ap (option_map refusal_view) e)
     where
       by : (rs : List Refused) → first_of rs ≡ Some (refusal_view r) → unless_refused rs t ≡ Err (refusal_view r)
       by [] h = cc
@@ -502,7 +498,7 @@ module _ (names : List (List ℕ)) (ls : List (Located Numbered)) (d : Diagnosti
   -- without one the warnings are those of the list
   pub accepted : d.bad_member ≡ None → d.bad_default ≡ None → IsAccepted names ls d
   accepted m e =
-      let none = first_late ∙ ap (λ (o : Option Refusal). option_or (option_map refusal_view o) (option_map refusal_view d.bad_default)) m ∙ ap (option_map refusal_view) e in
+      let none = first_refusal ∙ ap (λ (o : Option Refusal). option_or (option_map refusal_view o) (option_map refusal_view d.bad_default)) m ∙ ap (option_map refusal_view) e in
       record {
         refusals = none_first (whole_list_refusals names ls) none;
         warnings_are = all_found.warnings (no_bad_member m) ∙ ap (λ n. flat_map (λ j. warned_at names ls j (slice_get ls j)) (numbers n)) (sym (statement_count names ls));

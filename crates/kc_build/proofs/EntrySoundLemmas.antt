@@ -8,11 +8,11 @@ use Rattle.kc_tree.specs.TreeFacts.{Condition, Shown, SymbolShown, MenuShown, En
 use Rattle.kc_build.specs.Facts.{dependency, entry_at, entry_number, is_first_definition, enclosing_block, places, shown_when, symbol_at, symbol_of}
 use Rattle.kc_build.specs.SymbolRows.{AreBelow}
 use Rattle.kc_build.proofs.ElementLemmas.{filter_map-from}
-use Rattle.kc_build.proofs.FormedLemmas.{defined_if, said, sound_at, tree}
+use Rattle.kc_build.proofs.FormedLemmas.{defined_if, line_statements, sound_at, tree}
 
 module _ (names : List (List ℕ)) (count : ℕ) (modules : SymId) (ls : List (Located Numbered)) where
   abbrev pub statements : List Numbered
-  statements = said names count modules ls
+  statements = line_statements names count modules ls
 
   abbrev pub whole : TreeFacts
   whole = tree names count modules ls

@@ -15,7 +15,7 @@ use Rattle.kc_tree.specs.declared.rows.Symbol.{Symbol}
 use Rattle.kc_tree.specs.Contexts.{condition_in, mode_view}
 use Rattle.kc_tree.specs.Layouts.{definition_facts}
 use Rattle.kc_build.specs.Before.{definition_at}
-use Rattle.kc_build.specs.declared.blocks.Block.{Block}
+use Rattle.kc_build.specs.declared.blocks.BlockScope.{BlockScope}
 use Rattle.kc_build.specs.declared.diagnostics.MenuEntry.TheVariants as menu_entry
 use Rattle.kc_build.specs.declared.entries.Walk.{Walk}
 use Rattle.kc_build.specs.Facts.{choice_number, enclosing_choice, symbol_at, symbol_of}
@@ -52,10 +52,10 @@ module _ (ss : List Numbered) (symbols : List Symbol) (i : ℕ) (head : Numbered
   entry_is = by_kind (is_attribute head) refl h.begins
 
   -- the choice that the entry stands in
-  pub within_choice_is : (b : Block) (o : Option ChoiceId) → b ≡ w.blocks.innermost → mode_view o ≡ (condition_in w.tables.contexts b.within.0).mode →
+  pub within_choice_is : (b : BlockScope) (o : Option ChoiceId) → b ≡ w.blocks.innermost → mode_view o ≡ (condition_in w.tables.contexts b.within.0).mode →
       option_map (λ (c : ChoiceId). c.0) o ≡ enclosing_choice ss i
   within_choice_is b o e m =
-      m ∙ ap (λ (x : Block). (condition_in w.tables.contexts x.within.0).mode) e ∙ ap (λ x. x.mode) k.blocks.innermost
+      m ∙ ap (λ (x : BlockScope). (condition_in w.tables.contexts x.within.0).mode) e ∙ ap (λ x. x.mode) k.blocks.innermost
 
   -- how many definitions and choices stand before it
   pub definition_count : length w.tables.definitions.items ≡ definition_number ss i

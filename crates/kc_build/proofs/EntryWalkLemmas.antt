@@ -30,10 +30,10 @@ run_stops {X} p (y ∷ xs) x h = by (p y) refl (run_stops p xs x) h
 
 module _ (ls : List Line) (i end : ℕ) (counted : end ≡ i + 1 + prefix_len is_attribute (drop (i + 1) (statements_of ls))) where
   -- the statements of the slice from the line behind the first one to the end
-  abbrev pub own_said : List Numbered
-  own_said = statements_of (take (end - (i + 1)) (drop (i + 1) ls))
+  abbrev pub own_statements : List Numbered
+  own_statements = statements_of (take (end - (i + 1)) (drop (i + 1) ls))
 
-  pub own_is : own_said ≡ attributes (statements_of ls) i
+  pub own_is : own_statements ≡ attributes (statements_of ls) i
   own_is =
       let n : end - (i + 1) ≡ prefix_len is_attribute (drop (i + 1) (statements_of ls)) = omega arith in
       let view = λ (l : Line). statement_view l.statement in
@@ -41,14 +41,14 @@ module _ (ls : List Line) (i end : ℕ) (counted : end ≡ i + 1 + prefix_len is
       ∙ ap (λ k. take k (drop (i + 1) (statements_of ls))) n ∙ ap (λ k. take_while is_attribute (drop k (statements_of ls))) (add-one i)
 
   -- the entry, and the place behind it
-  pub head_is : (x : Line) → i < length ls → x ≡ get_or ls i x → Begins (statements_of ls) i → IsHead (statements_of ls) i (statement_view x.statement) own_said
+  pub head_is : (x : Line) → i < length ls → x ≡ get_or ls i x → Begins (statements_of ls) i → IsHead (statements_of ls) i (statement_view x.statement) own_statements
   head_is x h at b =
       let here = statement_at ls i x h at in
       record { at = here; attributes_are = sym own_is; begins = b (statement_view x.statement) here }
 
-  pub end_is : end ≡ place_after i own_said
+  pub end_is : end ≡ place_after i own_statements
   end_is =
-      let size : length own_said ≡ prefix_len is_attribute (drop (suc i) (statements_of ls)) = ap length own_is ∙ length-prefix_len is_attribute (drop (suc i) (statements_of ls)) in
+      let size : length own_statements ≡ prefix_len is_attribute (drop (suc i) (statements_of ls)) = ap length own_is ∙ length-prefix_len is_attribute (drop (suc i) (statements_of ls)) in
       let same : prefix_len is_attribute (drop (i + 1) (statements_of ls)) ≡ prefix_len is_attribute (drop (suc i) (statements_of ls)) =
       ap (λ k. prefix_len is_attribute (drop k (statements_of ls))) (add-one i) in
       omega arith

@@ -198,15 +198,15 @@ map-but_last f (x ∷ y ∷ ys) = ap (λ l. f x ∷ l) (map-but_last f (y ∷ ys
 abbrev block_of : OpenBlock → Block
 block_of o = o.block
 
-after_openers : (b : Bracket) (n : ℕ) (os : List OpenBlock) → map block_of (open_blocks_after b n os) ≡ blocks_after b (map block_of os)
-after_openers (Opens b) n os = map-push block_of os (record { block = b; line = n })
-after_openers Closes n os = ap (map block_of) (but_last-take os) ∙ map-but_last block_of os
-after_openers NoBracket n os = refl
+blocks_after_one : (b : Bracket) (n : ℕ) (os : List OpenBlock) → map block_of (open_blocks_after b n os) ≡ blocks_after b (map block_of os)
+blocks_after_one (Opens b) n os = map-push block_of os (record { block = b; line = n })
+blocks_after_one Closes n os = ap (map block_of) (but_last-take os) ∙ map-but_last block_of os
+blocks_after_one NoBracket n os = refl
 
 blocks_push : (ls : List (Located Named)) (l : Located Named) → open_blocks (statements (ls ++ l ∷ [])) ≡ blocks_after (bracket l.statement) (open_blocks (statements ls))
 blocks_push ls l =
     sym (blocks_of_openers (ls ++ l ∷ [])) ∙ ap (map block_of) (openers_push ls l)
-    ∙ after_openers (bracket l.statement) l.line (located_blocks ls)
+    ∙ blocks_after_one (bracket l.statement) l.line (located_blocks ls)
     ∙ ap (blocks_after (bracket l.statement)) (blocks_of_openers ls)
 
 last_there : (bs : List Block) (b : Block) → last_of bs ≡ Some b → (c : Block) × (cs : List Block) × (bs ≡ c ∷ cs)

@@ -129,14 +129,14 @@ abbrev row_begins : ℕ → Option SymbolRow → Bool
 row_begins n None = false
 row_begins n (Some r) = begins n r.definitions
 
-seen_first : (n : ℕ) (o : Option Symbol) → list_any (λ (d : DefinitionId). d.0 == n) (listed (option_and_then (λ (f : Symbol). f.first) o)) ≡ row_begins n (option_map row_view o)
-seen_first n None = refl
-seen_first n (Some f) = first_id n f.first f.more.items
+first_of_row : (n : ℕ) (o : Option Symbol) → list_any (λ (d : DefinitionId). d.0 == n) (listed (option_and_then (λ (f : Symbol). f.first) o)) ≡ row_begins n (option_map row_view o)
+first_of_row n None = refl
+first_of_row n (Some f) = first_id n f.first f.more.items
 
 pub first_by_number : (ss : List Numbered) (symbols : List Symbol) (s : SymId) (i : ℕ) → AreSymbols ss symbols → s.0 < length symbols → symbol_at ss i ≡ Some s → i < length ss →
     first_by symbols s (definition_number ss i) ≡ is_first_definition ss i s
 first_by_number ss symbols s i are l here within =
     let n = definition_number ss i in
-    seen_first n (slice_get symbols s.0)
+    first_of_row n (slice_get symbols s.0)
     ∙ ap (row_begins n) (sym (slice_get-map row_view symbols s.0) ∙ ap (λ (rs : List SymbolRow). slice_get rs s.0) are ∙ get-map_numbers (row_of ss) (length symbols) s.0 l)
     ∙ begins_first ss s i here within

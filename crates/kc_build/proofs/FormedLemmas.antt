@@ -43,49 +43,52 @@ module _ (ss : List Numbered) where
 
 -- Symbols and their lines.
 module _ (names : List (List ℕ)) (count : ℕ) (modules : SymId) (ls : List (Located Numbered)) where
-  abbrev pub said : List Numbered
-  said = map (λ l. l.statement) ls
+  abbrev pub line_statements : List Numbered
+  line_statements = map (λ l. l.statement) ls
 
   abbrev pub tree : TreeFacts
   tree = facts_with names count modules ls
 
   pub defined_if : (s : SymId) → s.0 < count → IsDefined tree s
-  defined_if s h = let n = length-map_numbers (λ i. symbol_facts said (symbol i)) count in omega arith
+  defined_if s h = let n = length-map_numbers (λ i. symbol_facts line_statements (symbol i)) count in omega arith
 
-  pub facts_at : (i : ℕ) → i < count → slice_get tree.symbols i ≡ Some (symbol_facts said (symbol i))
-  facts_at i h = get-map_numbers (λ i. symbol_facts said (symbol i)) count i h
+  pub facts_at : (i : ℕ) → i < count → slice_get tree.symbols i ≡ Some (symbol_facts line_statements (symbol i))
+  facts_at i h = get-map_numbers (λ i. symbol_facts line_statements (symbol i)) count i h
 
   abbrev NamesSound : Guarded SymId → Type 0
   NamesSound g = IsDefined tree g.what × IsModeBelow (length tree.choices) g.when
 
-  module _ (below : AreBelow count said) where
-    names_by : (line : Numbered → Option (Option Form)) (i : ℕ) (o : Option SymId) → symbol_at said i ≡ o →
-        All NamesSound (flat_map (λ s. map (guarded_symbol said i s) (filter_map line (attributes said i))) (listed o))
+  module _ (below : AreBelow count line_statements) where
+    names_by : (line : Numbered → Option (Option Form)) (i : ℕ) (o : Option SymId) → symbol_at line_statements i ≡ o →
+        All NamesSound (flat_map (λ s. map (guarded_symbol line_statements i s) (filter_map line (attributes line_statements i))) (listed o))
     names_by line i None e = All-nil NamesSound
     names_by line i (Some s) e =
         let d = defined_if s (below i s e) in
-        All-append NamesSound (map (guarded_symbol said i s) (filter_map line (attributes said i))) []
-        (All-map_each NamesSound (guarded_symbol said i s) (λ w. (d, sound_at said i (guarded_symbol said i s w).when refl))
-        (filter_map line (attributes said i))) (All-nil NamesSound)
+        All-append NamesSound (map (guarded_symbol line_statements i s) (filter_map line (attributes line_statements i))) []
+        (All-map_each NamesSound (guarded_symbol line_statements i s) (λ w. (d, sound_at line_statements i (guarded_symbol line_statements i s w).when refl))
+        (filter_map line (attributes line_statements i))) (All-nil NamesSound)
 
-    names_sound : (line : Numbered → Option (Option Form)) (t : SymId) → All NamesSound (if can_be_target said t then flat_map (naming_at said line) (places said) else [])
+    names_sound : (line : Numbered → Option (Option Form)) (t : SymId) →
+        All NamesSound (if can_be_target line_statements t then flat_map (naming_at line_statements line) (places line_statements) else [])
     names_sound line t =
-        All-if NamesSound (can_be_target said t) (flat_map (naming_at said line) (places said))
-        (All-flat_map NamesSound (naming_at said line) (λ i. names_by line i (symbol_at said i) refl) (places said))
+        All-if NamesSound (can_be_target line_statements t) (flat_map (naming_at line_statements line) (places line_statements))
+        (All-flat_map NamesSound (naming_at line_statements line) (λ i. names_by line i (symbol_at line_statements i) refl) (places line_statements))
 
-    lines_sound : (s : SymId) → AreLinesSound tree (symbol_facts said s)
+    lines_sound : (s : SymId) → AreLinesSound tree (symbol_facts line_statements s)
     lines_sound s = record {
-      dependencies = All-map_each (IsSound said) (dependency said) (λ i. sound_at said i (dependency said i) refl) (definitions_of said s);
-      prompts = All-filter_map (IsSound said) (prompt_at said) (λ i c h. sound_at said i c (prompt_mode said i c h)) (definitions_of said s);
-      defaults = All-flat_map (λ (g : Guarded Form). IsSound said g.when) (defaults_at said)
-          (λ i. All-map_each (λ (g : Guarded Form). IsSound said g.when) (guarded_default said i) (λ g. sound_at said i (guarded_default said i g).when refl)
-          (filter_map stated_default (attributes said i))) (definitions_of said s);
-      ranges = All-flat_map (λ (g : Guarded Bounds). IsSound said g.when) (λ i. filter_map (guarded_range said i) (attributes said i))
-          (λ i. All-filter_map (λ (g : Guarded Bounds). IsSound said g.when) (guarded_range said i) (λ x g h. sound_at said i g.when (range_mode said i x g h))
-          (attributes said i)) (definitions_of said s);
+      dependencies = All-map_each (IsSound line_statements) (dependency line_statements) (λ i. sound_at line_statements i (dependency line_statements i) refl) (definitions_of line_statements s);
+      prompts = All-filter_map (IsSound line_statements) (prompt_at line_statements) (λ i c h. sound_at line_statements i c (prompt_mode line_statements i c h)) (definitions_of line_statements s);
+      defaults = All-flat_map (λ (g : Guarded Form). IsSound line_statements g.when) (defaults_at line_statements)
+          (λ i. All-map_each (λ (g : Guarded Form). IsSound line_statements g.when) (guarded_default line_statements i)
+          (λ g. sound_at line_statements i (guarded_default line_statements i g).when refl)
+          (filter_map stated_default (attributes line_statements i))) (definitions_of line_statements s);
+      ranges = All-flat_map (λ (g : Guarded Bounds). IsSound line_statements g.when) (λ i. filter_map (guarded_range line_statements i) (attributes line_statements i))
+          (λ i. All-filter_map (λ (g : Guarded Bounds). IsSound line_statements g.when) (guarded_range line_statements i)
+          (λ x g h. sound_at line_statements i g.when (range_mode line_statements i x g h))
+          (attributes line_statements i)) (definitions_of line_statements s);
       selectors = names_sound (select_of s) s;
       impliers = names_sound (imply_of s) s;
     }
 
     pub all_sound : All (AreLinesSound tree) tree.symbols
-    all_sound = All-map_each (AreLinesSound tree) (λ i. symbol_facts said (symbol i)) (λ i. lines_sound (symbol i)) (numbers count)
+    all_sound = All-map_each (AreLinesSound tree) (λ i. symbol_facts line_statements (symbol i)) (λ i. lines_sound (symbol i)) (numbers count)

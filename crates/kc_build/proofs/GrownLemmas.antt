@@ -34,7 +34,7 @@ use Rattle.kc_build.specs.EntryLines.{default_row, range_row}
 use Rattle.kc_build.specs.Growth.{IsGrown}
 use Rattle.kc_build.specs.WalkResult.{AreRowsThere, IsEntryThere, IsSpanBelow, IsTitleThere}
 use Rattle.kc_build.specs.Stacks.{AreBlocksPlain, AreBlocksVisible, AreBlocksWithin, AreOpen, AreTitlesWithin, AsksNothing, block_view}
-use Rattle.kc_build.specs.declared.blocks.Block.{Block}
+use Rattle.kc_build.specs.declared.blocks.BlockScope.{BlockScope}
 use Rattle.kc_build.specs.declared.blocks.Blocks.{Blocks}
 use Rattle.kc_build.specs.declared.entries.Walk.{Walk}
 use Rattle.std.proofs.lemmas.Bool.{cases_lt}
@@ -179,7 +179,7 @@ module _ (old new : List Condition) (g : Extends old new) where
   blocks_plain_extend blocks w h = λ j b e. plain_extends b.visible.0 (w j b e) (h j b e)
 
   -- A block says the same.
-  pub block_alike : (b : Block) → b.within.0 < length old → b.visible.0 < length old → block_view new b ≡ block_view old b
+  pub block_alike : (b : BlockScope) → b.within.0 < length old → b.visible.0 < length old → block_view new b ≡ block_view old b
   block_alike b w v =
       let within = g.keeps b.within.0 w in
       let visible = g.keeps b.visible.0 v in

@@ -10,13 +10,14 @@ use Rattle.kc_expr.specs.Form.{Form}
 use Rattle.kc_tree.specs.declared.rows.Title.{Title}
 use Rattle.kc_tree.specs.Contexts.{IsPlain, and_also, condition_in}
 use Rattle.kc_tree.specs.TreeFacts.{Condition}
-use Rattle.kc_build.specs.Growth.{IsGrown, Stands, and_all}
+use Rattle.kc_build.specs.Growth.{IsGrown, Stands}
 use Rattle.kc_build.specs.Stacks.{AreBlocksPlain, AreBlocksVisible, AreBlocksWithin, AreTitlesWithin, AsksNothing, IsClosed, open_blocks}
-use Rattle.kc_build.specs.declared.blocks.Block.{Block}
+use Rattle.kc_build.specs.declared.blocks.BlockScope.{BlockScope}
 use Rattle.kc_build.specs.declared.blocks.Blocks.{Blocks}
 use Rattle.kc_build.specs.declared.entries.Walk.{Walk}
 use Rattle.kc_build.proofs.GrownLemmas.{AreHeld, Carries, Holding, Keeping, carries_grown, carries_push, carries_same, further, get_front, get_last, get_pushed, held_by, held_carries, holding, keeping_carries, plain_carries}
 use Rattle.kc_build.proofs.OpenLemmas.{ends}
+use Rattle.kc_tree.specs.Layouts.{with_parts}
 
 -- a context inside another one, where there was memory for it
 pub carries_added : {T E : Type 0} (r : Result T E) (old new : List Condition) (j : ℕ) (f : Form) → j < length old → OnOk r (new ≡ old ++ and_also (condition_in old j) f ∷ []) →
@@ -30,25 +31,25 @@ on_ok_both (Ok x) A B P a b f = f a b
 on_ok_both (Err x) A B P a b f = tt
 
 -- What holds of each open block.
-abbrev pub OfEach : (Block → Type 0) → Blocks → Type 0
-OfEach P blocks = (j : ℕ) (b : Block) → slice_get (open_blocks blocks) j ≡ Some b → P b
+abbrev pub OfEach : (BlockScope → Type 0) → Blocks → Type 0
+OfEach P blocks = (j : ℕ) (b : BlockScope) → slice_get (open_blocks blocks) j ≡ Some b → P b
 
-module _ (P : Block → Type 0) (old new : Blocks) (h : OfEach P old) where
+module _ (P : BlockScope → Type 0) (old new : Blocks) (h : OfEach P old) where
   each_same : open_blocks new ≡ open_blocks old → OfEach P new
-  each_same e = λ j b at. h j b (sym (ap (λ (l : List Block). slice_get l j) e) ∙ at)
+  each_same e = λ j b at. h j b (sym (ap (λ (l : List BlockScope). slice_get l j) e) ∙ at)
 
-  each_opened : (block : Block) → new.innermost ≡ block → new.outside.items ≡ old.outside.items ++ old.innermost ∷ [] → P block → OfEach P new
+  each_opened : (block : BlockScope) → new.innermost ≡ block → new.outside.items ≡ old.outside.items ++ old.innermost ∷ [] → P block → OfEach P new
   each_opened block inner outer p = at
     where
-      outside : (j : ℕ) (b : Block) → (slice_get old.outside.items j ≡ Some b) ⊎ ((j ≡ length old.outside.items) × (old.innermost ≡ b)) → P b
+      outside : (j : ℕ) (b : BlockScope) → (slice_get old.outside.items j ≡ Some b) ⊎ ((j ≡ length old.outside.items) × (old.innermost ≡ b)) → P b
       outside j b (inl e) = h (suc j) b e
       outside j b (inr e) = h 0 b (ap Some e.1)
 
-      at : (j : ℕ) (b : Block) → slice_get (open_blocks new) j ≡ Some b → P b
+      at : (j : ℕ) (b : BlockScope) → slice_get (open_blocks new) j ≡ Some b → P b
       at zero b e = let same : block ≡ b = cc in subst P same p
-      at (suc j) b e = outside j b (get_pushed old.outside.items old.innermost j b (sym (ap (λ (l : List Block). slice_get l j) outer) ∙ e))
+      at (suc j) b e = outside j b (get_pushed old.outside.items old.innermost j b (sym (ap (λ (l : List BlockScope). slice_get l j) outer) ∙ e))
 
-  pub each_opens : {T E : Type 0} (r : Result T E) (block : Block) → OnOk r (new.innermost ≡ block) → OnOk r (new.outside.items ≡ old.outside.items ++ old.innermost ∷ []) →
+  pub each_opens : {T E : Type 0} (r : Result T E) (block : BlockScope) → OnOk r (new.innermost ≡ block) → OnOk r (new.outside.items ≡ old.outside.items ++ old.innermost ∷ []) →
       OnErr r (open_blocks new ≡ open_blocks old) → P block → OfEach P new
   each_opens (Ok x) block inner outer e p = each_opened block inner outer p
   each_opens (Err x) block inner outer e p = each_same e
@@ -56,30 +57,30 @@ module _ (P : Block → Type 0) (old new : Blocks) (h : OfEach P old) where
   pub each_closes : IsClosed old new → OfEach P new
   each_closes c = by_end (ends old.outside.items)
     where
-      left : (ys : List Block) (y : Block) → old.outside.items ≡ ys ++ y ∷ [] → new.innermost ≡ y → new.outside.items ≡ ys → (j : ℕ) (b : Block) →
+      left : (ys : List BlockScope) (y : BlockScope) → old.outside.items ≡ ys ++ y ∷ [] → new.innermost ≡ y → new.outside.items ≡ ys → (j : ℕ) (b : BlockScope) →
           slice_get (open_blocks new) j ≡ Some b → P b
       left ys y e inner outer zero b at =
           let same : y ≡ b = cc in
-          h (suc (length ys)) b (ap (λ (l : List Block). slice_get l (length ys)) e ∙ get_last ys y ∙ ap Some same)
+          h (suc (length ys)) b (ap (λ (l : List BlockScope). slice_get l (length ys)) e ∙ get_last ys y ∙ ap Some same)
       left ys y e inner outer (suc j) b at =
-          let found : slice_get ys j ≡ Some b = sym (ap (λ (l : List Block). slice_get l j) outer) ∙ at in
+          let found : slice_get ys j ≡ Some b = sym (ap (λ (l : List BlockScope). slice_get l j) outer) ∙ at in
           let within = slice_get_within ys j b found in
-          h (suc j) b (ap (λ (l : List Block). slice_get l j) e ∙ get_front ys (y ∷ []) j within ∙ found)
+          h (suc j) b (ap (λ (l : List BlockScope). slice_get l j) e ∙ get_front ys (y ∷ []) j within ∙ found)
 
-      by_end : (old.outside.items ≡ []) ⊎ ((ys : List Block) × (y : Block) × (old.outside.items ≡ ys ++ y ∷ [])) → OfEach P new
+      by_end : (old.outside.items ≡ []) ⊎ ((ys : List BlockScope) × (y : BlockScope) × (old.outside.items ≡ ys ++ y ∷ [])) → OfEach P new
       by_end (inl e) = each_same (c.1 e)
       by_end (inr e) = left e.0 e.1 e.2 (c.0 e.0 e.1 e.2).0 (c.0 e.0 e.1 e.2).1
 
 module _ (conditions : List Condition) (old new : Blocks) (ts : List Title) (h : AreHeld conditions old ts) where
-  pub held_opens : {T E : Type 0} (r : Result T E) (block : Block) → OnOk r (new.innermost ≡ block) → OnOk r (new.outside.items ≡ old.outside.items ++ old.innermost ∷ []) →
+  pub held_opens : {T E : Type 0} (r : Result T E) (block : BlockScope) → OnOk r (new.innermost ≡ block) → OnOk r (new.outside.items ≡ old.outside.items ++ old.innermost ∷ []) →
       OnErr r (open_blocks new ≡ open_blocks old) → block.within.0 < length conditions → block.visible.0 < length conditions →
       IsPlain conditions block.visible.0 → AreHeld conditions new ts
   held_opens r block inner outer e within visible plain = record {
     asks_nothing = h.asks_nothing;
     top_plain = h.top_plain;
-    within = each_opens (λ (b : Block). b.within.0 < length conditions) old new h.within r block inner outer e within;
-    visible = each_opens (λ (b : Block). b.visible.0 < length conditions) old new h.visible r block inner outer e visible;
-    plain = each_opens (λ (b : Block). IsPlain conditions b.visible.0) old new h.plain r block inner outer e plain;
+    within = each_opens (λ (b : BlockScope). b.within.0 < length conditions) old new h.within r block inner outer e within;
+    visible = each_opens (λ (b : BlockScope). b.visible.0 < length conditions) old new h.visible r block inner outer e visible;
+    plain = each_opens (λ (b : BlockScope). IsPlain conditions b.visible.0) old new h.plain r block inner outer e plain;
     titles = h.titles;
   }
 
@@ -87,31 +88,31 @@ module _ (conditions : List Condition) (old new : Blocks) (ts : List Title) (h :
   held_closes c = record {
     asks_nothing = h.asks_nothing;
     top_plain = h.top_plain;
-    within = each_closes (λ (b : Block). b.within.0 < length conditions) old new h.within c;
-    visible = each_closes (λ (b : Block). b.visible.0 < length conditions) old new h.visible c;
-    plain = each_closes (λ (b : Block). IsPlain conditions b.visible.0) old new h.plain c;
+    within = each_closes (λ (b : BlockScope). b.within.0 < length conditions) old new h.within c;
+    visible = each_closes (λ (b : BlockScope). b.visible.0 < length conditions) old new h.visible c;
+    plain = each_closes (λ (b : BlockScope). IsPlain conditions b.visible.0) old new h.plain c;
     titles = h.titles;
   }
 
 -- The contexts of an entry in the innermost block; those of what is visible in it.
-pub carries_entry : (w : Walk) (b : Block) (new : List Condition) (n : ℕ) → b ≡ w.blocks.innermost →
+pub carries_entry : (w : Walk) (b : BlockScope) (new : List Condition) (n : ℕ) → b ≡ w.blocks.innermost →
     IsGrown w.tables.contexts new (condition_in w.tables.contexts b.within.0).mode n → Carries w.tables.contexts new
 carries_entry w b new n e g =
     let there : b.within.0 < length w.tables.contexts = rw e (w.within 0 w.blocks.innermost refl) in
     carries_grown w.tables.contexts new (condition_in w.tables.contexts b.within.0).mode n b.within.0 there refl g
 
-pub carries_visible : (w : Walk) (b : Block) (middle new : List Condition) (n : ℕ) → b ≡ w.blocks.innermost → Carries w.tables.contexts middle →
+pub carries_visible : (w : Walk) (b : BlockScope) (middle new : List Condition) (n : ℕ) → b ≡ w.blocks.innermost → Carries w.tables.contexts middle →
     IsGrown middle new (condition_in middle b.visible.0).mode n → Carries middle new
 carries_visible w b middle new n e f g =
     let there : b.visible.0 < length middle = rw e (further w.tables.contexts middle f w.blocks.innermost.visible.0 (w.visible 0 w.blocks.innermost refl)) in
     carries_grown middle new (condition_in middle b.visible.0).mode n b.visible.0 there refl g
 
 -- What is asked of what is visible in an entry stays plain.
-pub plain_visible : (w : Walk) (b : Block) (middle new : List Condition) (id n : ℕ) (fs : List Form) → b ≡ w.blocks.innermost → Carries w.tables.contexts middle →
-    Stands new id (and_all (condition_in middle b.visible.0) fs) → IsPlain new id
+pub plain_visible : (w : Walk) (b : BlockScope) (middle new : List Condition) (id n : ℕ) (fs : List Form) → b ≡ w.blocks.innermost → Carries w.tables.contexts middle →
+    Stands new id (with_parts (condition_in middle b.visible.0) fs) → IsPlain new id
 plain_visible w b middle new id n fs e f s =
     ap (λ (c : Condition). is_some c.mode) s.is
-    ∙ ap (λ (x : Block). is_some (condition_in middle x.visible.0).mode) e
+    ∙ ap (λ (x : BlockScope). is_some (condition_in middle x.visible.0).mode) e
     ∙ plain_carries w.tables.contexts middle f w.blocks.innermost.visible.0 (w.visible 0 w.blocks.innermost refl) (w.plain 0 w.blocks.innermost refl)
 
 -- A walk with more contexts.

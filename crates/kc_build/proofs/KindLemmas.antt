@@ -24,13 +24,13 @@ row_kind o = unwrap_or (option_map (λ (r : SymbolRow). r.kind) o) kind.Undefine
 abbrev row_choice : Option SymbolRow → Option ℕ
 row_choice o = option_and_then (λ (r : SymbolRow). r.choice) o
 
-seen_kind : (o : Option Symbol) → unwrap_or (option_map (λ (f : Symbol). f.kind) o) kind.Undefined ≡ row_kind (option_map row_view o)
-seen_kind None = refl
-seen_kind (Some f) = refl
+kind_of_row : (o : Option Symbol) → unwrap_or (option_map (λ (f : Symbol). f.kind) o) kind.Undefined ≡ row_kind (option_map row_view o)
+kind_of_row None = refl
+kind_of_row (Some f) = refl
 
-seen_choice : (o : Option Symbol) → option_and_then (λ (f : Symbol). option_map (λ (c : ChoiceId). c.0) f.choice) o ≡ row_choice (option_map row_view o)
-seen_choice None = refl
-seen_choice (Some f) = refl
+choice_of_row : (o : Option Symbol) → option_and_then (λ (f : Symbol). option_map (λ (c : ChoiceId). c.0) f.choice) o ≡ row_choice (option_map row_view o)
+choice_of_row None = refl
+choice_of_row (Some f) = refl
 
 filter_none : (q : ℕ → Bool) (n : ℕ) → ((i : ℕ) → q i ≡ false) → filter q (numbers n) ≡ []
 filter_none q zero h = refl
@@ -73,14 +73,14 @@ module _ (ss : List Numbered) (symbols : List Symbol) (below : AreBelow (length 
   -- the types by the first walk are those of the statements
   pub kinds_known : kind_by symbols ≡ kind_of ss
   kinds_known =
-      let at : (s : SymId) → kind_by symbols s ≡ kind_of ss s = λ s. seen_kind (slice_get symbols s.0) ∙ ap row_kind (sym (slice_get-map row_view symbols s.0))
+      let at : (s : SymId) → kind_by symbols s ≡ kind_of ss s = λ s. kind_of_row (slice_get symbols s.0) ∙ ap row_kind (sym (slice_get-map row_view symbols s.0))
       ∙ kind_at ss (length symbols) below s (map row_view symbols) are (below_or_past s.0 (length symbols)) in
       λ i s. at s i
 
   -- and so are the choices
   pub choices_known : choice_by symbols ≡ choice_of ss
   choices_known =
-      let at : (s : SymId) → choice_by symbols s ≡ choice_of ss s = λ s. seen_choice (slice_get symbols s.0)
+      let at : (s : SymId) → choice_by symbols s ≡ choice_of ss s = λ s. choice_of_row (slice_get symbols s.0)
       ∙ ap row_choice (sym (slice_get-map row_view symbols s.0))
       ∙ choice_at ss (length symbols) below s (map row_view symbols) are (below_or_past s.0 (length symbols)) in
       λ i s. at s i

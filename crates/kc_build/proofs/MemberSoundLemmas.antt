@@ -167,47 +167,47 @@ module _ (ss : List Numbered) (none : bad_members ss ≡ []) where
 
 -- The same of a tree.
 module _ (names : List (List ℕ)) (count : ℕ) (modules : SymId) (ls : List (Located Numbered)) where
-  abbrev pub said : List Numbered
-  said = map (λ l. l.statement) ls
+  abbrev pub line_statements : List Numbered
+  line_statements = map (λ l. l.statement) ls
 
   abbrev pub whole : TreeFacts
   whole = tree names count modules ls
 
-  module _ (below : AreBelow count said) (none : bad_members said ≡ []) where
-    members_sound : (k : ℕ) → All (IsMemberOf whole k) (members_of said k)
+  module _ (below : AreBelow count line_statements) (none : bad_members line_statements ≡ []) where
+    members_sound : (k : ℕ) → All (IsMemberOf whole k) (members_of line_statements k)
     members_sound k =
-        All-kept (IsMemberOf whole k) (symbol_at said) (is_member_place said k)
+        All-kept (IsMemberOf whole k) (symbol_at line_statements) (is_member_place line_statements k)
         (λ i s m h. (
-          symbol_facts said (symbol s.0),
+          symbol_facts line_statements (symbol s.0),
           facts_at names count modules ls s.0 (below i s h),
-          member_choice said none k i s m h,
-          member_kind said none k i s m h,
-        )) (places said)
+          member_choice line_statements none k i s m h,
+          member_kind line_statements none k i s m h,
+        )) (places line_statements)
 
-    listed_by : (i k : ℕ) (f g : SymbolFacts) → Some g ≡ Some f → g.choice ≡ choice_of said (symbol i) → f.choice ≡ Some k → (c : ChoiceFacts)
+    listed_by : (i k : ℕ) (f g : SymbolFacts) → Some g ≡ Some f → g.choice ≡ choice_of line_statements (symbol i) → f.choice ≡ Some k → (c : ChoiceFacts)
         × (slice_get whole.choices k ≡ Some c) × Contains c.members (symbol i)
     listed_by i k f g e h c =
         let same : g ≡ f = cc in
-        listed_at said none (symbol i) k (sym h ∙ ap (λ (x : SymbolFacts). x.choice) same ∙ c)
+        listed_at line_statements none (symbol i) k (sym h ∙ ap (λ (x : SymbolFacts). x.choice) same ∙ c)
 
     pub all_listed : (i : ℕ) (f : SymbolFacts) → slice_get whole.symbols i ≡ Some f → IsListed whole (symbol i) f
     all_listed i f h k c =
-        let n = length-map_numbers (λ i. symbol_facts said (symbol i)) count in
+        let n = length-map_numbers (λ i. symbol_facts line_statements (symbol i)) count in
         let m = slice_get_within whole.symbols i f h in
         let l : i < count = omega arith in
-        listed_by i k f (symbol_facts said (symbol i)) (sym (facts_at names count modules ls i l) ∙ h) refl c
+        listed_by i k f (symbol_facts line_statements (symbol i)) (sym (facts_at names count modules ls i l) ∙ h) refl c
 
-    module _ (alone : (p : ℕ) → of_block said block.Choice p ≡ true → enclosing_choice said p ≡ None) where
-      sound_place : (k p : ℕ) → IsKept (of_block said block.Choice) (length said) k p → IsChoiceSound whole k (choice_facts said p)
+    module _ (alone : (p : ℕ) → of_block line_statements block.Choice p ≡ true → enclosing_choice line_statements p ≡ None) where
+      sound_place : (k p : ℕ) → IsKept (of_block line_statements block.Choice) (length line_statements) k p → IsChoiceSound whole k (choice_facts line_statements p)
       sound_place k p h =
           let r = alone p h.passes in
           record {
-            members = subst (λ (n : ℕ). All (IsMemberOf whole k) (members_of said n)) (sym h.count) (members_sound k);
-            defaults = defaults_sound said none alone p r;
-            prompt = λ c e. prompt_mode said p c e ∙ r;
+            members = subst (λ (n : ℕ). All (IsMemberOf whole k) (members_of line_statements n)) (sym h.count) (members_sound k);
+            defaults = defaults_sound line_statements none alone p r;
+            prompt = λ c e. prompt_mode line_statements p c e ∙ r;
           }
 
       pub choices_sound : (k : ℕ) (c : ChoiceFacts) → slice_get whole.choices k ≡ Some c → IsChoiceSound whole k c
       choices_sound k c h =
-          let p = choice_at said none k c h in
+          let p = choice_at line_statements none k c h in
           subst (IsChoiceSound whole k) p.facts (sound_place k p.place p.kept)

@@ -77,8 +77,8 @@ module _ (ss : List Numbered) (symbols : List Symbol) (i : ℕ) (s : SymId) (own
   opens_none : opens i ≡ false
   opens_none = ap (λ o. is_block block.Choice (opened (bracket_of o))) h.at
 
-  openers_same : filter opens (numbers after) ≡ filter opens (numbers i)
-  openers_same =
+  no_choice_more : filter opens (numbers after) ≡ filter opens (numbers i)
+  no_choice_more =
       blocks_passed ss i (ConfigLine s) own h block.Choice ∙ ap (λ (b : Bool). filter opens (numbers i) ++ (if b then i ∷ [] else [])) opens_none ∙ append-nil (filter opens (numbers i))
 
   taken : (b : Bool) → filter_map (symbol_at ss) (if b || false then i ∷ [] else []) ≡ (if b then s ∷ [] else [])
@@ -127,4 +127,4 @@ module _ (ss : List Numbered) (symbols : List Symbol) (i : ℕ) (s : SymId) (own
   -- the choices get the symbol as a member, where one encloses it
   pub members_added : with_member (enclosing_choice ss i) s (choices_before ss symbols i) ≡ choices_before ss symbols after
   members_added =
-      by_enclosing (enclosing_choice ss i) refl ∙ sym (ap (map (choice_before ss symbols after)) openers_same)
+      by_enclosing (enclosing_choice ss i) refl ∙ sym (ap (map (choice_before ss symbols after)) no_choice_more)

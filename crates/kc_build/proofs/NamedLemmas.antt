@@ -66,25 +66,25 @@ abbrev pub named_in : List DefinitionFacts → ℕ × Option Form → Option (Gu
 named_in ds x = option_map (λ (d : DefinitionFacts). record { what = d.symbol; when = with_when d.dependency x.1 }) (slice_get ds x.0)
 
 module _ (t : Tables) where
-  abbrev said : List DefinitionFacts
-  said = map (definition_facts t) t.definitions.items
+  abbrev defined : List DefinitionFacts
+  defined = map (definition_facts t) t.definitions.items
 
-  by_row : (o : Option Reverse) → option_and_then (reverse_facts t) o ≡ option_and_then (named_in said) (option_map reverse_row o)
+  by_row : (o : Option Reverse) → option_and_then (reverse_facts t) o ≡ option_and_then (named_in defined) (option_map reverse_row o)
   by_row None = refl
   by_row (Some r) =
       ap (option_map (λ (d : DefinitionFacts). record { what = d.symbol; when = with_when d.dependency (when_view r.when) })) (sym (slice_get-map (definition_facts t) t.definitions.items r.source.0))
 
-  from_rows : (last : Option ReverseId) → reverse (filter_map (reverse_at t) (chain_of (chains_of t.reverses.lines.items) last)) ≡ filter_map (named_in said) (rows_to t.reverses.lines.items last)
+  from_rows : (last : Option ReverseId) → reverse (filter_map (reverse_at t) (chain_of (chains_of t.reverses.lines.items) last)) ≡ filter_map (named_in defined) (rows_to t.reverses.lines.items last)
   from_rows last =
       let chain = chain_of (chains_of t.reverses.lines.items) last in
       let row = λ (i : ℕ). option_map reverse_row (slice_get t.reverses.lines.items i) in
-      ap reverse (filter_map_alike (reverse_at t) (λ i. option_and_then (named_in said) (row i)) chain (λ i. by_row (slice_get t.reverses.lines.items i)) ∙ and_then-filter row (named_in said) chain)
-      ∙ sym (filter_map-reverse (named_in said) (filter_map row chain))
+      ap reverse (filter_map_alike (reverse_at t) (λ i. option_and_then (named_in defined) (row i)) chain (λ i. by_row (slice_get t.reverses.lines.items i)) ∙ and_then-filter row (named_in defined) chain)
+      ∙ sym (filter_map-reverse (named_in defined) (filter_map row chain))
 
-  pub selectors_by_rows : (s : ℕ) → selectors_at t s ≡ filter_map (named_in said) (selects_of t.reverses s)
+  pub selectors_by_rows : (s : ℕ) → selectors_at t s ≡ filter_map (named_in defined) (selects_of t.reverses s)
   selectors_by_rows s = from_rows (get_or t.reverses.selects.items s None)
 
-  pub impliers_by_rows : (s : ℕ) → impliers_at t s ≡ filter_map (named_in said) (implies_of t.reverses s)
+  pub impliers_by_rows : (s : ℕ) → impliers_at t s ≡ filter_map (named_in defined) (implies_of t.reverses s)
   impliers_by_rows s = from_rows (get_or t.reverses.implies.items s None)
 
 -- Rows of definitions below a number.

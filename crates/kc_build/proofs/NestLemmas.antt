@@ -55,13 +55,13 @@ module _ (f : Named → Numbered) (alike : (x : Named) → bracket (f x) ≡ bra
       ap (filter_map (λ j. opened (bracket_at (map f ss) j))) places
       ∙ same_filter_map (λ j. opened (bracket_at (map f ss) j)) (λ j. opened (bracket_at ss j)) (open_places ss) (λ j. ap opened (bracket_at-map ss j))
 
-  said_from : (o : Option Named) (s : Numbered) → option_map f o ≡ Some s → (x : Named) × (o ≡ Some x) × (f x ≡ s)
-  said_from None s e = absurd cc
-  said_from (Some x) s e = (x, refl, cc)
+  with_statement : (o : Option Named) (s : Numbered) → option_map f o ≡ Some s → (x : Named) × (o ≡ Some x) × (f x ≡ s)
+  with_statement None s e = absurd cc
+  with_statement (Some x) s e = (x, refl, cc)
 
   AreNested-map : (ss : List Named) → AreNested ss → AreNested (map f ss)
   AreNested-map ss n = λ i s e.
-      let x = said_from (slice_get ss i) s (sym (slice_get-map f ss i) ∙ e) in
+      let x = with_statement (slice_get ss i) s (sym (slice_get-map f ss i) ∙ e) in
       let blocks : open_blocks (take i (map f ss)) ≡ open_blocks (take i ss) = ap open_blocks (take-map f i ss) ∙ open_blocks-map (take i ss) in
       let here : turn (x.0) ≡ turn s = sym (same_turn x.0) ∙ ap turn x.2 in
       subst (λ bs. Suits bs (turn s)) (sym blocks) (subst (Suits (open_blocks (take i ss))) here (n i x.0 x.1))

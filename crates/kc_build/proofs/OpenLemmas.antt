@@ -13,7 +13,7 @@ use Rattle.kc_tree.specs.TreeFacts.{Condition}
 use Rattle.kc_build.specs.Facts.{block_parts, choice_number, entry_number, of_block, own_visible}
 use Rattle.kc_build.specs.Scopes.{block_visible}
 use Rattle.kc_build.specs.Stacks.{AreOpen, BlockFacts, IsClosed, block_facts_at, block_view, open_blocks}
-use Rattle.kc_build.specs.declared.blocks.Block.{Block}
+use Rattle.kc_build.specs.declared.blocks.BlockScope.{BlockScope}
 use Rattle.kc_build.specs.declared.blocks.Blocks.{Blocks}
 use Rattle.kc_build.proofs.BlockLemmas.{front, enclosing-opens, enclosing-closes, enclosing-no, enclosing-last}
 use Rattle.kc_build.proofs.ScopeLemmas.{scope_snoc}
@@ -94,7 +94,7 @@ module _ (ss : List Numbered) where
             }
         none_open (k ∷ ks) e q same = absurd cc
 
-        by_end : (old.outside.items ≡ []) ⊎ ((ys : List Block) × (y : Block) × (old.outside.items ≡ ys ++ y ∷ [])) → AreOpen ss (suc i) conditions new
+        by_end : (old.outside.items ≡ []) ⊎ ((ys : List BlockScope) × (y : BlockScope) × (old.outside.items ≡ ys ++ y ∷ [])) → AreOpen ss (suc i) conditions new
         by_end (inl e) =
             none_open (enclosing ss i) refl (sym (ap (map (block_view conditions)) e) ∙ h.outside) (c.1 e)
         by_end (inr e) =

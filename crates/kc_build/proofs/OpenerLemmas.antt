@@ -15,7 +15,7 @@ use Rattle.kc_build.specs.Scopes.{block_visible}
 use Rattle.kc_build.specs.WalkResult.{IsEntryThere, IsTitleThere}
 use Rattle.kc_build.specs.Stacks.{AreOpen, block_facts_at, block_view}
 use Rattle.kc_build.specs.Walks.{Enters, IsHead, IsWalk, place_after}
-use Rattle.kc_build.specs.declared.blocks.Block.{Block}
+use Rattle.kc_build.specs.declared.blocks.BlockScope.{BlockScope}
 use Rattle.kc_build.specs.declared.entries.Walk.{Walk}
 use Rattle.kc_build.proofs.GrownLemmas.{Extends, carries_push, extends, open_carries}
 use Rattle.kc_build.proofs.OpenLemmas.{asked_inside, open_opens}
@@ -67,7 +67,7 @@ module _ (ss : List Numbered) (symbols : List Symbol) (i : ℕ) (head : Numbered
       q.symbol
 
 -- what a block asks for that begins at a place
-pub block_inside : (ss : List Numbered) (i : ℕ) (conditions : List Condition) (b : Block) → (condition_in conditions b.within.0).parts ≡ (block_facts_at ss i).parts ++ block_parts ss i →
+pub block_inside : (ss : List Numbered) (i : ℕ) (conditions : List Condition) (b : BlockScope) → (condition_in conditions b.within.0).parts ≡ (block_facts_at ss i).parts ++ block_parts ss i →
     (condition_in conditions b.visible.0).parts ≡ (block_facts_at ss i).visible ++ block_visible ss i →
     (condition_in conditions b.within.0).mode ≡ (if of_block ss block.Choice i then Some (choice_number ss i) else (block_facts_at ss i).mode) → b.entry ≡ Some (entry_number ss i) →
     block_view conditions b ≡ asked_inside ss i (block_facts_at ss i)
@@ -75,7 +75,7 @@ block_inside ss i conditions b p v m e =
     λ j. record { parts = p j; visible = v j; mode = m j; entry = e j }
 
 -- An `if`.
-module _ (e : Form) (entry : ℕ) (b : Block) (old new : Walk) (same : AreSame old new) (menu : new.main_menu ≡ old.main_menu) (number : entry ≡ length old.tables.entries.items) where
+module _ (e : Form) (entry : ℕ) (b : BlockScope) (old new : Walk) (same : AreSame old new) (menu : new.main_menu ≡ old.main_menu) (number : entry ≡ length old.tables.entries.items) where
   abbrev conditions : List Condition
   conditions = old.tables.contexts
 

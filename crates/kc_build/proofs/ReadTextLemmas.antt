@@ -109,8 +109,8 @@ expected_line w ts us h e = expected_by ts us (begins_with w ts) h e
 same_lines : (s x : Named) → s ≡ x → IsInLines x → IsInLines s
 same_lines s x e h = subst IsInLines (sym e) h
 
-bare : (s : Named) → HasTexts IsLineValue s → names_in_statement s ≡ [] → IsInLines s
-bare s t e = record { texts = t; names = subst (All IsLineText) (sym e) (All-nil IsLineText) }
+without_names : (s : Named) → HasTexts IsLineValue s → names_in_statement s ≡ [] → IsInLines s
+without_names s t e = record { texts = t; names = subst (All IsLineText) (sym e) (All-nil IsLineText) }
 
 finished : (x s : Named) (ts : List Lexeme) → IsInLines x → Ok s ≡ finish x ts → IsInLines s
 finished x s [] h e = same_lines s x (let same : s ≡ x = cc in same) h
@@ -144,7 +144,7 @@ asked make ts s l k h =
 
 typed : (k : Kind) (ts : List Lexeme) (s : Named) → AreInLine ts → ReadsType k ts (Ok s) → IsInLines s
 typed k ts s l (inl h) =
-    same_lines s (TypeLine k None) (let e : ◌≡◌ {A = Result Named Cause} (Ok s) (Ok (TypeLine k None)) = h.1 in let same : s ≡ TypeLine k None = cc in same) (bare (TypeLine k None) tt refl)
+    same_lines s (TypeLine k None) (let e : ◌≡◌ {A = Result Named Cause} (Ok s) (Ok (TypeLine k None)) = h.1 in let same : s ≡ TypeLine k None = cc in same) (without_names (TypeLine k None) tt refl)
 typed k ts s l (inr h) = asked (λ p. TypeLine k (Some p)) ts s l (λ p n. record { texts = tt; names = n }) h.1
 
 named : (w : List ℕ) (s : Named) (b : Bool) → IsLineText w → ◌≡◌ {A = Result Named Cause} (Ok s) (if b then Ok (ConfigLine w) else Err (record { code = code.BadName; detail = w })) → IsInLines s
@@ -157,7 +157,7 @@ still_word v w [] h e = let same : v ≡ w = cc in subst IsLineText same h
 still_word v w (t ∷ ts) h e = absurd cc
 
 choice : (ts : List Lexeme) (s : Named) → Ok s ≡ choice_line ts → IsInLines s
-choice [] s h = same_lines s ChoiceLine (let same : s ≡ ChoiceLine = cc in same) (bare ChoiceLine tt refl)
+choice [] s h = same_lines s ChoiceLine (let same : s ≡ ChoiceLine = cc in same) (without_names ChoiceLine tt refl)
 choice (t ∷ ts) s h = absurd cc
 
 option : (ts : List Lexeme) (s : Named) → Ok s ≡ option_line ts → IsInLines s
@@ -166,8 +166,8 @@ option ts s h = by (begins_with (codes "modules") ts) (begins_with (codes "allno
     by : (a b c d : Bool) → ◌≡◌ {A = Result Named Cause} (Ok s)
         (if a then finish ModulesLine (drop 1 ts) else if b then finish IgnoredLine (drop 1 ts) else if c then Err (left_out (codes "option env"))
         else if d then Err (left_out (codes "option defconfig_list")) else Err syntax_cause) → IsInLines s
-    by true b c d e = finished ModulesLine s (drop 1 ts) (bare ModulesLine tt refl) e
-    by false true c d e = finished IgnoredLine s (drop 1 ts) (bare IgnoredLine tt refl) e
+    by true b c d e = finished ModulesLine s (drop 1 ts) (without_names ModulesLine tt refl) e
+    by false true c d e = finished IgnoredLine s (drop 1 ts) (without_names IgnoredLine tt refl) e
     by false false true d e = absurd cc
     by false false false true e = absurd cc
     by false false false false e = absurd cc
@@ -183,16 +183,16 @@ rest_of w key.Config ts s l h =
     after (word_of ts) (λ v. After (finish v (drop 1 ts)) (λ u r. r ≡ good_name u)) s (IsInLines s) h
     (λ v e f. after (finish v (drop 1 ts)) (λ u r. r ≡ good_name u) s (IsInLines s) f (λ u g m. named u s (is_good_name u) (still_word v u (drop 1 ts) (word_line ts v l e) g) m))
 rest_of w key.If ts s l h = whole IfLine ts s l (λ d n. record { texts = tt; names = n }) h
-rest_of w key.EndIf ts s l h = finished EndIfLine s ts (bare EndIfLine tt refl) h
-rest_of w key.Comment ts s l h = text CommentLine ts s l (λ t i. bare (CommentLine t) i refl) h
+rest_of w key.EndIf ts s l h = finished EndIfLine s ts (without_names EndIfLine tt refl) h
+rest_of w key.Comment ts s l h = text CommentLine ts s l (λ t i. without_names (CommentLine t) i refl) h
 rest_of w key.Source ts s l h =
     after (text_of ts) (λ t. After (plain_text t) (λ u r. r ≡ finish (SourceLine u) (drop 1 ts))) s (IsInLines s) h
-    (λ t e f. after (plain_text t) (λ u r. r ≡ finish (SourceLine u) (drop 1 ts)) s (IsInLines s) f (λ u g m. finished (SourceLine u) s (drop 1 ts) (bare (SourceLine u) tt refl) m))
-rest_of w key.Menu ts s l h = text MenuLine ts s l (λ t i. bare (MenuLine t) i refl) h
-rest_of w key.EndMenu ts s l h = finished EndMenuLine s ts (bare EndMenuLine tt refl) h
+    (λ t e f. after (plain_text t) (λ u r. r ≡ finish (SourceLine u) (drop 1 ts)) s (IsInLines s) f (λ u g m. finished (SourceLine u) s (drop 1 ts) (without_names (SourceLine u) tt refl) m))
+rest_of w key.Menu ts s l h = text MenuLine ts s l (λ t i. without_names (MenuLine t) i refl) h
+rest_of w key.EndMenu ts s l h = finished EndMenuLine s ts (without_names EndMenuLine tt refl) h
 rest_of w key.Choice ts s l h = choice ts s h
-rest_of w key.EndChoice ts s l h = finished EndChoiceLine s ts (bare EndChoiceLine tt refl) h
-rest_of w key.MainMenu ts s l h = text MainMenuLine ts s l (λ t i. bare (MainMenuLine t) i refl) h
+rest_of w key.EndChoice ts s l h = finished EndChoiceLine s ts (without_names EndChoiceLine tt refl) h
+rest_of w key.MainMenu ts s l h = text MainMenuLine ts s l (λ t i. without_names (MainMenuLine t) i refl) h
 rest_of w (key.Type k) ts s l h = typed k ts s l h
 rest_of w key.Prompt ts s l h = asked PromptLine ts s l (λ p n. record { texts = tt; names = n }) h
 rest_of w key.Default ts s l h = value DefaultLine ts s l (λ d c v n. record { texts = v; names = n }) h
@@ -212,8 +212,8 @@ rest_of w key.Range ts s l h =
       names = All-append IsLineText (names_in_atom a) (names_in_atom b ++ names_in_condition c) (atom_lines a (operand_line ts a l e))
           (All-append IsLineText (names_in_atom b) (names_in_condition c) (atom_lines b (operand_line (drop 1 ts) b (All-drop IsLineLexeme 1 ts l) g)) n);
     }) m))
-rest_of w key.Help ts s l h = finished HelpLine s ts (bare HelpLine tt refl) h
-rest_of w key.Modules ts s l h = finished ModulesLine s ts (bare ModulesLine tt refl) h
+rest_of w key.Help ts s l h = finished HelpLine s ts (without_names HelpLine tt refl) h
+rest_of w key.Modules ts s l h = finished ModulesLine s ts (without_names ModulesLine tt refl) h
 rest_of w key.«Option» ts s l h = option ts s h
 rest_of w key.LeftOut ts s l h = absurd (let e : ◌≡◌ {A = Result Named Cause} (Ok s) (Err (left_out w)) = h in cc)
 

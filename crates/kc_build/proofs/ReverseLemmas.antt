@@ -1,7 +1,7 @@
 -- The lines of a definition that select and imply, as they are added.
 use Rattle.std.proofs.Common.{◌≡◌, ◌≢◌, ℕ, ◌+◌, ◌<◌, ◌≤◌, Bool, true, false, ◌&&◌, ◌==◌, if◌then◌else◌, List, [], ◌∷◌, ◌++◌, length, drop, Option, Some, None, refl, ap, sym, ◌∙◌, arith, get_or, slice_set, append_assoc, length-append, subst, inl, inr, nat_lt}
 use Rattle.std.specs.Prelude.{◌⊎◌, OnOk, OnErr, Result, Ok, Err}
-use Rattle.std.specs.List.{slice_get, flat_map}
+use Rattle.std.specs.List.{slice_get}
 use Rattle.std.specs.Global.{Vec}
 use Rattle.std.specs.Vec.{with_items}
 use Rattle.std.specs.Option.{option_map}
@@ -24,7 +24,6 @@ use Rattle.kc_tree.specs.declared.rows.ReverseId.{ReverseId}
 use Rattle.kc_tree.specs.declared.rows.Symbol.{Symbol}
 use Rattle.kc_tree.specs.declared.reverses.Reverses.{Reverses}
 use Rattle.kc_tree.specs.Chains.{AreChained, AreHeads}
-use Rattle.kc_tree.specs.Common.{listed}
 use Rattle.kc_build.specs.declared.lines.ReverseKind.{ReverseKind}
 use Rattle.kc_build.specs.declared.lines.ReverseKind.TheVariants as reverse_kind
 use Rattle.kc_build.specs.SymbolRows.{can_be_target}
@@ -33,7 +32,7 @@ use Rattle.kc_build.specs.Targets.{target_of}
 use Rattle.kc_build.specs.ReverseRows.{reverse_row, rows_to, selects_of, implies_of, added_line, added_lines, HaveSources, KeepSources, IsAdded}
 use Rattle.kc_build.proofs.ChainLemmas.{to-keeps, to-new, get_past}
 use Rattle.kc_build.proofs.GrownLemmas.{get_front, get_last}
-use Rattle.kc_build.proofs.ScanLemmas.{said_from}
+use Rattle.kc_build.proofs.ScanLemmas.{statements_from}
 
 -- a line more, which leads on to the last one of its symbol
 chained-at : (lines : List Reverse) (row : Reverse) → AreChained lines → ((next : ReverseId) → row.next ≡ Some next → next.0 < length lines) →
@@ -111,11 +110,6 @@ sources-push source old new row e s n l h =
 
 pub sources-both : (source : ℕ) (a b c : List Reverse) → KeepSources source a b → KeepSources source b c → KeepSources source a c
 sources-both source a b c h k n l s = k n l (h n l s)
-
-and_false : (a b c : Bool) (x : ℕ × Option Form) → c ≡ false → one_if (a && (b && c)) x ≡ []
-and_false true true c x e = rw e refl
-and_false true false c x e = refl
-and_false false b c x e = refl
 
 and_true : (b c : Bool) (x : ℕ × Option Form) → c ≡ true → one_if (b && c) x ≡ one_if b x
 and_true true c x e = rw e refl
@@ -271,23 +265,20 @@ module _ (symbols : List Symbol) (source : DefinitionId) where
     pub same : length new.implies.items ≡ length old.implies.items
     pub sources : KeepSources source.0 old.lines.items new.lines.items
 
-  abbrev given : ReverseKind → ℕ → Option (ReverseKind × SymId × Option Form) → List (ℕ × Option Form)
-  given kind s o = flat_map (added_line symbols source kind s) (listed o)
-
   next_lines : (kind : ReverseKind) (s : ℕ) (own : List Line) (i : ℕ) (x : Line) (t : ReverseKind × SymId × Option Form) (now next base : List (ℕ × Option Form)) →
       i < length own → x ≡ get_or own i x → Some t ≡ target_of (statement_view x.statement) → now ++ added_lines symbols source kind s (drop i (statements_of own)) ≡ base →
       next ≡ now ++ added_line symbols source kind s t → next ++ added_lines symbols source kind s (drop (i + 1) (statements_of own)) ≡ base
   next_lines kind s own i x t now next base l at e h n =
       let rest = added_lines symbols source kind s (drop (i + 1) (statements_of own)) in
       let line = added_line symbols source kind s t in
-      let all : added_lines symbols source kind s (drop i (statements_of own)) ≡ line ++ rest = rw (said_from own i x l at, ← e) (ap (λ k. k ++ rest) (append-nil line)) in
+      let all : added_lines symbols source kind s (drop i (statements_of own)) ≡ line ++ rest = rw (statements_from own i x l at, ← e) (ap (λ k. k ++ rest) (append-nil line)) in
       ap (λ k. k ++ rest) n ∙ append_assoc now line rest ∙ ap (λ k. now ++ k) (sym all) ∙ h
 
   same_lines : (kind : ReverseKind) (s : ℕ) (own : List Line) (i : ℕ) (x : Line) (now base : List (ℕ × Option Form)) → i < length own → x ≡ get_or own i x →
       None ≡ target_of (statement_view x.statement) → now ++ added_lines symbols source kind s (drop i (statements_of own)) ≡ base →
       now ++ added_lines symbols source kind s (drop (i + 1) (statements_of own)) ≡ base
   same_lines kind s own i x now base l at e h =
-      let all : added_lines symbols source kind s (drop i (statements_of own)) ≡ added_lines symbols source kind s (drop (i + 1) (statements_of own)) = rw (said_from own i x l at, ← e) refl in
+      let all : added_lines symbols source kind s (drop i (statements_of own)) ≡ added_lines symbols source kind s (drop (i + 1) (statements_of own)) = rw (statements_from own i x l at, ← e) refl in
       ap (λ k. now ++ k) (sym all) ∙ h
 
   pub adding_none : (own : List Line) (old now : Reverses) (i : ℕ) (x : Line) → IsAdding own old i now → i < length own → x ≡ get_or own i x →

@@ -197,7 +197,7 @@ lines_without_effect = ConfigLine (codes "A") ∷ bool_line (codes "a") ∷ Type
     ∷ ConfigLine (codes "D") ∷ TypeLine kind.Int (Some (asked (codes "d") None)) ∷ ChoiceLine ∷ PromptLine (asked (codes "ch") None) ∷
     DefaultLine (word (codes "C")) None ∷ ConfigLine (codes "E") ∷ bool_line (codes "e") ∷ EndChoiceLine ∷ []
 
-lines_without_effect_said : warnings (names_of lines_without_effect) (numbered_lines (in_root lines_without_effect)) ≡
+lines_without_effect_warnings : warnings (names_of lines_without_effect) (numbered_lines (in_root lines_without_effect)) ≡
     codes "Kconfig:3: warning K1: type of A redefined, the first is kept"
     ∷ codes "Kconfig:3: warning K2: prompt of A redefined, the last is kept"
     ∷ codes "Kconfig:4: warning K3: B has no type"
@@ -207,7 +207,7 @@ lines_without_effect_said : warnings (names_of lines_without_effect) (numbered_l
     ∷ codes "Kconfig:14: warning K5: C is not a member of the choice"
     ∷ []
 unfolding digits
-lines_without_effect_said = refl
+lines_without_effect_warnings = refl
 
 lines_without_effect_not_refused : whole_list_refusals (names_of lines_without_effect) (numbered_lines (in_root lines_without_effect)) ≡ []
 lines_without_effect_not_refused = refl
@@ -368,9 +368,9 @@ plain_m_modules : (facts_of_lines plain_m (numbered_lines (in_root plain_m))).mo
 plain_m_modules = refl
 
 -- the modules symbol is defined after its use
-late_modules : facts_at (ConfigLine (codes "A") ∷ bool_line (codes "a") ∷ DependsLine (word (codes "m")) ∷ ConfigLine (codes "LKM") ∷ bool_line (codes "l") ∷
+modules_line_afterwards : facts_at (ConfigLine (codes "A") ∷ bool_line (codes "a") ∷ DependsLine (word (codes "m")) ∷ ConfigLine (codes "LKM") ∷ bool_line (codes "l") ∷
     ModulesLine ∷ []) 0 ≡ fact kind.Bool None (cond (m_and 1 ∷ []) None ∷ []) (cond (m_and 1 ∷ []) None ∷ []) [] []
-late_modules = refl
+modules_line_afterwards = refl
 
 -- each `depends on` line of an entry is a part of its condition
 two_dependencies : facts_at (ConfigLine (codes "A") ∷ bool_line (codes "a") ∷ DependsLine (word (codes "B")) ∷ DependsLine (word (codes "C")) ∷ [])
@@ -405,18 +405,18 @@ prompts = ConfigLine (codes "A") ∷ TypeLine kind.Bool (Some (asked (codes "a")
 prompts_facts : facts_at prompts 0 ≡ fact kind.Bool None (always ∷ always ∷ []) (always ∷ cond (sym 4 ∷ []) None ∷ []) [] []
 prompts_facts = refl
 
-prompts_said : warnings_of prompts ≡ codes "Kconfig:3: warning K2: prompt of A redefined, the last is kept" ∷ codes "Kconfig:4: warning K2: prompt of A redefined, the last is kept" ∷ []
+prompts_warnings : warnings_of prompts ≡ codes "Kconfig:3: warning K2: prompt of A redefined, the last is kept" ∷ codes "Kconfig:4: warning K2: prompt of A redefined, the last is kept" ∷ []
 unfolding digits
-prompts_said = refl
+prompts_warnings = refl
 
 -- a choice's second prompt, and its bool line
 abbrev choice_prompts : List Named
 choice_prompts = ChoiceLine ∷ bool_line (codes "c") ∷ PromptLine (asked (codes "d") (Some (word (codes "X")))) ∷
     DefaultLine (word (codes "A")) (Some (word (codes "Y"))) ∷ DependsLine (word (codes "Z")) ∷ ConfigLine (codes "A") ∷ EndChoiceLine ∷ []
 
-choice_prompts_said : warnings_of choice_prompts ≡ codes "Kconfig:3: warning K2: prompt of choice redefined, the last is kept" ∷ []
+choice_prompts_warnings : warnings_of choice_prompts ≡ codes "Kconfig:3: warning K2: prompt of choice redefined, the last is kept" ∷ []
 unfolding digits
-choice_prompts_said = refl
+choice_prompts_warnings = refl
 
 -- the choice's dependencies count in its prompt and defaults, and for its members by its mode alone
 choice_prompts_choices : choices (numbered_of choice_prompts)
@@ -446,27 +446,27 @@ two_choices_choices : choices (numbered_of two_choices) ≡ record { prompt = No
     record { prompt = Some (cond (sym 4 ∷ []) None); defaults = []; members = symbol 1 ∷ [] } ∷ []
 two_choices_choices = refl
 
-two_choices_said : warnings_of two_choices ≡ codes "Kconfig:10: warning K6: A is a choice member, the imply has no effect" ∷ []
+two_choices_warnings : warnings_of two_choices ≡ codes "Kconfig:10: warning K6: A is a choice member, the imply has no effect" ∷ []
 unfolding digits
-two_choices_said = refl
+two_choices_warnings = refl
 
 -- a select of a name that is not defined has no effect and no warning
 undefined_target : warnings_of (ConfigLine (codes "A") ∷ TypeLine kind.Bool None ∷ SelectLine (codes "Q") None ∷ []) ≡ []
 undefined_target = refl
 
 -- E13 comes before E14, whichever line is the first
-abbrev late : List Named
-late = ConfigLine (codes "S") ∷ TypeLine kind.Str None ∷ DefaultLine (both (codes "A") (codes "B")) None ∷ ChoiceLine ∷ PromptLine (asked (codes "c") None) ∷
+abbrev refused_twice : List Named
+refused_twice = ConfigLine (codes "S") ∷ TypeLine kind.Str None ∷ DefaultLine (both (codes "A") (codes "B")) None ∷ ChoiceLine ∷ PromptLine (asked (codes "c") None) ∷
     DefaultLine (word (codes "n")) None ∷ ConfigLine (codes "A") ∷ bool_line (codes "a") ∷ EndChoiceLine ∷ ConfigLine (codes "A") ∷ []
 
 abbrev at_line : Code → List ℕ → ℕ → Refused
 at_line c d n = refused (record { code = c; detail = d }) (codes "Kconfig") n
 
-late_all : refusals late ≡ at_line code.ChoiceMember (codes "A") 10 ∷ at_line code.BadDefault (codes "S") 3 ∷ at_line code.BadDefault (codes "choice") 6 ∷ []
-late_all = refl
+refused_twice_all : refusals refused_twice ≡ at_line code.ChoiceMember (codes "A") 10 ∷ at_line code.BadDefault (codes "S") 3 ∷ at_line code.BadDefault (codes "choice") 6 ∷ []
+refused_twice_all = refl
 
-late_first : tree_of_lines (in_root late) ≡ Err (at_line code.ChoiceMember (codes "A") 10)
-late_first = refl
+refused_twice_first : tree_of_lines (in_root refused_twice) ≡ Err (at_line code.ChoiceMember (codes "A") 10)
+refused_twice_first = refl
 
 -- the second `config` line is the member's
 later_member : refusals (ConfigLine (codes "A") ∷ bool_line (codes "a") ∷ ChoiceLine ∷ ConfigLine (codes "A") ∷ EndChoiceLine ∷ []) ≡ at_line code.ChoiceMember (codes "A") 4 ∷ []
@@ -500,25 +500,25 @@ m_in_relation = refl
 abbrev again : List Named
 again = ConfigLine (codes "A") ∷ bool_line (codes "a") ∷ ConfigLine (codes "B") ∷ TypeLine kind.Int None ∷ ConfigLine (codes "A") ∷ TypeLine kind.Tristate (Some (asked (codes "b") None)) ∷ []
 
-again_said : warnings_of again ≡ codes "Kconfig:6: warning K1: type of A redefined, the first is kept" ∷ []
+again_warnings : warnings_of again ≡ codes "Kconfig:6: warning K1: type of A redefined, the first is kept" ∷ []
 unfolding digits
-again_said = refl
+again_warnings = refl
 
 -- a type of a later definition is the symbol's; the first `config` line has no K3 then
-late_type : warnings_of (ConfigLine (codes "A") ∷ ConfigLine (codes "B") ∷ ConfigLine (codes "A") ∷ TypeLine kind.Str None ∷ SelectLine (codes "A") None ∷
+type_line_afterwards : warnings_of (ConfigLine (codes "A") ∷ ConfigLine (codes "B") ∷ ConfigLine (codes "A") ∷ TypeLine kind.Str None ∷ SelectLine (codes "A") None ∷
     ConfigLine (codes "B") ∷ []) ≡ codes "Kconfig:2: warning K3: B has no type" ∷
     codes "Kconfig:5: warning K4: A is not bool or tristate, the select has no effect" ∷ []
 unfolding digits
-late_type = refl
+type_line_afterwards = refl
 
 -- warnings name the file of their line
 abbrev two_files : List (Located Named)
 two_files = at (codes "Kconfig") 1 (ConfigLine (codes "A")) ∷ at (codes "Kconfig") 2 (bool_line (codes "a")) ∷ at (codes "b") 344 (ConfigLine (codes "A")) ∷
     at (codes "b") 345 (TypeLine kind.Str None) ∷ []
 
-two_files_said : warnings (names_of (statements two_files)) (numbered_lines two_files) ≡ codes "b:345: warning K1: type of A redefined, the first is kept" ∷ []
+two_files_warnings : warnings (names_of (statements two_files)) (numbered_lines two_files) ≡ codes "b:345: warning K1: type of A redefined, the first is kept" ∷ []
 unfolding digits
-two_files_said = refl
+two_files_warnings = refl
 
 -- defaults that name another choice's member, and no symbol
 outside_default : warnings_of (ChoiceLine ∷ DefaultLine (word (codes "B")) None ∷ DefaultLine (word (codes "Q")) None ∷ DefaultLine (word (codes "A")) None ∷

@@ -1,5 +1,5 @@
 -- Walks along a list.
-use Rattle.std.proofs.Common.{◌≡◌, ℕ, zero, suc, ◌+◌, ◌-◌, ◌<◌, ◌≤◌, true, false, List, [], ◌∷◌, ◌++◌, length, take, drop, map, Option, Some, None, refl, ap, sym, ◌∙◌, arith, add-one, get_or, slice_set, append_assoc, length-drop}
+use Rattle.std.proofs.Common.{◌≡◌, ℕ, zero, suc, ◌+◌, ◌-◌, ◌<◌, ◌≤◌, true, false, List, [], ◌∷◌, ◌++◌, length, take, drop, map, Option, Some, None, refl, ap, sym, ◌∙◌, arith, add-one, get_or, append_assoc, length-drop}
 use Rattle.std.specs.List.{slice_get, filter_map, cons_option, prefix_len}
 use Rattle.std.specs.Option.{option_map, option_or}
 use Rattle.std.proofs.lemmas.List.{map-append, append-nil, drop-map}
@@ -22,8 +22,8 @@ pub drop_at : {X : Type 0} (xs : List X) (i : ℕ) (x : X) → i < length xs →
 drop_at xs i x h e = drop-get xs i x (slice_get-get_or xs i x h ∙ ap Some (sym e)) ∙ (rw add-one refl)
 
 -- the statements from a line on
-pub said_from : (ls : List Line) (i : ℕ) (x : Line) → i < length ls → x ≡ get_or ls i x → drop i (statements_of ls) ≡ statement_view x.statement ∷ drop (i + 1) (statements_of ls)
-said_from ls i x h e = drop-get (statements_of ls) i (statement_view x.statement) (statement_at ls i x h e) ∙ (rw add-one refl)
+pub statements_from : (ls : List Line) (i : ℕ) (x : Line) → i < length ls → x ≡ get_or ls i x → drop i (statements_of ls) ≡ statement_view x.statement ∷ drop (i + 1) (statements_of ls)
+statements_from ls i x h e = drop-get (statements_of ls) i (statement_view x.statement) (statement_at ls i x h e) ∙ (rw add-one refl)
 
 pub drop_past : {X : Type 0} (xs : List X) (i : ℕ) → length xs ≤ i → drop i xs ≡ []
 drop_past [] zero h = refl
@@ -31,17 +31,8 @@ drop_past [] (suc i) h = refl
 drop_past (x ∷ xs) zero h = absurd (omega arith)
 drop_past (x ∷ xs) (suc i) h = drop_past xs i (omega arith)
 
-pub said_end : (ls : List Line) (i : ℕ) → length ls ≤ i → drop i (statements_of ls) ≡ []
-said_end ls i h = drop_past (statements_of ls) i (omega (arith, length-statements_of ls))
-
--- to write a line changes none behind it
-behind : (ls : List Line) (i : ℕ) (y : Line) → drop (suc i) (statements_of (slice_set ls i y)) ≡ drop (suc i) (statements_of ls)
-behind [] i y = refl
-behind (x ∷ ls) zero y = refl
-behind (x ∷ ls) (suc i) y = behind ls i y
-
-pub behind_set : (ls : List Line) (i : ℕ) (y : Line) → drop (i + 1) (statements_of (slice_set ls i y)) ≡ drop (i + 1) (statements_of ls)
-behind_set ls i y = rw add-one (behind ls i y)
+pub statements_end : (ls : List Line) (i : ℕ) → length ls ≤ i → drop i (statements_of ls) ≡ []
+statements_end ls i h = drop_past (statements_of ls) i (omega (arith, length-statements_of ls))
 
 -- How many attributes a list begins with.
 abbrev pub RunsTo : List Line → ℕ → Type 0
@@ -50,28 +41,28 @@ RunsTo ls i = i + prefix_len is_attribute (drop i (statements_of ls)) ≡ prefix
 pub run_ends : (ls : List Line) (i : ℕ) (x : Line) → RunsTo ls i → i < length ls → x ≡ get_or ls i x → false ≡ is_attribute (statement_view x.statement) →
     i ≡ prefix_len is_attribute (statements_of ls)
 run_ends ls i x h b at e =
-    let none : prefix_len is_attribute (drop i (statements_of ls)) ≡ 0 = rw (said_from ls i x b at, ← e) refl in
+    let none : prefix_len is_attribute (drop i (statements_of ls)) ≡ 0 = rw (statements_from ls i x b at, ← e) refl in
     omega arith
 
 pub run_next : (ls : List Line) (i : ℕ) (x : Line) → RunsTo ls i → i < length ls → x ≡ get_or ls i x → true ≡ is_attribute (statement_view x.statement) → RunsTo ls (i + 1)
 run_next ls i x h b at e =
-    let one : prefix_len is_attribute (drop i (statements_of ls)) ≡ 1 + prefix_len is_attribute (drop (i + 1) (statements_of ls)) = rw (said_from ls i x b at, ← e) refl in
+    let one : prefix_len is_attribute (drop i (statements_of ls)) ≡ 1 + prefix_len is_attribute (drop (i + 1) (statements_of ls)) = rw (statements_from ls i x b at, ← e) refl in
     omega arith
 
 pub run_all : (ls : List Line) (i : ℕ) → RunsTo ls i → i ≤ length ls → length ls ≤ i → length ls ≡ prefix_len is_attribute (statements_of ls)
 run_all ls i h b e =
-    let none : prefix_len is_attribute (drop i (statements_of ls)) ≡ 0 = rw (said_end ls i e) refl in
+    let none : prefix_len is_attribute (drop i (statements_of ls)) ≡ 0 = rw (statements_end ls i e) refl in
     omega arith
 
 -- the statements behind a line
-said_behind : (ls : List Line) (i : ℕ) → statements_of (take (length ls - (i + 1)) (drop (i + 1) ls)) ≡ drop (suc i) (statements_of ls)
-said_behind ls i =
+statements_behind : (ls : List Line) (i : ℕ) → statements_of (take (length ls - (i + 1)) (drop (i + 1) ls)) ≡ drop (suc i) (statements_of ls)
+statements_behind ls i =
     let n : length (drop (i + 1) ls) ≡ length ls - (i + 1) = length-drop (i + 1) ls in
     let rest : take (length ls - (i + 1)) (drop (i + 1) ls) ≡ drop (suc i) ls = (rw n at (take-length (drop (i + 1) ls))) ∙ (rw add-one refl) in
     ap statements_of rest ∙ sym (drop-map (λ (l : Line). statement_view l.statement) (suc i) ls)
 
 pub count-is : (ls : List Line) (i n : ℕ) → n ≡ prefix_len is_attribute (statements_of (take (length ls - (i + 1)) (drop (i + 1) ls))) → n ≡ prefix_len is_attribute (drop (i + 1) (statements_of ls))
-count-is ls i n e = e ∙ ap (prefix_len is_attribute) (said_behind ls i) ∙ (rw add-one refl)
+count-is ls i n e = e ∙ ap (prefix_len is_attribute) (statements_behind ls i) ∙ (rw add-one refl)
 
 -- the last of what there was before and of a list
 abbrev pub last_or : {A : Type 0} → Option A → List A → Option A
@@ -95,15 +86,15 @@ module _ {A : Type 0} (f : Numbered → Option A) where
       (a : A) → o ≡ Some a → Some a ≡ first_of (filter_map f (statements_of ls))
   first_here ls i x o h b at e a q =
       let s : f (statement_view x.statement) ≡ Some a = sym e ∙ q in
-      sym (sym h ∙ (rw (said_from ls i x b at, s) refl))
+      sym (sym h ∙ (rw (statements_from ls i x b at, s) refl))
 
   pub first_later : (ls : List Line) (i : ℕ) (x : Line) (o : Option A) → FirstIs ls i → i < length ls → x ≡ get_or ls i x → o ≡ f (statement_view x.statement) → o ≡ None → FirstIs ls (i + 1)
   first_later ls i x o h b at e q =
       let s : f (statement_view x.statement) ≡ None = sym e ∙ q in
-      (rw (said_from ls i x b at, s) at h)
+      (rw (statements_from ls i x b at, s) at h)
 
   pub first_none : (ls : List Line) (i : ℕ) → FirstIs ls i → length ls ≤ i → None ≡ first_of (filter_map f (statements_of ls))
-  first_none ls i h b = (rw (said_end ls i b) at h)
+  first_none ls i h b = (rw (statements_end ls i b) at h)
 
   abbrev pub LastIs : List Line → ℕ → Option A → Type 0
   LastIs ls i o = last_or o (filter_map f (drop i (statements_of ls))) ≡ last_of (filter_map f (statements_of ls))
@@ -124,25 +115,25 @@ module _ {A : Type 0} (f : Numbered → Option A) where
       x ≡ get_or ls i x → option_map v found ≡ f (statement_view x.statement) → next ≡ option_or found now → LastIs ls (i + 1) (option_map v next)
   last_next v ls i x found now next h b at e n =
       let step : option_map v next ≡ option_or (f (statement_view x.statement)) (option_map v now) = ap (option_map v) n ∙ map-or v found now ∙ ap (λ o. option_or o (option_map v now)) e in
-      rw step (sym (or_last (f (statement_view x.statement)) (option_map v now) (filter_map f (drop (i + 1) (statements_of ls)))) ∙ (rw (said_from ls i x b at) at h))
+      rw step (sym (or_last (f (statement_view x.statement)) (option_map v now) (filter_map f (drop (i + 1) (statements_of ls)))) ∙ (rw (statements_from ls i x b at) at h))
 
   pub last_end : (ls : List Line) (i : ℕ) (now : Option A) → LastIs ls i now → length ls ≤ i → now ≡ last_of (filter_map f (statements_of ls))
-  last_end ls i now h b = (rw (said_end ls i b) at h)
+  last_end ls i now h b = (rw (statements_end ls i b) at h)
 
   -- A walk that lists what a function gives.
   abbrev pub ListIs : List Line → ℕ → List A → Type 0
   ListIs ls i out = out ++ filter_map f (drop i (statements_of ls)) ≡ filter_map f (statements_of ls)
 
   pub list_none : (ls : List Line) (i : ℕ) (x : Line) (out : List A) → ListIs ls i out → i < length ls → x ≡ get_or ls i x → f (statement_view x.statement) ≡ None → ListIs ls (i + 1) out
-  list_none ls i x out h b at e = (rw (said_from ls i x b at, e) at h)
+  list_none ls i x out h b at e = (rw (statements_from ls i x b at, e) at h)
 
   pub list_some : (ls : List Line) (i : ℕ) (x : Line) (out : List A) (a : A) → ListIs ls i out → i < length ls → x ≡ get_or ls i x →
       f (statement_view x.statement) ≡ Some a → ListIs ls (i + 1) (out ++ a ∷ [])
   list_some ls i x out a h b at e =
-      append_assoc out (a ∷ []) (filter_map f (drop (i + 1) (statements_of ls))) ∙ (rw (said_from ls i x b at, e) at h)
+      append_assoc out (a ∷ []) (filter_map f (drop (i + 1) (statements_of ls))) ∙ (rw (statements_from ls i x b at, e) at h)
 
   pub list_end : (ls : List Line) (i : ℕ) (out : List A) → ListIs ls i out → length ls ≤ i → out ≡ filter_map f (statements_of ls)
-  list_end ls i out h b = sym (append-nil out) ∙ (rw (said_end ls i b) at h)
+  list_end ls i out h b = sym (append-nil out) ∙ (rw (statements_end ls i b) at h)
 
   pub list_push : {B : Type 0} (v : B → A) (ls : List Line) (i : ℕ) (x : Line) (out new : List B) (b : B) (a : A) → ListIs ls i (map v out) → i < length ls →
       x ≡ get_or ls i x → Some a ≡ f (statement_view x.statement) → v b ≡ a → new ≡ out ++ b ∷ [] → ListIs ls (i + 1) (map v new)
@@ -156,22 +147,12 @@ module _ {A : Type 0} (f : Numbered → Option A) (base : List A) where
   Adds ls i out = out ++ filter_map f (drop i (statements_of ls)) ≡ base ++ filter_map f (statements_of ls)
 
   pub adds_none : (ls : List Line) (i : ℕ) (x : Line) (out : List A) → Adds ls i out → i < length ls → x ≡ get_or ls i x → f (statement_view x.statement) ≡ None → Adds ls (i + 1) out
-  adds_none ls i x out h b at e = (rw (said_from ls i x b at, e) at h)
+  adds_none ls i x out h b at e = (rw (statements_from ls i x b at, e) at h)
 
   pub adds_one : {B : Type 0} (v : B → A) (ls : List Line) (i : ℕ) (x : Line) (out new : List B) (b : B) → Adds ls i (map v out) → i < length ls →
       x ≡ get_or ls i x → f (statement_view x.statement) ≡ Some (v b) → new ≡ out ++ b ∷ [] → Adds ls (i + 1) (map v new)
   adds_one v ls i x out new b h n at e p =
-      (rw (p, map-append v out (b ∷ [])) (append_assoc (map v out) (v b ∷ []) (filter_map f (drop (i + 1) (statements_of ls))))) ∙ (rw (said_from ls i x n at, e) at h)
+      (rw (p, map-append v out (b ∷ [])) (append_assoc (map v out) (v b ∷ []) (filter_map f (drop (i + 1) (statements_of ls))))) ∙ (rw (statements_from ls i x n at, e) at h)
 
   pub adds_end : (ls : List Line) (i : ℕ) (out : List A) → Adds ls i out → length ls ≤ i → out ≡ base ++ filter_map f (statements_of ls)
-  adds_end ls i out h b = sym (append-nil out) ∙ (rw (said_end ls i b) at h)
-
-  -- The same where a line may change as it is passed.
-  abbrev pub Takes : List Numbered → List Line → ℕ → List A → Type 0
-  Takes all ls i out = out ++ filter_map f (drop i (statements_of ls)) ≡ base ++ filter_map f all
-
-  pub takes_one : {B : Type 0} (v : B → A) (all : List Numbered) (ls : List Line) (i : ℕ) (x y : Line) (out new : List B) (b : B) → Takes all ls i (map v out) →
-      i < length ls → x ≡ get_or ls i x → f (statement_view x.statement) ≡ Some (v b) → new ≡ out ++ b ∷ [] → Takes all (slice_set ls i y) (i + 1) (map v new)
-  takes_one v all ls i x y out new b h n at e p =
-      rw (behind_set ls i y)
-      ((rw (p, map-append v out (b ∷ [])) (append_assoc (map v out) (v b ∷ []) (filter_map f (drop (i + 1) (statements_of ls))))) ∙ (rw (said_from ls i x n at, e) at h))
+  adds_end ls i out h b = sym (append-nil out) ∙ (rw (statements_end ls i b) at h)

@@ -1,22 +1,19 @@
 -- The scope of a place.
-use Rattle.std.proofs.Common.{◌≡◌, ℕ, ◌+◌, ◌<◌, Bool, true, false, cond, if◌then◌else◌, List, [], ◌∷◌, ◌++◌, length, filter, Some, refl, ap, sym, ◌∙◌, arith, get_or}
+use Rattle.std.proofs.Common.{◌≡◌, ℕ, ◌+◌, Bool, true, false, cond, if◌then◌else◌, List, [], ◌∷◌, ◌++◌, filter, Some, refl, ap, sym, ◌∙◌, arith}
 use Rattle.std.specs.List.{slice_get, flat_map, count_by}
 use Rattle.std.specs.Option.{option_map}
 use Rattle.std.proofs.lemmas.List.{append-nil}
 use Rattle.std.proofs.lemmas.List.Elements.{filter-append}
 use Rattle.std.proofs.lemmas.Grind.{flat_map-append}
 use Rattle.kc_expr.specs.Form.{Form}
-use Rattle.kc_read.specs.declared.statement.Line.{Line}
-use Rattle.kc_read.specs.StatementViews.{statement_view}
 use Rattle.kc_read.specs.declared.statement.Block.TheVariants as block
 use Rattle.kc_read.specs.Statements.{Numbered, ChoiceLine}
 use Rattle.kc_read.specs.Blocks.{last_of, bracket, opened}
 use Rattle.kc_build.specs.Facts.{of_block, block_parts, own_visible, choice_number, is_block}
-use Rattle.kc_build.specs.Passes.{statements_of}
 use Rattle.kc_build.specs.Scopes.{Scope, next_count, block_visible, inside_from}
 use Rattle.kc_build.proofs.BlockLemmas.{last-snoc}
 use Rattle.kc_build.proofs.ListLemmas.{count_next}
-use Rattle.kc_build.proofs.PlaceLemmas.{numbers-next, statement_at}
+use Rattle.kc_build.proofs.PlaceLemmas.{numbers-next}
 
 module _ (ss : List Numbered) where
   abbrev pub scope_by : List ℕ → Scope
@@ -58,10 +55,3 @@ module _ (ss : List Numbered) where
       let test : of_block ss block.Choice i ≡ is_block block.Choice (opened (bracket s)) = rw h refl in
       by_line s (choice_number ss i) ∙ sym (ap (count_by (of_block ss block.Choice)) (numbers-next i)
       ∙ count_next (of_block ss block.Choice) i ∙ ap (λ (b : Bool). choice_number ss i + cond b 1 0) test)
-
--- The same for a walk over lines.
-module _ (ls : List Line) where
-  pub count-is : (i count next : ℕ) (x : Line) → i < length ls → x ≡ get_or ls i x → count ≡ choice_number (statements_of ls) i → next ≡ next_count (statement_view x.statement) count →
-      next ≡ choice_number (statements_of ls) (i + 1)
-  count-is i count next x h at n e =
-      e ∙ ap (next_count (statement_view x.statement)) n ∙ choice_number-next (statements_of ls) i (statement_view x.statement) (statement_at ls i x h at)

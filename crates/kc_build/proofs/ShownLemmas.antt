@@ -153,8 +153,8 @@ any_at (x ∷ xs) n (suc i) h = ap (λ (b : Bool). same_name n x || b) (any_at x
     by false = refl
 
 module _ (ls : List (Located Named)) where
-  abbrev said : List Numbered
-  said = map (λ l. l.statement) (numbered_lines ls)
+  abbrev line_statements : List Numbered
+  line_statements = map (λ l. l.statement) (numbered_lines ls)
 
   abbrev whole : TreeFacts
   whole = facts_with (names_of (statements ls)) (length (defined (statements ls))) (modules_id (statements ls)) (numbered_lines ls)
@@ -167,25 +167,25 @@ module _ (ls : List (Located Named)) where
   number_is differ i n h =
       differ (number_of (names_of (statements ls)) n) i n (known_at (names_of (statements ls)) n (any_at (names_of (statements ls)) n i h)) h
 
-  place_shown : Differ → (s : SymId) (n : List ℕ) → slice_get (defined (statements ls)) s.0 ≡ Some n → IsDefinedAt (statements ls) n → Contains (entries said) (SymbolShown s)
+  place_shown : Differ → (s : SymId) (n : List ℕ) → slice_get (defined (statements ls)) s.0 ≡ Some n → IsDefinedAt (statements ls) n → Contains (entries line_statements) (SymbolShown s)
   place_shown differ s n h (p, x, at, named) =
       let modules = Some (modules_id (statements ls)) in
       let number = number_of (names_of (statements ls)) in
       let longer = names_extend (statements ls) in
       let there : slice_get (names_of (statements ls)) s.0 ≡ Some n = ap (λ (ns : List (List ℕ)). slice_get ns s.0) longer.1 ∙ front_get (defined (statements ls)) longer.0 s.0 n h in
-      let made : slice_get said p ≡ Some (numbered modules number x) = numbered_at modules number (length (defined (statements ls))) ls p ∙ ap (option_map (numbered modules number)) at in
-      let symbol_is : symbol_at said p ≡ Some s = ap symbol_of made ∙ config_symbol modules number x n named ∙ ap (λ (i : ℕ). Some (symbol i)) (number_is differ s.0 n there) in
-      shown_where said p s (slice_get_within said p (numbered modules number x) made) (ap (is_symbol_of s) symbol_is ∙ eq-eqb s.0 s.0 refl)
+      let made : slice_get line_statements p ≡ Some (numbered modules number x) = numbered_at modules number (length (defined (statements ls))) ls p ∙ ap (option_map (numbered modules number)) at in
+      let symbol_is : symbol_at line_statements p ≡ Some s = ap symbol_of made ∙ config_symbol modules number x n named ∙ ap (λ (i : ℕ). Some (symbol i)) (number_is differ s.0 n there) in
+      shown_where line_statements p s (slice_get_within line_statements p (numbered modules number x) made) (ap (is_symbol_of s) symbol_is ∙ eq-eqb s.0 s.0 refl)
 
-  name_shown : Differ → (s : SymId) (n : List ℕ) → slice_get (defined (statements ls)) s.0 ≡ Some n → Contains (entries said) (SymbolShown s)
+  name_shown : Differ → (s : SymId) (n : List ℕ) → slice_get (defined (statements ls)) s.0 ≡ Some n → Contains (entries line_statements) (SymbolShown s)
   name_shown differ s n h = by (mentioned_from [] (definitions (statements ls)) n s.0 h)
     where
-      by : (slice_get {X = List ℕ} [] s.0 ≡ Some n) ⊎ StandsIn (definitions (statements ls)) n → Contains (entries said) (SymbolShown s)
+      by : (slice_get {X = List ℕ} [] s.0 ≡ Some n) ⊎ StandsIn (definitions (statements ls)) n → Contains (entries line_statements) (SymbolShown s)
       by (inl e) = absurd cc
       by (inr (k, e)) = place_shown differ s n h (definition_from (statements ls) n k e)
 
   -- each symbol of the tree has an entry
   pub shows_each : Differ → ShowsEach whole
   shows_each differ s l =
-      let n = length-map_numbers (λ i. symbol_facts said (symbol i)) (length (defined (statements ls))) in
+      let n = length-map_numbers (λ i. symbol_facts line_statements (symbol i)) (length (defined (statements ls))) in
       name_shown differ s (get_or (defined (statements ls)) s.0 []) (slice_get-get_or (defined (statements ls)) s.0 [] (omega (arith, l, n)))

@@ -14,13 +14,14 @@ use Rattle.kc_tree.specs.declared.rows.ChoiceId.{ChoiceId}
 use Rattle.kc_tree.specs.declared.rows.Symbol.{Symbol}
 use Rattle.kc_tree.specs.Common.{is_symbol_of}
 use Rattle.kc_build.specs.Facts.{choice_of, enclosing_choice, definitions_of, first_of, symbol_at, symbol_of, type_of}
-use Rattle.kc_build.specs.SymbolRows.{AreSymbols, AreTyped, SymbolRow, definition_number, row_of, row_view}
+use Rattle.kc_build.specs.SymbolRows.{AreSymbols, AreTypesDefined, SymbolRow, definition_number, row_of, row_view}
 use Rattle.kc_build.specs.Passes.{change, changed}
-use Rattle.kc_build.specs.SymbolWalk.{choice_view, first_kind, with_member_type, unknown, with_definition}
+use Rattle.kc_build.specs.SymbolWalk.{first_kind, with_member_type, unknown, with_definition}
 use Rattle.kc_build.proofs.EnterLemmas.{attribute_symbol, get_behind, over}
 use Rattle.kc_build.proofs.PlaceLemmas.{length-map_numbers}
 use Rattle.kc_build.proofs.TableLemmas.{defined_before, defined_next, not_defined, same_numbers}
 use Rattle.kc_build.specs.Walks.{IsHead, place_after}
+use Rattle.kc_tree.specs.Contexts.{mode_view}
 
 -- The first of what two lists give, of what a list of lists gives.
 first_or : {A : Type 0} (xs ys : List A) → first_of (xs ++ ys) ≡ option_or (first_of xs) (first_of ys)
@@ -53,15 +54,15 @@ next_type k (Some kind.Str) n = refl
 next_type k (Some kind.Int) n = refl
 next_type k (Some kind.Hex) n = refl
 
-settled_type : (b : Bool) (o : Option Kind) → IsNot o → first_kind (unwrap_or o kind.Undefined) (if b then Some kind.Bool else None) ≡ unwrap_or o (if b then kind.Bool else kind.Undefined)
-settled_type true None n = refl
-settled_type false None n = refl
-settled_type b (Some kind.Undefined) n = absurd (n refl)
-settled_type b (Some kind.Bool) n = refl
-settled_type b (Some kind.Tristate) n = refl
-settled_type b (Some kind.Str) n = refl
-settled_type b (Some kind.Int) n = refl
-settled_type b (Some kind.Hex) n = refl
+type_with_member : (b : Bool) (o : Option Kind) → IsNot o → first_kind (unwrap_or o kind.Undefined) (if b then Some kind.Bool else None) ≡ unwrap_or o (if b then kind.Bool else kind.Undefined)
+type_with_member true None n = refl
+type_with_member false None n = refl
+type_with_member b (Some kind.Undefined) n = absurd (n refl)
+type_with_member b (Some kind.Bool) n = refl
+type_with_member b (Some kind.Tristate) n = refl
+type_with_member b (Some kind.Str) n = refl
+type_with_member b (Some kind.Int) n = refl
+type_with_member b (Some kind.Hex) n = refl
 
 taken_at : {X : Type 0} (p : X → Bool) (xs : List X) (i : ℕ) (x : X) → slice_get (take_while p xs) i ≡ Some x → slice_get xs i ≡ Some x
 taken_at {X} p xs i x h = within (prefix_len p xs) xs i h
@@ -106,7 +107,7 @@ module _ (ss : List Numbered) where
       same_numbers (row_before (i + 1)) (row_before (place_after i own)) count
       (λ s. ap row_by (sym (over ss i head own h (λ j. defined_before ss j s) (λ j x at e. not_defined ss j s (ap (is_symbol_of (symbol s)) (ap symbol_of at ∙ attribute_symbol x e))))))
 
-  module _ (typed : AreTyped ss) where
+  module _ (typed : AreTypesDefined ss) where
     entry_typed : (j : ℕ) → IsNot (entry_type j)
     entry_typed j =
         no_first type_of (attributes ss j) (λ i x at. typed (suc j + i) x (sym (get_behind ss (suc j) i) ∙ taken_at is_attribute (drop (suc j) ss) i x at))
@@ -136,20 +137,20 @@ module _ (ss : List Numbered) where
         n ∙ rw h (defined_next ss (λ s ds. row_by ds) (with_definition (definition_number ss i) (entry_type i) (enclosing_choice ss i)) i count o e (λ s ds q. row_next ds i))
 
     -- when all lines were walked over
-    row_settled : (s : ℕ) → with_member_type (row_before (length ss) s) ≡ row_of ss s
-    row_settled s =
+    row_with_member_type : (s : ℕ) → with_member_type (row_before (length ss) s) ≡ row_of ss s
+    row_with_member_type s =
         let ds = definitions_of ss (symbol s) in
-        let type = settled_type (is_some (choice_of ss (symbol s))) (first_of (filter_map entry_type ds)) (all_typed ds)
+        let type = type_with_member (is_some (choice_of ss (symbol s))) (first_of (filter_map entry_type ds)) (all_typed ds)
         ∙ ap (λ o. unwrap_or o (if is_some (choice_of ss (symbol s)) then kind.Bool else kind.Undefined)) (sym (first_found type_of (attributes ss) ds))
         in
         λ k. record { kind = type k; choice = choice_of ss (symbol s); definitions = map (definition_number ss) ds }
 
-    all_settled : (ns : List ℕ) → map with_member_type (map (row_before (length ss)) ns) ≡ map (row_of ss) ns
-    all_settled [] = refl
-    all_settled (s ∷ ns) = rw (row_settled s, all_settled ns) refl
+    rows_with_member_types : (ns : List ℕ) → map with_member_type (map (row_before (length ss)) ns) ≡ map (row_of ss) ns
+    rows_with_member_types [] = refl
+    rows_with_member_types (s ∷ ns) = rw (row_with_member_type s, rows_with_member_types ns) refl
 
     pub rows_end : (count : ℕ) (table new : List SymbolRow) → table ≡ map (row_before (length ss)) (numbers count) → new ≡ map with_member_type table → new ≡ map (row_of ss) (numbers count)
-    rows_end count table new h n = n ∙ ap (map with_member_type) h ∙ all_settled (numbers count)
+    rows_end count table new h n = n ∙ ap (map with_member_type) h ∙ rows_with_member_types (numbers count)
 
 -- as many as there are rows
 pub so_many : (f : ℕ → SymbolRow) (count : ℕ) (symbols : List Symbol) → map row_view symbols ≡ map f (numbers count) → length symbols ≡ count
@@ -191,11 +192,11 @@ module _ {A : Type 0} (g : A → A) where
 
 -- A symbol with the type of a member without one.
 module _ (x : Symbol) where
-  member_type : (o : Option ChoiceId) → true ≡ is_some o → (if is_some (choice_view o) then Some kind.Bool else None) ≡ Some kind.Bool
+  member_type : (o : Option ChoiceId) → true ≡ is_some o → (if is_some (mode_view o) then Some kind.Bool else None) ≡ Some kind.Bool
   member_type None h = absurd cc
   member_type (Some k) h = refl
 
-  no_type : (o : Option ChoiceId) → false ≡ is_some o → (if is_some (choice_view o) then Some kind.Bool else None) ≡ None
+  no_type : (o : Option ChoiceId) → false ≡ is_some o → (if is_some (mode_view o) then Some kind.Bool else None) ≡ None
   no_type None h = refl
   no_type (Some k) h = absurd cc
 
@@ -207,13 +208,13 @@ module _ (x : Symbol) where
   kind_stays kind.Int = refl
   kind_stays kind.Hex = refl
 
-  pub settled_member : (k : Kind) → true ≡ is_some x.choice → k ≡ first_kind x.kind (Some kind.Bool) → row_view (record x { kind = k }) ≡ with_member_type (row_view x)
-  settled_member k h e =
+  pub member_gets_type : (k : Kind) → true ≡ is_some x.choice → k ≡ first_kind x.kind (Some kind.Bool) → row_view (record x { kind = k }) ≡ with_member_type (row_view x)
+  member_gets_type k h e =
       let type = e ∙ ap (first_kind x.kind) (sym (member_type x.choice h)) in
       λ i. record (row_view x) { kind = type i }
 
-  pub settled_other : false ≡ is_some x.choice → with_member_type (row_view x) ≡ row_view x
-  settled_other h =
+  pub other_keeps_type : false ≡ is_some x.choice → with_member_type (row_view x) ≡ row_view x
+  other_keeps_type h =
       let type = ap (first_kind x.kind) (no_type x.choice h) ∙ kind_stays x.kind in
       λ i. record (row_view x) { kind = type i }
 

@@ -2,18 +2,16 @@
 use Rattle.std.proofs.Common.{◌≡◌, ℕ, zero, suc, ◌+◌, ◌<◌, ◌≤◌, Bool, true, false, if◌then◌else◌, List, [], ◌∷◌, ◌++◌, length, filter, map, Option, Some, None, refl, ap, sym, ◌∙◌, arith, get_or, slice_set}
 use Rattle.std.proofs.lemmas.Bool.{eq-eqb, ne_eqb}
 use Rattle.std.specs.Prelude.{◌==◌}
-use Rattle.std.specs.List.{cons_option}
 use Rattle.std.proofs.lemmas.List.{append-nil, length-map}
 use Rattle.kc_expr.specs.declared.expression.SymId.{SymId}
 use Rattle.kc_expr.specs.Names.{symbol}
 use Rattle.kc_read.specs.Statements.{Numbered}
 use Rattle.kc_read.specs.Blocks.{numbers}
 use Rattle.kc_tree.specs.Common.{is_symbol_of}
-use Rattle.kc_build.specs.Facts.{symbol_at, first_of}
-use Rattle.kc_read.specs.declared.statement.Line.{Line}
-use Rattle.kc_build.specs.Passes.{statements_of, change, changed}
+use Rattle.kc_build.specs.Facts.{symbol_at}
+use Rattle.kc_build.specs.Passes.{change, changed}
 use Rattle.kc_build.proofs.BlockLemmas.{numbers_from, numbers-from}
-use Rattle.kc_build.proofs.PlaceLemmas.{filter-next, length-statements_of}
+use Rattle.kc_build.proofs.PlaceLemmas.{filter-next}
 
 same_from : {A : Type 0} (f h : ℕ → A) (p n : ℕ) → ((j : ℕ) → f (p + j) ≡ h (p + j)) → map f (numbers_from p n) ≡ map h (numbers_from p n)
 same_from f h p zero e = refl
@@ -54,10 +52,6 @@ set_changed v g [] k x y h at e = absurd (omega arith)
 set_changed v g (z ∷ xs) zero x y h at e = let same : x ≡ z = at in rw (e, same) refl
 set_changed v g (z ∷ xs) (suc k) x y h at e = ap (λ l. v z ∷ l) (set_changed v g xs k x y (omega arith) at e)
 
-map_self : {A : Type 0} (xs : List A) → map (λ x. x) xs ≡ xs
-map_self [] = refl
-map_self (x ∷ xs) = ap (λ l. x ∷ l) (map_self xs)
-
 change_past : {A : Type 0} (g : A → A) (xs : List A) (k : ℕ) → length xs ≤ k → change g k xs ≡ xs
 change_past g [] k h = refl
 change_past g (x ∷ xs) zero h = absurd (omega arith)
@@ -90,11 +84,3 @@ module _ (ss : List Numbered) where
       change_numbers g (λ s. F s (defined_before i s)) (λ s. F s (defined_before (i + 1) s)) count t.0
       (step t.0 (defined_before i t.0) refl ∙ ap (F t.0) (sym (before_next i t.0 true (rw e (equal_self t.0)))))
       (λ s ne. ap (F s) (sym (not_defined i s (rw e (ne_eqb s t.0 ne)))))
-
-  one : {A : Type 0} (o : Option A) → o ≡ first_of (cons_option o [])
-  one None = refl
-  one (Some a) = refl
-
--- all places were passed
-pub all_passed : {A : Type 0} (f : ℕ → A) (ls : List Line) (i : ℕ) → i ≤ length ls → length ls ≤ i → f i ≡ f (length (statements_of ls))
-all_passed f ls i h b = ap f (omega (arith, length-statements_of ls))

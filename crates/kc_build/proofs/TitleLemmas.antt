@@ -14,15 +14,15 @@ use Rattle.kc_tree.specs.declared.rows.Symbol.{Symbol}
 use Rattle.kc_tree.specs.declared.rows.Title.{Title}
 use Rattle.kc_tree.specs.declared.rows.TitleId.{TitleId}
 use Rattle.kc_tree.specs.Contexts.{condition_in}
-use Rattle.kc_tree.specs.Layouts.{shown_of, shown_when as shown_in, title_condition, title_text}
+use Rattle.kc_tree.specs.Layouts.{shown_of, shown_when as shown_in, title_condition, title_text, with_parts}
 use Rattle.kc_tree.specs.TreeFacts.{Condition, CommentShown, MenuShown, Shown}
 use Rattle.kc_build.specs.Facts.{block_parts, choice_number, dependency, depends_form, entry_at, entry_number, of_block, own_dependencies, own_visible, shown_when, symbol_of, title_of, visible_form, enclosing_visible}
-use Rattle.kc_build.specs.Growth.{IsGrown, Stands, and_all}
+use Rattle.kc_build.specs.Growth.{IsGrown, Stands}
 use Rattle.kc_build.specs.Scopes.{block_visible}
 use Rattle.kc_build.specs.WalkResult.{IsEntryThere, IsTitleThere}
 use Rattle.kc_build.specs.Stacks.{AreOpen, block_facts_at, block_view}
 use Rattle.kc_build.specs.Walks.{Enters, IsHead, IsWalk, place_after}
-use Rattle.kc_build.specs.declared.blocks.Block.{Block}
+use Rattle.kc_build.specs.declared.blocks.BlockScope.{BlockScope}
 use Rattle.kc_build.specs.declared.entries.Walk.{Walk}
 use Rattle.kc_build.proofs.GrownLemmas.{Extends, carries_both, carries_grown, extends, get_last, open_carries}
 use Rattle.kc_build.proofs.OpenLemmas.{open_opens, open_passes}
@@ -30,8 +30,8 @@ use Rattle.kc_build.proofs.OpenerLemmas.{block_inside}
 use Rattle.kc_build.proofs.WalkLemmas.{choices_say_same, entry_count, main_menu_stays, no_choice_passed, walk_passes}
 
 -- What an entry depends on, by its enclosing block and its own lines.
-module _ (ss : List Numbered) (i : ℕ) (own : List Numbered) (conditions : List Condition) (b : Block) (outside : block_view conditions b ≡ block_facts_at ss i) where
-  pub dependency_is : attributes ss i ≡ own → and_all (condition_in conditions b.within.0) (filter_map depends_form own) ≡ dependency ss i
+module _ (ss : List Numbered) (i : ℕ) (own : List Numbered) (conditions : List Condition) (b : BlockScope) (outside : block_view conditions b ≡ block_facts_at ss i) where
+  pub dependency_is : attributes ss i ≡ own → with_parts (condition_in conditions b.within.0) (filter_map depends_form own) ≡ dependency ss i
   dependency_is a =
       let lines : filter_map depends_form own ≡ own_dependencies ss i = sym (ap (filter_map depends_form) a) in
       λ j. record { parts = (outside j).parts ++ lines j; mode = (outside j).mode }
@@ -107,7 +107,7 @@ module _ (ss : List Numbered) (symbols : List Symbol) (i : ℕ) (head : Numbered
 -- A comment.
 module _ (text : List ℕ) (own : List Numbered) (old new : Walk) (rest : AreRest old new) (within : ContextId) (t : Title) (id : TitleId) where
   pub comment_enters : IsGrown old.tables.contexts new.tables.contexts (condition_in old.tables.contexts old.blocks.innermost.within.0).mode (length own) →
-      Stands new.tables.contexts within.0 (and_all (condition_in old.tables.contexts old.blocks.innermost.within.0) (filter_map depends_form own)) → new.blocks ≡ old.blocks →
+      Stands new.tables.contexts within.0 (with_parts (condition_in old.tables.contexts old.blocks.innermost.within.0) (filter_map depends_form own)) → new.blocks ≡ old.blocks →
       new.tables.titles.items ≡ old.tables.titles.items ++ t ∷ [] → t.text.items ≡ text → t.within ≡ within → t.visible ≡ record { 0 = 0 } → id.0 ≡ length old.tables.titles.items →
       new.tables.entries.items ≡ old.tables.entries.items ++ entry.Comment id ∷ [] → (symbols : List Symbol) → Enters symbols (CommentLine text) own old new
   comment_enters grown stands blocks titles said shown_within shown_visible number entries symbols ss i a h w =
@@ -142,11 +142,11 @@ module _ (text : List ℕ) (own : List Numbered) (old new : Walk) (rest : AreRes
 
 -- A menu.
 module _ (text : List ℕ) (own : List Numbered) (old new : Walk) (rest : AreRest old new) (middle : List Condition) (within visible : ContextId) (t : Title) (id : TitleId)
-    (number : ℕ) (b : Block) where
+    (number : ℕ) (b : BlockScope) where
   pub menu_enters : IsGrown old.tables.contexts middle (condition_in old.tables.contexts old.blocks.innermost.within.0).mode (length own) →
-      Stands middle within.0 (and_all (condition_in old.tables.contexts old.blocks.innermost.within.0) (filter_map depends_form own)) →
+      Stands middle within.0 (with_parts (condition_in old.tables.contexts old.blocks.innermost.within.0) (filter_map depends_form own)) →
       IsGrown middle new.tables.contexts (condition_in middle old.blocks.innermost.visible.0).mode (length own) →
-      Stands new.tables.contexts visible.0 (and_all (condition_in middle old.blocks.innermost.visible.0) (filter_map visible_form own)) →
+      Stands new.tables.contexts visible.0 (with_parts (condition_in middle old.blocks.innermost.visible.0) (filter_map visible_form own)) →
       new.tables.titles.items ≡ old.tables.titles.items ++ t ∷ [] → t.text.items ≡ text → t.within ≡ within → t.visible ≡ visible → id.0 ≡ length old.tables.titles.items →
       number ≡ length old.tables.entries.items → new.tables.entries.items ≡ old.tables.entries.items ++ entry.Menu id ∷ [] →
       b ≡ record { within = within; visible = visible; entry = Some number } → new.blocks.innermost ≡ b →

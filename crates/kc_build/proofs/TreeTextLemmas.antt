@@ -169,8 +169,8 @@ module _ (ss : List Numbered) (texts : All IsLineNumbered ss) where
       (given_lines (attributes ss i) (attribute_texts i))) (definitions_of ss s)
 
 module _ (ls : List (Located Named)) (lines : All IsInLines (statements ls)) where
-  abbrev said : List Numbered
-  said = map (λ l. l.statement) (numbered_lines ls)
+  abbrev line_statements : List Numbered
+  line_statements = map (λ l. l.statement) (numbered_lines ls)
 
   abbrev whole : TreeFacts
   whole = facts_with (names_of (statements ls)) (length (defined (statements ls))) (modules_id (statements ls)) (numbered_lines ls)
@@ -183,24 +183,24 @@ module _ (ls : List (Located Named)) (lines : All IsInLines (statements ls)) whe
       (numbered_texts modules number l.statement (All-head IsInLines l.statement (statements rest) h).texts)
       (all_numbered modules number rest (All-tail IsInLines l.statement (statements rest) h))
 
-  said_is : (modules : Option SymId) (number : List ℕ → ℕ) (rest : List (Located Named)) →
+  numbered_is : (modules : Option SymId) (number : List ℕ → ℕ) (rest : List (Located Named)) →
       map (λ l. numbered modules number l.statement) rest ≡ map (λ l. l.statement) (map (located_numbered modules number) rest)
-  said_is modules number [] = refl
-  said_is modules number (l ∷ rest) = ap (λ xs. numbered modules number l.statement ∷ xs) (said_is modules number rest)
+  numbered_is modules number [] = refl
+  numbered_is modules number (l ∷ rest) = ap (λ xs. numbered modules number l.statement ∷ xs) (numbered_is modules number rest)
 
-  said_texts : All IsLineNumbered said
-  said_texts =
+  all_texts : All IsLineNumbered line_statements
+  all_texts =
       let modules = Some (modules_id (statements ls)) in
       let number = number_of (names_of (statements ls)) in
-      subst (All IsLineNumbered) (said_is modules number ls) (all_numbered modules number ls lines)
+      subst (All IsLineNumbered) (numbered_is modules number ls) (all_numbered modules number ls lines)
 
   -- each text of the tree stands in one line
   pub line_texts : HasLineTexts whole
   line_texts = record {
-    titles = record { main_menu = menu_title said said_texts; entries = entry_title said said_texts };
+    titles = record { main_menu = menu_title line_statements all_texts; entries = entry_title line_statements all_texts };
     names = λ i name h. All-at IsLineText (names_of (statements ls)) i name (name_lines (statements ls) lines) h;
     defaults = λ i f h g c.
-        let each = All-map_each (λ (f : SymbolFacts). All (λ (g : Guarded Form). IsLineForm g.what) f.defaults) (λ i. symbol_facts said (symbol i))
-        (λ i. default_lines said said_texts (symbol i)) (numbers (length (defined (statements ls)))) in
+        let each = All-map_each (λ (f : SymbolFacts). All (λ (g : Guarded Form). IsLineForm g.what) f.defaults) (λ i. symbol_facts line_statements (symbol i))
+        (λ i. default_lines line_statements all_texts (symbol i)) (numbers (length (defined (statements ls)))) in
         All-contains (λ (g : Guarded Form). IsLineForm g.what) f.defaults g (All-at (λ (f : SymbolFacts). All (λ (g : Guarded Form). IsLineForm g.what) f.defaults) whole.symbols i f each h) c;
   }

@@ -1,12 +1,7 @@
 -- For proofs: How the conditions of contexts grow by an entry.
-use Rattle.std.specs.Prelude.{◌≡◌, ◌<◌, ◌≤◌, ◌+◌, ℕ, List, ◌++◌, length, Option}
-use Rattle.kc_expr.specs.Form.{Form}
+use Rattle.std.specs.Prelude.{◌≡◌, ◌<◌, ◌≤◌, ◌+◌, ℕ, List, length, Option}
 use Rattle.kc_tree.specs.TreeFacts.{Condition}
 use Rattle.kc_tree.specs.Contexts.{condition_in}
-
--- a condition and these things more
-abbrev pub and_all : Condition → List Form → Condition
-and_all c fs = record { parts = c.parts ++ fs; mode = c.mode }
 
 -- a condition stands at a number
 pub record Stands (conditions : List Condition) (i : ℕ) (c : Condition) : Type 0 where

@@ -1,5 +1,5 @@
 -- For proofs: Words for the passes over the list of lines.
-use Rattle.std.specs.Prelude.{ℕ, zero, suc, List, [], ◌∷◌, map, Bool, true, false, Option, Some, None}
+use Rattle.std.specs.Prelude.{ℕ, zero, suc, List, [], ◌∷◌, map, Option, Some, None}
 use Rattle.std.specs.Prelude.{option_map}
 use Rattle.kc_expr.specs.declared.expression.SymId.{SymId}
 use Rattle.kc_expr.specs.Form.{Form, Leaf, form_of, leaf_of}
@@ -10,17 +10,11 @@ use Rattle.kc_build.specs.declared.lines.ReverseKind.{ReverseKind}
 use Rattle.kc_build.specs.Facts as spec
 use Rattle.kc_read.specs.declared.statement.Line.{Line}
 use Rattle.kc_read.specs.StatementViews.{statement_view}
-use Rattle.kc_read.specs.Statements.{Numbered, RangeLine}
-use Rattle.kc_read.specs.Blocks.{Bracket, Opens, Closes, NoBracket}
+use Rattle.kc_read.specs.Statements.{Numbered}
 
 -- the statements of lines
 abbrev pub statements_of : List Line → List Numbered
 statements_of = map (λ l. statement_view l.statement)
-
-abbrev pub closes : Bracket → Bool
-closes Closes = true
-closes (Opens b) = false
-closes NoBracket = false
 
 abbrev pub stated_default_view : StatedDefault → spec.StatedDefault
 stated_default_view g = record { value = form_of g.value.now.value; when = option_map (λ e. form_of e.now.value) g.when }
@@ -31,10 +25,6 @@ target_view t = (t.kind, t.symbol, option_map (λ e. form_of e.now.value) t.when
 
 abbrev pub range_view : Range → Leaf × Leaf × Option Form
 range_view r = (leaf_of r.low.now, leaf_of r.high.now, option_map (λ e. form_of e.now.value) r.when)
-
-abbrev pub range_of : Numbered → Option (Leaf × Leaf × Option Form)
-range_of (RangeLine a b w) = Some (a, b, w)
-range_of _ = None
 
 -- the element at a place, changed
 abbrev pub change : {A : Type 0} → (A → A) → ℕ → List A → List A

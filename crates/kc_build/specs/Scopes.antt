@@ -1,5 +1,5 @@
 -- For proofs: The scope of a line: what its enclosing blocks ask for.
-use Rattle.std.specs.Prelude.{ℕ, ◌+◌, List, [], ◌++◌, Option, Some, None, if◌then◌else◌}
+use Rattle.std.specs.Prelude.{ℕ, ◌+◌, List, [], ◌++◌, Option, Some, if◌then◌else◌}
 use Rattle.std.specs.List.{flat_map}
 use Rattle.kc_expr.specs.Form.{Form}
 use Rattle.kc_read.specs.declared.statement.Block.TheVariants as block
@@ -12,9 +12,6 @@ pub record Scope : Type 0 where
   pub visible : List Form
   pub mode : Option ℕ
   pub opener : Option ℕ
-
-abbrev pub nothing : Scope
-nothing = record { parts = []; visible = []; mode = None; opener = None }
 
 abbrev pub next_count : Numbered → ℕ → ℕ
 next_count ChoiceLine n = n + 1

@@ -9,7 +9,7 @@ use Rattle.kc_build.specs.Facts.{entry_number, enclosing_block}
 use Rattle.kc_build.specs.Scopes.{scope_at}
 use Rattle.kc_tree.specs.TreeFacts.{Condition}
 use Rattle.kc_tree.specs.declared.rows.Title.{Title}
-use Rattle.kc_build.specs.declared.blocks.Block.{Block}
+use Rattle.kc_build.specs.declared.blocks.BlockScope.{BlockScope}
 use Rattle.kc_build.specs.declared.blocks.Blocks.{Blocks}
 
 -- a block by the conditions of its contexts; its opener is given by the entries before it
@@ -19,7 +19,7 @@ pub record BlockFacts : Type 0 where
   pub mode : Option ℕ
   pub entry : Option ℕ
 
-abbrev pub block_view : List Condition → Block → BlockFacts
+abbrev pub block_view : List Condition → BlockScope → BlockFacts
 block_view conditions b = record {
   parts = (condition_in conditions b.within.0).parts;
   visible = (condition_in conditions b.visible.0).parts;
@@ -42,24 +42,24 @@ pub record AreOpen (ss : List Numbered) (i : ℕ) (conditions : List Condition) 
   pub outside : map (block_view conditions) blocks.outside.items ≡ map (block_facts_at ss) (enclosing ss i)
 
 -- the open blocks, the innermost first
-abbrev pub open_blocks : Blocks → List Block
+abbrev pub open_blocks : Blocks → List BlockScope
 open_blocks blocks = blocks.innermost ∷ blocks.outside.items
 
 -- the innermost block is closed, where one is open
 abbrev pub IsClosed : Blocks → Blocks → Type 0
 IsClosed old new =
-    ((outside : List Block) (b : Block) → old.outside.items ≡ outside ++ b ∷ [] → (new.innermost ≡ b) × (new.outside.items ≡ outside))
+    ((outside : List BlockScope) (b : BlockScope) → old.outside.items ≡ outside ++ b ∷ [] → (new.innermost ≡ b) × (new.outside.items ≡ outside))
     × (old.outside.items ≡ [] → open_blocks new ≡ open_blocks old)
 
 -- they lead to contexts that are there, and no mode counts in what is asked of what is visible in them
 abbrev pub AreBlocksWithin : List Condition → Blocks → Type 0
-AreBlocksWithin conditions blocks = (j : ℕ) (b : Block) → slice_get (open_blocks blocks) j ≡ Some b → b.within.0 < length conditions
+AreBlocksWithin conditions blocks = (j : ℕ) (b : BlockScope) → slice_get (open_blocks blocks) j ≡ Some b → b.within.0 < length conditions
 
 abbrev pub AreBlocksVisible : List Condition → Blocks → Type 0
-AreBlocksVisible conditions blocks = (j : ℕ) (b : Block) → slice_get (open_blocks blocks) j ≡ Some b → b.visible.0 < length conditions
+AreBlocksVisible conditions blocks = (j : ℕ) (b : BlockScope) → slice_get (open_blocks blocks) j ≡ Some b → b.visible.0 < length conditions
 
 abbrev pub AreBlocksPlain : List Condition → Blocks → Type 0
-AreBlocksPlain conditions blocks = (j : ℕ) (b : Block) → slice_get (open_blocks blocks) j ≡ Some b → IsPlain conditions b.visible.0
+AreBlocksPlain conditions blocks = (j : ℕ) (b : BlockScope) → slice_get (open_blocks blocks) j ≡ Some b → IsPlain conditions b.visible.0
 
 -- what the enclosing menus of a title ask of what is visible is there
 abbrev pub AreTitlesWithin : List Condition → List Title → Type 0

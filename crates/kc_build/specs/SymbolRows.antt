@@ -24,8 +24,8 @@ abbrev pub AreBelow : ℕ → List Numbered → Type 0
 AreBelow count ss = (i : ℕ) (s : SymId) → symbol_at ss i ≡ Some s → s.0 < count
 
 -- no line gives the type that stands for none
-abbrev pub AreTyped : List Numbered → Type 0
-AreTyped ss = (i : ℕ) (s : Numbered) → slice_get ss i ≡ Some s → type_of s ≡ Some kind.Undefined → ⊥
+abbrev pub AreTypesDefined : List Numbered → Type 0
+AreTypesDefined ss = (i : ℕ) (s : Numbered) → slice_get ss i ≡ Some s → type_of s ≡ Some kind.Undefined → ⊥
 
 -- no choice stands in another one
 abbrev pub AreChoicesApart : List Numbered → Type 0

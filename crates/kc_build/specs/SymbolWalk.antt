@@ -1,12 +1,12 @@
 -- For proofs: The first walk, entry by entry.
-use Rattle.std.specs.Prelude.{◌≡◌, ℕ, ◌+◌, List, [], ◌∷◌, ◌++◌, All, map, if◌then◌else◌, is_some, Option, Some, None, slice_get, unwrap_or, option_map}
+use Rattle.std.specs.Prelude.{◌≡◌, ℕ, ◌+◌, List, [], ◌∷◌, ◌++◌, All, map, if◌then◌else◌, is_some, Option, Some, None, slice_get, unwrap_or}
 use Rattle.std.specs.Option.{option_or}
 use Rattle.kc_expr.specs.declared.expression.Kind.{Kind}
 use Rattle.kc_expr.specs.declared.expression.Kind.TheVariants as kind
 use Rattle.kc_expr.specs.declared.expression.SymId.{SymId}
 use Rattle.kc_read.specs.Blocks.{enclosing}
 use Rattle.kc_read.specs.Statements.{Numbered}
-use Rattle.kc_tree.specs.declared.rows.ChoiceId.{ChoiceId}
+use Rattle.kc_tree.specs.Contexts.{mode_view}
 use Rattle.kc_tree.specs.declared.rows.Symbol.{Symbol}
 use Rattle.kc_build.specs.declared.symbols.ChoiceScope.{ChoiceScope}
 use Rattle.kc_build.specs.Facts.{choice_number, enclosing_choice}
@@ -47,13 +47,10 @@ with_member_type r = record r { kind = first_kind r.kind (if is_some r.choice th
 abbrev pub HaveMemberTypes : List SymbolRow → List SymbolRow → Type 0
 HaveMemberTypes old new = new ≡ map with_member_type old
 
-abbrev pub choice_view : Option ChoiceId → Option ℕ
-choice_view = option_map (λ (k : ChoiceId). k.0)
-
 -- the scope of a place, with the choices and definitions before it
 pub record IsScopeAt (ss : List Numbered) (i : ℕ) (r : ChoiceScope) : Type 0 where
-  pub choice : choice_view r.choice ≡ enclosing_choice ss i
-  pub outside : map choice_view r.outside.items ≡ map (enclosing_choice ss) (enclosing ss i)
+  pub choice : mode_view r.choice ≡ enclosing_choice ss i
+  pub outside : map mode_view r.outside.items ≡ map (enclosing_choice ss) (enclosing ss i)
   pub choices : r.choices ≡ choice_number ss i
   pub definitions : r.definitions ≡ definition_number ss i
 

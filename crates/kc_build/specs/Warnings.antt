@@ -17,7 +17,7 @@ use Rattle.kc_build.specs.declared.warning.Warning.{Warning}
 use Rattle.kc_build.specs.declared.warning.Warning.TheVariants as warning
 use Rattle.kc_build.specs.FirstDefinitions.{is_first_definition_at}
 use Rattle.kc_build.specs.Targets.{target_of}
-use Rattle.kc_tree.specs.Common.{listed}
+use Rattle.kc_tree.specs.Common.{listed, name_by}
 use Rattle.kc_build.specs.Facts.{symbol_of, kind_of, choice_of, has_text, same_kind, type_of, prompt_of, stated_default, single_symbol, is_single, is_member, choice_number, places, enclosing_choice}
 
 -- something, where it holds
@@ -128,20 +128,17 @@ reverse_word reverse_kind.Select = codes "select"
 reverse_word reverse_kind.Imply = codes "imply"
 
 module _ (names : List (List ℕ)) where
-  abbrev pub name_of : SymId → List ℕ
-  name_of s = unwrap_or (slice_get names s.0) []
-
   -- the name of the symbol whose entry it is, or `choice`
   abbrev pub entry_name : Option SymId → List ℕ
-  entry_name o = unwrap_or (option_map name_of o) (codes "choice")
+  entry_name o = unwrap_or (option_map (name_by names) o) (codes "choice")
 
   abbrev pub text_of : Warning → List ℕ
-  text_of (warning.TypeRedefined t) = codes "K1: type of " ++ name_of t ++ codes " redefined, the first is kept"
+  text_of (warning.TypeRedefined t) = codes "K1: type of " ++ name_by names t ++ codes " redefined, the first is kept"
   text_of (warning.PromptRedefined o) = codes "K2: prompt of " ++ entry_name o ++ codes " redefined, the last is kept"
-  text_of (warning.WithoutType t) = codes "K3: " ++ name_of t ++ codes " has no type"
-  text_of (warning.TextTarget t r) = codes "K4: " ++ name_of t ++ codes " is not bool or tristate, the " ++ reverse_word r ++ codes " has no effect"
-  text_of (warning.DefaultNotMember t) = codes "K5: " ++ name_of t ++ codes " is not a member of the choice"
-  text_of (warning.MemberTarget t r) = codes "K6: " ++ name_of t ++ codes " is a choice member, the " ++ reverse_word r ++ codes " has no effect"
+  text_of (warning.WithoutType t) = codes "K3: " ++ name_by names t ++ codes " has no type"
+  text_of (warning.TextTarget t r) = codes "K4: " ++ name_by names t ++ codes " is not bool or tristate, the " ++ reverse_word r ++ codes " has no effect"
+  text_of (warning.DefaultNotMember t) = codes "K5: " ++ name_by names t ++ codes " is not a member of the choice"
+  text_of (warning.MemberTarget t r) = codes "K6: " ++ name_by names t ++ codes " is a choice member, the " ++ reverse_word r ++ codes " has no effect"
 
   -- the whole line of a warning about a line
   abbrev pub line_of : List ℕ → ℕ → Warning → List ℕ

@@ -8,9 +8,10 @@ ghost use Rattle.kc_expr.specs.When.{when_view};
 ghost use Rattle.kc_read.specs.StatementViews.{asked_view};
 ghost use Rattle.kc_tree.specs.Contexts.{condition_in};
 ghost use Rattle.kc_build.specs.Facts as facts;
-ghost use Rattle.kc_build.specs.Growth.{and_all, IsGrown, Stands};
+ghost use Rattle.kc_build.specs.Growth.{IsGrown, Stands};
 ghost use Rattle.kc_build.specs.EntryLines.{prompt_line, default_line, range_line, member_line, choice_default_line, default_row, range_row};
 ghost use Rattle.kc_build.specs.Passes.{statements_of};
+ghost use Rattle.kc_tree.specs.Layouts.{with_parts};
 
 use crate::copies::operand_copy;
 use crate::lines::{
@@ -104,7 +105,7 @@ pub fn entry_context(
 ) -> Result<ContextId, AllocError>
     requires there { outer.0 < length contexts.old }
     requires few { length contexts.old + length attributes.now < 2 ^ 32 }
-    ensures made { IfOk result (λ id. Stands contexts.new id.0 (and_all (condition_in contexts.old outer.0) (filter_map facts.depends_form (statements_of attributes.now)))) }
+    ensures made { IfOk result (λ id. Stands contexts.new id.0 (with_parts (condition_in contexts.old outer.0) (filter_map facts.depends_form (statements_of attributes.now)))) }
     ensures kept { IsGrown contexts.old contexts.new (condition_in contexts.old outer.0).mode (length attributes.now) }
 {
     let mut at = outer;
@@ -125,7 +126,7 @@ pub fn visible_context(
 ) -> Result<ContextId, AllocError>
     requires there { outer.0 < length contexts.old }
     requires few { length contexts.old + length attributes.now < 2 ^ 32 }
-    ensures made { IfOk result (λ id. Stands contexts.new id.0 (and_all (condition_in contexts.old outer.0) (filter_map facts.visible_form (statements_of attributes.now)))) }
+    ensures made { IfOk result (λ id. Stands contexts.new id.0 (with_parts (condition_in contexts.old outer.0) (filter_map facts.visible_form (statements_of attributes.now)))) }
     ensures kept { IsGrown contexts.old contexts.new (condition_in contexts.old outer.0).mode (length attributes.now) }
 {
     let mut at = outer;
@@ -150,9 +151,9 @@ pub fn add_defaults(
 {
     let start = defaults.len() as u32;
     for line in attributes {
-        if let Some(given) = stated_default(&line.statement) {
-            let value = given.value.clone()?;
-            let when = shared_condition(given.when)?;
+        if let Some(stated) = stated_default(&line.statement) {
+            let value = stated.value.clone()?;
+            let when = shared_condition(stated.when)?;
             defaults.push(SymbolDefault { value, when })?;
         }
     }
@@ -200,10 +201,10 @@ pub fn choice_defaults(
 {
     let mut defaults = Vec::new(alloc);
     for line in attributes {
-        if let Some(given) = stated_default(&line.statement) {
-            if let Some(member) = single_symbol(given.value) {
+        if let Some(stated) = stated_default(&line.statement) {
+            if let Some(member) = single_symbol(stated.value) {
                 if is_member(symbols, choice, member) {
-                    let when = shared_condition(given.when)?;
+                    let when = shared_condition(stated.when)?;
                     defaults.push(ChoiceDefault { member, when })?;
                 }
             }

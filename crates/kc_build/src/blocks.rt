@@ -14,7 +14,7 @@ use std::rc::Rc;
 /// What a block asks of the entries in it, and of what is visible in it besides; and the place among the entries of what
 /// opened it: none at the top.
 #[derive(Clone, Copy, Debug)]
-pub struct Block {
+pub struct BlockScope {
     pub within: ContextId,
     pub visible: ContextId,
     pub entry: Option<u32>,
@@ -23,8 +23,8 @@ pub struct Block {
 /// The innermost open block, and those outside it.
 #[derive(Debug, Drop)]
 pub struct Blocks {
-    innermost: Block,
-    outside: Vec<Block>,
+    innermost: BlockScope,
+    outside: Vec<BlockScope>,
 }
 
 impl Blocks {
@@ -34,7 +34,7 @@ impl Blocks {
         ensures outside { result.outside.items ≡ [] }
     {
         Blocks {
-            innermost: Block {
+            innermost: BlockScope {
                 within: ContextId(0),
                 visible: ContextId(0),
                 entry: None,
@@ -44,14 +44,14 @@ impl Blocks {
     }
 
     /// The innermost open block; at the top it asks for nothing.
-    pub fn innermost(&self) -> Block
+    pub fn innermost(&self) -> BlockScope
         ensures { result ≡ self.now.innermost }
     {
         self.innermost
     }
 
     /// Opens a block inside the innermost one. Where it is out of memory, nothing changes.
-    pub fn open(&mut self, block: Block) -> Result<(), AllocError>
+    pub fn open(&mut self, block: BlockScope) -> Result<(), AllocError>
         ensures innermost { OnOk result (self.new.innermost ≡ block) }
         ensures outside { OnOk result (self.new.outside.items ≡ self.old.outside.items ++ self.old.innermost ∷ []) }
         ensures unchanged { OnErr result (open_blocks self.new ≡ open_blocks self.old) }
@@ -74,10 +74,10 @@ impl Blocks {
 /// The block of an `if`, inside another one.
 pub fn if_block(
     contexts: &mut Contexts,
-    outer: Block,
+    outer: BlockScope,
     condition: Rc<Expr>,
     entry: u32,
-) -> Result<Block, AllocError>
+) -> Result<BlockScope, AllocError>
     requires there { outer.within.0 < length contexts.old }
     requires few { length contexts.old < 2 ^ 32 }
     ensures added { OnOk result (contexts.new ≡ contexts.old ++ and_also (condition_in contexts.old outer.within.0) (form_of condition.value) ∷ []) }
@@ -87,7 +87,7 @@ pub fn if_block(
     ensures unchanged { OnErr result (contexts.new ≡ contexts.old) }
 {
     let within = contexts.inside(outer.within, condition)?;
-    Ok(Block {
+    Ok(BlockScope {
         within,
         visible: outer.visible,
         entry: Some(entry),
@@ -97,10 +97,10 @@ pub fn if_block(
 /// The block of a choice, inside another one: its members depend on its mode.
 pub fn choice_block(
     contexts: &mut Contexts,
-    outer: Block,
+    outer: BlockScope,
     choice: ChoiceId,
     entry: u32,
-) -> Result<Block, AllocError>
+) -> Result<BlockScope, AllocError>
     requires there { outer.within.0 < length contexts.old }
     requires plain { IsPlain contexts.old outer.within.0 }
     requires few { length contexts.old < 2 ^ 32 }
@@ -111,7 +111,7 @@ pub fn choice_block(
     ensures unchanged { OnErr result (contexts.new ≡ contexts.old) }
 {
     let within = contexts.inside_choice(outer.within, choice)?;
-    Ok(Block {
+    Ok(BlockScope {
         within,
         visible: outer.visible,
         entry: Some(entry),

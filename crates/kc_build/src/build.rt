@@ -1,17 +1,69 @@
 //! The tree of a root file.
 
-ghost use Rattle.std.specs.Prelude.{◌≢◌, IfOk, IfErr, Ok, Err};
+ghost use Rattle.std.specs.Prelude.{◌≡◌, ◌≢◌, ◌<◌, ◌≤◌, ◌+◌, ◌*◌, ◌^◌, length, map, nat_lt, if◌then◌else◌, IfOk, IfErr, Ok, Err, Some, None};
+ghost use Rattle.kc_expr.specs.Limits.{most_symbols};
 ghost use Rattle.kc_read.specs.Files.{bytes_in};
 ghost use Rattle.kc_read.specs.RefusalView.{IsMemory, refusal_view};
+ghost use Rattle.kc_read.specs.StatementViews.{line_view};
 ghost use Rattle.kc_read.specs.declared.refusal.Code.TheVariants.{Memory};
-ghost use Rattle.kc_build.specs.Trees.{IsTreeOf};
+ghost use Rattle.kc_build.specs.PartsView.{parts_view};
+ghost use Rattle.kc_build.specs.Passes.{statements_of};
+ghost use Rattle.kc_build.specs.SymbolRows.{AreBelow, AreChoicesApart, AreMenusOpened, AreTypesDefined};
+ghost use Rattle.kc_build.specs.Trees.{IsTreeOf, tree_with};
 
+use crate::entries::{WalkResult, walk_entries};
 use crate::numbering::{Listing, read_listing};
-use crate::tree_parts::build_parts;
+use crate::symbols::symbols;
+use kc_expr::expression::SymId;
+use kc_expr::names::Names;
 use kc_read::file_map::FileMap;
 use kc_read::refusal::Refusal;
+use kc_read::statement::Line;
+use kc_tree::layout::{Layout, TreeParts};
 use kc_tree::tree::Tree;
-use std::alloc::Global;
+use std::alloc::{AllocError, Global};
+
+// The symbol, where it is one of the defined ones.
+fn defined(symbol: SymId, count: usize) -> Option<SymId>
+    ensures { result ≡ (if nat_lt symbol.0 count then Some symbol else None) }
+{
+    if symbol.0 < count { Some(symbol) } else { None }
+}
+
+// What the lines say, where the symbols that are defined are those below `count` and `modules` is the one that
+// stands for modules: the first refusal that the whole list shows, and where there is none all parts of the tree.
+// Its only error is to be out of memory.
+fn build_parts(
+    alloc: Global,
+    names: &Names,
+    lines: &[Line],
+    count: usize,
+    modules: SymId,
+) -> Result<Result<TreeParts, Refusal>, AllocError>
+    requires below { AreBelow count (statements_of lines.now) }
+    requires types { AreTypesDefined (statements_of lines.now) }
+    requires apart { AreChoicesApart (statements_of lines.now) }
+    requires ends { AreMenusOpened (statements_of lines.now) }
+    requires defined { count ≤ most_symbols }
+    requires few { 4 * length lines.now + 8 < 2 ^ 32 }
+    ensures { IfOk result (λ s. parts_view names.now s ≡ tree_with names.now count modules (map line_view lines.now)) }
+{
+    let symbols = symbols(alloc, lines, count)?;
+    let WalkResult {
+        tables,
+        main_menu,
+        diagnostics,
+    } = walk_entries(alloc, names, lines, &symbols)?;
+    match diagnostics.into_warnings() {
+        Err(refusal) => Ok(Err(refusal)),
+        Ok(warnings) => Ok(Ok(TreeParts {
+            layout: Layout { symbols, tables },
+            warnings,
+            main_menu,
+            modules: defined(modules, count),
+        })),
+    }
+}
 
 /// The tree of a root file: what the statements of the file and of those that it sources say, or the first
 /// refusal, which leaves nothing.
@@ -37,11 +89,11 @@ pub fn build_tree(alloc: Global, map: &FileMap, root: &[u8]) -> Result<Tree, Ref
         modules,
         lines,
     } = read_listing(alloc, map, root)?;
-    let assembled = match build_parts(alloc, &names, &lines, count, modules) {
-        Ok(assembled) => assembled,
+    let outcome = match build_parts(alloc, &names, &lines, count, modules) {
+        Ok(outcome) => outcome,
         Err(_) => return Err(Refusal::out_of_memory(alloc)),
     };
-    match assembled {
+    match outcome {
         Err(refusal) => Err(refusal),
         Ok(parts) => {
             names.are_distinct();

@@ -140,7 +140,7 @@ fn default_symbol(statement: &Statement) -> Option<SymId>
     ensures { result ≡ default_symbol (statement_view statement.now) }
 {
     match stated_default(statement) {
-        Some(given) => single_symbol(given.value),
+        Some(stated) => single_symbol(stated.value),
         None => None,
     }
 }
@@ -219,9 +219,9 @@ fn is_bad_default(statement: &Statement, entry: MenuEntry, symbols: &[Symbol]) -
     ensures { result ≡ spec.is_bad_default (kind_by symbols.now) entry (statement_view statement.now) }
 {
     match stated_default(statement) {
-        Some(given) => {
-            (is_text_entry(entry, symbols) && !is_single(given.value))
-                || (entry_choice(entry).is_some() && single_symbol(given.value).is_none())
+        Some(stated) => {
+            (is_text_entry(entry, symbols) && !is_single(stated.value))
+                || (entry_choice(entry).is_some() && single_symbol(stated.value).is_none())
         }
         None => false,
     }
@@ -254,7 +254,8 @@ fn warn(
     warning: Option<Warning>,
     out: &mut Vec<Vec<u8>>,
 ) -> Result<(), AllocError>
-    ensures { OnOk result (map (λ v. v.items) out.new.items ≡ map (λ v. v.items) out.old.items ++ map (spec.line_of names.now (line_view line.now).file (line_view line.now).line) (listed warning)) }
+    ensures { OnOk result (map (λ v. v.items) out.new.items ≡ map (λ v. v.items) out.old.items
+        ++ map (spec.line_of names.now (line_view line.now).file (line_view line.now).line) (listed warning)) }
 {
     match warning {
         Some(warning) => {
@@ -276,7 +277,8 @@ fn warn_line(
     line: &Line,
     out: &mut Vec<Vec<u8>>,
 ) -> Result<(), AllocError>
-    ensures { OnOk result (map (λ v. v.items) out.new.items ≡ map (λ v. v.items) out.old.items ++ map (spec.line_of names.now (line_view line.now).file (line_view line.now).line) (line_warnings_in symbols.now summary prompted (line_view line.now).statement)) }
+    ensures { OnOk result (map (λ v. v.items) out.new.items ≡ map (λ v. v.items) out.old.items
+        ++ map (spec.line_of names.now (line_view line.now).file (line_view line.now).line) (line_warnings_in symbols.now summary prompted (line_view line.now).statement)) }
 {
     match warnings_of(&line.statement, summary, prompted, symbols) {
         (None, None) => Ok(()),
@@ -310,7 +312,8 @@ impl Diagnostics {
         summary: EntrySummary,
         line: &Line,
     ) -> Result<(), AllocError>
-        ensures member { OnOk result (option_map refusal_view self.new.bad_member ≡ option_or (option_map refusal_view self.old.bad_member) (entry_refusal.bad_member_of names.now symbols.now summary (line_view line.now))) }
+        ensures member { OnOk result (option_map refusal_view self.new.bad_member
+            ≡ option_or (option_map refusal_view self.old.bad_member) (entry_refusal.bad_member_of names.now symbols.now summary (line_view line.now))) }
         ensures default { OnOk result (self.new.bad_default ≡ self.old.bad_default) }
         ensures warnings { OnOk result (self.new.warnings ≡ self.old.warnings) }
     {
@@ -330,7 +333,8 @@ impl Diagnostics {
         summary: EntrySummary,
         line: &Line,
     ) -> Result<(), AllocError>
-        ensures default { OnOk result (option_map refusal_view self.new.bad_default ≡ option_or (option_map refusal_view self.old.bad_default) (entry_refusal.bad_default_of names.now symbols.now summary (line_view line.now))) }
+        ensures default { OnOk result (option_map refusal_view self.new.bad_default
+            ≡ option_or (option_map refusal_view self.old.bad_default) (entry_refusal.bad_default_of names.now symbols.now summary (line_view line.now))) }
         ensures member { OnOk result (self.new.bad_member ≡ self.old.bad_member) }
         ensures warnings { OnOk result (self.new.warnings ≡ self.old.warnings) }
     {

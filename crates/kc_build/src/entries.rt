@@ -15,7 +15,7 @@ ghost use Rattle.kc_tree.specs.Layouts.{choice_facts as choice_in};
 use crate::attributes::{
     add_defaults, add_ranges, choice_defaults, entry_context, entry_end, prompt, visible_context,
 };
-use crate::blocks::{Block, Blocks, choice_block, if_block};
+use crate::blocks::{BlockScope, Blocks, choice_block, if_block};
 use crate::diagnostics::{Diagnostics, EntrySummary, MenuEntry};
 use crate::reverse_lines::add_reverses;
 use crate::symbols::is_first;
@@ -111,7 +111,8 @@ impl Walk {
 
     // Adds a symbol to the choice that encloses it, where there is one.
     fn add_member(&mut self, symbol: SymId) -> Result<(), AllocError>
-        ensures choices { OnOk result (map (choice_in self.new.tables) self.new.tables.choices.items ≡ with_member (condition_in self.old.tables.contexts self.old.blocks.innermost.within.0).mode symbol (map (choice_in self.old.tables) self.old.tables.choices.items)) }
+        ensures choices { OnOk result (map (choice_in self.new.tables) self.new.tables.choices.items
+            ≡ with_member (condition_in self.old.tables.contexts self.old.blocks.innermost.within.0).mode symbol (map (choice_in self.old.tables) self.old.tables.choices.items)) }
         ensures others { OnOk result (KeepsAllButChoices self.old self.new) }
     {
         let outer = self.blocks.innermost();
@@ -170,7 +171,7 @@ impl Walk {
         let visible = visible_context(&mut self.tables.contexts, outer.visible, own)?;
         let title = self.add_title(alloc, text, within, visible)?;
         self.tables.entries.push(ShownEntry::Menu(title))?;
-        self.blocks.open(Block {
+        self.blocks.open(BlockScope {
             within,
             visible,
             entry: Some(entry),
@@ -274,7 +275,8 @@ impl Walk {
     // The summary of the entry that a statement begins, before the walk goes into it.
     fn summary_of(&self, symbols: &[Symbol], head: &Statement) -> EntrySummary
         requires { length self.now.tables.definitions.items < 2 ^ 32 }
-        ensures { (ss : List Numbered) (i : ℕ) (own : List Numbered) → IsWhole ss symbols.now → IsHead ss i (statement_view head.now) own → IsWalk ss symbols.now i self.now → IsEntrySummary ss i result }
+        ensures { (ss : List Numbered) (i : ℕ) (own : List Numbered) → IsWhole ss symbols.now → IsHead ss i (statement_view head.now) own
+            → IsWalk ss symbols.now i self.now → IsEntrySummary ss i result }
     {
         let within_choice = self.tables.contexts.mode(self.blocks.innermost().within);
         match head {
@@ -320,7 +322,7 @@ pub fn walk_entries(
     requires apart { AreChoicesApart (statements_of lines.now) }
     requires ends { AreMenusOpened (statements_of lines.now) }
     requires few { 4 * length lines.now + 8 < 2 ^ 32 }
-    ensures said { IfOk result (λ s. IsWalkResult (statements_of lines.now) symbols.now s.tables s.main_menu.items) }
+    ensures tables { IfOk result (λ s. IsWalkResult (statements_of lines.now) symbols.now s.tables s.main_menu.items) }
     ensures small { IfOk result (λ s. IsSmall (length lines.now) s.tables) }
     ensures diagnosed { IfOk result (λ s. IsDiagnosed names.now (map line_view lines.now) (length lines.now) s.diagnostics) }
 {
@@ -335,8 +337,8 @@ pub fn walk_entries(
         let end = entry_end(lines, place);
         let head = &lines[place];
         let own = &lines[place + 1..end];
-        let known = walk.summary_of(symbols, &head.statement);
-        diagnostics.diagnose_entry(alloc, names, symbols, known, head, own)?;
+        let summary = walk.summary_of(symbols, &head.statement);
+        diagnostics.diagnose_entry(alloc, names, symbols, summary, head, own)?;
         walk.enter(alloc, symbols, &head.statement, own)?;
         place = end;
     }

@@ -13,7 +13,6 @@ mod numbering;
 mod renaming;
 mod reverse_lines;
 mod symbols;
-mod tree_parts;
 mod warning;
 
 pub use build::build_tree;

@@ -7,7 +7,7 @@ ghost use Rattle.kc_expr.specs.When.{when_view};
 ghost use Rattle.kc_read.specs.StatementViews.{statement_view, asked_view};
 ghost use Rattle.kc_build.specs.Facts as facts;
 ghost use Rattle.kc_build.specs.Passes.{stated_default_view, target_view, range_view};
-ghost use Rattle.kc_build.specs.Passes as spec;
+ghost use Rattle.kc_build.specs.EntryLines.{range_line};
 ghost use Rattle.kc_build.specs.Targets as targets;
 
 use kc_expr::expression::{Expr, Kind, Operand, SymId};
@@ -165,7 +165,7 @@ pub fn target_of(statement: &Statement) -> Option<Target<'_>>
 
 /// The bounds of a `range` line.
 pub fn range_of(statement: &Statement) -> Option<Range<'_>>
-    ensures { option_map range_view result ≡ spec.range_of (statement_view statement.now) }
+    ensures { option_map range_view result ≡ range_line (statement_view statement.now) }
 {
     match statement {
         Statement::Range(bounds, when) => Some(Range {

@@ -45,19 +45,19 @@ fn modules_symbol(names: &mut Names, modules: Option<SymId>) -> Result<SymId, Al
 // All names get ranks, behind the symbols that have one: the rank that each has then, which is its final number.
 fn number_names(alloc: Global, names: &Names, order: SymbolOrder) -> Result<Vec<SymId>, AllocError>
     ensures few { OnOk result (length names.now ≤ usize.MAX) }
-    ensures places { IfOk result (λ v. (placed : List (List ℕ)) → AreNumbers names.now order placed → v.items ≡ map (λ n. symbol (number_of (all_mentioned placed names.now) n)) names.now) }
+    ensures numbers { IfOk result (λ v. (placed : List (List ℕ)) → AreNumbers names.now order placed → v.items ≡ map (λ n. symbol (number_of (all_mentioned placed names.now) n)) names.now) }
 {
     let mut order = order;
     let count = names.count();
-    let mut places = Vec::with_capacity(alloc, count)?;
+    let mut numbers = Vec::with_capacity(alloc, count)?;
     for i in 0..count {
         let id = SymId(i);
         // Each name has a number of its own.
         let _name = names.name(id);
         let rank = order.rank(id)?;
-        places.push(rank)?;
+        numbers.push(rank)?;
     }
-    Ok(places)
+    Ok(numbers)
 }
 
 // The lines of an expansion, whose names are numbered by first mention, and which names `unknown` where it means the

@@ -7,7 +7,7 @@ ghost use Rattle.kc_read.specs.StatementViews.{statement_view};
 ghost use Rattle.kc_build.specs.Facts as facts;
 ghost use Rattle.kc_build.specs.Facts.{first_of};
 ghost use Rattle.kc_build.specs.SymbolRows as symbol_rows;
-ghost use Rattle.kc_build.specs.SymbolRows.{row_view, AreSymbols, AreTyped};
+ghost use Rattle.kc_build.specs.SymbolRows.{row_view, AreSymbols, AreTypesDefined};
 ghost use Rattle.kc_build.specs.Passes.{statements_of};
 ghost use Rattle.kc_build.specs.SymbolWalk.{unknown, first_kind, with_definition, noted, HasFirstIfMore, HaveFirstIfMore, IsPassed, HaveMemberTypes};
 
@@ -30,7 +30,7 @@ struct ChoiceScope {
 // Symbols of which nothing is known yet.
 fn unknown_symbols(alloc: Global, count: usize) -> Result<Vec<Symbol>, AllocError>
     ensures rows { IfOk result (λ v. map row_view v.items ≡ map (λ _. unknown) (numbers count)) }
-    ensures firsts { IfOk result (λ v. HaveFirstIfMore v.items) }
+    ensures first { IfOk result (λ v. HaveFirstIfMore v.items) }
 {
     let mut symbols = Vec::with_capacity(alloc, count)?;
     for _ in 0..count {
@@ -82,8 +82,9 @@ fn note_definition(
     own: &[Line],
 ) -> Result<(), AllocError>
     requires { HaveFirstIfMore symbols.old.items }
-    ensures rows { OnOk result (map row_view symbols.new.items ≡ noted scope.now.definitions (first_of (filter_map facts.type_of (statements_of own.now))) (option_map (λ k. k.0) scope.now.choice) symbol (map row_view symbols.old.items)) }
-    ensures firsts { OnOk result (HaveFirstIfMore symbols.new.items) }
+    ensures rows { OnOk result (map row_view symbols.new.items
+        ≡ noted scope.now.definitions (first_of (filter_map facts.type_of (statements_of own.now))) (option_map (λ k. k.0) scope.now.choice) symbol (map row_view symbols.old.items)) }
+    ensures first { OnOk result (HaveFirstIfMore symbols.new.items) }
 {
     if symbol.0 < symbols.len() {
         let id = DefinitionId(scope.definitions);
@@ -130,7 +131,7 @@ fn give_member_types(symbols: &mut Vec<Symbol>)
 /// What the lines say of the first `count` symbols: their types, their choices and their definitions.
 pub fn symbols(alloc: Global, lines: &[Line], count: usize) -> Result<Vec<Symbol>, AllocError>
     requires few { length lines.now < 2 ^ 32 }
-    requires typed { AreTyped (statements_of lines.now) }
+    requires types { AreTypesDefined (statements_of lines.now) }
     ensures count { IfOk result (λ v. length v.items ≡ count) }
     ensures rows { IfOk result (λ v. AreSymbols (statements_of lines.now) v.items) }
 {

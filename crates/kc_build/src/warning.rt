@@ -2,6 +2,7 @@
 
 ghost use Rattle.std.specs.Prelude.{◌≡◌, ◌++◌, codes, IfOk};
 ghost use Rattle.kc_read.specs.StatementViews.{line_view};
+ghost use Rattle.kc_tree.specs.Common.{name_by};
 ghost use Rattle.kc_build.specs.Warnings as spec;
 
 use crate::lines::ReverseKind;
@@ -30,7 +31,7 @@ pub enum Warning {
 
 // The name of a symbol.
 fn name_of(names: &Names, symbol: SymId) -> &[u8]
-    ensures { result.now ≡ spec.name_of names.now symbol }
+    ensures { result.now ≡ name_by names.now symbol }
 {
     match names.get(symbol) {
         Some(name) => name,

@@ -94,10 +94,8 @@ const TOP: ContextId = ContextId(0);
 fn definitions<'l>(view: View<'l>, symbol: &Symbol) -> Result<Vec<&'l Definition>, AllocError> {
     let mut all = Vec::new(view.alloc);
     for i in 0..symbol.definition_count() {
-        if let Some(id) = symbol.definition(i) {
-            if let Some(definition) = view.layout.definition(id) {
-                all.push(definition)?;
-            }
+        if let Some(definition) = view.layout.definition_of(symbol, i) {
+            all.push(definition)?;
         }
     }
     Ok(all)

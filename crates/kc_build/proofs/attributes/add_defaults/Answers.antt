@@ -39,7 +39,7 @@ loop-line-preserved c =
           let few = c.loop-line.invariant.few in
           rw w.defaults-is (record {
             adds = adds_one default_line base default_row ls i c.line-item.result now w.push.new.self.items d c.loop-line.invariant.adds c.loop-line-test.true
-                c.line-item.is (default_made s (stated_default_view w.in-Some.given) d w.in-Some.ensures
+                c.line-item.is (default_made s (stated_default_view w.in-Some.stated) d w.in-Some.ensures
                 (ap (λ (e : Expr). form_of e) w.in_ok-value.ensures.cases) w.in_ok-when.ensures) w.in_ok-push.ensures.items;
             longer = omega (arith, size);
             few = omega (arith, size);

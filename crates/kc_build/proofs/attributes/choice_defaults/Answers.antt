@@ -28,18 +28,18 @@ loop-line-preserved c =
           let named = w.in-Some-single_symbol.ensures ∙ ap (λ (e : Expr). single_symbol (form_of e)) w.deref.ensures in
           rw w.defaults-is (list_push (member_line symbols k) choice_default_line ls i c.line-item.result now w.push.new.self.items d (choice_default_line d)
           c.loop-line.invariant c.loop-line-test.true c.line-item.is
-          (sym (member_made symbols k s (stated_default_view w.in-Some.given) d w.in-Some.ensures named w.if-is_member.ensures w.in_ok-when.ensures))
+          (sym (member_made symbols k s (stated_default_view w.in-Some.stated) d w.in-Some.ensures named w.if-is_member.ensures w.in_ok-when.ensures))
           refl w.in_ok-push.ensures.items)
       | in-Some+in-Some-single_symbol+else-is_member w ↦
           let named = w.in-Some-single_symbol.ensures ∙ ap (λ (e : Expr). single_symbol (form_of e)) w.deref.ensures in
           rw w.defaults-is (list_none (member_line symbols k) ls i c.line-item.result (map choice_default_line now)
           c.loop-line.invariant c.loop-line-test.true c.line-item.is
-          (member_other symbols k s (stated_default_view w.in-Some.given) w.in-Some-single_symbol.member w.in-Some.ensures named w.if-is_member.ensures))
+          (member_other symbols k s (stated_default_view w.in-Some.stated) w.in-Some-single_symbol.member w.in-Some.ensures named w.if-is_member.ensures))
       | in-Some+in_default-single_symbol w ↦
           let named = w.in_default-single_symbol.ensures ∙ ap (λ (e : Expr). single_symbol (form_of e)) w.deref.ensures in
           rw w.defaults-is (list_none (member_line symbols k) ls i c.line-item.result (map choice_default_line now)
           c.loop-line.invariant c.loop-line-test.true c.line-item.is
-          (member_unnamed symbols k s (stated_default_view w.in-Some.given) w.in-Some.ensures named))
+          (member_unnamed symbols k s (stated_default_view w.in-Some.stated) w.in-Some.ensures named))
       | in_default w ↦ rw w.defaults-is (list_none (member_line symbols k) ls i c.line-item.result (map choice_default_line now)
           c.loop-line.invariant c.loop-line-test.true c.line-item.is (member_missing symbols k s w.in_default.ensures))
     ]

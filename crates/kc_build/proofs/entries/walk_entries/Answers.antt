@@ -34,12 +34,12 @@ entries-preserved c =
     let e = c.entry_end-end.ensures in
     let whole : IsWhole (statements_of lines) symbols = record { symbols_are = c.requires.symbols; below = c.requires.below; ends = c.requires.ends } in
     let is = head-is lines symbols i end head c.entries-test.true c.index-lines-place.is e.count e.within c.entries.invariant.begins in
-    let place = c.summary_of-known.ensures (statements_of lines) i _ whole is c.entries.invariant.walk in
+    let place = c.summary_of-summary.ensures (statements_of lines) i _ whole is c.entries.invariant.walk in
     record {
       within = e.within;
       begins = begins-next lines symbols i end head c.entries-test.true c.index-lines-place.is e.count e.within c.entries.invariant.begins;
       walk = walk-next lines symbols i end head c.entries-test.true c.index-lines-place.is e.count e.within c.entries.invariant.begins whole c.entries.walk
           c.enter.new.self c.in_ok-enter.ensures c.entries.invariant.walk;
       diagnosed = diagnosed-next lines symbols i end head c.entries-test.true c.index-lines-place.is e.count e.within c.entries.invariant.begins whole c.args.names.now
-          c.summary_of-known.result c.entries.diagnostics c.diagnose_entry.new.self place c.entries.invariant.diagnosed c.in_ok-diagnose_entry.ensures;
+          c.summary_of-summary.result c.entries.diagnostics c.diagnose_entry.new.self place c.entries.invariant.diagnosed c.in_ok-diagnose_entry.ensures;
     }

@@ -14,7 +14,7 @@ renumber-requires c =
       names_of (statements log.lines),
       renumbered log c.args.expansion c.args.mentioned c.args.unknown x c.modules_symbol.new.names c.in_ok-symbol.symbol c.in_ok-modules.modules c.in_ok-numbers.numbers.items
           (c.in_ok-symbol.ensures.names named x.modules_is) (c.in_ok-symbol.ensures.number named x.modules_is) c.in_ok-modules.ensures.rank
-          (λ placed h. c.in_ok-numbers.ensures.places placed (subst (λ l. AreNumbers c.modules_symbol.new.names l placed) (sym c.in_ok-modules.ensures.order) h)),
+          (λ placed h. c.in_ok-numbers.ensures.numbers placed (subst (λ l. AreNumbers c.modules_symbol.new.names l placed) (sym c.in_ok-modules.ensures.order) h)),
     )
 
 pub returns : goal.returns
@@ -23,11 +23,11 @@ returns c = λ log x.
     let few : length c.modules_symbol.new.names ≤ c.args.unknown.0 = omega (arith, c.in_ok-numbers.ensures.few, c.requires.unknown) in
     listing-is log c.args.expansion c.args.mentioned c.args.unknown x c.modules_symbol.new.names c.in_ok-symbol.symbol c.in_ok-modules.modules c.deref.result.now
     (c.in_ok-symbol.ensures.names named x.modules_is) (c.in_ok-symbol.ensures.number named x.modules_is) c.in_ok-modules.ensures.rank
-    (λ placed h. c.deref.ensures.value ∙ c.in_ok-numbers.ensures.places placed (subst (λ l. AreNumbers c.modules_symbol.new.names l placed) (sym c.in_ok-modules.ensures.order) h))
+    (λ placed h. c.deref.ensures.value ∙ c.in_ok-numbers.ensures.numbers placed (subst (λ l. AreNumbers c.modules_symbol.new.names l placed) (sym c.in_ok-modules.ensures.order) h))
     c.renumber.new.self c.count-count.result c.rename_lines.new.lines
     (c.renumber.ensures (names_of (statements log.lines))
     (renumbered log c.args.expansion c.args.mentioned c.args.unknown x c.modules_symbol.new.names c.in_ok-symbol.symbol c.in_ok-modules.modules
     c.in_ok-numbers.numbers.items
     (c.in_ok-symbol.ensures.names named x.modules_is) (c.in_ok-symbol.ensures.number named x.modules_is) c.in_ok-modules.ensures.rank
-    (λ placed h. c.in_ok-numbers.ensures.places placed (subst (λ l. AreNumbers c.modules_symbol.new.names l placed) (sym c.in_ok-modules.ensures.order) h))))
+    (λ placed h. c.in_ok-numbers.ensures.numbers placed (subst (λ l. AreNumbers c.modules_symbol.new.names l placed) (sym c.in_ok-modules.ensures.order) h))))
     c.count-count.ensures few c.in_ok-rename_lines.ensures

@@ -4,4 +4,4 @@ use Rattle.kc_build.proofs.NumberingLemmas.{IsPlaced}
 use Rattle.kc_build.proofs.numbering.number_names.Given as goal
 
 abbrev pub invariant-loop-i : goal.invariant-loop-i
-invariant-loop-i l = (placed : List (List ℕ)) → AreNumbers l.names l.fn.order placed → IsPlaced l.names placed l.i l.order l.places.items
+invariant-loop-i l = (placed : List (List ℕ)) → AreNumbers l.names l.fn.order placed → IsPlaced l.names placed l.i l.order l.numbers.items

@@ -8,7 +8,7 @@ use Rattle.kc_tree.specs.declared.rows.Symbol.{Symbol}
 use Rattle.kc_build.specs.SymbolRows.{row_view}
 use Rattle.kc_build.specs.Passes.{change}
 use Rattle.kc_build.specs.SymbolWalk.{first_kind, with_member_type}
-use Rattle.kc_build.proofs.SymbolRowLemmas.{change_next, change_same, changed_all, length-changed, same_item, settled_member, settled_other}
+use Rattle.kc_build.proofs.SymbolRowLemmas.{change_next, change_same, changed_all, length-changed, same_item, member_gets_type, other_keeps_type}
 use Rattle.kc_build.proofs.TableLemmas.{set_changed}
 use Rattle.kc_build.proofs.symbols.give_member_types.Goals as goal
 use Rattle.kc_build.proofs.symbols.give_member_types.Goals.{then-is_some, else-is_some}
@@ -36,10 +36,10 @@ loop-i-preserved c =
           let type = w.first_kind.ensures ∙ ap (λ (y : Symbol). first_kind y.kind (Some kind.Bool)) read in
           let member = w.if-is_some.ensures ∙ ap (λ (y : Symbol). is_some y.choice) tested in
           ap (λ (v : Vec Symbol Global). map row_view v.items) w.symbols-is
-          ∙ set_changed row_view with_member_type now i x (record x { kind = k }) within w.index_mut.ensures.value (settled_member x k member type) ∙ next
+          ∙ set_changed row_view with_member_type now i x (record x { kind = k }) within w.index_mut.ensures.value (member_gets_type x k member type) ∙ next
       | else-is_some w ↦
           let x = c.index.result.now in
-          ap (λ (v : Vec Symbol Global). map row_view v.items) w.symbols-is ∙ change_same with_member_type row_view now i x within c.index.ensures (settled_other x w.if-is_some.ensures) ∙ next
+          ap (λ (v : Vec Symbol Global). map row_view v.items) w.symbols-is ∙ change_same with_member_type row_view now i x within c.index.ensures (other_keeps_type x w.if-is_some.ensures) ∙ next
     ]
 
 pub returns : goal.returns

@@ -10,7 +10,7 @@ use Rattle.kc_build.proofs.symbols.symbols.Given as goal
 abbrev pub invariant-entries : goal.invariant-entries
 invariant-entries l = record {
   rows : map row_view l.symbols.items ≡ map (row_before (statements_of l.lines) l.place) (numbers l.count);
-  firsts : HaveFirstIfMore l.symbols.items;
+  first : HaveFirstIfMore l.symbols.items;
   scope : IsScopeAt (statements_of l.lines) l.place l.scope;
   begins : Begins (statements_of l.lines) l.place;
   within : l.place ≤ length l.lines;

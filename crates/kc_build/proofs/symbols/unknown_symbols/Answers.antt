@@ -9,13 +9,13 @@ use Rattle.kc_build.proofs.symbols.unknown_symbols.Goals as goal
 pub loop-init : goal.loop-init
 loop-init c = record {
   rows = ap (map row_view) c.in_ok-symbols.ensures.items;
-  firsts = rw c.in_ok-symbols.ensures.items (All-nil HasFirstIfMore);
+  first = rw c.in_ok-symbols.ensures.items (All-nil HasFirstIfMore);
 }
 
 pub loop-preserved : goal.loop-preserved
 loop-preserved c = record {
   rows = view_next row_view (λ (s : ℕ). unknown) c.loop.counter c.loop.symbols.items c.push.new.self.items _ c.loop.invariant.rows refl c.in_ok-push.ensures.items;
-  firsts = rw c.in_ok-push.ensures.items (All-push HasFirstIfMore c.loop.symbols.items _ c.loop.invariant.firsts (λ e. c.new.ensures.items));
+  first = rw c.in_ok-push.ensures.items (All-push HasFirstIfMore c.loop.symbols.items _ c.loop.invariant.first (λ e. c.new.ensures.items));
 }
 
 pub returns-clause-rows : goal.returns-clause-rows
@@ -23,5 +23,5 @@ returns-clause-rows c =
     let n : c.loop.counter ≡ c.args.count = omega arith in
     c.loop.invariant.rows ∙ ap (λ k. map (λ (s : ℕ). unknown) (numbers k)) n
 
-pub returns-clause-firsts : goal.returns-clause-firsts
-returns-clause-firsts c = c.loop.invariant.firsts
+pub returns-clause-first : goal.returns-clause-first
+returns-clause-first c = c.loop.invariant.first

@@ -7,5 +7,5 @@ use Rattle.kc_build.proofs.symbols.unknown_symbols.Given as goal
 abbrev pub invariant-loop : goal.invariant-loop
 invariant-loop l = record {
   rows : map row_view l.symbols.items ≡ map (λ _. unknown) (numbers l.counter);
-  firsts : HaveFirstIfMore l.symbols.items;
+  first : HaveFirstIfMore l.symbols.items;
 }

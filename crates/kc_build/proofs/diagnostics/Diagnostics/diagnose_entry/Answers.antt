@@ -11,9 +11,9 @@ use Rattle.kc_build.proofs.diagnostics.Diagnostics.diagnose_entry.Goals as goal
 use Rattle.kc_build.proofs.diagnostics.Diagnostics.diagnose_entry.Goals.{then-prompted, else-prompted}
 
 -- a prompt is there in the view as it is in the line
-seen : {A B : Type 0} (v : A → B) (o : Option A) (a : Option B) (b : Bool) → option_map v o ≡ a → b ≡ is_some o → b ≡ is_some a
-seen v None a b e h = h ∙ ap is_some e
-seen v (Some x) a b e h = h ∙ ap is_some e
+is_some_alike : {A B : Type 0} (v : A → B) (o : Option A) (a : Option B) (b : Bool) → option_map v o ≡ a → b ≡ is_some o → b ≡ is_some a
+is_some_alike v None a b e h = h ∙ ap is_some e
+is_some_alike v (Some x) a b e h = h ∙ ap is_some e
 
 or_yes : (p q a : Bool) → q ≡ p → p ≡ true → q ≡ (p || a)
 or_yes true q a e h = e
@@ -36,7 +36,7 @@ module _ (names : List (List ℕ)) (symbols : List Symbol) (summary : EntrySumma
 
 pub loop-line-init : goal.loop-line-init
 loop-line-init c =
-    let asked = seen _ c.prompt_of.result _ c.is_some-prompted.result c.prompt_of.ensures c.is_some-prompted.ensures in
+    let asked = is_some_alike _ c.prompt_of.result _ c.is_some-prompted.result c.prompt_of.ensures c.is_some-prompted.ensures in
     ap (λ (b : Bool). lines_diagnosed c.args.names.now c.args.symbols.now c.args.summary b (map line_view c.args.attributes.now) (diagnosis_view c.diagnose_line.new.self)) asked
     ∙ ap (lines_diagnosed c.args.names.now c.args.symbols.now c.args.summary (is_some (prompt_of (line_view c.args.head.now).statement))
     (map line_view c.args.attributes.now)) c.in_ok-diagnose_line.ensures
@@ -47,7 +47,7 @@ loop-line-preserved c =
       | then-prompted w ↦ or_yes c.loop-line.prompted c.if-prompted.prompted _ w.prompted-is w.if-prompted.true
       | else-prompted w ↦
           or_no c.loop-line.prompted c.if-prompted.prompted _
-          (w.prompted-is ∙ seen _ w.prompt_of-else-prompted.result _ w.is_some-prompted-else-prompted.result w.prompt_of-else-prompted.ensures
+          (w.prompted-is ∙ is_some_alike _ w.prompt_of-else-prompted.result _ w.is_some-prompted-else-prompted.result w.prompt_of-else-prompted.ensures
           w.is_some-prompted-else-prompted.ensures) w.if-prompted.false
     ] in
     next c.args.names.now c.args.symbols.now c.args.summary c.args.attributes.now c.loop-line.line-index c.line-item.result c.loop-line.prompted

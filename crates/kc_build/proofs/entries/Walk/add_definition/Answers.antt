@@ -2,7 +2,7 @@ use Rattle.std.proofs.Common.{◌≡◌, ◌<◌, length, refl, sym, ap, subst, 
 use Rattle.kc_tree.specs.Contexts.{condition_in}
 use Rattle.kc_build.specs.Passes.{statements_of}
 use Rattle.kc_build.specs.Growth.{IsGrown}
-use Rattle.kc_build.specs.declared.blocks.Block.{Block}
+use Rattle.kc_build.specs.declared.blocks.BlockScope.{BlockScope}
 use Rattle.kc_build.proofs.GrownLemmas.{held_by, held_carries, keeping_carries}
 use Rattle.kc_build.proofs.DefineLemmas.{adds_definition, entry_carries, keeping_definition, prompt_visible, outer_grown, outer_prompt, outer_stands}
 use Rattle.kc_build.proofs.PlaceLemmas.{length-statements_of}
@@ -12,7 +12,7 @@ pub entry_context-requires-clause-there : goal.entry_context-requires-clause-the
 entry_context-requires-clause-there c =
     let w = c.args.self.now in
     let e = c.innermost-outer.ensures in
-    subst (λ (b : Block). b.within.0 < length w.tables.contexts) (sym e) (w.within 0 w.blocks.innermost refl)
+    subst (λ (b : BlockScope). b.within.0 < length w.tables.contexts) (sym e) (w.within 0 w.blocks.innermost refl)
 
 pub invariant_of-self : goal.invariant_of-self
 invariant_of-self c =
@@ -54,7 +54,7 @@ invariant_of-self-4 c =
     let g = entry_carries w c.entry_context.new.contexts _ (outer_grown w c.innermost-outer.result c.entry_context.new.contexts _ c.innermost-outer.ensures c.entry_context.ensures.kept) in
     let s = c.in_ok-within.ensures.made in
     let p = prompt_visible c.in_ok-prompt.prompt c.innermost-outer.result.visible.0 _ c.in_ok-prompt.ensures in
-    let v = ap (λ (b : Block). b.visible.0) c.innermost-outer.ensures in
+    let v = ap (λ (b : BlockScope). b.visible.0) c.innermost-outer.ensures in
     keeping_definition w c.entry_context.new.contexts g _ s.there (λ q e. p q e ∙ v) (is_ok c.push.result) c.push.new.self.items c.push.ensures.items
 
 pub returns : goal.returns

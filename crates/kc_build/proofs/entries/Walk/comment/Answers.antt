@@ -6,11 +6,12 @@ use Rattle.kc_read.specs.StatementViews.{statement_view}
 use Rattle.kc_tree.specs.Contexts.{condition_in}
 use Rattle.kc_tree.specs.declared.rows.ShownEntry.TheVariants as entry
 use Rattle.kc_build.specs.Facts.{depends_form}
-use Rattle.kc_build.specs.Growth.{IsGrown, Stands, and_all}
+use Rattle.kc_build.specs.Growth.{IsGrown, Stands}
 use Rattle.kc_build.specs.Passes.{statements_of}
 use Rattle.kc_build.proofs.HeldLemmas.{carries_entry, keeping_both}
 use Rattle.kc_build.proofs.TitleLemmas.{comment_enters}
 use Rattle.kc_build.proofs.entries.Walk.comment.Goals as goal
+use Rattle.kc_tree.specs.Layouts.{with_parts}
 
 pub entry_context-requires-clause-there : goal.entry_context-requires-clause-there
 entry_context-requires-clause-there c =
@@ -31,7 +32,7 @@ returns c =
     let grown : IsGrown old.tables.contexts made.tables.contexts (condition_in old.tables.contexts old.blocks.innermost.within.0).mode (length (statements_of c.args.own.now)) =
     rw (t.contexts, n, ← c.innermost-outer.ensures) c.in_ok-within.ensures.kept in
     let stands : Stands made.tables.contexts c.in_ok-within.within.0
-    (and_all (condition_in old.tables.contexts old.blocks.innermost.within.0) (filter_map depends_form (statements_of c.args.own.now))) =
+    (with_parts (condition_in old.tables.contexts old.blocks.innermost.within.0) (filter_map depends_form (statements_of c.args.own.now))) =
     rw (t.contexts, ← c.innermost-outer.ensures) c.in_ok-within.ensures.made in
     let entries : c.push.new.self.items ≡ old.tables.entries.items ++ entry.Comment c.in_ok-title.title ∷ [] = c.in_ok-push.ensures.items
     ∙ ap (λ v. v.items ++ entry.Comment c.in_ok-title.title ∷ []) t.entries in

@@ -10,13 +10,14 @@ use Rattle.kc_read.specs.Statements.{InputPrompt}
 use Rattle.kc_tree.specs.Contexts.{condition_in, in_choice}
 use Rattle.kc_build.specs.EntryLines.{prompt_line}
 use Rattle.kc_build.specs.Facts.{prompt_of, depends_form}
-use Rattle.kc_build.specs.Growth.{IsGrown, Stands, and_all}
+use Rattle.kc_build.specs.Growth.{IsGrown, Stands}
 use Rattle.kc_build.specs.Passes.{statements_of}
-use Rattle.kc_build.specs.declared.blocks.Block.{Block}
+use Rattle.kc_build.specs.declared.blocks.BlockScope.{BlockScope}
 use Rattle.kc_build.proofs.ChoiceOpenLemmas.{choice_enters, extends_block, extends_push, kept_block, kept_row}
 use Rattle.kc_build.proofs.GrownLemmas.{further, further_extends, held_extends, keeping, keeping_carries, plain_carries, plain_extends, titles_carry}
 use Rattle.kc_build.proofs.HeldLemmas.{carries_entry, held_fields, held_opens, held_walk, on_ok_both}
 use Rattle.kc_build.proofs.entries.Walk.open_choice.Goals as goal
+use Rattle.kc_tree.specs.Layouts.{with_parts}
 
 pub entry_context-requires-clause-there : goal.entry_context-requires-clause-there
 entry_context-requires-clause-there c =
@@ -106,7 +107,7 @@ invariant_of-self-4 c =
     let g = extends_push middle new (in_choice (condition_in middle c.innermost-outer.result.within.0) c.len.result) c.in_ok-block.ensures.added in
     let v = further w.tables.contexts middle f w.blocks.innermost.visible.0 (w.visible 0 w.blocks.innermost refl) in
     let p = plain_carries w.tables.contexts middle f w.blocks.innermost.visible.0 (w.visible 0 w.blocks.innermost refl) (w.plain 0 w.blocks.innermost refl) in
-    let visible : c.in_ok-block.block.visible ≡ w.blocks.innermost.visible = c.in_ok-block.ensures.visible ∙ ap (λ (b : Block). b.visible) c.innermost-outer.ensures in
+    let visible : c.in_ok-block.block.visible ≡ w.blocks.innermost.visible = c.in_ok-block.ensures.visible ∙ ap (λ (b : BlockScope). b.visible) c.innermost-outer.ensures in
     let n : length new ≡ length middle + 1 = ap length c.in_ok-block.ensures.added
     ∙ length_push middle (in_choice (condition_in middle c.innermost-outer.result.within.0) c.len.result) in
     let within = c.in_ok-block.ensures.within in
@@ -125,9 +126,9 @@ returns c =
     let n : length (statements_of c.args.own.now) ≡ length c.args.own.now = length-map c.args.own.now (λ l. statement_view l.statement) in
     let grown : IsGrown w.tables.contexts middle (condition_in w.tables.contexts w.blocks.innermost.within.0).mode (length (statements_of c.args.own.now)) =
     rw (n, ← c.innermost-outer.ensures) c.in_ok-within.ensures.kept in
-    let stands : Stands middle c.in_ok-within.within.0 (and_all (condition_in w.tables.contexts w.blocks.innermost.within.0) (filter_map depends_form (statements_of c.args.own.now))) =
+    let stands : Stands middle c.in_ok-within.within.0 (with_parts (condition_in w.tables.contexts w.blocks.innermost.within.0) (filter_map depends_form (statements_of c.args.own.now))) =
     rw (← c.innermost-outer.ensures) c.in_ok-within.ensures.made in
-    let visible : c.in_ok-block.block.visible ≡ w.blocks.innermost.visible = c.in_ok-block.ensures.visible ∙ ap (λ (b : Block). b.visible) c.innermost-outer.ensures in
+    let visible : c.in_ok-block.block.visible ≡ w.blocks.innermost.visible = c.in_ok-block.ensures.visible ∙ ap (λ (b : BlockScope). b.visible) c.innermost-outer.ensures in
     let added : c.choice_block.new.contexts ≡ middle ++ in_choice (condition_in middle w.blocks.innermost.within.0) c.len.result ∷ [] =
     rw (← c.innermost-outer.ensures) c.in_ok-block.ensures.added in
     let asked : option_map prompt_line c.in_ok-prompt.prompt ≡

@@ -6,13 +6,14 @@ use Rattle.kc_read.specs.StatementViews.{statement_view}
 use Rattle.kc_tree.specs.Contexts.{IsPlain, condition_in}
 use Rattle.kc_tree.specs.declared.rows.ShownEntry.TheVariants as entry
 use Rattle.kc_build.specs.Facts.{depends_form, visible_form}
-use Rattle.kc_build.specs.Growth.{IsGrown, Stands, and_all}
+use Rattle.kc_build.specs.Growth.{IsGrown, Stands}
 use Rattle.kc_build.specs.Passes.{statements_of}
 use Rattle.kc_build.specs.declared.blocks.Blocks.{Blocks}
 use Rattle.kc_build.proofs.GrownLemmas.{carries_both, further, held_by, keeping_carries}
 use Rattle.kc_build.proofs.HeldLemmas.{carries_entry, carries_visible, held_opens, held_walk, keeping_both, on_ok_both, plain_visible}
 use Rattle.kc_build.proofs.TitleLemmas.{menu_enters}
 use Rattle.kc_build.proofs.entries.Walk.open_menu.Goals as goal
+use Rattle.kc_tree.specs.Layouts.{with_parts}
 
 pub entry_context-requires-clause-there : goal.entry_context-requires-clause-there
 entry_context-requires-clause-there c =
@@ -80,12 +81,12 @@ returns c =
     let grown : IsGrown old.tables.contexts c.entry_context.new.contexts (condition_in old.tables.contexts old.blocks.innermost.within.0).mode (length (statements_of c.args.own.now)) =
     rw (n, ← c.innermost-outer.ensures) c.in_ok-within.ensures.kept in
     let stands : Stands c.entry_context.new.contexts c.in_ok-within.within.0
-    (and_all (condition_in old.tables.contexts old.blocks.innermost.within.0) (filter_map depends_form (statements_of c.args.own.now))) =
+    (with_parts (condition_in old.tables.contexts old.blocks.innermost.within.0) (filter_map depends_form (statements_of c.args.own.now))) =
     rw (← c.innermost-outer.ensures) c.in_ok-within.ensures.made in
     let more : IsGrown c.entry_context.new.contexts made.tables.contexts (condition_in c.entry_context.new.contexts old.blocks.innermost.visible.0).mode
     (length (statements_of c.args.own.now)) = rw (t.contexts, n, ← c.innermost-outer.ensures) c.in_ok-visible.ensures.kept in
     let sees : Stands made.tables.contexts c.in_ok-visible.visible.0
-    (and_all (condition_in c.entry_context.new.contexts old.blocks.innermost.visible.0) (filter_map visible_form (statements_of c.args.own.now))) =
+    (with_parts (condition_in c.entry_context.new.contexts old.blocks.innermost.visible.0) (filter_map visible_form (statements_of c.args.own.now))) =
     rw (t.contexts, ← c.innermost-outer.ensures) c.in_ok-visible.ensures.made in
     let entries : c.push.new.self.items ≡ old.tables.entries.items ++ entry.Menu c.in_ok-title.title ∷ [] = c.in_ok-push.ensures.items
     ∙ ap (λ v. v.items ++ entry.Menu c.in_ok-title.title ∷ []) t.entries in

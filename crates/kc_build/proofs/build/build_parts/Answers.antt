@@ -3,7 +3,7 @@ use Rattle.kc_tree.specs.declared.rows.Symbol.{Symbol}
 use Rattle.kc_build.specs.Passes.{statements_of}
 use Rattle.kc_build.specs.WalkResult.{IsWalkResult}
 use Rattle.kc_build.proofs.PartsLemmas.{refused-is, whole}
-use Rattle.kc_build.proofs.tree_parts.build_parts.Goals as goal
+use Rattle.kc_build.proofs.build.build_parts.Goals as goal
 
 pub returns-in-Err : goal.returns-in-Err
 returns-in-Err c =
@@ -16,10 +16,10 @@ returns-in-Ok c =
     let count = c.in_ok-symbols.ensures.count in
     let small = c.in_ok-tables.ensures.small in
     let few : length symbols.items + length s.tables.contexts + length s.tables.choices.items < 2 ^ 32 = omega (arith, small.contexts, small.choices) in
-    let said = subst (λ (l : List Symbol). IsWalkResult (statements_of c.args.lines.now) l s.tables s.main_menu.items) c.deref.ensures.value c.in_ok-tables.ensures.said in
+    let tables = subst (λ (l : List Symbol). IsWalkResult (statements_of c.args.lines.now) l s.tables s.main_menu.items) c.deref.ensures.value c.in_ok-tables.ensures.tables in
     whole c.args.names.now c.args.count c.args.modules c.args.lines.now s.diagnostics c.in_ok-tables.ensures.diagnosed (record {
       layout = record { symbols = symbols; tables = s.tables; few = few };
       warnings = c.in-Ok.warnings;
       main_menu = s.main_menu;
       modules = c.defined.result;
-    }) c.requires.below c.in_ok-symbols.ensures.count c.in_ok-symbols.ensures.rows said c.in-Ok.ensures.0 c.in-Ok.ensures.1 c.in-Ok.ensures.2 c.defined.ensures
+    }) c.requires.below c.in_ok-symbols.ensures.count c.in_ok-symbols.ensures.rows tables c.in-Ok.ensures.0 c.in-Ok.ensures.1 c.in-Ok.ensures.2 c.defined.ensures
