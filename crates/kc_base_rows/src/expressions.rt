@@ -114,11 +114,11 @@ fn shape(
 const SHAPES: &[(&[u8], &str)] = &[
     (
         b"A && !B = A || m) x",
-        "Any([All([One(Sym(SymId(1))), Not(Rel(Eq, Sides { left: Sym(SymId(2)), right: Sym(SymId(1)) }))]), One(TristateConstant(M))]) 8",
+        "Any([All([One(Sym(SymId(1))), Not(Rel(Eq, Operands { left: Sym(SymId(2)), right: Sym(SymId(1)) }))]), One(TristateConstant(M))]) 8",
     ),
     (
         b"!A=B",
-        "Not(Rel(Eq, Sides { left: Sym(SymId(1)), right: Sym(SymId(2)) })) 4",
+        "Not(Rel(Eq, Operands { left: Sym(SymId(1)), right: Sym(SymId(2)) })) 4",
     ),
     (b"(A)", "One(Sym(SymId(1))) 3"),
     (
@@ -136,7 +136,7 @@ const SHAPES: &[(&[u8], &str)] = &[
     (b"!!A", "Not(Not(One(Sym(SymId(1))))) 3"),
     (
         b"A = B = C",
-        "Rel(Eq, Sides { left: Sym(SymId(1)), right: Sym(SymId(2)) }) 3",
+        "Rel(Eq, Operands { left: Sym(SymId(1)), right: Sym(SymId(2)) }) 3",
     ),
     (b"A if B", "One(Sym(SymId(1))) 1"),
     (b"A B", "One(Sym(SymId(1))) 1"),
@@ -218,11 +218,11 @@ const CONDITIONS: &[(&[u8], &str)] = &[
     ),
     (
         b"m = A",
-        "Rel(Eq, Sides { left: TristateConstant(M), right: Sym(SymId(1)) }) 3",
+        "Rel(Eq, Operands { left: TristateConstant(M), right: Sym(SymId(1)) }) 3",
     ),
     (
         b"A != m",
-        "Rel(Ne, Sides { left: Sym(SymId(1)), right: TristateConstant(M) }) 3",
+        "Rel(Ne, Operands { left: Sym(SymId(1)), right: TristateConstant(M) }) 3",
     ),
     (b"y", "One(TristateConstant(Y)) 1"),
 ];

@@ -1,6 +1,5 @@
 //! Orders and loops, worked by hand.
 
-ghost use Rattle.std.specs.Prelude.{◌<◌, ◌^◌};
 
 use kc_order::{
     Graph, NoOrder, Order, accepted_have_one_solution, cycles_are_unordered, filling_solves,

@@ -10,11 +10,11 @@ use Rattle.kc_read.specs.declared.statement.Line.{Line}
 use Rattle.kc_read.specs.declared.refusal.Code.{Code}
 use Rattle.kc_read.specs.declared.refusal.Code.TheVariants as code
 use Rattle.kc_read.specs.declared.refusal.Refusal.{Refusal}
-use Rattle.kc_read.specs.Expansion.{Expands, Log, OneExpansion, Refused, defined, refused, statements}
+use Rattle.kc_read.specs.Expansion.{Expands, Log, OneExpansion, Refused, defined, refused}
 use Rattle.kc_read.specs.Files.{Files}
 use Rattle.kc_read.specs.Numbering.{modules_id, names_of, numbered_lines}
 use Rattle.kc_read.specs.StatementViews.{line_view}
-use Rattle.kc_read.specs.Statements.{Numbered, Located, Named}
+use Rattle.kc_read.specs.Statements.{Numbered, Located, Named, statements}
 use Rattle.kc_read.specs.RefusalView.{IsMemory, refusal_view}
 use Rattle.kc_build.specs.declared.numbering.Listing.{Listing}
 use Rattle.kc_build.specs.PartsView.{parts_view}

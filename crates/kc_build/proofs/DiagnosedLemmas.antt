@@ -15,7 +15,7 @@ use Rattle.kc_read.specs.declared.refusal.Code.{Code}
 use Rattle.kc_read.specs.declared.refusal.Code.TheVariants as code
 use Rattle.kc_read.specs.Blocks.{attributes, is_attribute, numbers}
 use Rattle.kc_read.specs.Expansion.{Refused}
-use Rattle.kc_read.specs.Statements.{Numbered, Located, ConfigLine, TypeLine, PromptLine}
+use Rattle.kc_read.specs.Statements.{Numbered, Located, ConfigLine, TypeLine, PromptLine, statements}
 use Rattle.kc_read.specs.RefusalView.{refusal_view}
 use Rattle.kc_read.specs.StatementViews.{line_view, statement_view}
 use Rattle.kc_read.specs.declared.statement.Line.{Line}
@@ -35,7 +35,7 @@ use Rattle.kc_build.specs.WholeListRefusals.{entry_refusal}
 use Rattle.kc_build.specs.Passes.{statements_of}
 use Rattle.kc_build.specs.WalkResult.{IsDiagnosed}
 use Rattle.kc_build.specs.Trees.{unless_refused}
-use Rattle.kc_build.specs.Warnings.{bad_defaults, bad_members, is_bad_default, is_bad_member, whole_list_refusals, line_of, menu_entry_at, menu_entry_before, numbered_statements, prompt_before, refused_at, line_warnings, line_warnings_by, warned_at, warnings}
+use Rattle.kc_build.specs.Warnings.{bad_defaults, bad_members, is_bad_default, is_bad_member, whole_list_refusals, line_of, menu_entry_at, menu_entry_before, prompt_before, refused_at, line_warnings, line_warnings_by, warned_at, warnings}
 use Rattle.kc_build.proofs.KindLemmas.{choices_known, kinds_known}
 use Rattle.kc_build.proofs.ListLemmas.{there_in}
 use Rattle.kc_build.proofs.MemberLemmas.{below_or_past, member_is}
@@ -130,26 +130,26 @@ module _ (kinds : SymId → Kind) (choices : SymId → Option ℕ) (members : �
 
 module _ (names : List (List ℕ)) (ls : List (Located Numbered)) where
   abbrev pub bad_member_at : ℕ → Bool
-  bad_member_at i = list_any (is_bad_member (kind_of (numbered_statements ls)) (choice_of (numbered_statements ls))
-      (is_first_definition_at (numbered_statements ls) i) (enclosing_choice (numbered_statements ls) i)) (listed (slice_get (numbered_statements ls) i))
+  bad_member_at i = list_any (is_bad_member (kind_of (statements ls)) (choice_of (statements ls))
+      (is_first_definition_at (statements ls) i) (enclosing_choice (statements ls) i)) (listed (slice_get (statements ls) i))
 
   abbrev pub bad_default_at : ℕ → Bool
-  bad_default_at i = list_any (is_bad_default (kind_of (numbered_statements ls)) (menu_entry_at (numbered_statements ls) i)) (listed (slice_get (numbered_statements ls) i))
+  bad_default_at i = list_any (is_bad_default (kind_of (statements ls)) (menu_entry_at (statements ls) i)) (listed (slice_get (statements ls) i))
 
   -- the same as `IsDiagnosed`, by the places below one
   record Found (i : ℕ) (d : Diagnosis) : Type 0 where
     member : d.member ≡ first_of (flat_map (refused_at names ls code.ChoiceMember) (filter bad_member_at (numbers i)))
     default : d.default ≡ first_of (flat_map (refused_at names ls code.BadDefault) (filter bad_default_at (numbers i)))
-    warnings : bad_members (numbered_statements ls) ≡ [] → d.warnings ≡ flat_map (λ j. warned_at names ls j (slice_get ls j)) (numbers i)
+    warnings : bad_members (statements ls) ≡ [] → d.warnings ≡ flat_map (λ j. warned_at names ls j (slice_get ls j)) (numbers i)
 
-  statement_count : length (numbered_statements ls) ≡ length ls
+  statement_count : length (statements ls) ≡ length ls
   statement_count = length-map ls (λ (l : Located Numbered). l.statement)
 
-  members_below : (i : ℕ) → i ≤ length ls → filter (λ j. nat_lt j i) (bad_members (numbered_statements ls)) ≡ filter bad_member_at (numbers i)
-  members_below i h = kept-below bad_member_at (length (numbered_statements ls)) i (omega (arith, statement_count))
+  members_below : (i : ℕ) → i ≤ length ls → filter (λ j. nat_lt j i) (bad_members (statements ls)) ≡ filter bad_member_at (numbers i)
+  members_below i h = kept-below bad_member_at (length (statements ls)) i (omega (arith, statement_count))
 
-  defaults_below : (i : ℕ) → i ≤ length ls → filter (λ j. nat_lt j i) (bad_defaults (numbered_statements ls)) ≡ filter bad_default_at (numbers i)
-  defaults_below i h = kept-below bad_default_at (length (numbered_statements ls)) i (omega (arith, statement_count))
+  defaults_below : (i : ℕ) → i ≤ length ls → filter (λ j. nat_lt j i) (bad_defaults (statements ls)) ≡ filter bad_default_at (numbers i)
+  defaults_below i h = kept-below bad_default_at (length (statements ls)) i (omega (arith, statement_count))
 
   found : (i : ℕ) (d : Diagnostics) → i ≤ length ls → IsDiagnosed names ls i d → Found i (diagnosis_view d)
   found i d h is = record {
@@ -173,56 +173,56 @@ module _ (names : List (List ℕ)) (ls : List (Located Numbered)) where
     warnings = λ none. ap (map (λ v. v.items)) w;
   })
 
-  statement_read : (i : ℕ) (l : Located Numbered) → slice_get ls i ≡ Some l → slice_get (numbered_statements ls) i ≡ Some l.statement
+  statement_read : (i : ℕ) (l : Located Numbered) → slice_get ls i ≡ Some l → slice_get (statements ls) i ≡ Some l.statement
   statement_read i l h = slice_get-map (λ (x : Located Numbered). x.statement) ls i ∙ ap (option_map (λ (x : Located Numbered). x.statement)) h
 
-  refused_one : (c : Code) (i : ℕ) (l : Located Numbered) → slice_get ls i ≡ Some l → refused_at names ls c i ≡ entry_refusal names c (menu_entry_at (numbered_statements ls) i) l ∷ []
-  refused_one c i l h = ap (λ (o : Option (Located Numbered)). map (entry_refusal names c (menu_entry_at (numbered_statements ls) i)) (listed o)) h
+  refused_one : (c : Code) (i : ℕ) (l : Located Numbered) → slice_get ls i ≡ Some l → refused_at names ls c i ≡ entry_refusal names c (menu_entry_at (statements ls) i) l ∷ []
+  refused_one c i l h = ap (λ (o : Option (Located Numbered)). map (entry_refusal names c (menu_entry_at (statements ls) i)) (listed o)) h
 
 -- What is known of a line is what the list says of it, as far as it counts there.
 record IsKnown (ls : List (Located Numbered)) (symbols : List Symbol) (summary : EntrySummary) (prompted : Bool) (i : ℕ) (l : Located Numbered) : Type 0 where
   at : slice_get ls i ≡ Some l
-  entry : summary.entry ≡ menu_entry_at (numbered_statements ls) i
+  entry : summary.entry ≡ menu_entry_at (statements ls) i
   member : is_bad_member (kind_by symbols) (choice_by symbols) summary.first (option_map (λ (k : ChoiceId). k.0) summary.within_choice)
-      l.statement ≡ is_bad_member (kind_of (numbered_statements ls)) (choice_of (numbered_statements ls)) (is_first_definition_at (numbered_statements ls) i)
-      (enclosing_choice (numbered_statements ls) i) l.statement
-  says : bad_members (numbered_statements ls) ≡ [] → line_warnings_in symbols summary prompted l.statement ≡ line_warnings (numbered_statements ls) i l.statement
+      l.statement ≡ is_bad_member (kind_of (statements ls)) (choice_of (statements ls)) (is_first_definition_at (statements ls) i)
+      (enclosing_choice (statements ls) i) l.statement
+  says : bad_members (statements ls) ≡ [] → line_warnings_in symbols summary prompted l.statement ≡ line_warnings (statements ls) i l.statement
 
-module _ (names : List (List ℕ)) (ls : List (Located Numbered)) (symbols : List Symbol) (below : AreBelow (length symbols) (numbered_statements ls))
-    (are : AreSymbols (numbered_statements ls) symbols) where
-  kinds : kind_by symbols ≡ kind_of (numbered_statements ls)
-  kinds = kinds_known (numbered_statements ls) symbols below are
+module _ (names : List (List ℕ)) (ls : List (Located Numbered)) (symbols : List Symbol) (below : AreBelow (length symbols) (statements ls))
+    (are : AreSymbols (statements ls) symbols) where
+  kinds : kind_by symbols ≡ kind_of (statements ls)
+  kinds = kinds_known (statements ls) symbols below are
 
-  choices : choice_by symbols ≡ choice_of (numbered_statements ls)
-  choices = choices_known (numbered_statements ls) symbols below are
+  choices : choice_by symbols ≡ choice_of (statements ls)
+  choices = choices_known (statements ls) symbols below are
 
-  members : bad_members (numbered_statements ls) ≡ [] → member_by symbols ≡ is_member (numbered_statements ls)
+  members : bad_members (statements ls) ≡ [] → member_by symbols ≡ is_member (statements ls)
   members none =
-      let at : (c : ℕ) (t : SymId) → member_by symbols c t ≡ is_member (numbered_statements ls) c t =
-      λ c t. ap (λ (f : SymId → Option ℕ). list_any (λ d. d == c) (listed (f t))) choices ∙ sym (member_is (numbered_statements ls) t none c) in
+      let at : (c : ℕ) (t : SymId) → member_by symbols c t ≡ is_member (statements ls) c t =
+      λ c t. ap (λ (f : SymId → Option ℕ). list_any (λ d. d == c) (listed (f t))) choices ∙ sym (member_is (statements ls) t none c) in
       λ i c t. at c t i
 
   -- with the first walk's knowledge in place of that of the list
-  warnings_known : (o : MenuEntry) (before first : Bool) (s : Numbered) → bad_members (numbered_statements ls) ≡ [] →
-      line_warnings_by (kind_by symbols) (choice_by symbols) (member_by symbols) o before first s ≡ line_warnings_by (kind_of (numbered_statements ls))
-      (choice_of (numbered_statements ls)) (is_member (numbered_statements ls)) o before first s
+  warnings_known : (o : MenuEntry) (before first : Bool) (s : Numbered) → bad_members (statements ls) ≡ [] →
+      line_warnings_by (kind_by symbols) (choice_by symbols) (member_by symbols) o before first s ≡ line_warnings_by (kind_of (statements ls))
+      (choice_of (statements ls)) (is_member (statements ls)) o before first s
   warnings_known o before first s none =
       ap (λ (f : SymId → Kind). line_warnings_by f (choice_by symbols) (member_by symbols) o before first s) kinds
-      ∙ ap (λ (f : SymId → Option ℕ). line_warnings_by (kind_of (numbered_statements ls)) f (member_by symbols) o before first s) choices
-      ∙ ap (λ (f : ℕ → SymId → Bool). line_warnings_by (kind_of (numbered_statements ls)) (choice_of (numbered_statements ls)) f o before first s) (members none)
+      ∙ ap (λ (f : SymId → Option ℕ). line_warnings_by (kind_of (statements ls)) f (member_by symbols) o before first s) choices
+      ∙ ap (λ (f : ℕ → SymId → Bool). line_warnings_by (kind_of (statements ls)) (choice_of (statements ls)) f o before first s) (members none)
 
   known_member : (first : Bool) (within_choice : Option ℕ) (s : Numbered) →
-      is_bad_member (kind_by symbols) (choice_by symbols) first within_choice s ≡ is_bad_member (kind_of (numbered_statements ls))
-      (choice_of (numbered_statements ls)) first within_choice s
+      is_bad_member (kind_by symbols) (choice_by symbols) first within_choice s ≡ is_bad_member (kind_of (statements ls))
+      (choice_of (statements ls)) first within_choice s
   known_member first within_choice s =
       ap (λ (f : SymId → Kind). is_bad_member f (choice_by symbols) first within_choice s) kinds
-      ∙ ap (λ (f : SymId → Option ℕ). is_bad_member (kind_of (numbered_statements ls)) f first within_choice s) choices
+      ∙ ap (λ (f : SymId → Option ℕ). is_bad_member (kind_of (statements ls)) f first within_choice s) choices
 
   -- one line more
   line_next : (summary : EntrySummary) (prompted : Bool) (i : ℕ) (l : Located Numbered) (d : Diagnosis) → IsKnown ls symbols summary prompted i l →
       Found names ls i d → Found names ls (i + 1) (line_diagnosed names symbols summary prompted l d)
   line_next summary prompted i l d k f =
-      let ss = numbered_statements ls in
+      let ss = statements ls in
       let read = statement_read names ls i l k.at in
       let member_b = is_bad_member (kind_by symbols) (choice_by symbols) summary.first (option_map (λ (c : ChoiceId). c.0) summary.within_choice) l.statement in
       let member_at : bad_member_at names ls i ≡ member_b =
@@ -266,14 +266,14 @@ get_dropped (y ∷ xs) (suc i) x ys h = get_dropped xs i x ys h
 drop_dropped : {A : Type 0} (xs : List A) (i : ℕ) (x : A) (ys : List A) → drop i xs ≡ x ∷ ys → drop (i + 1) xs ≡ ys
 drop_dropped xs i x ys h = sym (drop-drop 1 i xs) ∙ ap (drop 1) h
 
-module _ (names : List (List ℕ)) (ls : List (Located Numbered)) (symbols : List Symbol) (below : AreBelow (length symbols) (numbered_statements ls))
-    (are : AreSymbols (numbered_statements ls) symbols) (summary : EntrySummary) where
+module _ (names : List (List ℕ)) (ls : List (Located Numbered)) (symbols : List Symbol) (below : AreBelow (length symbols) (statements ls))
+    (are : AreSymbols (statements ls) symbols) (summary : EntrySummary) where
   -- an attribute: whether a definition is the first, and in which choice it stands, does not count
   attribute_known : (prompted : Bool) (i : ℕ) (l : Located Numbered) → slice_get ls i ≡ Some l → is_attribute l.statement ≡ true →
-      menu_entry_before (numbered_statements ls) i ≡ summary.entry → prompted ≡ prompt_before (numbered_statements ls) i →
+      menu_entry_before (statements ls) i ≡ summary.entry → prompted ≡ prompt_before (statements ls) i →
       IsKnown ls symbols summary prompted i l
   attribute_known prompted i l at a e p =
-      let ss = numbered_statements ls in
+      let ss = statements ls in
       let entry : summary.entry ≡ menu_entry_at ss i = sym e ∙ sym (entry_goes_on ss i l.statement (statement_read names ls i l at) a) ∙ entry_here ss i in
       record {
         at = at;
@@ -289,12 +289,12 @@ module _ (names : List (List ℕ)) (ls : List (Located Numbered)) (symbols : Lis
       }
 
   attributes_next : (own : List (Located Numbered)) (rest : List (Located Numbered)) (i : ℕ) (prompted : Bool) (d : Diagnosis) → drop i ls ≡ own ++ rest →
-      All (λ s. is_attribute s ≡ true) (map (λ l. l.statement) own) → menu_entry_before (numbered_statements ls) i ≡ summary.entry →
-      prompted ≡ prompt_before (numbered_statements ls) i → Found names ls i d →
+      All (λ s. is_attribute s ≡ true) (map (λ l. l.statement) own) → menu_entry_before (statements ls) i ≡ summary.entry →
+      prompted ≡ prompt_before (statements ls) i → Found names ls i d →
       Found names ls (i + length own) (lines_diagnosed names symbols summary prompted own d)
   attributes_next [] rest i prompted d h a e p f = let same : i + 0 ≡ i = omega arith in rw same f
   attributes_next (l ∷ own) rest i prompted d h a e p f =
-      let ss = numbered_statements ls in
+      let ss = statements ls in
       let at = get_dropped ls i l (own ++ rest) h in
       let read = statement_read names ls i l at in
       let one : is_attribute l.statement ≡ true = All-head (λ s. is_attribute s ≡ true) l.statement (map (λ l. l.statement) own) a in
@@ -313,50 +313,50 @@ module _ (names : List (List ℕ)) (ls : List (Located Numbered)) (symbols : Lis
       turned false false = refl
 
   -- what begins an entry: that a prompt stands before it does not count
-  head_known : (i : ℕ) (l : Located Numbered) → slice_get ls i ≡ Some l → IsEntrySummary (numbered_statements ls) i summary →
+  head_known : (i : ℕ) (l : Located Numbered) → slice_get ls i ≡ Some l → IsEntrySummary (statements ls) i summary →
       ((is_attribute l.statement ≡ false) ⊎ (i ≡ 0)) → IsKnown ls symbols summary false i l
   head_known i l at is begins = record {
     at = at;
     entry = is.entry;
     member =
         known_member names ls symbols below are summary.first (option_map (λ (k : ChoiceId). k.0) summary.within_choice) l.statement
-        ∙ ap (λ (b : Bool). is_bad_member (kind_of (numbered_statements ls)) (choice_of (numbered_statements ls)) b (option_map (λ (k : ChoiceId). k.0) summary.within_choice) l.statement) is.first
-        ∙ ap (λ (r : Option ℕ). is_bad_member (kind_of (numbered_statements ls)) (choice_of (numbered_statements ls))
-        (is_first_definition_at (numbered_statements ls) i) r l.statement) is.within_choice;
+        ∙ ap (λ (b : Bool). is_bad_member (kind_of (statements ls)) (choice_of (statements ls)) b (option_map (λ (k : ChoiceId). k.0) summary.within_choice) l.statement) is.first
+        ∙ ap (λ (r : Option ℕ). is_bad_member (kind_of (statements ls)) (choice_of (statements ls))
+        (is_first_definition_at (statements ls) i) r l.statement) is.within_choice;
     says = λ none.
         warnings_known names ls symbols below are summary.entry false summary.first l.statement none
-        ∙ ap (λ (b : Bool). line_warnings_by (kind_of (numbered_statements ls)) (choice_of (numbered_statements ls)) (is_member (numbered_statements ls)) summary.entry false b l.statement) is.first
-        ∙ ap (λ (o : MenuEntry). line_warnings_by (kind_of (numbered_statements ls)) (choice_of (numbered_statements ls)) (is_member (numbered_statements ls))
-        o false (is_first_definition_at (numbered_statements ls) i) l.statement) is.entry
+        ∙ ap (λ (b : Bool). line_warnings_by (kind_of (statements ls)) (choice_of (statements ls)) (is_member (statements ls)) summary.entry false b l.statement) is.first
+        ∙ ap (λ (o : MenuEntry). line_warnings_by (kind_of (statements ls)) (choice_of (statements ls)) (is_member (statements ls))
+        o false (is_first_definition_at (statements ls) i) l.statement) is.entry
         ∙ unread begins;
   }
     where
       unread : ((is_attribute l.statement ≡ false) ⊎ (i ≡ 0)) →
-          line_warnings_by (kind_of (numbered_statements ls)) (choice_of (numbered_statements ls)) (is_member (numbered_statements ls))
-          (menu_entry_at (numbered_statements ls) i) false (is_first_definition_at (numbered_statements ls) i) l.statement ≡ line_warnings
-          (numbered_statements ls) i l.statement
-      unread (inl a) = before_unread (kind_of (numbered_statements ls)) (choice_of (numbered_statements ls)) (is_member (numbered_statements ls))
-          (menu_entry_at (numbered_statements ls) i) l.statement false (prompt_before (numbered_statements ls) i)
-          (is_first_definition_at (numbered_statements ls) i) a
+          line_warnings_by (kind_of (statements ls)) (choice_of (statements ls)) (is_member (statements ls))
+          (menu_entry_at (statements ls) i) false (is_first_definition_at (statements ls) i) l.statement ≡ line_warnings
+          (statements ls) i l.statement
+      unread (inl a) = before_unread (kind_of (statements ls)) (choice_of (statements ls)) (is_member (statements ls))
+          (menu_entry_at (statements ls) i) l.statement false (prompt_before (statements ls) i)
+          (is_first_definition_at (statements ls) i) a
       unread (inr z) = rw z refl
 
   -- behind what begins an entry a prompt stands, if it is its own
-  head_asked : (i : ℕ) (s : Numbered) → slice_get (numbered_statements ls) i ≡ Some s → ((is_attribute s ≡ false) ⊎ (i ≡ 0)) → asks s ≡ prompt_before (numbered_statements ls) (i + 1)
-  head_asked i s at (inl a) = ap is_some (no_prompt s a) ∙ sym (prompt_begins (numbered_statements ls) i s at a)
+  head_asked : (i : ℕ) (s : Numbered) → slice_get (statements ls) i ≡ Some s → ((is_attribute s ≡ false) ⊎ (i ≡ 0)) → asks s ≡ prompt_before (statements ls) (i + 1)
+  head_asked i s at (inl a) = ap is_some (no_prompt s a) ∙ sym (prompt_begins (statements ls) i s at a)
   head_asked i s at (inr z) = by (is_attribute s) refl
     where
-      by : (b : Bool) → is_attribute s ≡ b → asks s ≡ prompt_before (numbered_statements ls) (i + 1)
-      by false a = ap is_some (no_prompt s a) ∙ sym (prompt_begins (numbered_statements ls) i s at a)
+      by : (b : Bool) → is_attribute s ≡ b → asks s ≡ prompt_before (statements ls) (i + 1)
+      by false a = ap is_some (no_prompt s a) ∙ sym (prompt_begins (statements ls) i s at a)
       by true a =
-          let none : prompt_before (numbered_statements ls) i ≡ false = rw z refl in
-          sym (prompt_goes_on (numbered_statements ls) i s at a ∙ ap (λ b. asks s || b) none ∙ or_false (asks s))
+          let none : prompt_before (statements ls) i ≡ false = rw z refl in
+          sym (prompt_goes_on (statements ls) i s at a ∙ ap (λ b. asks s || b) none ∙ or_false (asks s))
 
   entry_next : (i : ℕ) (head : Located Numbered) (own rest : List (Located Numbered)) (d : Diagnosis) → slice_get ls i ≡ Some head →
-      drop (i + 1) ls ≡ own ++ rest → attributes (numbered_statements ls) i ≡ map (λ l. l.statement) own → ((is_attribute head.statement ≡ false) ⊎ (i ≡ 0)) →
-      IsEntrySummary (numbered_statements ls) i summary → Found names ls i d →
+      drop (i + 1) ls ≡ own ++ rest → attributes (statements ls) i ≡ map (λ l. l.statement) own → ((is_attribute head.statement ≡ false) ⊎ (i ≡ 0)) →
+      IsEntrySummary (statements ls) i summary → Found names ls i d →
       Found names ls (i + 1 + length own) (lines_diagnosed names symbols summary false (head ∷ own) d)
   entry_next i head own rest d at tail are_own begins is f =
-      let ss = numbered_statements ls in
+      let ss = statements ls in
       let read = statement_read names ls i head at in
       let passed : All (λ s. is_attribute s ≡ true) (map (λ l. l.statement) own) =
       All-same (λ s. is_attribute s ≡ true) (map (λ l. l.statement) own) (attributes ss i) (sym are_own) (taken_pass is_attribute (drop (suc i) ss)) in
@@ -365,8 +365,8 @@ module _ (names : List (List ℕ)) (ls : List (Located Numbered)) (symbols : Lis
 
   -- one entry more
   pub entry_diagnosed : (i k : ℕ) (head : Located Numbered) (own : List (Located Numbered)) (old new : Diagnostics) → slice_get ls i ≡ Some head →
-      own ≡ take k (drop (i + 1) ls) → attributes (numbered_statements ls) i ≡ map (λ l. l.statement) own → ((is_attribute head.statement ≡ false) ⊎ (i ≡ 0)) →
-      IsEntrySummary (numbered_statements ls) i summary → IsDiagnosed names ls i old → AreLinesDiagnosed names symbols summary head own old new →
+      own ≡ take k (drop (i + 1) ls) → attributes (statements ls) i ≡ map (λ l. l.statement) own → ((is_attribute head.statement ≡ false) ⊎ (i ≡ 0)) →
+      IsEntrySummary (statements ls) i summary → IsDiagnosed names ls i old → AreLinesDiagnosed names symbols summary head own old new →
       IsDiagnosed names ls (i + 1 + length own) new
   entry_diagnosed i k head own old new at from are_own begins is old_is looked =
       let within = slice_get_within ls i head at in
@@ -388,9 +388,9 @@ pub entry_of_lines : (names : List (List ℕ)) (lines : List Line) (symbols : Li
     IsDiagnosed names (map line_view lines) (i + 1 + length (statements_of own)) new
 entry_of_lines names lines symbols summary i k head own old new below are h at from are_own begins is old_is looked =
     let ls = map line_view lines in
-    let same : statements_of lines ≡ numbered_statements ls = sym (statements-are lines) in
+    let same : statements_of lines ≡ statements ls = sym (statements-are lines) in
     let taken : map line_view own ≡ take k (drop (i + 1) ls) = ap (map line_view) from ∙ sym (take-map line_view k (drop (i + 1) lines)) ∙ ap (take k) (sym (drop-map line_view (i + 1) lines)) in
-    let attributes_are : attributes (numbered_statements ls) i ≡ numbered_statements (map line_view own) =
+    let attributes_are : attributes (statements ls) i ≡ statements (map line_view own) =
     ap (λ (ss : List Numbered). attributes ss i) (sym same) ∙ are_own ∙ sym (statements-are own) in
     let passed = entry_diagnosed names ls symbols (rw same at below) (rw same at are) summary i k (line_view head) (map line_view own) old new
     (line_read lines i head h at) taken attributes_are begins (rw same at is) old_is looked in
@@ -458,29 +458,29 @@ module _ (names : List (List ℕ)) (ls : List (Located Numbered)) (d : Diagnosti
   all_found : Found names ls (length ls) (diagnosis_view d)
   all_found = found names ls (length ls) d (omega arith) is
 
-  first_member : first_of (flat_map (refused_at names ls code.ChoiceMember) (bad_members (numbered_statements ls))) ≡ option_map refusal_view d.bad_member
+  first_member : first_of (flat_map (refused_at names ls code.ChoiceMember) (bad_members (statements ls))) ≡ option_map refusal_view d.bad_member
   first_member = ap (λ n. first_of (flat_map (refused_at names ls code.ChoiceMember) (filter (bad_member_at names ls) (numbers n)))) (statement_count names ls) ∙ sym all_found.member
 
-  first_default : first_of (flat_map (refused_at names ls code.BadDefault) (bad_defaults (numbered_statements ls))) ≡ option_map refusal_view d.bad_default
+  first_default : first_of (flat_map (refused_at names ls code.BadDefault) (bad_defaults (statements ls))) ≡ option_map refusal_view d.bad_default
   first_default = ap (λ n. first_of (flat_map (refused_at names ls code.BadDefault) (filter (bad_default_at names ls) (numbers n)))) (statement_count names ls) ∙ sym all_found.default
 
   first_refusal : first_of (whole_list_refusals names ls) ≡ option_or (option_map refusal_view d.bad_member) (option_map refusal_view d.bad_default)
   first_refusal =
-      first_append (flat_map (refused_at names ls code.ChoiceMember) (bad_members (numbered_statements ls))) (flat_map (refused_at names ls code.BadDefault) (bad_defaults (numbered_statements ls)))
-      ∙ ap (λ (o : Option Refused). option_or o (first_of (flat_map (refused_at names ls code.BadDefault) (bad_defaults (numbered_statements ls))))) first_member
+      first_append (flat_map (refused_at names ls code.ChoiceMember) (bad_members (statements ls))) (flat_map (refused_at names ls code.BadDefault) (bad_defaults (statements ls)))
+      ∙ ap (λ (o : Option Refused). option_or o (first_of (flat_map (refused_at names ls code.BadDefault) (bad_defaults (statements ls))))) first_member
       ∙ ap (option_or (option_map refusal_view d.bad_member)) first_default
 
-  refused_some : (c : Code) (i : ℕ) → i < length (numbered_statements ls) → refused_at names ls c i ≡ [] → ⊥
+  refused_some : (c : Code) (i : ℕ) → i < length (statements ls) → refused_at names ls c i ≡ [] → ⊥
   refused_some c i h none =
       let l = there_in ls i (omega (arith, statement_count names ls)) in
       let some = refused_one names ls c i l.0 l.1 in
       cc
 
   -- no member is refused where none is found
-  no_bad_member : d.bad_member ≡ None → bad_members (numbered_statements ls) ≡ []
+  no_bad_member : d.bad_member ≡ None → bad_members (statements ls) ≡ []
   no_bad_member none =
-      none_kept (refused_at names ls code.ChoiceMember) (bad_member_at names ls) (length (numbered_statements ls)) (refused_some code.ChoiceMember)
-      (none_first (flat_map (refused_at names ls code.ChoiceMember) (bad_members (numbered_statements ls)))
+      none_kept (refused_at names ls code.ChoiceMember) (bad_member_at names ls) (length (statements ls)) (refused_some code.ChoiceMember)
+      (none_first (flat_map (refused_at names ls code.ChoiceMember) (bad_members (statements ls)))
       (first_member ∙ ap (option_map refusal_view) none))
 
   by_option : (o p : Option Refusal) → option_map refusal_view (option_or o p) ≡ option_or (option_map refusal_view o) (option_map refusal_view p)

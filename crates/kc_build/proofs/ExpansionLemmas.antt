@@ -14,10 +14,10 @@ use Rattle.kc_read.specs.declared.statement.Keyword.{Keyword}
 use Rattle.kc_read.specs.declared.statement.Keyword.TheVariants as key
 use Rattle.kc_read.specs.declared.statement.OpenBlock.{OpenBlock}
 use Rattle.kc_read.specs.Files.{Files}
-use Rattle.kc_read.specs.Statements.{Statement, Named, Located, InputPrompt, ConfigLine, IfLine, EndIfLine, CommentLine, SourceLine, MenuLine, EndMenuLine, ChoiceLine, EndChoiceLine, MainMenuLine, TypeLine, PromptLine, DefaultLine, DefLine, DependsLine, VisibleLine, SelectLine, ImplyLine, RangeLine, HelpLine, ModulesLine, IgnoredLine}
-use Rattle.kc_read.specs.Lines.{LineContext, Cause, placement_cause, closes, unless_placed, After, finish, ReadsLine, ReadsPlaced, ReadsRest, ReadsWhole, ReadsCondition, ReadsTextLine, ReadsSource, ReadsConfig, ReadsPrompt, ReadsType, ReadsValue, ReadsDepends, ReadsVisible, ReadsTarget, ReadsRange, option_line, choice_line, good_name, is_good_name, begins_with, text_of, plain_text, word_of, target_of, operand_of, expected, keyword_of, known, in_place}
+use Rattle.kc_read.specs.Statements.{Statement, Named, Located, InputPrompt, ConfigLine, IfLine, EndIfLine, CommentLine, SourceLine, MenuLine, EndMenuLine, ChoiceLine, EndChoiceLine, MainMenuLine, TypeLine, PromptLine, DefaultLine, DefLine, DependsLine, VisibleLine, SelectLine, ImplyLine, RangeLine, HelpLine, ModulesLine, IgnoredLine, statements}
+use Rattle.kc_read.specs.Lines.{LineContext, Cause, placement_cause, closing_cause, unless_placed, After, finish, ReadsLine, ReadsPlaced, ReadsRest, ReadsWhole, ReadsCondition, ReadsTextLine, ReadsSource, ReadsConfig, ReadsPrompt, ReadsType, ReadsValue, ReadsDepends, ReadsVisible, ReadsTarget, ReadsRange, option_line, choice_line, good_name, is_good_name, begins_with, text_of, plain_text, word_of, target_of, operand_of, expected, keyword_of, known, in_place}
 use Rattle.kc_read.specs.Blocks.{Bracket, Opens, Closes, NoBracket, bracket, open_blocks, last_of}
-use Rattle.kc_read.specs.Expansion.{FileContext, Log, Refused, Rest, Expands, lexemes, bytes_cause, root_context, nothing_read, with_file, refused, statements, is_choice, context_of, with_line, logged, at_end, unclosed, too_long, no_tokens, blank, bad_line, over_limit, statement, bad_source, refused_inside, source}
+use Rattle.kc_read.specs.Expansion.{FileContext, Log, Refused, Rest, Expands, lexemes, bytes_cause, root_context, nothing_read, with_file, refused, is_choice, context_of, with_line, logged, at_end, unclosed, too_long, no_tokens, blank, bad_line, over_limit, statement, bad_source, refused_inside, source}
 use Rattle.kc_read.specs.Progress.{located_blocks, open_blocks_after}
 use Rattle.kc_read.proofs.BlockLemmas.{blocks_of_openers, openers_push}
 use Rattle.kc_read.proofs.ListLemmas.{last_of-append, but_last, but_last-take, but_last-append, map-push}
@@ -130,7 +130,7 @@ choice_is : (ts : List Lexeme) (s : Named) → Ok s ≡ choice_line ts → s ≡
 choice_is [] s e = cc
 choice_is (t ∷ ts) s e = absurd cc
 
-own_is : (b : Block) (o : Option Block) → closes b o ≡ None → o ≡ Some b
+own_is : (b : Block) (o : Option Block) → closing_cause b o ≡ None → o ≡ Some b
 own_is block.If (Some block.If) e = refl
 own_is block.If (Some block.Menu) e = absurd cc
 own_is block.If (Some block.Choice) e = absurd cc

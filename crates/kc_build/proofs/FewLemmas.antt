@@ -6,13 +6,13 @@ use Rattle.std.proofs.lemmas.List.{length-map}
 use Rattle.kc_expr.specs.Names.{same_name}
 use Rattle.kc_text.specs.Lines.{UnreadLines, unread_lines}
 use Rattle.kc_read.specs.declared.refusal.Code.TheVariants as code
-use Rattle.kc_read.specs.Expansion.{FileContext, Expands, Log, Refused, Rest, bytes_cause, lines_of, nothing_read, of_file, with_file, refused, root_context, sourcing_cause, statements, at_end, unclosed, too_long, no_tokens, blank, bad_line, over_limit, statement, bad_source, refused_inside, source}
+use Rattle.kc_read.specs.Expansion.{FileContext, Expands, Log, Refused, Rest, bytes_cause, lines_of, nothing_read, of_file, with_file, refused, root_context, sourcing_cause, at_end, unclosed, too_long, no_tokens, blank, bad_line, over_limit, statement, bad_source, refused_inside, source}
 use Rattle.kc_read.specs.Files.{Files}
 use Rattle.kc_read.specs.Limits.{most_files, most_lines}
 use Rattle.kc_read.specs.Lines.{Cause, cause}
 use Rattle.kc_read.specs.Numbering.{number_line}
 use Rattle.kc_read.specs.StatementViews.{line_view}
-use Rattle.kc_read.specs.Statements.{Located, Named}
+use Rattle.kc_read.specs.Statements.{Located, Named, statements}
 use Rattle.kc_read.proofs.RestLemmas.{next_less}
 use Rattle.kc_build.specs.declared.numbering.Listing.{Listing}
 use Rattle.kc_build.specs.Numberings.{IsListing}

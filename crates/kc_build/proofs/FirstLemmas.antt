@@ -6,10 +6,10 @@ use Rattle.std.proofs.lemmas.Bool.Decides.{nat_tests}
 use Rattle.std.proofs.lemmas.List.Elements.{filter_map-append}
 use Rattle.std.proofs.lemmas.List.Folds.{list_any-append}
 use Rattle.kc_expr.specs.declared.expression.SymId.{SymId}
-use Rattle.kc_expr.specs.Names.{symbol}
+use Rattle.kc_expr.specs.Names.{symbol, same_symbol}
 use Rattle.kc_read.specs.Statements.{Numbered, ConfigLine}
 use Rattle.kc_read.specs.Blocks.{numbers, definitions, defined_name}
-use Rattle.kc_tree.specs.Common.{same_symbol, is_symbol_of}
+use Rattle.kc_tree.specs.Common.{is_symbol_of}
 use Rattle.kc_build.specs.Facts.{symbol_at, symbol_of, is_first_definition}
 use Rattle.kc_build.proofs.BlockLemmas.{take-next, there}
 use Rattle.kc_build.proofs.PlaceLemmas.{filter-next}

@@ -8,7 +8,8 @@ use Rattle.std.proofs.lemmas.List.{append-nil}
 use Rattle.kc_expr.specs.declared.expression.SymId.{SymId}
 use Rattle.kc_read.specs.Statements.{Numbered}
 use Rattle.kc_read.specs.Blocks.{numbers}
-use Rattle.kc_tree.specs.Common.{same_symbol, is_symbol_of, listed}
+use Rattle.kc_expr.specs.Names.{same_symbol}
+use Rattle.kc_tree.specs.Common.{is_symbol_of, listed}
 use Rattle.kc_build.specs.Facts.{is_first_definition, symbol_at, symbol_of, first_of, enclosing_choice, choice_of, kind_of, is_member, is_member_place, definitions_of, places}
 use Rattle.kc_build.specs.FirstDefinitions.{is_first_definition_at, first_of_symbol}
 use Rattle.kc_build.specs.Warnings.{is_bad_member, bad_members}

@@ -10,12 +10,12 @@ use Rattle.kc_expr.specs.declared.expression.SymId.{SymId}
 use Rattle.kc_expr.specs.declared.expression.Kind.{Kind}
 use Rattle.kc_expr.specs.declared.expression.Kind.TheVariants as kind
 use Rattle.kc_expr.specs.Form.{Form}
-use Rattle.kc_expr.specs.Names.{symbol}
+use Rattle.kc_expr.specs.Names.{symbol, same_symbol}
 use Rattle.kc_read.specs.declared.statement.Block.TheVariants as block
 use Rattle.kc_read.specs.Blocks.{numbers, attributes}
 use Rattle.kc_read.specs.Statements.{Numbered, Located}
 use Rattle.kc_tree.specs.TreeFacts.{Guarded, SymbolFacts, ChoiceFacts, TreeFacts, IsMemberOf, IsChoiceSound, IsListed}
-use Rattle.kc_tree.specs.Common.{listed, same_symbol}
+use Rattle.kc_tree.specs.Common.{listed}
 use Rattle.kc_build.specs.Facts.{StatedDefault, choice_facts, choice_number, choice_of, choice_places, enclosing_choice, choices, definitions_of, first_of, stated_default, is_member, is_member_place, kind_of, member_default, members_of, guarded_symbol, of_block, places, same_kind, single_symbol, symbol_at, symbol_facts, symbol_of}
 use Rattle.kc_build.specs.FirstDefinitions.{is_first_definition_at}
 use Rattle.kc_build.specs.SymbolRows.{AreBelow}

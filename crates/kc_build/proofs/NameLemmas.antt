@@ -1,6 +1,7 @@
 -- The names of a tree are distinct, and so the tree of a root file is well formed.
 use Rattle.std.proofs.Common.{◌≡◌, ℕ, List, Result, Ok, Err}
-use Rattle.kc_read.specs.Expansion.{Expands, Log, Refused, statements}
+use Rattle.kc_read.specs.Expansion.{Expands, Log, Refused}
+use Rattle.kc_read.specs.Statements.{statements}
 use Rattle.kc_read.specs.Files.{Files}
 use Rattle.kc_tree.specs.TreeFacts.{IsWellFormed, TreeFacts}
 use Rattle.kc_build.specs.Trees.{TreesAreWellFormed, tree_of_log}

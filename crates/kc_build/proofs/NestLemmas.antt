@@ -7,9 +7,9 @@ use Rattle.std.proofs.lemmas.Option.{slice_get-map}
 use Rattle.kc_expr.specs.declared.expression.SymId.{SymId}
 use Rattle.kc_read.specs.declared.statement.Block.{Block}
 use Rattle.kc_read.specs.declared.statement.Block.TheVariants as block
-use Rattle.kc_read.specs.Statements.{Named, Numbered, Located, numbered, ConfigLine, IfLine, MenuLine, EndMenuLine, ChoiceLine}
+use Rattle.kc_read.specs.Statements.{Named, Numbered, Located, numbered, ConfigLine, IfLine, MenuLine, EndMenuLine, ChoiceLine, statements}
 use Rattle.kc_read.specs.Blocks.{bracket, bracket_at, bracket_of, opened, depth_after, stays_open, is_open, open_places, open_blocks, enclosing, numbers, last_of}
-use Rattle.kc_read.specs.Expansion.{Log, Expands, statements, is_choice}
+use Rattle.kc_read.specs.Expansion.{Log, Expands, is_choice}
 use Rattle.kc_read.specs.Files.{Files}
 use Rattle.kc_read.specs.Numbering.{located_numbered}
 use Rattle.kc_build.specs.Facts.{is_block, of_block, block_at, enclosing_block, enclosing_choice, choice_number}

@@ -18,11 +18,11 @@ use Rattle.kc_expr.proofs.NamesLemmas.{all_mentioned_extends, all_mentioned-appe
 use Rattle.kc_read.specs.declared.expansion.Expansion.{Expansion}
 use Rattle.kc_read.specs.declared.statement.Line.{Line}
 use Rattle.kc_read.specs.Blocks.{definitions, defined_name}
-use Rattle.kc_read.specs.Expansion.{Log, defined, statements}
+use Rattle.kc_read.specs.Expansion.{Log, defined}
 use Rattle.kc_read.specs.Numbering.{known_names, modules_name, names_of, modules_id, located_numbered, numbered_lines}
 use Rattle.kc_read.specs.Expanded.{AreNumbers, IsExpansion, IsNamed}
 use Rattle.kc_read.specs.StatementViews.{line_view}
-use Rattle.kc_read.specs.Statements.{Named, Located, numbered, names_in_statement, ConfigLine}
+use Rattle.kc_read.specs.Statements.{Named, Located, numbered, names_in_statement, ConfigLine, statements}
 use Rattle.kc_read.proofs.FileLemmas.{same_name_eq}
 use Rattle.kc_read.proofs.NameLemmas.{extends_none, is_known, known_at, numbers_placed, place_is}
 use Rattle.kc_build.specs.Numberings.{IsListing}

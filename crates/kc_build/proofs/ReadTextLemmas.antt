@@ -14,10 +14,10 @@ use Rattle.kc_expr.specs.Names.{same_name}
 use Rattle.kc_read.specs.declared.refusal.Code.TheVariants as code
 use Rattle.kc_read.specs.declared.statement.Keyword.{Keyword}
 use Rattle.kc_read.specs.declared.statement.Keyword.TheVariants as key
-use Rattle.kc_read.specs.Expansion.{FileContext, Log, Refused, Rest, Expands, NextLine, bytes_cause, context_of, with_file, nothing_read, refused, root_context, statements, with_line, is_help, lexemes, without_help, at_end, unclosed, too_long, no_tokens, blank, bad_line, over_limit, statement, bad_source, refused_inside, source}
+use Rattle.kc_read.specs.Expansion.{FileContext, Log, Refused, Rest, Expands, NextLine, bytes_cause, context_of, with_file, nothing_read, refused, root_context, with_line, is_help, lexemes, without_help, at_end, unclosed, too_long, no_tokens, blank, bad_line, over_limit, statement, bad_source, refused_inside, source}
 use Rattle.kc_read.specs.Files.{Files}
 use Rattle.kc_read.specs.Lines.{LineContext, After, Cause, Front, IsCondition, IsWhole, ReadsTarget, ReadsType, ReadsLine, ReadsPlaced, ReadsRest, ReadsWhole, ReadsCondition, ReadsTextLine, ReadsValue, ReadsPrompt, StartsExpression, begins_with, choice_line, expected, finish, front, good_name, in_place, is_good_name, keyword_of, known, left_out, operand_of, option_line, placement_cause, plain_text, syntax_cause, target_of, text_of, word_of}
-use Rattle.kc_read.specs.Statements.{Statement, InputPrompt, Named, Located, ConfigLine, IfLine, EndIfLine, CommentLine, SourceLine, MenuLine, EndMenuLine, ChoiceLine, EndChoiceLine, MainMenuLine, TypeLine, PromptLine, DefaultLine, DefLine, DependsLine, VisibleLine, SelectLine, ImplyLine, RangeLine, HelpLine, ModulesLine, IgnoredLine, names_in_condition, names_in_statement, value_form}
+use Rattle.kc_read.specs.Statements.{Statement, InputPrompt, Named, Located, ConfigLine, IfLine, EndIfLine, CommentLine, SourceLine, MenuLine, EndMenuLine, ChoiceLine, EndChoiceLine, MainMenuLine, TypeLine, PromptLine, DefaultLine, DefLine, DependsLine, VisibleLine, SelectLine, ImplyLine, RangeLine, HelpLine, ModulesLine, IgnoredLine, names_in_condition, names_in_statement, value_form, statements}
 use Rattle.kc_tree.specs.TreeFacts.{IsLineText, IsLineForm}
 use Rattle.kc_build.proofs.LineTextLemmas.{AreOneLine, IsLineAtom, IsLineLexeme, IsLineTerminal, all_front, atom_lines, cut_line, file_lines, helped, taken_line, terminal_lines, value_line, word_lines}
 

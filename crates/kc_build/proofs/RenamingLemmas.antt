@@ -6,9 +6,8 @@ use Rattle.kc_expr.specs.Form.{Form, Forms, Leaf, Text, Symbol, Single, Related,
 use Rattle.kc_expr.specs.Grammar.{Atom, WordAtom, QuotedAtom, Chain, Part, Negation, Disjunction, Joins, only, joined, negation, conjunction, bang, group, lone, compare, names_in_atom, is_tristate_constant, leaf, m_word, meaning, meaning_not, meaning_or, meaning_part, parts, plain_form, spell, spell_not, spell_part, names_in, names_in_terminals}
 use Rattle.kc_expr.specs.Names.{same_name, symbol}
 use Rattle.kc_expr.proofs.NamesLemmas.{names_in_terminals-append, names_in_terminals-closed}
-use Rattle.kc_read.specs.Expansion.{statements}
 use Rattle.kc_read.specs.Numbering.{located_numbered}
-use Rattle.kc_read.specs.Statements.{Named, Located, InputPrompt, numbered, prompt_form, names_in_statement, names_in_condition, names_in_prompt, ConfigLine, IfLine, EndIfLine, CommentLine, SourceLine, MenuLine, EndMenuLine, ChoiceLine, EndChoiceLine, MainMenuLine, TypeLine, PromptLine, DefaultLine, DefLine, DependsLine, VisibleLine, SelectLine, ImplyLine, RangeLine, HelpLine, ModulesLine, IgnoredLine}
+use Rattle.kc_read.specs.Statements.{Named, Located, InputPrompt, numbered, prompt_form, names_in_statement, names_in_condition, names_in_prompt, ConfigLine, IfLine, EndIfLine, CommentLine, SourceLine, MenuLine, EndMenuLine, ChoiceLine, EndChoiceLine, MainMenuLine, TypeLine, PromptLine, DefaultLine, DefLine, DependsLine, VisibleLine, SelectLine, ImplyLine, RangeLine, HelpLine, ModulesLine, IgnoredLine, statements}
 use Rattle.kc_build.specs.Renamings.{leaf_renamed, renamed, all_renamed, asked_renamed, statement_renamed, line_renamed}
 
 module _ {X : Type 0} (P : X → Type 0) where

@@ -10,10 +10,10 @@ use Rattle.kc_expr.specs.Grammar.{Disjunction, Negation, WordAtom, QuotedAtom, o
 use Rattle.kc_expr.specs.Names.{symbol}
 use Rattle.kc_read.specs.declared.refusal.Code.{Code}
 use Rattle.kc_read.specs.declared.refusal.Code.TheVariants as code
-use Rattle.kc_read.specs.Statements.{Named, Numbered, InputPrompt, Located, ConfigLine, IfLine, EndIfLine, CommentLine, MenuLine, EndMenuLine, ChoiceLine, EndChoiceLine, MainMenuLine, TypeLine, PromptLine, DefaultLine, DefLine, DependsLine, VisibleLine, SelectLine, ImplyLine, RangeLine, ModulesLine}
+use Rattle.kc_read.specs.Statements.{Named, Numbered, InputPrompt, Located, ConfigLine, IfLine, EndIfLine, CommentLine, MenuLine, EndMenuLine, ChoiceLine, EndChoiceLine, MainMenuLine, TypeLine, PromptLine, DefaultLine, DefLine, DependsLine, VisibleLine, SelectLine, ImplyLine, RangeLine, ModulesLine, statements}
 use Rattle.kc_tree.specs.TreeFacts.{TreeFacts, Condition, Guarded, SymbolFacts, SymbolShown, MenuShown, EndShown, CommentShown}
 use Rattle.kc_build.specs.Facts.{symbol_facts, choices, entries}
-use Rattle.kc_read.specs.Expansion.{Refused, refused, statements, defined}
+use Rattle.kc_read.specs.Expansion.{Refused, refused, defined}
 use Rattle.kc_build.specs.Warnings.{warnings, whole_list_refusals}
 use Rattle.kc_read.specs.Numbering.{names_of, modules_id, numbered_lines}
 use Rattle.kc_build.specs.Trees.{tree_of_lines, facts_with}

@@ -4,8 +4,8 @@ use Rattle.std.specs.List.{slice_get}
 use Rattle.kc_expr.specs.Names.{number_of}
 use Rattle.kc_read.specs.declared.statement.Block.TheVariants as block
 use Rattle.kc_read.specs.Files.{Files}
-use Rattle.kc_read.specs.Statements.{Numbered}
-use Rattle.kc_read.specs.Expansion.{Log, Expands, statements}
+use Rattle.kc_read.specs.Statements.{Numbered, statements}
+use Rattle.kc_read.specs.Expansion.{Log, Expands}
 use Rattle.kc_read.specs.Numbering.{names_of, modules_id, numbered_lines}
 use Rattle.kc_tree.specs.TreeFacts.{Condition, MenuShown, EndShown}
 use Rattle.kc_build.specs.Facts.{entries, enclosing_choice, of_block}

@@ -10,9 +10,9 @@ use Rattle.kc_expr.specs.declared.expression.SymId.{SymId}
 use Rattle.kc_expr.specs.Names.{all_mentioned, mention, number_of, same_name, symbol}
 use Rattle.kc_expr.proofs.NamesLemmas.{same_name-refl}
 use Rattle.kc_read.specs.Blocks.{definitions, defined_name, numbers}
-use Rattle.kc_read.specs.Expansion.{defined, statements}
+use Rattle.kc_read.specs.Expansion.{defined}
 use Rattle.kc_read.specs.Numbering.{modules_id, names_of, numbered_lines}
-use Rattle.kc_read.specs.Statements.{Named, Numbered, Located, ConfigLine, numbered}
+use Rattle.kc_read.specs.Statements.{Named, Numbered, Located, ConfigLine, numbered, statements}
 use Rattle.kc_read.proofs.NameLemmas.{known_at}
 use Rattle.kc_tree.specs.TreeFacts.{TreeFacts, ShowsEach, SymbolShown}
 use Rattle.kc_tree.specs.Common.{is_symbol_of}

@@ -8,9 +8,9 @@ use Rattle.kc_expr.specs.declared.expression.SymId.{SymId}
 use Rattle.kc_expr.specs.Form.{Form}
 use Rattle.kc_expr.specs.Names.{all_mentioned, mention, number_of, same_name, symbol}
 use Rattle.kc_read.specs.Blocks.{attributes, definitions, is_attribute, has_modules_line, last_of, modules_of, defined_name, numbers}
-use Rattle.kc_read.specs.Expansion.{defined, statements}
+use Rattle.kc_read.specs.Expansion.{defined}
 use Rattle.kc_read.specs.Numbering.{known_names, modules_id, modules_name, names_of, numbered_lines, located_numbered}
-use Rattle.kc_read.specs.Statements.{Named, Numbered, Located, ConfigLine, CommentLine, MenuLine, EndMenuLine, MainMenuLine, DefaultLine, DefLine, numbered, names_in_statement}
+use Rattle.kc_read.specs.Statements.{Named, Numbered, Located, ConfigLine, CommentLine, MenuLine, EndMenuLine, MainMenuLine, DefaultLine, DefLine, numbered, names_in_statement, statements}
 use Rattle.kc_tree.specs.TreeFacts.{TreeFacts, SymbolFacts, Guarded, Shown, SymbolShown, MenuShown, EndShown, CommentShown, HasLineTexts, IsLineText, IsLineForm, OfTitle}
 use Rattle.kc_build.specs.Facts.{StatedDefault, guarded_default, defaults_at, definitions_of, dependency, entry_at, entry_number, stated_default, is_first_definition, enclosing_block, places, shown_when, symbol_facts, title_of}
 use Rattle.kc_build.specs.Trees.{facts_with}

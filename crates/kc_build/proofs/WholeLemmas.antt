@@ -14,11 +14,11 @@ use Rattle.kc_read.specs.declared.refusal.Code.{Code}
 use Rattle.kc_read.specs.declared.refusal.Code.TheVariants as code
 use Rattle.kc_read.specs.declared.statement.Block.TheVariants as block
 use Rattle.kc_read.specs.Files.{Files}
-use Rattle.kc_read.specs.Expansion.{Expands, Log, Refused, refused, defined, statements}
+use Rattle.kc_read.specs.Expansion.{Expands, Log, Refused, refused, defined}
 use Rattle.kc_expr.specs.Names.{is_name_byte}
 use Rattle.kc_read.specs.Lines.{is_good_name}
 use Rattle.kc_read.specs.Numbering.{names_of, modules_id, numbered_lines}
-use Rattle.kc_read.specs.Statements.{Named, Numbered, Located}
+use Rattle.kc_read.specs.Statements.{Named, Numbered, Located, statements}
 use Rattle.kc_tree.specs.TreeFacts.{Condition, EndShown, MenuShown, TreeFacts, IsSymbolName, IsWellFormed}
 use Rattle.kc_tree.specs.Common.{listed}
 use Rattle.kc_build.specs.Facts.{entries, enclosing_choice, choice_of, kind_of, of_block, symbol_facts, places}

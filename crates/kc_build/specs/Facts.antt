@@ -9,7 +9,8 @@ use Rattle.kc_expr.specs.Form.{Form, Symbol, Single}
 use Rattle.kc_read.specs.declared.statement.Block.{Block}
 use Rattle.kc_read.specs.declared.statement.Block.TheVariants as block
 use Rattle.kc_read.specs.Statements.{Numbered, InputPrompt, ConfigLine, IfLine, CommentLine, MenuLine, EndMenuLine, MainMenuLine, TypeLine, PromptLine, DefaultLine, DefLine, DependsLine, VisibleLine, SelectLine, ImplyLine, RangeLine}
-use Rattle.kc_tree.specs.Common.{listed, same_symbol, is_symbol_of}
+use Rattle.kc_expr.specs.Names.{same_symbol}
+use Rattle.kc_tree.specs.Common.{listed, is_symbol_of}
 use Rattle.kc_tree.specs.TreeFacts.{Condition, Guarded, Bounds, SymbolFacts, ChoiceFacts, Shown, SymbolShown, MenuShown, EndShown, CommentShown}
 use Rattle.kc_read.specs.Blocks.{numbers, last_of, enclosing, attributes, definitions, bracket_at, opened}
 

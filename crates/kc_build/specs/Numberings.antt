@@ -1,6 +1,7 @@
 -- For proofs: The numbered lines of a root file.
 use Rattle.std.specs.Prelude.{◌≡◌, length, map}
-use Rattle.kc_read.specs.Expansion.{Log, defined, statements}
+use Rattle.kc_read.specs.Expansion.{Log, defined}
+use Rattle.kc_read.specs.Statements.{statements}
 use Rattle.kc_read.specs.Numbering.{modules_id, names_of, numbered_lines}
 use Rattle.kc_read.specs.StatementViews.{line_view}
 use Rattle.kc_build.specs.declared.numbering.Listing.{Listing}

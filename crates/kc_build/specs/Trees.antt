@@ -4,9 +4,9 @@ use Rattle.std.specs.List.{filter_map}
 use Rattle.kc_expr.specs.declared.expression.SymId.{SymId}
 use Rattle.kc_expr.specs.Names.{symbol}
 use Rattle.kc_read.specs.Files.{Files}
-use Rattle.kc_read.specs.Statements.{Named, Numbered, Located}
+use Rattle.kc_read.specs.Statements.{Named, Numbered, Located, statements}
 use Rattle.kc_read.specs.Blocks.{last_of, numbers}
-use Rattle.kc_read.specs.Expansion.{Log, Refused, Expands, statements, defined}
+use Rattle.kc_read.specs.Expansion.{Log, Refused, Expands, defined}
 use Rattle.kc_read.specs.Numbering.{names_of, modules_id, numbered_lines}
 use Rattle.kc_tree.specs.TreeFacts.{TreeFacts, IsWellFormed}
 use Rattle.kc_build.specs.Facts.{symbol_facts, choices, entries, title_of}
@@ -17,11 +17,11 @@ use Rattle.kc_build.specs.Warnings.{warnings, whole_list_refusals}
 abbrev pub facts_with : List (List ℕ) → ℕ → SymId → List (Located Numbered) → TreeFacts
 facts_with names count modules ls = record {
   names = names;
-  symbols = map (λ i. symbol_facts (map (λ l. l.statement) ls) (symbol i)) (numbers count);
-  choices = choices (map (λ l. l.statement) ls);
-  entries = entries (map (λ l. l.statement) ls);
+  symbols = map (λ i. symbol_facts (statements ls) (symbol i)) (numbers count);
+  choices = choices (statements ls);
+  entries = entries (statements ls);
   warnings = warnings names ls;
-  main_menu = unwrap_or (last_of (filter_map title_of (map (λ l. l.statement) ls))) (codes "Main menu");
+  main_menu = unwrap_or (last_of (filter_map title_of (statements ls))) (codes "Main menu");
   modules = if nat_lt modules.0 count then Some modules else None;
 }
 

@@ -6,7 +6,7 @@ use Rattle.kc_expr.specs.declared.expression.Kind.{Kind}
 use Rattle.kc_expr.specs.declared.expression.Kind.TheVariants as kind
 use Rattle.kc_read.specs.declared.refusal.Code.{Code}
 use Rattle.kc_read.specs.declared.refusal.Code.TheVariants as code
-use Rattle.kc_read.specs.Statements.{Numbered, Located, ConfigLine, ChoiceLine}
+use Rattle.kc_read.specs.Statements.{Numbered, Located, ConfigLine, ChoiceLine, statements}
 use Rattle.kc_read.specs.Blocks.{numbers, last_of, is_attribute, is_no_attribute}
 use Rattle.kc_read.specs.Expansion.{Refused, refused}
 use Rattle.kc_build.specs.declared.lines.ReverseKind.{ReverseKind}
@@ -144,21 +144,18 @@ module _ (names : List (List ℕ)) where
   abbrev pub line_of : List ℕ → ℕ → Warning → List ℕ
   line_of file line w = file ++ codes ":" ++ decimal line ++ codes ": warning " ++ text_of w
 
-abbrev pub numbered_statements : List (Located Numbered) → List Numbered
-numbered_statements ls = map (λ l. l.statement) ls
-
 -- Of these lines, where names have these numbers.
 module _ (names : List (List ℕ)) (ls : List (Located Numbered)) where
   abbrev pub warned_at : ℕ → Option (Located Numbered) → List (List ℕ)
   warned_at i None = []
-  warned_at i (Some l) = map (line_of names l.file l.line) (line_warnings (numbered_statements ls) i l.statement)
+  warned_at i (Some l) = map (line_of names l.file l.line) (line_warnings (statements ls) i l.statement)
 
   abbrev pub warnings : List (List ℕ)
-  warnings = flat_map (λ i. warned_at i (slice_get ls i)) (places (numbered_statements ls))
+  warnings = flat_map (λ i. warned_at i (slice_get ls i)) (places (statements ls))
 
   -- the refusal of a line, which names its entry
   abbrev pub refused_at : Code → ℕ → List Refused
-  refused_at c i = map (λ l. refused (record { code = c; detail = entry_name names (entry_symbol (menu_entry_at (numbered_statements ls) i)) }) l.file l.line) (listed (slice_get ls i))
+  refused_at c i = map (λ l. refused (record { code = c; detail = entry_name names (entry_symbol (menu_entry_at (statements ls) i)) }) l.file l.line) (listed (slice_get ls i))
 
   abbrev pub whole_list_refusals : List Refused
-  whole_list_refusals = flat_map (refused_at code.ChoiceMember) (bad_members (numbered_statements ls)) ++ flat_map (refused_at code.BadDefault) (bad_defaults (numbered_statements ls))
+  whole_list_refusals = flat_map (refused_at code.ChoiceMember) (bad_members (statements ls)) ++ flat_map (refused_at code.BadDefault) (bad_defaults (statements ls))

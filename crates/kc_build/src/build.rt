@@ -12,7 +12,7 @@ ghost use Rattle.kc_build.specs.SymbolRows.{AreBelow, AreChoicesApart, AreMenusO
 ghost use Rattle.kc_build.specs.Trees.{IsTreeOf, tree_with};
 
 use crate::entries::{WalkResult, walk_entries};
-use crate::numbering::{Listing, memory, read_listing};
+use crate::numbering::{Listing, read_listing};
 use crate::symbols::symbols;
 use kc_expr::expression::SymId;
 use kc_expr::names::Names;
@@ -91,7 +91,7 @@ pub fn build_tree(alloc: Global, map: &FileMap, root: &[u8]) -> Result<Tree, Ref
     } = read_listing(alloc, map, root)?;
     let outcome = match build_parts(alloc, &names, &lines, count, modules) {
         Ok(outcome) => outcome,
-        Err(_) => return Err(memory(alloc)),
+        Err(_) => return Err(Refusal::out_of_memory(alloc)),
     };
     match outcome {
         Err(refusal) => Err(refusal),

@@ -3,7 +3,7 @@
 ghost use Rattle.std.specs.Prelude.{◌≡◌, IfOk};
 ghost use Rattle.kc_expr.specs.Form.{form_of, leaf_of};
 
-use kc_expr::expression::{Expr, Operand, Sides};
+use kc_expr::expression::{Expr, Operand, Operands};
 use std::alloc::{AllocError, Global};
 
 /// An operand of its own.
@@ -24,10 +24,10 @@ pub fn expression_copy(alloc: Global, e: &Expr) -> Result<Expr, AllocError>
 {
     match e {
         Expr::One(o) => Ok(Expr::One(operand_copy(alloc, o)?)),
-        Expr::Rel(op, sides) => {
-            let left = operand_copy(alloc, &sides.left)?;
-            let right = operand_copy(alloc, &sides.right)?;
-            Ok(Expr::Rel(*op, Box::new(alloc, Sides { left, right })?))
+        Expr::Rel(op, operands) => {
+            let left = operand_copy(alloc, &operands.left)?;
+            let right = operand_copy(alloc, &operands.right)?;
+            Ok(Expr::Rel(*op, Box::new(alloc, Operands { left, right })?))
         }
         Expr::Not(e) => Ok(Expr::Not(Box::new(alloc, expression_copy(alloc, e)?)?)),
         Expr::All(parts) => {

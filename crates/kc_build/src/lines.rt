@@ -2,7 +2,6 @@
 
 ghost use Rattle.std.specs.Prelude.{◌≡◌, option_map, Some};
 ghost use Rattle.kc_expr.specs.Form.{form_of};
-ghost use Rattle.kc_read.specs.Blocks.{bracket, opened};
 ghost use Rattle.kc_read.specs.Blocks as blocks;
 ghost use Rattle.kc_expr.specs.When.{when_view};
 ghost use Rattle.kc_read.specs.StatementViews.{statement_view, asked_view};
@@ -12,7 +11,7 @@ ghost use Rattle.kc_build.specs.EntryLines.{range_line};
 ghost use Rattle.kc_build.specs.Targets as targets;
 
 use kc_expr::expression::{Expr, Kind, Operand, SymId};
-use kc_read::statement::{Block, Prompt, Statement};
+use kc_read::statement::{Prompt, Statement};
 use std::rc::Rc;
 
 /// A default: its value and its condition.
@@ -43,18 +42,6 @@ pub struct Range<'a> {
     pub low: &'a Operand,
     pub high: &'a Operand,
     pub when: Option<&'a Rc<Expr>>,
-}
-
-/// The block that a statement opens.
-pub fn opened(statement: &Statement) -> Option<Block>
-    ensures { result ≡ opened (bracket (statement_view statement.now)) }
-{
-    match statement {
-        Statement::If(_) => Some(Block::If),
-        Statement::Menu(_) => Some(Block::Menu),
-        Statement::Choice => Some(Block::Choice),
-        _ => None,
-    }
 }
 
 /// The statement belongs to the entry before it.

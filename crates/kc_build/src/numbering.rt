@@ -6,7 +6,7 @@ ghost use Rattle.kc_read.specs.Expansion.{Log, Expands};
 ghost use Rattle.kc_read.specs.Files.{bytes_in};
 ghost use Rattle.kc_read.specs.Expanded.{AreNumbers, IsExpansion, IsNamed};
 ghost use Rattle.kc_read.specs.Limits.{most_lines};
-ghost use Rattle.kc_read.specs.RefusalView.{IsMemory, out_of_memory, refusal_view};
+ghost use Rattle.kc_read.specs.RefusalView.{IsMemory, refusal_view};
 ghost use Rattle.kc_read.specs.declared.refusal.Code.TheVariants.{Memory};
 ghost use Rattle.kc_build.specs.Numberings.{IsListing};
 
@@ -16,7 +16,7 @@ use kc_expr::names::Names;
 use kc_expr::order::SymbolOrder;
 use kc_read::expansion::{Expansion, expand};
 use kc_read::file_map::FileMap;
-use kc_read::refusal::{Code, Refusal};
+use kc_read::refusal::Refusal;
 use kc_read::statement::Line;
 use std::alloc::{AllocError, Global};
 
@@ -29,17 +29,6 @@ pub struct Listing {
     pub count: usize,
     pub modules: SymId,
     pub lines: Vec<Line>,
-}
-
-/// Memory ran out.
-pub fn memory(alloc: Global) -> Refusal
-    ensures { refusal_view result ≡ out_of_memory }
-{
-    Refusal {
-        code: Code::Memory,
-        location: None,
-        detail: Vec::new(alloc),
-    }
 }
 
 // The modules symbol: this one, or that of the name `MODULES`, which is then mentioned.
@@ -113,6 +102,6 @@ pub fn read_listing(alloc: Global, map: &FileMap, root: &[u8]) -> Result<Listing
     let expansion = expand(alloc, map, root, Some(unknown), &mut mentioned)?;
     match number_lines(alloc, mentioned, unknown, expansion) {
         Ok(listing) => Ok(listing),
-        Err(_) => Err(memory(alloc)),
+        Err(_) => Err(Refusal::out_of_memory(alloc)),
     }
 }

@@ -38,9 +38,9 @@ fn rename_expression(e: &mut Expr, numbers: &[SymId], modules: SymId)
 {
     match e {
         Expr::One(operand) => rename_operand(operand, numbers, modules),
-        Expr::Rel(_, sides) => {
-            rename_operand(&mut sides.left, numbers, modules);
-            rename_operand(&mut sides.right, numbers, modules);
+        Expr::Rel(_, operands) => {
+            rename_operand(&mut operands.left, numbers, modules);
+            rename_operand(&mut operands.right, numbers, modules);
         }
         Expr::Not(inner) => rename_expression(inner, numbers, modules),
         Expr::All(parts) => {

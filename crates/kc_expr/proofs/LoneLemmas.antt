@@ -1,5 +1,5 @@
 -- An operand that stands alone is a whole expression, and what breaks off there breaks the expression off.
-use Rattle.std.proofs.Common.{◌≡◌, ℕ, ◌∷◌, List, false}
+use Rattle.std.proofs.Common.{◌≡◌, ℕ, ◌∷◌, List}
 use Rattle.std.specs.Prelude.{Option}
 use Rattle.kc_expr.specs.declared.parse.ExprFault.{ExprFault}
 use Rattle.kc_expr.specs.declared.expression.SymId.{SymId}

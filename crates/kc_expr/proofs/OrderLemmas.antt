@@ -6,14 +6,8 @@ use Rattle.std.proofs.Math.ListN.{set}
 use Rattle.std.proofs.lemmas.Bool.Decides.{nat_tests}
 use Rattle.std.proofs.lemmas.Bool.{cases_eq, eq-eqb, ne_eqb}
 use Rattle.kc_expr.specs.declared.expression.SymId.{SymId}
+use Rattle.kc_expr.specs.Names.{same_symbol}
 use Rattle.kc_expr.specs.Order.{rank_at, has_rank, rank_of, ranked}
-
--- a list that is one longer and says nothing more
-pub rank_at-push : (xs : List (Option ℕ)) (k : ℕ) → rank_at (xs ++ None ∷ []) k ≡ rank_at xs k
-rank_at-push [] zero = refl
-rank_at-push [] (suc k) = refl
-rank_at-push (x ∷ xs) zero = refl
-rank_at-push (x ∷ xs) (suc k) = rank_at-push xs k
 
 rank_at-set_same : (xs : List (Option ℕ)) (i : ℕ) (v : Option ℕ) → i < length xs → rank_at (set xs i v) i ≡ v
 rank_at-set_same [] i v h = absurd (omega (arith, h))
@@ -108,16 +102,16 @@ abbrev pub Says : List SymId → List (Option ℕ) → Type 0
 Says ids ranks = (i : ℕ) → rank_at ranks i ≡ position (λ s. i == s.0) ids
 
 pub says_any : (ids : List SymId) (ranks : List (Option ℕ)) (id : SymId) → Says ids ranks → is_some (rank_at ranks id.0) ≡ has_rank ids id
-says_any ids ranks id h = ap is_some (h id.0) ∙ position-any (λ s. id.0 == s.0) ids
+says_any ids ranks id h = ap is_some (h id.0) ∙ position-any (same_symbol id) ids
 
 pub says_some : (ids : List SymId) (ranks : List (Option ℕ)) (id : SymId) (rank : ℕ) → Says ids ranks → rank_at ranks id.0 ≡ Some rank → (has_rank ids id ≡ true) × (rank ≡ rank_of ids id)
-says_some ids ranks id rank h e = position-some (λ s. id.0 == s.0) ids rank (sym (h id.0) ∙ e)
+says_some ids ranks id rank h e = position-some (same_symbol id) ids rank (sym (h id.0) ∙ e)
 
 pub says_none : (ids : List SymId) (ranks : List (Option ℕ)) (id : SymId) → Says ids ranks → rank_at ranks id.0 ≡ None → has_rank ids id ≡ false
 says_none ids ranks id h e = sym (says_any ids ranks id h) ∙ ap is_some e
 
 pub next_rank : (ids : List SymId) (id : SymId) → has_rank ids id ≡ false → length ids ≡ rank_of ids id
-next_rank ids id h = place_next (λ s. id.0 == s.0) ids h
+next_rank ids id h = place_next (same_symbol id) ids h
 
 pub placed_known : (ids : List SymId) (id : SymId) → has_rank ids id ≡ true → ranked ids id ≡ ids
 placed_known ids id h = ap (λ b. cond b ids (ids ++ id ∷ [])) h
@@ -131,7 +125,7 @@ says_placed ids ranks id h none there i = elim (cases_eq i id.0) [
   | inl e ↦
       ap (rank_at (set ranks id.0 (Some (length ids)))) e
       ∙ rank_at-set_same ranks id.0 (Some (length ids)) there
-      ∙ sym (position-pushed (λ s. id.0 == s.0) ids id none (eq-eqb id.0 id.0 refl))
+      ∙ sym (position-pushed (same_symbol id) ids id none (eq-eqb id.0 id.0 refl))
       ∙ ap (λ (k : ℕ). position (λ s. k == s.0) (ids ++ id ∷ [])) (sym e)
   | inr ne ↦
       rank_at-set_other ranks id.0 i (Some (length ids)) ne

@@ -64,12 +64,12 @@ is_no_expression ts b = record {
   longest = record {
     whole = b.whole;
     begins = (b.tree, b.rest_of_tree, b.begins);
-    longest = no_longer b.front b.rest (λ limit h. let x = b.stuck limit 0 0 [] refl (omega arith) in (x.0, x.1, x.3));
+    longest = no_longer b.front b.rest (λ limit h. let x = b.cannot_go_on limit 0 0 [] refl (omega arith) in (x.0, x.1, x.3));
   };
   within = (b.tree, b.rest_of_tree, b.within, b.begins);
   none = λ d e.
       let limit = levels_or d + 64 in
-      let x = b.stuck limit 0 0 [] refl (omega arith) in
+      let x = b.cannot_go_on limit 0 0 [] refl (omega arith) in
       let y = runs d limit (omega arith) in
       let z = ap (run limit start) e in
       let same : x.0 ≡ after (lone_in d) 0 [] = cc in

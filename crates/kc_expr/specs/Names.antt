@@ -1,20 +1,24 @@
 -- Trusted: Names and their numbers.
-use Rattle.std.specs.Prelude.{ℕ, ◌≡◌, ◌==◌, ◌||◌, Bool, List, [], ◌∷◌, ◌++◌, if◌then◌else◌, length, map, slice_get, Some}
+use Rattle.std.specs.Prelude.{ℕ, ◌≡◌, ◌==◌, ◌||◌, Bool, List, [], ◌∷◌, ◌++◌, if◌then◌else◌, length, map, slice_get, bytes_eq, Some}
 use Rattle.std.specs.List.{list_any, position_or_len, IsDistinct}
 use Rattle.std.specs.Char.{is_ascii_alphanumeric}
-use Rattle.std.specs.Cmp.Lexicographic.{pointwise}
 use Rattle.kc_text.specs.Bytes.{byte}
 use Rattle.kc_expr.specs.declared.expression.SymId.{SymId}
 
 abbrev pub symbol : ℕ → SymId
 symbol n = record { 0 = n }
 
+-- the same symbol: the same number
+abbrev pub same_symbol : SymId → SymId → Bool
+same_symbol s t = s.0 == t.0
+
 -- `A` to `Z`, `a` to `z`, `0` to `9` and `_`
 abbrev pub is_name_byte : ℕ → Bool
 is_name_byte b = is_ascii_alphanumeric b || b == byte "_"
 
+-- the same name: the same bytes, as std compares them
 abbrev pub same_name : List ℕ → List ℕ → Bool
-same_name = pointwise ◌==◌
+same_name = bytes_eq
 
 -- the number of a name, or the next one
 abbrev pub number_of : List (List ℕ) → List ℕ → ℕ

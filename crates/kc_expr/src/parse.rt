@@ -1,6 +1,6 @@
 //! Expressions from tokens: the grammar of the kernel's kconfig-language, "Menu dependencies".
 
-ghost use Rattle.std.specs.Prelude.{◌≡◌, ℕ, ◌+◌, ◌≤◌, ◌<◌, ◌≢◌, Bool, true, false, List, length, [], ◌∷◌, ◌++◌, map, IfOk, IfErr, OnOk};
+ghost use Rattle.std.specs.Prelude.{◌≡◌, ℕ, ◌≤◌, true, false, List, length, map, IfOk, IfErr};
 ghost use Rattle.kc_expr.specs.declared.parse.ExprFault.TheVariants.{Memory};
 ghost use Rattle.kc_expr.specs.Limits.{most_levels};
 ghost use Rattle.kc_expr.specs.declared.parse.Connective.TheVariants.{Or};
@@ -9,9 +9,9 @@ ghost use Rattle.kc_expr.specs.Grammar as spec;
 ghost use Rattle.kc_expr.specs.Grammar.{terminals_from, is_m_leaf, plain_form, IsUnambiguous, Terminal, HasOneLongestFront};
 ghost use Rattle.kc_expr.specs.Parsing.{IsParsed, IsDetermined, IsRefused, OneAnswer};
 ghost use Rattle.kc_expr.specs.Reading.{ParsedNot, ParsedPart, ParsedChain, FailsNot, FailsPart, FailsChain, IsLone, IsNext, ReadsOperand, ReadsRelation, IsMemory, IsMemoryAt, IsOp, IsJoined, StartsNoOp, StartsNoOperand};
-ghost use Rattle.kc_expr.specs.Names.{Extends, mention};
+ghost use Rattle.kc_expr.specs.Names.{Extends};
 
-use crate::expression::{Expr, Operand, Sides, SymId, Tri};
+use crate::expression::{Expr, Operand, Operands, SymId, Tri};
 use crate::names::Names;
 use crate::values::tristate_constant;
 use kc_text::{Op, Token, TokenKind, unescape_into};
@@ -49,7 +49,7 @@ impl<T: Drop> From<AllocFailed<T>> for ExprFault {
 }
 
 // How many `(` and `!` may be open at once.
-const MAX_LEVELS: usize = 64;
+const MOST_LEVELS: usize = 64;
 
 /// The expression of the longest front of the tokens from `at` on that begins some expression, and the place of the
 /// first token that is not used:
@@ -89,7 +89,7 @@ pub fn parse(
         alloc,
         tokens,
         at,
-        MAX_LEVELS,
+        MOST_LEVELS,
         Connective::Or,
         condition,
         names,
@@ -296,8 +296,8 @@ fn relation(
     let Some(right) = operand(alloc, tokens, at + 2, names)? else {
         return Err(ExprFault::Syntax);
     };
-    let sides = Box::new(alloc, Sides { left, right })?;
-    Ok((Expr::Rel(op, sides), at + 3))
+    let operands = Box::new(alloc, Operands { left, right })?;
+    Ok((Expr::Rel(op, operands), at + 3))
 }
 
 // An operand that is alone: a plain m of a condition stands for m && the modules symbol.
@@ -346,8 +346,8 @@ fn operand(
             if word == b"if".as_slice() {
                 return Ok(None);
             }
-            if let Some(letter) = tristate_constant(word) {
-                return Ok(Some(Operand::TristateConstant(letter)));
+            if let Some(constant) = tristate_constant(word) {
+                return Ok(Some(Operand::TristateConstant(constant)));
             }
             Ok(Some(Operand::Sym(names.id(word)?)))
         }

@@ -10,3 +10,4 @@ mod path;
 pub use fault::LoadFault;
 pub use folder::{Folder, FolderFault};
 pub use loader::load;
+pub use path::begins_with_slash;

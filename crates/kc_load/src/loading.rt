@@ -12,15 +12,12 @@ use crate::fault::LoadFault;
 use crate::folder::{Folder, FolderFault};
 use crate::path::path_of;
 use kc_expr::names::Names;
-use kc_read::{FileMap, sources_of};
+use kc_read::{FileMap, MOST_LINES, sources_of};
 use kc_text::line_count;
 use std::alloc::{AllocError, Global};
 use std::str;
 
-/// The physical lines after which no more files are read.
-const LINE_LIMIT: usize = 1_000_000;
-
-// How far the loading is.
+/// How far the loading is.
 #[derive(Drop)]
 pub(crate) struct Loading {
     alloc: Global,
@@ -53,7 +50,7 @@ fn read_named<F: Folder>(
 }
 
 impl Loading {
-    // The first name waits.
+    /// The first name waits.
     pub(crate) fn new(alloc: Global, first: &str) -> Result<Loading, AllocError>
         ensures { IfOk result (λ loading. state_of loading ≡ initial_state first.now) }
     {
@@ -68,11 +65,11 @@ impl Loading {
         })
     }
 
-    // Whether there are more lines than the limit.
+    /// Whether there are more lines than the limit.
     pub(crate) fn is_over(&self) -> bool
         ensures { result ≡ nat_lt most_lines self.now.lines }
     {
-        self.lines > LINE_LIMIT
+        self.lines > MOST_LINES
     }
 
     // Whether the name was asked for.
@@ -110,7 +107,7 @@ impl Loading {
         Ok(())
     }
 
-    // Reads the file of this name, where it was not asked for before, and keeps the names of its `source` lines for later.
+    /// Reads the file of this name, where it was not asked for before, and keeps the names of its `source` lines for later.
     pub(crate) fn visit<F: Folder>(
         &mut self,
         folder: &mut F,

@@ -2,25 +2,16 @@
 
 ghost use Rattle.std.specs.Prelude.{◌≡◌, List, ℕ, map, string_bytes, IfOk, OnOk};
 ghost use Rattle.kc_expr.specs.Names.{all_mentioned};
-ghost use Rattle.kc_load.specs.Folders.{begins_with_slash, path_of};
+ghost use Rattle.kc_load.specs.Folders.{path_of};
 ghost use Rattle.kc_make.specs.Opened.{AreOpened, prerequisites_of};
 ghost use Rattle.kc_read.specs.Files.{bytes_in};
 
 use crate::opened::opened_files;
 use kc_expr::expression::SymId;
 use kc_expr::names::Names;
+use kc_load::begins_with_slash;
 use kc_read::FileMap;
 use std::alloc::{AllocError, Global};
-
-// Whether the name begins with `/`.
-fn begins_with_slash(name: &[u8]) -> bool
-    ensures { result ≡ begins_with_slash name.now }
-{
-    match name {
-        [first, ..] => *first == b'/',
-        [] => false,
-    }
-}
 
 // DIR/NAME, or the name itself where it begins with `/`.
 fn path_of(alloc: Global, dir: &str, name: &[u8]) -> Result<Vec<u8>, AllocError>

@@ -8,7 +8,7 @@ use kc_expr::names::Names;
 use kc_read::{FileMap, sources_of};
 use std::alloc::{AllocError, Global};
 
-// How far the walk is.
+/// How far the walk is.
 #[derive(Drop)]
 pub(crate) struct Walk {
     alloc: Global,
@@ -19,7 +19,7 @@ pub(crate) struct Walk {
 }
 
 impl Walk {
-    // The root waits.
+    /// The root waits.
     pub(crate) fn new(alloc: Global, root: &[u8]) -> Result<Walk, AllocError>
         ensures { IfOk result (λ walk. state_of walk ≡ initial_state root.now) }
     {
@@ -49,7 +49,7 @@ impl Walk {
         Ok(())
     }
 
-    // Opens the file of this name, where there is one and it was not opened before.
+    /// Opens the file of this name, where there is one and it was not opened before.
     pub(crate) fn visit(&mut self, files: &FileMap, name: &[u8]) -> Result<(), AllocError>
         ensures { OnOk result (Visits (bytes_in files.now) name.now (state_of self.old) (state_of self.new)) }
     {

@@ -9,7 +9,7 @@ use Rattle.kc_expr.specs.declared.parse.ExprFault.TheVariants as expr
 use Rattle.kc_expr.specs.Form.{Form}
 use Rattle.kc_expr.specs.Grammar.{LongestFront, terminal_of, terminals, lexemes_from, terminals_from}
 use Rattle.kc_expr.specs.Parsing.{IsParsed, IsRefused}
-use Rattle.kc_read.specs.declared.statement.Fault.{Fault}
+use Rattle.kc_read.specs.declared.statement.LineFault.{LineFault}
 use Rattle.kc_read.specs.Lines.{ExpressionFault, code_of}
 use Rattle.kc_read.specs.LineReads.{IsFront, IsFault}
 
@@ -52,7 +52,7 @@ is_front condition old names tokens at end e h p = record {
   form = p.form;
 }
 
-pub is_expression_fault : (tokens : List Token) (at : ℕ) (e : ExprFault) (f : Fault) → f.code ≡ code_of e → f.detail.now ≡ [] →
+pub is_expression_fault : (tokens : List Token) (at : ℕ) (e : ExprFault) (f : LineFault) → f.code ≡ code_of e → f.detail.now ≡ [] →
     IsRefused e (terminals_from tokens at) → IsFault f (ExpressionFault (lexemes_from tokens at))
 is_expression_fault tokens at expr.Syntax f c d r n = inl (rw (terminals-lexemes_from tokens at) r, λ i. record { code = c i; detail = d i })
 is_expression_fault tokens at expr.TooDeep f c d r n = inr (rw (terminals-lexemes_from tokens at) r, λ i. record { code = c i; detail = d i })

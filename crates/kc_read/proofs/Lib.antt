@@ -5,6 +5,7 @@ pub mod FrontLemmas
 pub mod KeywordLemmas
 pub mod LineThere
 pub mod ListLemmas
+pub mod ListOfLemmas
 pub mod ModulesLemmas
 pub mod NameLemmas
 pub mod OneExpansion

@@ -6,7 +6,7 @@ use Rattle.std.proofs.lemmas.Bool.{cases_eq, eq-eqb, ne_eqb}
 use Rattle.std.proofs.lemmas.List.Folds.{list_any-append}
 use Rattle.std.proofs.lemmas.List.{length-map, map-append}
 use Rattle.kc_expr.specs.declared.expression.SymId.{SymId}
-use Rattle.kc_expr.specs.Names.{IsNumber, same_name, number_of, symbol, mention, Extends}
+use Rattle.kc_expr.specs.Names.{IsNumber, same_name, same_symbol, number_of, symbol, mention, Extends}
 use Rattle.std.proofs.lemmas.Bool.Decides.{nat_tests}
 use Rattle.kc_read.specs.declared.refusal.Code.TheVariants as code
 use Rattle.kc_read.specs.Lines.{cause}
@@ -168,7 +168,7 @@ placed_by ids id = by (has_rank ids id) refl
   where
     by : (b : Bool) → has_rank ids id ≡ b → ((cond b ids (ids ++ id ∷ []) ≡ ids) × (rank_of ids id < length ids)) ⊎
         ((length (cond b ids (ids ++ id ∷ [])) ≡ length ids + 1) × (rank_of ids id ≡ length ids))
-    by true e = inl (refl, rank-some (λ s. id.0 == s.0) ids e)
+    by true e = inl (refl, rank-some (same_symbol id) ids e)
     by false e = inr (omega (arith, length-append ids (id ∷ [])), sym (next_rank ids id e))
 
 count_past : (ids : List SymId) (id : SymId) → 65535 ≤ rank_of ids id → 65535 < length (ranked ids id)

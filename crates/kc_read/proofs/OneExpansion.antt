@@ -7,10 +7,10 @@ use Rattle.kc_text.proofs.Joins.{takes_one, takes_less, taken_is_short, too_long
 use Rattle.kc_text.proofs.Once.{same_cutting}
 use Rattle.kc_read.specs.declared.refusal.Code.TheVariants as code
 use Rattle.kc_read.specs.Blocks.{last_of, open_blocks}
-use Rattle.kc_read.specs.Expansion.{FileContext, Log, Refused, Rest, IsUnclosed, NextLine, NextStatement, OneExpansion, refused, bytes_cause, context_of, limit_cause, innermost, inside, is_help, is_source, lexemes, logged, nothing_read, with_file, root_context, source_cause, statements, text_cause, with_line, without_help, at_end, unclosed, too_long, no_tokens, blank, bad_line, over_limit, statement, bad_source, refused_inside, source}
+use Rattle.kc_read.specs.Expansion.{FileContext, Log, Refused, Rest, IsUnclosed, NextLine, NextStatement, OneExpansion, refused, bytes_cause, context_of, limit_cause, innermost, inside, is_help, is_source, lexemes, logged, nothing_read, with_file, root_context, source_cause, text_cause, with_line, without_help, at_end, unclosed, too_long, no_tokens, blank, bad_line, over_limit, statement, bad_source, refused_inside, source}
 use Rattle.kc_read.specs.Files.{Files}
 use Rattle.kc_read.specs.Lines.{Cause, cause, ReadsLine}
-use Rattle.kc_read.specs.Statements.{Located, Named, SourceLine}
+use Rattle.kc_read.specs.Statements.{Located, Named, SourceLine, statements}
 use Rattle.kc_read.proofs.BlockLemmas.{blocks_of_openers, openers-opens, no_places, opens}
 use Rattle.kc_read.specs.Progress.{located_blocks}
 use Rattle.kc_read.proofs.OneLine.{one_line}
@@ -157,7 +157,7 @@ source_line name = SourceLine name
 pub one_name : (name other : List ℕ) → source_line name ≡ source_line other → name ≡ other
 one_name name other e = cc
 
-same_source : (s : Named) (name other : List ℕ) → s ≡ SourceLine name → s ≡ SourceLine other → name ≡ other
+pub same_source : (s : Named) (name other : List ℕ) → s ≡ SourceLine name → s ≡ SourceLine other → name ≡ other
 same_source s name other e f = one_name name other (sym e ∙ f)
 
 -- a `source` line opens no block and defines nothing

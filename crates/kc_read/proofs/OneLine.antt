@@ -184,3 +184,29 @@ one_placed c w ts k = one_after (in_place k (placement_cause c w ts k)) (λ j. R
 pub one_line : (c : LineContext) (ts : List Lexeme) → AtMostOne (ReadsLine c ts)
 one_line c ts = one_after (word_of ts) (λ w. After (known (keyword_of w)) (ReadsPlaced c w (drop 1 ts)))
     (λ w. one_after (known (keyword_of w)) (ReadsPlaced c w (drop 1 ts)) (one_placed c w (drop 1 ts)))
+
+-- ---- A statement does not depend on the context, once it may stand there
+
+placed_rest : (c : LineContext) (w : List ℕ) (ts : List Lexeme) (k : Keyword) (s : Named) → ReadsPlaced c w ts k (Ok s) → ReadsRest w k ts (Ok s)
+placed_rest c w ts k s x = by (placement_cause c w ts k) x
+  where
+    by : (o : Option Cause) → After (in_place k o) (λ j. ReadsRest w j ts) (Ok s) → ReadsRest w k ts (Ok s)
+    by None y = y
+    by (Some why) e = absurd cc
+
+both_after : {A B : Type 0} (o : Result A Cause) (P Q : A → Result B Cause → Type 0) (s t : B) → ((a : A) → P a (Ok s) → Q a (Ok t) → s ≡ t) →
+    After o P (Ok s) → After o Q (Ok t) → s ≡ t
+both_after (Ok a) P Q s t same x y = same a x y
+both_after (Err c) P Q s t same x y = absurd cc
+
+abbrev read : Named → Result Named Cause
+read s = Ok s
+
+same_ok : (s t : Named) → read s ≡ read t → s ≡ t
+same_ok s t e = cc
+
+pub same_statement : (c d : LineContext) (ts : List Lexeme) (s t : Named) → ReadsLine c ts (Ok s) → ReadsLine d ts (Ok t) → s ≡ t
+same_statement c d ts s t =
+    both_after (word_of ts) (λ w. After (known (keyword_of w)) (ReadsPlaced c w (drop 1 ts))) (λ w. After (known (keyword_of w)) (ReadsPlaced d w (drop 1 ts))) s t
+    (λ w. both_after (known (keyword_of w)) (ReadsPlaced c w (drop 1 ts)) (ReadsPlaced d w (drop 1 ts)) s t
+    (λ k x y. same_ok s t (one_rest w k (drop 1 ts) (Ok s) (Ok t) (placed_rest c w (drop 1 ts) k s x) (placed_rest d w (drop 1 ts) k t y))))

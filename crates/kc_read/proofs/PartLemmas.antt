@@ -11,7 +11,7 @@ use Rattle.kc_expr.specs.Value.{tristate_constant}
 use Rattle.kc_expr.proofs.ConstantLemmas.{constant_text}
 use Rattle.kc_expr.specs.Grammar.{Atom, Disjunction, WordAtom, QuotedAtom, is_tristate_constant, if_word}
 use Rattle.kc_expr.specs.Names.{IsNumber, same_name, mention}
-use Rattle.kc_read.specs.declared.statement.Fault.{Fault}
+use Rattle.kc_read.specs.declared.statement.LineFault.{LineFault}
 use Rattle.kc_read.specs.Lines.{LineContext, Cause, ReadsValue, front, syntax_cause, begins_with, operand_of, IsWhole, IsCondition, WholeFault, ConditionFault, text_of, word_of, target_of, is_pattern, is_good_name, ReadsTextLine, ReadsSource, ReadsConfig, ReadsPrompt, ReadsDepends, ReadsTarget, ReadsVisible, ReadsType, ReadsRange, ReadsRest, ReadsLine, IsMore, keyword_of, placement_cause, option_line}
 use Rattle.kc_expr.specs.declared.expression.Kind.{Kind}
 use Rattle.kc_read.specs.declared.statement.Keyword.{Keyword}
@@ -19,18 +19,18 @@ use Rattle.kc_read.specs.Statements.{Named, InputPrompt, SourceLine, ConfigLine,
 use Rattle.kc_read.specs.declared.statement.Statement.{Statement}
 use Rattle.kc_read.specs.LineReads.{cause_of, IsFront, IsRead, IsFault, IsOperand, IsWholeForm, IsConditionForm}
 
-pub fault_passed : {A : Type 0} (r : Result A Fault) (P : Fault → Type 0) (e : Fault) → IsErrAnd r (λ y. y ≡ e) → P e → IfErr r P
+pub fault_passed : {A : Type 0} (r : Result A LineFault) (P : LineFault → Type 0) (e : LineFault) → IsErrAnd r (λ y. y ≡ e) → P e → IfErr r P
 fault_passed r P e a h = let p = err_from_is_err_and r a in rw (p.1, p.2) h
 
 pub operand_constant : (ls rest : List Lexeme) (w : List ℕ) (t : Tri) (names : List (List ℕ)) → ls ≡ AWord w ∷ rest → same_name w if_word ≡ false →
     tristate_constant w ≡ Some t → IsOperand names names (operand_of ls) (Text (tri_text t))
 operand_constant ls rest w t names e n l =
-    let letter : is_tristate_constant w ≡ true = ap is_some l in
+    let is_constant : is_tristate_constant w ≡ true = ap is_some l in
     record {
       atom = WordAtom w;
       part_is = rw (e, n) refl;
-      mentions = rw letter refl;
-      form = λ later x. rw (letter, constant_text w t l) refl;
+      mentions = rw is_constant refl;
+      form = λ later x. rw (is_constant, constant_text w t l) refl;
     }
 
 pub operand_name : (ls rest : List Lexeme) (w : List ℕ) (id : SymId) (old names : List (List ℕ)) → ls ≡ AWord w ∷ rest → same_name w if_word ≡ false →
@@ -50,7 +50,7 @@ operand_quoted ls rest t b names e s = record {
   form = λ later x. ap Text s;
 }
 
-pub condition_fault : (ls ts : List Lexeme) (f : Fault) → begins_with if_word ls ≡ true → drop 1 ls ≡ ts → IsFault f (WholeFault ts) → IsFault f (ConditionFault ls)
+pub condition_fault : (ls ts : List Lexeme) (f : LineFault) → begins_with if_word ls ≡ true → drop 1 ls ≡ ts → IsFault f (WholeFault ts) → IsFault f (ConditionFault ls)
 condition_fault ls ts f b e h n = inl (b, subst (λ us. WholeFault us (cause_of f)) (sym e) (h n))
 
 pub condition_if : (modules : Option SymId) (old names : List (List ℕ)) (ls ts : List Lexeme) (e : Form) → begins_with if_word ls ≡ true → drop 1 ls ≡ ts →
@@ -63,7 +63,7 @@ condition_if modules old names ls ts e b d w = record {
 }
 
 -- a refusal of a part is one of the line
-pub read_passed : (modules : Option SymId) (old names : List (List ℕ)) (Reads : Result Named Cause → Type 0) (r : Result Statement Fault) (e : Fault) →
+pub read_passed : (modules : Option SymId) (old names : List (List ℕ)) (Reads : Result Named Cause → Type 0) (r : Result Statement LineFault) (e : LineFault) →
     IsErrAnd r (λ y. y ≡ e) → IsFault e (λ c. Reads (Err c)) → IsRead modules old names Reads r
 read_passed modules old names Reads r e a h = let p = err_from_is_err_and r a in rw (p.1, p.2) h
 
@@ -80,28 +80,28 @@ pub asked_ok : (make : InputPrompt Disjunction → Named) (ls ts : List Lexeme) 
     IsCondition ts w → ReadsPrompt make ls (Ok (make (record { text = t; when = w })))
 asked_ok make ls ts t w e d c = rw (e, d) (w, c, refl)
 
-pub asked_fault : (make : InputPrompt Disjunction → Named) (ls ts : List Lexeme) (t : List ℕ) (f : Fault) → text_of ls ≡ Ok t → drop 1 ls ≡ ts →
+pub asked_fault : (make : InputPrompt Disjunction → Named) (ls ts : List Lexeme) (t : List ℕ) (f : LineFault) → text_of ls ≡ Ok t → drop 1 ls ≡ ts →
     IsFault f (ConditionFault ts) → IsFault f (λ c. ReadsPrompt make ls (Err c))
 asked_fault make ls ts t f e d h n = rw (e, d) (h n)
 
 pub depends_ok : (ls ts : List Lexeme) (d : Disjunction) → begins_with (codes "on") ls ≡ true → drop 1 ls ≡ ts → IsWhole ts d → ReadsDepends ls (Ok (DependsLine d))
 depends_ok ls ts d b e w = rw (b, e) (d, w, refl)
 
-pub depends_fault : (ls ts : List Lexeme) (f : Fault) → begins_with (codes "on") ls ≡ true → drop 1 ls ≡ ts → IsFault f (WholeFault ts) → IsFault f (λ c. ReadsDepends ls (Err c))
+pub depends_fault : (ls ts : List Lexeme) (f : LineFault) → begins_with (codes "on") ls ≡ true → drop 1 ls ≡ ts → IsFault f (WholeFault ts) → IsFault f (λ c. ReadsDepends ls (Err c))
 depends_fault ls ts f b e h n = rw (b, e) (h n)
 
 pub target_ok : (make : List ℕ → Option Disjunction → Named) (ls ts : List Lexeme) (t : List ℕ) (w : Option Disjunction) → target_of ls ≡ Ok t →
     drop 1 ls ≡ ts → IsCondition ts w → ReadsTarget make ls (Ok (make t w))
 target_ok make ls ts t w e d c = rw (e, d) (w, c, refl)
 
-pub target_fault : (make : List ℕ → Option Disjunction → Named) (ls ts : List Lexeme) (t : List ℕ) (f : Fault) → target_of ls ≡ Ok t → drop 1 ls ≡ ts →
+pub target_fault : (make : List ℕ → Option Disjunction → Named) (ls ts : List Lexeme) (t : List ℕ) (f : LineFault) → target_of ls ≡ Ok t → drop 1 ls ≡ ts →
     IsFault f (ConditionFault ts) → IsFault f (λ c. ReadsTarget make ls (Err c))
 target_fault make ls ts t f e d h n = rw (e, d) (h n)
 
 pub visible_ok : (ls ts : List Lexeme) (d : Disjunction) → begins_with if_word ls ≡ true → drop 1 ls ≡ ts → IsWhole ts d → ReadsVisible ls (Ok (VisibleLine d))
 visible_ok ls ts d b e w = rw (b, e) (d, w, refl)
 
-pub visible_fault : (ls ts : List Lexeme) (f : Fault) → begins_with if_word ls ≡ true → drop 1 ls ≡ ts → IsFault f (WholeFault ts) → IsFault f (λ c. ReadsVisible ls (Err c))
+pub visible_fault : (ls ts : List Lexeme) (f : LineFault) → begins_with if_word ls ≡ true → drop 1 ls ≡ ts → IsFault f (WholeFault ts) → IsFault f (λ c. ReadsVisible ls (Err c))
 visible_fault ls ts f b e h n = rw (b, e) (h n)
 
 pub option_modules : (ls : List Lexeme) → begins_with (codes "modules") ls ≡ true → drop 1 ls ≡ [] → Ok ModulesLine ≡ option_line ls
@@ -110,7 +110,7 @@ option_modules ls b e = rw (b, e) refl
 pub option_ignored : (ls : List Lexeme) → begins_with (codes "modules") ls ≡ false → begins_with (codes "allnoconfig_y") ls ≡ true → drop 1 ls ≡ [] → Ok IgnoredLine ≡ option_line ls
 option_ignored ls a b e = rw (a, b, e) refl
 
-pub typed_read : (modules : Option SymId) (old names : List (List ℕ)) (k : Kind) (ls : List Lexeme) (r : Result Statement Fault) → IsMore ls →
+pub typed_read : (modules : Option SymId) (old names : List (List ℕ)) (k : Kind) (ls : List Lexeme) (r : Result Statement LineFault) → IsMore ls →
     IsRead modules old names (ReadsPrompt (λ p. TypeLine k (Some p)) ls) r → IsRead modules old names (ReadsType k ls) r
 typed_read modules old names k ls (Ok s) m h = (h.0, inr (m, h.1), h.2)
 typed_read modules old names k ls (Err f) m h = λ n. inr (m, h n)
@@ -119,26 +119,26 @@ pub range_ok : (ls ms ts : List Lexeme) (a b : Atom) (w : Option Disjunction) �
     IsCondition ts w → ReadsRange ls (Ok (RangeLine a b w))
 range_ok ls ms ts a b w e d f g c = rw (e, d, f, g) (w, c, refl)
 
-pub range_fault : (ls ms ts : List Lexeme) (a b : Atom) (f : Fault) → operand_of ls ≡ Ok a → drop 1 ls ≡ ms → operand_of ms ≡ Ok b → drop 2 ls ≡ ts →
+pub range_fault : (ls ms ts : List Lexeme) (a b : Atom) (f : LineFault) → operand_of ls ≡ Ok a → drop 1 ls ≡ ms → operand_of ms ≡ Ok b → drop 2 ls ≡ ts →
     IsFault f (ConditionFault ts) → IsFault f (λ c. ReadsRange ls (Err c))
 range_fault ls ms ts a b f e d g h i n = rw (e, d, g, h) (i n)
 
 pub line_rest : (modules : Option SymId) (old names : List (List ℕ)) (c : LineContext) (ls us : List Lexeme) (w : List ℕ) (k : Keyword)
-    (r : Result Statement Fault) → word_of ls ≡ Ok w → keyword_of w ≡ Some k → drop 1 ls ≡ us → placement_cause c w us k ≡ None →
+    (r : Result Statement LineFault) → word_of ls ≡ Ok w → keyword_of w ≡ Some k → drop 1 ls ≡ us → placement_cause c w us k ≡ None →
     IsRead modules old names (ReadsRest w k us) r → IsRead modules old names (ReadsLine c ls) r
 line_rest modules old names c ls us w k (Ok s) e f d p h = (h.0, rw (e, f, d, p) h.1, h.2)
 line_rest modules old names c ls us w k (Err y) e f d p h = λ n. rw (e, f, d, p) (h n)
 
-pub line_place : (c : LineContext) (ls us : List Lexeme) (w : List ℕ) (k : Keyword) (f : Fault) → word_of ls ≡ Ok w → keyword_of w ≡ Some k → drop 1 ls ≡ us →
+pub line_place : (c : LineContext) (ls us : List Lexeme) (w : List ℕ) (k : Keyword) (f : LineFault) → word_of ls ≡ Ok w → keyword_of w ≡ Some k → drop 1 ls ≡ us →
     placement_cause c w us k ≡ Some (cause_of f) → IsFault f (λ y. ReadsLine c ls (Err y))
 line_place c ls us w k f e g d p n = rw (e, g, d, p) refl
 
 -- something is left after an expression
-pub whole_more : (condition : Option SymId) (old names : List (List ℕ)) (ts rest : List Lexeme) (e : Form) (f : Fault) → IsFront condition old names ts rest e →
+pub whole_more : (condition : Option SymId) (old names : List (List ℕ)) (ts rest : List Lexeme) (e : Form) (f : LineFault) → IsFront condition old names ts rest e →
     IsMore rest → cause_of f ≡ syntax_cause → IsFault f (WholeFault ts)
 whole_more condition old names ts rest e f i more c n = inr (front i.tree rest, i.starts, more, c)
 
 -- the condition after a value is refused
 pub value_fault : (make : Disjunction → Option Disjunction → Named) (condition : Option SymId) (old names : List (List ℕ)) (ts rest : List Lexeme) (e : Form)
-    (f : Fault) → IsFront condition old names ts rest e → IsFault f (ConditionFault rest) → IsFault f (λ c. ReadsValue make ts (Err c))
+    (f : LineFault) → IsFront condition old names ts rest e → IsFault f (ConditionFault rest) → IsFault f (λ c. ReadsValue make ts (Err c))
 value_fault make condition old names ts rest e f i h n = inr (front i.tree rest, i.starts, h n)

@@ -21,7 +21,7 @@ use Rattle.kc_read.specs.Lines.{LineContext, Cause, cause}
 use Rattle.kc_read.specs.Progress.{HasAdvanced, IsNextRead, IsReading, IsStatementRead, IsEnded, IsFileRead, IsOpenAtEnd, IsProgress, IsRestRefusal, IsState, IsTaken, limit_view, open_names}
 use Rattle.kc_read.specs.StatementViews.{statement_view}
 use Rattle.kc_read.specs.LineReads.{IsMade, cause_of}
-use Rattle.kc_read.specs.declared.statement.Fault.{Fault}
+use Rattle.kc_read.specs.declared.statement.LineFault.{LineFault}
 use Rattle.kc_read.specs.Statements.{Located, Named, SourceLine}
 use Rattle.kc_read.specs.RefusalView.{refusal_view}
 use Rattle.kc_read.specs.NextStep.{IsStepRefusal, StepFault}
@@ -207,7 +207,7 @@ pub statement_passed : (files : Files) (first : List (List ℕ)) (modules : Opti
 statement_passed files first modules names a l m own log p f r e is h = let q = err_from_is_err_and r is in rw (q.1, q.2) h
 
 -- a cause that is not being out of memory
-pub no_memory : (r : Refusal) (f : Fault) (file : List ℕ) (line : ℕ) → r.code ≢ code.Memory → (r.code ≢ code.Memory → refusal_view r ≡ refused (cause_of f) file line) → f.code ≢ code.Memory
+pub no_memory : (r : Refusal) (f : LineFault) (file : List ℕ) (line : ℕ) → r.code ≢ code.Memory → (r.code ≢ code.Memory → refusal_view r ≡ refused (cause_of f) file line) → f.code ≢ code.Memory
 no_memory r f file line ne view e = ne (ap (λ v. v.code) (view ne) ∙ e)
 
 -- what was put at the end is taken away again

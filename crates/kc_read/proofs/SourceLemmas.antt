@@ -1,5 +1,5 @@
 -- The names of a file's `source` lines, one line after another.
-use Rattle.std.proofs.Common.{IfOk, ◌⊎◌, inl, inr, ◌≡◌, ◌≢◌, ℕ, ◌<◌, Bool, true, false, cond, List, [], ◌∷◌, ◌++◌, map, length, drop, codes, Option, Some, None, MatchOption, Result, Ok, Err, refl, sym, ap, ◌∙◌, subst, append_assoc}
+use Rattle.std.proofs.Common.{IfOk, ◌≡◌, ◌≢◌, ℕ, ◌<◌, Bool, true, cond, List, [], ◌∷◌, ◌++◌, map, length, drop, codes, Option, Some, None, MatchOption, Result, Ok, Err, refl, sym, ap, ◌∙◌, subst, append_assoc}
 use Rattle.kc_text.specs.declared.faults.TextFault.{TextFault}
 use Rattle.kc_text.specs.declared.faults.TextFault.TheVariants as fault
 use Rattle.kc_text.specs.declared.tokens.Token.{Token}
@@ -11,9 +11,7 @@ use Rattle.kc_read.specs.Lines.{Cause, ReadsSource, begins_with}
 use Rattle.kc_read.specs.Sources.{HasMoreLines, SourceNames, IsFound}
 use Rattle.kc_read.specs.Statements.{SourceLine}
 use Rattle.kc_read.proofs.FrontLemmas.{after_one}
-use Rattle.kc_read.proofs.StepLemmas.{lexemes-token_views, left_help, left_other}
-use Rattle.kc_text.specs.Help.{Drops, after_help}
-use Rattle.kc_text.specs.Lexemes.{Lexeme}
+use Rattle.kc_read.proofs.StepLemmas.{lexemes-token_views}
 use Rattle.std.specs.declared.alloc.AllocError.{AllocError}
 use Rattle.kc_read.proofs.ListLemmas.{map-push}
 use Rattle.kc_read.proofs.RestLemmas.{next_clear, next_less}
@@ -107,9 +105,3 @@ pub ended_found : (P : NextSource → Type 0) (r : Result NextSource AllocError)
     (why ≢ fault.Memory → P found.Nothing) → IfOk r P
 ended_found P (Ok f) why h names = subst P (sym h.0) (names h.1)
 ended_found P (Err e) why h names = h
-
--- the line after a line that is taken
-pub left_of : (ls : List Lexeme) (b : Bool) (mid new : UnreadLines) → mid.refusal ≡ None → b ≡ is_help ls →
-    ((b ≡ true) × Drops mid new (after_help mid.lines)) ⊎ ((b ≡ false) × (new ≡ mid)) → new ≡ cond (is_help ls) (without_help mid) mid
-left_of ls b mid new clear e (inl h) = left_help ls mid new (sym e ∙ h.0) h.1
-left_of ls b mid new clear e (inr h) = left_other ls mid new (sym e ∙ h.0) h.1

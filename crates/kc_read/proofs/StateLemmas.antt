@@ -15,7 +15,7 @@ use Rattle.kc_read.specs.declared.statement.Statement.{Statement}
 use Rattle.kc_read.specs.Blocks.{bracket, definitions, entry_of, is_attribute, is_modules, is_no_attribute, last_of, last_no_attribute, modules_of, defined_name, open_blocks}
 use Rattle.kc_read.specs.Progress.{name_after}
 use Rattle.kc_read.proofs.ModulesLemmas.{modules_after, modules_same}
-use Rattle.kc_read.specs.Expansion.{FileContext, Log, Rest, context_of, limit_cause, nesting_cause, defined, inside, is_choice, lines_of, logged, with_file, statements, with_line, Expands, Refused, bytes_cause, nothing_read, refused, root_context}
+use Rattle.kc_read.specs.Expansion.{FileContext, Log, Rest, context_of, limit_cause, nesting_cause, defined, inside, is_choice, lines_of, logged, with_file, with_line, Expands, Refused, bytes_cause, nothing_read, refused, root_context}
 use Rattle.kc_read.specs.Files.{Files}
 use Rattle.kc_read.specs.Lines.{LineContext, Cause}
 use Rattle.kc_text.specs.Lines.{unread_lines}
@@ -24,7 +24,7 @@ use Rattle.kc_read.specs.Progress.{limit_view, IsEntered, IsFrame, IsSourcedFram
 use Rattle.kc_read.specs.Expanded.{IsNamed}
 use Rattle.kc_read.specs.StatementViews.{line_view, statement_view}
 use Rattle.kc_read.specs.LineReads.{IsMade}
-use Rattle.kc_read.specs.Statements.{Numbered, Located, Named, names_in_statement}
+use Rattle.kc_read.specs.Statements.{Numbered, Located, Named, names_in_statement, statements}
 use Rattle.kc_read.proofs.BlockLemmas.{blocks_of_openers, openers_push}
 use Rattle.kc_read.proofs.ListLemmas.{last_of-map, last_of-push, list_any-map, map-push}
 use Rattle.kc_read.proofs.NameLemmas.{defining_same, match_same, named_if, named_later, named_or, numbers_after}

@@ -9,7 +9,7 @@ use Rattle.kc_text.specs.Tokens.{TokenView, IsCut, IsCutting, IsRefused}
 use Rattle.kc_read.specs.declared.refusal.Refusal.{Refusal}
 use Rattle.kc_read.specs.declared.refusal.Code.TheVariants as code
 use Rattle.kc_read.specs.Statements.{Named}
-use Rattle.kc_read.specs.declared.statement.Fault.{Fault}
+use Rattle.kc_read.specs.declared.statement.LineFault.{LineFault}
 use Rattle.kc_read.specs.LineReads.{IsFault, cause_of}
 use Rattle.kc_read.specs.RefusalView.{refusal_view}
 use Rattle.kc_read.specs.NextStep.{IsStepRefusal, StepFault, too_long, no_tokens, refused_line}
@@ -83,7 +83,7 @@ next_statement c old mid new text (x ∷ xs) r t k some reads e = record {
   reads = subst (λ ls. ReadsLine c ls r) (sym (lexemes-token_views (x ∷ xs))) reads;
 }
 
-pub read_refused : (file : List ℕ) (c : LineContext) (old mid new : UnreadLines) (text : List ℕ) (ts : List Token) (f : Fault) (r : Refusal) (line : ℕ) →
+pub read_refused : (file : List ℕ) (c : LineContext) (old mid new : UnreadLines) (text : List ℕ) (ts : List Token) (f : LineFault) (r : Refusal) (line : ℕ) →
     TakesLine old mid text → IsCutting text (token_views ts) → ts ≢ [] → new ≡ cond (is_help (lexemes (token_views ts))) (without_help mid) mid →
     IsFault f (λ y. ReadsLine c (lexemes_from ts 0) (Err y)) → line ≡ old.number → (r.code ≢ code.Memory → refusal_view r ≡ refused (cause_of f) file line) →
     IsStepRefusal file c old r

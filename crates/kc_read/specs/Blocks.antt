@@ -13,7 +13,8 @@ pub data Bracket : Type 0 where
   Closes : Bracket
   NoBracket : Bracket
 
--- the numbers below n
+-- The numbers below n: std's `range_with_len 0 n`, made from its end, as a walk along statements goes from one number to the
+-- next.
 abbrev pub numbers : ℕ → List ℕ
 numbers zero = []
 numbers (suc n) = numbers n ++ n ∷ []
@@ -136,8 +137,9 @@ module _ {E L S : Type 0} where
   has_modules_line [] = false
   has_modules_line (s ∷ ss) = if is_modules s then true else (if is_some (defined_name s) then false else has_modules_line ss)
 
-  -- The modules symbol's name, that of the last `config` line before the first `modules` line: of the first `config` line
-  -- that a `modules` line follows before the next `config` line.
+  -- The modules symbol's name: that of the first `config` line that a `modules` line follows before the next `config` line. In
+  -- what the grammar gives, where no `modules` line stands before the first `config` line, it is the last `config` line before
+  -- the first `modules` line.
   abbrev pub modules_of : List (Statement E L S) → Option S
   modules_of [] = None
   modules_of (s ∷ ss) = option_or (if has_modules_line ss then defined_name s else None) (modules_of ss)

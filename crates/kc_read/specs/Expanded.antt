@@ -5,10 +5,10 @@ use Rattle.kc_expr.specs.declared.expression.SymId.{SymId}
 use Rattle.kc_expr.specs.Names.{all_mentioned, symbol, IsNumber}
 use Rattle.kc_read.specs.declared.expansion.Expansion.{Expansion}
 use Rattle.kc_read.specs.Blocks.{modules_of}
-use Rattle.kc_read.specs.Expansion.{Log, statements, defined}
+use Rattle.kc_read.specs.Expansion.{Log, defined}
 use Rattle.kc_read.specs.Numbering.{located_numbered}
 use Rattle.kc_read.specs.StatementViews.{ForLater, line_view}
-use Rattle.kc_read.specs.Statements.{names_in_statement}
+use Rattle.kc_read.specs.Statements.{names_in_statement, statements}
 
 -- the number of a name, where there is a name
 abbrev pub IsNamed : List (List ℕ) → Option SymId → Option (List ℕ) → Type 0

@@ -1,5 +1,5 @@
 -- Trusted: The expanded list: the statements of a file, with those of a sourced file in place of its `source` line.
-use Rattle.std.specs.Prelude.{◌≡◌, ◌≢◌, ℕ, ◌+◌, ◌-◌, List, [], ◌∷◌, ◌++◌, length, map, Bool, true, false, ◌||◌, nat_le, nat_lt, codes, Option, Some, None, Result, Ok, Err, if◌then◌else◌, MatchOption}
+use Rattle.std.specs.Prelude.{◌≡◌, ◌≢◌, ℕ, ◌+◌, ◌-◌, List, [], ◌∷◌, ◌++◌, length, map, Bool, true, false, ◌||◌, nat_le, nat_lt, Option, Some, None, Result, Ok, Err, if◌then◌else◌, MatchOption}
 use Rattle.std.specs.List.{list_any}
 use Rattle.kc_expr.specs.Limits.{most_symbols}
 use Rattle.kc_read.specs.Limits.{most_blocks, most_files, most_lines}
@@ -15,8 +15,8 @@ use Rattle.kc_read.specs.declared.refusal.Code.TheVariants as code
 use Rattle.kc_read.specs.declared.statement.Block.{Block}
 use Rattle.kc_read.specs.declared.statement.Block.TheVariants as block
 use Rattle.kc_read.specs.Files.{Files}
-use Rattle.kc_read.specs.Statements.{Statement, Named, Located, SourceLine, ConfigLine}
-use Rattle.kc_read.specs.Lines.{LineContext, Cause, cause, begins_with, ReadsLine}
+use Rattle.kc_read.specs.Statements.{Statement, Named, Located, SourceLine, ConfigLine, statements}
+use Rattle.kc_read.specs.Lines.{LineContext, Cause, cause, begins_with, help_word, old_help_word, ReadsLine}
 use Rattle.kc_read.specs.Blocks.{Bracket, Opens, Closes, NoBracket, bracket, open_blocks, open_places, last_of, last_no_attribute, entry_of, modules_of, definitions}
 
 -- a refusal and its location
@@ -38,9 +38,6 @@ pub record FileContext : Type 0 where
 pub record Log : Type 0 where
   pub lines : List (Located Named)
   pub total_lines : ℕ
-
-abbrev pub statements : List (Located Named) → List Named
-statements = map (λ l. l.statement)
 
 abbrev pub is_choice : Block → Bool
 is_choice block.Choice = true
@@ -125,7 +122,7 @@ abbrev pub lexemes : List TokenView → List Lexeme
 lexemes = map (λ t. t.lexeme)
 
 abbrev pub is_help : List Lexeme → Bool
-is_help ts = begins_with (codes "help") ts || begins_with (codes "---help---") ts
+is_help ts = begins_with help_word ts || begins_with old_help_word ts
 
 -- the next logical line is cut into these tokens; m is left after it, help lines aside
 pub record NextLine (l m : UnreadLines) (ts : List TokenView) (out : Option TextFault) : Type 0 where

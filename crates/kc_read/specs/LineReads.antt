@@ -8,7 +8,7 @@ use Rattle.kc_text.specs.Escapes.{unescape}
 use Rattle.kc_text.specs.Lexemes.{Lexeme, lexeme}
 use Rattle.kc_text.specs.declared.tokens.Token.{Token}
 use Rattle.kc_read.specs.declared.refusal.Code.TheVariants as code
-use Rattle.kc_read.specs.declared.statement.Fault.{Fault}
+use Rattle.kc_read.specs.declared.statement.LineFault.{LineFault}
 use Rattle.kc_read.specs.declared.statement.Statement.{Statement}
 use Rattle.kc_read.specs.Statements.{Named, numbered, names_in_statement, names_in_condition}
 use Rattle.kc_read.specs.Lines.{Cause, front, StartsExpression, IsWhole, IsCondition}
@@ -16,11 +16,11 @@ use Rattle.kc_text.specs.declared.tokens.TokenKind.{TokenKind}
 use Rattle.kc_read.specs.StatementViews.{ForLater, statement_view}
 
 -- what a refusal of a line says, unless memory ran out
-abbrev pub cause_of : Fault → Cause
+abbrev pub cause_of : LineFault → Cause
 cause_of f = record { code = f.code; detail = f.detail.now }
 
 -- memory ran out, or the line is refused for this cause
-abbrev pub IsFault : Fault → (Cause → Type 0) → Type 0
+abbrev pub IsFault : LineFault → (Cause → Type 0) → Type 0
 IsFault f P = f.code ≢ code.Memory → P (cause_of f)
 
 -- the token at a place, if there is one
@@ -34,7 +34,7 @@ unquoted_text true t = unescape t
 unquoted_text false t = t
 
 -- a part that is one token was read, or refused
-abbrev pub IsPart : {A B : Type 0} → Result B Cause → (A → B) → Result A Fault → Type 0
+abbrev pub IsPart : {A B : Type 0} → Result B Cause → (A → B) → Result A LineFault → Type 0
 IsPart part view (Ok a) = part ≡ Ok (view a)
 IsPart part view (Err f) = IsFault f (λ c. part ≡ Err c)
 
@@ -44,7 +44,7 @@ pub record IsMade (modules : Option SymId) (old names : List (List ℕ)) (s : St
   pub form : ForLater names (λ number. statement_view s ≡ numbered modules number x)
 
 -- the line's statement was read, or refused
-abbrev pub IsRead : Option SymId → List (List ℕ) → List (List ℕ) → (Result Named Cause → Type 0) → Result Statement Fault → Type 0
+abbrev pub IsRead : Option SymId → List (List ℕ) → List (List ℕ) → (Result Named Cause → Type 0) → Result Statement LineFault → Type 0
 IsRead modules old names Reads (Ok s) = (x : Named) × Reads (Ok x) × IsMade modules old names s x
 IsRead modules old names Reads (Err f) = IsFault f (λ c. Reads (Err c))
 

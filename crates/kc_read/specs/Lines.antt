@@ -44,15 +44,29 @@ abbrev pub keyword_in : List (List ℕ × Keyword) → List ℕ → Option Keywo
 keyword_in [] w = None
 keyword_in (k ∷ more) w = if same_name w k.0 then Some k.1 else keyword_in more w
 
+-- words that more than the table of words speaks of; `if` stands with the grammar of expressions
+abbrev pub source_word : List ℕ
+source_word = codes "source"
+
+abbrev pub modules_word : List ℕ
+modules_word = codes "modules"
+
+abbrev pub help_word : List ℕ
+help_word = codes "help"
+
+-- the older spelling of `help`
+abbrev pub old_help_word : List ℕ
+old_help_word = codes "---help---"
+
 -- the words that begin a line: of blocks and entries
 abbrev pub block_words : List (List ℕ × Keyword)
 block_words =
     (codes "config", key.Config) ∷
     (codes "menuconfig", key.Config) ∷
-    (codes "if", key.If) ∷
+    (if_word, key.If) ∷
     (codes "endif", key.EndIf) ∷
     (codes "comment", key.Comment) ∷
-    (codes "source", key.Source) ∷
+    (source_word, key.Source) ∷
     (codes "menu", key.Menu) ∷
     (codes "endmenu", key.EndMenu) ∷
     (codes "choice", key.Choice) ∷
@@ -77,15 +91,15 @@ abbrev pub attribute_words : List (List ℕ × Keyword)
 attribute_words =
     (codes "default", key.Default) ∷
     (codes "depends", key.Depends) ∷
-    (codes "help", key.Help) ∷
+    (help_word, key.Help) ∷
     (codes "select", key.Select) ∷
     (codes "prompt", key.Prompt) ∷
     (codes "imply", key.Imply) ∷
     (codes "range", key.Range) ∷
     (codes "visible", key.Visible) ∷
-    (codes "modules", key.Modules) ∷
+    (modules_word, key.Modules) ∷
     (codes "option", key.«Option») ∷
-    (codes "---help---", key.Help) ∷
+    (old_help_word, key.Help) ∷
     []
 
 -- of what is left out
@@ -119,11 +133,12 @@ pub record LineContext : Type 0 where
   pub in_choice : Bool
   pub modules : Bool
 
-abbrev pub closes : Block → Option Block → Option Cause
-closes block.If (Some block.If) = None
-closes block.Menu (Some block.Menu) = None
-closes block.Choice (Some block.Choice) = None
-closes b _ = Some (cause code.Block)
+-- a closer closes the innermost open block of its file
+abbrev pub closing_cause : Block → Option Block → Option Cause
+closing_cause block.If (Some block.If) = None
+closing_cause block.Menu (Some block.Menu) = None
+closing_cause block.Choice (Some block.Choice) = None
+closing_cause b _ = Some (cause code.Block)
 
 abbrev pub unless_placed : Bool → Option Cause
 unless_placed true = None
@@ -174,13 +189,13 @@ begins_with w (AnOp o ∷ ts) = false
 abbrev pub placement_cause : LineContext → List ℕ → List Lexeme → Keyword → Option Cause
 placement_cause c w ts key.Config = None
 placement_cause c w ts key.If = None
-placement_cause c w ts key.EndIf = closes block.If c.own
+placement_cause c w ts key.EndIf = closing_cause block.If c.own
 placement_cause c w ts key.Comment = None
 placement_cause c w ts key.Source = None
 placement_cause c w ts key.Menu = unless_placed (not c.in_choice)
-placement_cause c w ts key.EndMenu = closes block.Menu c.own
+placement_cause c w ts key.EndMenu = closing_cause block.Menu c.own
 placement_cause c w ts key.Choice = unless_placed (not c.in_choice)
-placement_cause c w ts key.EndChoice = closes block.Choice c.own
+placement_cause c w ts key.EndChoice = closing_cause block.Choice c.own
 placement_cause c w ts key.MainMenu = unless_placed (not c.in_choice)
 placement_cause c w ts (key.Type k) = type_placement c.entry k
 placement_cause c w ts key.Prompt = unless_placed (is_config c.entry || is_choice c.entry)
@@ -193,7 +208,7 @@ placement_cause c w ts key.Imply = unless_placed (is_config c.entry)
 placement_cause c w ts key.Range = unless_placed (is_config c.entry)
 placement_cause c w ts key.Help = unless_placed (is_config c.entry || is_choice c.entry)
 placement_cause c w ts key.Modules = unless_placed (is_config c.entry && c.modules)
-placement_cause c w ts key.«Option» = if begins_with (codes "modules") ts then unless_placed (is_config c.entry && c.modules) else unless_placed (is_config c.entry)
+placement_cause c w ts key.«Option» = if begins_with modules_word ts then unless_placed (is_config c.entry && c.modules) else unless_placed (is_config c.entry)
 placement_cause c w ts key.LeftOut = Some (left_out w)
 
 -- Parts of a line.
@@ -346,7 +361,7 @@ ReadsRange ts = After (operand_of ts) (λ a. After (operand_of (drop 1 ts)) (λ 
 
 abbrev pub option_line : List Lexeme → Result Named Cause
 option_line ts =
-    if begins_with (codes "modules") ts then finish ModulesLine (drop 1 ts)
+    if begins_with modules_word ts then finish ModulesLine (drop 1 ts)
     else if begins_with (codes "allnoconfig_y") ts then finish IgnoredLine (drop 1 ts)
     else if begins_with (codes "env") ts then Err (left_out (codes "option env"))
     else if begins_with (codes "defconfig_list") ts then Err (left_out (codes "option defconfig_list"))

@@ -4,8 +4,8 @@ use Rattle.std.specs.List.{flat_map}
 use Rattle.kc_expr.specs.declared.expression.SymId.{SymId}
 use Rattle.kc_expr.specs.Names.{symbol, number_of, all_mentioned}
 use Rattle.kc_read.specs.Blocks.{modules_of}
-use Rattle.kc_read.specs.Expansion.{statements, defined}
-use Rattle.kc_read.specs.Statements.{Named, Numbered, Located, numbered, names_in_statement}
+use Rattle.kc_read.specs.Expansion.{defined}
+use Rattle.kc_read.specs.Statements.{Named, Numbered, Located, numbered, names_in_statement, statements}
 
 -- the name of the modules symbol
 abbrev pub modules_name : List Named → List ℕ

@@ -1,5 +1,5 @@
 -- For proofs: What the reader of files remembers of what it has read.
-use Rattle.std.specs.Prelude.{◌≡◌, ◌≢◌, ℕ, ◌+◌, ◌≤◌, List, [], ◌∷◌, ◌++◌, map, length, Bool, true, false, Option, Some, None, Result, Ok, Err, option_map, slice_get, take, ◌-◌, ◌==◌, ◌||◌, if◌then◌else◌, nat_lt, ⊤}
+use Rattle.std.specs.Prelude.{◌≡◌, ◌≢◌, ℕ, ◌+◌, ◌≤◌, List, [], ◌∷◌, ◌++◌, map, length, Bool, true, false, Option, Some, None, Result, Ok, Err, option_map, slice_get, take, ◌-◌, ◌||◌, if◌then◌else◌, nat_lt, ⊤}
 use Rattle.std.specs.List.{filter_map, flat_map, list_any}
 use Rattle.std.specs.Option.{option_or}
 use Rattle.std.specs.declared.alloc.Global.{Global}
@@ -9,7 +9,7 @@ use Rattle.kc_expr.specs.Limits.{most_symbols}
 use Rattle.kc_read.specs.Limits.{most_blocks, most_files, most_lines}
 use Rattle.kc_text.specs.Lines.{UnreadLines}
 use Rattle.kc_expr.specs.declared.expression.SymId.{SymId}
-use Rattle.kc_expr.specs.Names.{all_mentioned, mention}
+use Rattle.kc_expr.specs.Names.{all_mentioned, mention, same_symbol}
 use Rattle.kc_expr.specs.Order.{ranked}
 use Rattle.kc_read.specs.declared.frame.Frame.{Frame}
 use Rattle.kc_read.specs.declared.progress.Progress.{Progress}
@@ -19,12 +19,12 @@ use Rattle.kc_read.specs.declared.statement.EntryKind.{EntryKind}
 use Rattle.kc_read.specs.declared.statement.EntryKind.TheVariants as entry
 use Rattle.kc_read.specs.declared.statement.OpenBlock.{OpenBlock}
 use Rattle.kc_read.specs.Blocks.{Bracket, Opens, Closes, NoBracket, bracket, opened, open_places, last_of, last_no_attribute, entry_of, is_attribute, definitions, modules_of, defined_name, is_modules}
-use Rattle.kc_read.specs.Expansion.{FileContext, Log, Refused, Rest, statements, defined, is_choice, refused, symbol_cause, nesting_cause}
+use Rattle.kc_read.specs.Expansion.{FileContext, Log, Refused, Rest, defined, is_choice, refused, symbol_cause, nesting_cause}
 use Rattle.kc_read.specs.Lines.{LineContext, Cause, cause}
 use Rattle.kc_read.specs.Files.{Files}
 use Rattle.kc_read.specs.Numbering.{located_numbered}
 use Rattle.kc_read.specs.StatementViews.{ForLater, line_view}
-use Rattle.kc_read.specs.Statements.{Statement, Named, Numbered, Located, names_in_statement}
+use Rattle.kc_read.specs.Statements.{Statement, Named, Numbered, Located, names_in_statement, statements}
 use Rattle.kc_read.specs.RefusalView.{refusal_view}
 use Rattle.kc_read.specs.Expanded.{AreNumbers, IsNamed}
 
@@ -67,7 +67,7 @@ pub record IsFrame (a : FileContext) (own : List (Located Named)) (f : Frame) : 
 abbrev pub ids_match : Option SymId → Option SymId → Bool
 ids_match None now = true
 ids_match (Some i) None = false
-ids_match (Some i) (Some j) = i.0 == j.0
+ids_match (Some i) (Some j) = same_symbol i j
 
 -- the context of the next line of a file
 abbrev pub context_in : Frame → Progress → LineContext

@@ -1,7 +1,8 @@
 -- For proofs: Files in which no line can be a `source` line, as it is seen without cutting one into tokens.
-use Rattle.std.specs.Prelude.{◌≡◌, ℕ, ◌<◌, ◌⊎◌, List, [], ◌∷◌, ◌++◌, length, slice_index, IsTrue, codes}
+use Rattle.std.specs.Prelude.{◌≡◌, ℕ, ◌<◌, ◌⊎◌, List, [], ◌∷◌, ◌++◌, length, slice_index, IsTrue}
 use Rattle.kc_text.specs.Bytes.{byte}
 use Rattle.kc_text.specs.Lexemes.{is_blank}
+use Rattle.kc_read.specs.Lines.{source_word}
 
 -- nothing but blanks
 abbrev pub AreAllBlank : List ℕ → Type 0
@@ -21,7 +22,7 @@ EndsLine after = ((rest : List ℕ) × (after ≡ byte "\n" ∷ rest)) ⊎ ((res
 
 -- no line begins with `source`
 abbrev pub HasNoSource : List ℕ → Type 0
-HasNoSource file = (before after : List ℕ) → file ≡ before ++ codes "source" ++ after → BeginsLine before → ⊥
+HasNoSource file = (before after : List ℕ) → file ≡ before ++ source_word ++ after → BeginsLine before → ⊥
 
 -- no line ends with a `\`
 abbrev pub HasNoJoin : List ℕ → Type 0

@@ -33,6 +33,10 @@ pub record IsListOf (files : Files) (name : List ℕ) (list : List (Located Name
   pub owns : Owns name (unread_lines bytes 1) own
   pub replaces : Replaces files own list
 
+-- a file has at most one list
+abbrev pub OneListOf : Type 0
+OneListOf = (files : Files) (name : List ℕ) (list other : List (Located Named)) → IsListOf files name list → IsListOf files name other → list ≡ other
+
 -- the expanded list is the list of the root file
 abbrev pub ExpandedIsListOf : Type 0
 ExpandedIsListOf = (files : Files) (root : List ℕ) (log : Log) → Expands files root (Ok log) → IsListOf files root log.lines

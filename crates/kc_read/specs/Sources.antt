@@ -5,16 +5,16 @@ use Rattle.kc_text.specs.Tokens.{TokenView}
 use Rattle.kc_read.specs.declared.sources.NextSource.{NextSource}
 use Rattle.kc_read.specs.declared.sources.NextSource.TheVariants as found
 use Rattle.kc_read.specs.Expansion.{NextLine, lexemes}
-use Rattle.kc_read.specs.Lines.{ReadsSource, begins_with}
+use Rattle.kc_read.specs.Lines.{ReadsSource, begins_with, source_word}
 use Rattle.kc_read.specs.Statements.{SourceLine}
 
 -- the next line is no `source` line, and m is left after it
 abbrev pub IsOther : UnreadLines → UnreadLines → Type 0
-IsOther l m = (ts : List TokenView) × NextLine l m ts None × (begins_with (codes "source") (lexemes ts) ≡ false)
+IsOther l m = (ts : List TokenView) × NextLine l m ts None × (begins_with source_word (lexemes ts) ≡ false)
 
 -- the next line is a `source` line that names this file, and m is left after it
 abbrev pub IsSource : UnreadLines → UnreadLines → List ℕ → Type 0
-IsSource l m name = (ts : List TokenView) × NextLine l m ts None × (begins_with (codes "source") (lexemes ts) ≡ true) × ReadsSource (drop 1 (lexemes ts)) (Ok (SourceLine name))
+IsSource l m name = (ts : List TokenView) × NextLine l m ts None × (begins_with source_word (lexemes ts) ≡ true) × ReadsSource (drop 1 (lexemes ts)) (Ok (SourceLine name))
 
 -- from one place of a file to another along lines that are no `source` lines
 pub data Passes : UnreadLines → UnreadLines → Type 0 where
@@ -45,5 +45,5 @@ Holds text bytes = (before after : List ℕ) × (text ≡ before ++ bytes ++ aft
 
 -- neither the bytes of `source` nor a `\` stand in the text
 pub record IsSilent (text : List ℕ) : Type 0 where
-  pub no_word : Holds text (codes "source") → ⊥
+  pub no_word : Holds text source_word → ⊥
   pub no_backslash : Holds text (codes "\\") → ⊥

@@ -1,5 +1,5 @@
 -- Trusted: The statements of a Kconfig file.
-use Rattle.std.specs.Prelude.{ℕ, List, [], ◌∷◌, ◌++◌, Option, Some, None, option_map}
+use Rattle.std.specs.Prelude.{ℕ, List, [], ◌∷◌, ◌++◌, Option, Some, None, map, option_map}
 use Rattle.kc_expr.specs.declared.expression.SymId.{SymId}
 use Rattle.kc_expr.specs.declared.expression.Kind.{Kind}
 use Rattle.kc_expr.specs.Form.{Form, Leaf}
@@ -121,3 +121,7 @@ pub record Located (T : Type 0) : Type 0 where
   pub file : List ℕ
   pub line : ℕ
   pub statement : T
+
+-- the statements, without where they stand
+abbrev pub statements : {T : Type 0} → List (Located T) → List T
+statements = map (λ l. l.statement)

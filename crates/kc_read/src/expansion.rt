@@ -1,6 +1,6 @@
 //! The expanded list of a root file.
 
-ghost use Rattle.std.specs.Prelude.{◌≡◌, ◌≢◌, ◌≤◌, Err, IfErr, IfOk, Ok, OnOk};
+ghost use Rattle.std.specs.Prelude.{◌≡◌, ◌≢◌, ◌≤◌, Err, IfErr, IfOk, Ok};
 ghost use Rattle.kc_read.specs.Limits.{most_lines};
 ghost use Rattle.kc_expr.specs.Names.{Extends};
 ghost use Rattle.kc_read.specs.Expansion.{Expands, Log};
@@ -15,8 +15,8 @@ use crate::files::{Reader, open, read_file};
 use crate::frame::Frame;
 use crate::progress::Progress;
 use crate::refusal::Refusal;
-use crate::refuse::{memory, refuse};
-use crate::statement::{EntryKind, Fault, Line};
+use crate::refuse::refuse;
+use crate::statement::{EntryKind, Line, LineFault};
 use kc_expr::expression::SymId;
 use kc_expr::names::Names;
 use kc_expr::order::SymbolOrder;
@@ -37,7 +37,7 @@ fn begin(
     alloc: Global,
     root: &[u8],
     total_lines: usize,
-) -> Result<(Frame, Progress), Fault<'static>>
+) -> Result<(Frame, Progress), LineFault<'static>>
     requires { total_lines ≤ most_lines }
     ensures begun { IfOk result (λ r. IsBegun root.now total_lines r.0 r.1) }
     ensures shallow { IfOk result (λ r. IsShallow r.0) }
@@ -98,7 +98,7 @@ pub fn expand(
     };
     let (frame, mut progress) = match begin(alloc, root, total_lines) {
         Ok(begun) => begun,
-        Err(_) => return Err(memory(alloc)),
+        Err(_) => return Err(Refusal::out_of_memory(alloc)),
     };
     let reader = Reader {
         alloc,

@@ -1,6 +1,6 @@
 //! Reading a file, and the files that it sources.
 
-ghost use Rattle.std.specs.Prelude.{◌≡◌, ◌≢◌, ◌≤◌, ◌<◌, ◌+◌, ℕ, List, Option, [], ◌∷◌, ◌++◌, None, Some, Ok, Err, false, true, length, map, IfErr, IfOk, OnOk, IsTrue};
+ghost use Rattle.std.specs.Prelude.{◌≡◌, ◌≢◌, ◌≤◌, ◌<◌, ◌+◌, ℕ, List, [], None, Some, Ok, length, map, IfErr, IfOk, OnOk, IsTrue};
 ghost use Rattle.kc_read.specs.Limits.{most_files, most_lines};
 ghost use Rattle.kc_text.specs.Lines.{UnreadLines, unread_lines};
 ghost use Rattle.std.specs.List.{list_any};
@@ -20,18 +20,20 @@ use crate::frame::Frame;
 use crate::progress::Progress;
 use crate::reader::Position;
 use crate::refusal::{Code, Refusal};
-use crate::refuse::{memory, refuse};
-use crate::statement::{EntryKind, Fault, Line, Statement};
+use crate::refuse::refuse;
+use crate::statement::{EntryKind, Line, LineFault, Statement};
 use crate::step::{Step, next_step};
 use kc_expr::expression::SymId;
 use kc_expr::names::Names;
 use kc_text::{LogicalLines, Token, line_count};
-use std::alloc::{AllocError, Global};
+use std::alloc::Global;
 use std::rc::Rc;
 
-const MAX_LINES: usize = 1_000_000;
+/// The most physical lines that the files of a tree may have, each file counted as often as it is opened (our own limit).
+pub const MOST_LINES: usize = 1_000_000;
 
-const MAX_FILES: usize = 64;
+// The most files that may be open at once.
+const MOST_FILES: usize = 64;
 
 /// What stays the same while files are read: the files, and the modules symbol's number.
 #[derive(Drop)]
@@ -46,7 +48,7 @@ pub fn open<'a, 'b>(
     map: &'a FileMap,
     name: &'b [u8],
     total_lines: usize,
-) -> Result<(&'a [u8], usize), Fault<'b>>
+) -> Result<(&'a [u8], usize), LineFault<'b>>
     requires { total_lines ≤ most_lines }
     ensures bytes { IfOk result (λ r. bytes_in map.now name.now ≡ Some r.0.now) }
     ensures total_lines { IfOk result (λ r. (r.1 ≡ total_lines + spec.lines_of r.0.now) × (r.1 ≤ most_lines)) }
@@ -54,14 +56,14 @@ pub fn open<'a, 'b>(
     ensures fault { IfErr result (λ f. spec.bytes_cause name.now total_lines (bytes_in map.now name.now) ≡ Some (cause_of f)) }
 {
     let Some(bytes) = map.get(name) else {
-        return Err(Fault {
+        return Err(LineFault {
             code: Code::NoFile,
             detail: name,
         });
     };
     let lines = line_count(bytes);
-    if lines > MAX_LINES - total_lines {
-        return Err(Fault {
+    if lines > MOST_LINES - total_lines {
+        return Err(LineFault {
             code: Code::TooManyLines,
             detail: b"",
         });
@@ -88,7 +90,7 @@ fn open_source<'a, 'b>(
     map: &'a FileMap,
     name: &'b [u8],
     progress: &Progress,
-) -> Result<(&'a [u8], usize), Fault<'b>>
+) -> Result<(&'a [u8], usize), LineFault<'b>>
     requires { IsBounded progress.now }
     ensures bytes { IfOk result (λ r. bytes_in map.now name.now ≡ Some r.0.now) }
     ensures total_lines { IfOk result (λ r. (r.1 ≡ progress.now.total_lines + spec.lines_of r.0.now) × (r.1 ≤ most_lines)) }
@@ -97,13 +99,13 @@ fn open_source<'a, 'b>(
     ensures fault { IfErr result (λ f. sourcing_cause (bytes_in map.now) (open_names progress.now) progress.now.total_lines name.now ≡ Some (cause_of f)) }
 {
     if is_open(progress, name) {
-        return Err(Fault {
+        return Err(LineFault {
             code: Code::InclusionLoop,
             detail: name,
         });
     }
-    if progress.open_files.len() >= MAX_FILES {
-        return Err(Fault {
+    if progress.open_files.len() >= MOST_FILES {
+        return Err(LineFault {
             code: Code::TooDeep,
             detail: b"",
         });
@@ -117,7 +119,7 @@ fn take(
     line: u32,
     frame: &mut Frame,
     progress: &mut Progress,
-) -> Result<(), Fault<'static>>
+) -> Result<(), LineFault<'static>>
     requires shallow { IsShallow frame.old }
     requires bounded { IsBounded progress.old }
     ensures taken { OnOk result (IsTaken (statement_view statement) line frame.old frame.new progress.old progress.new) }
@@ -146,7 +148,7 @@ fn take(
         ),
         Err(error) => {
             drop(statement);
-            Err(Fault::from(error))
+            Err(LineFault::from(error))
         }
     }
 }
@@ -158,7 +160,7 @@ fn enter(
     total_lines: usize,
     frame: &Frame,
     progress: &mut Progress,
-) -> Result<Frame, Fault<'static>>
+) -> Result<Frame, LineFault<'static>>
     requires shallow { IsShallow frame.now }
     requires bounded { IsBounded progress.old }
     requires total_lines { total_lines ≤ most_lines }
@@ -189,7 +191,7 @@ fn end(alloc: Global, frame: &Frame) -> Result<(), Refusal>
 {
     match frame.innermost() {
         Some(opener) => {
-            let fault = Fault {
+            let fault = LineFault {
                 code: Code::Block,
                 detail: b"",
             };
@@ -327,7 +329,7 @@ fn source(
     };
     let inside = match enter(reader.alloc, name, total_lines, frame, progress) {
         Ok(inside) => inside,
-        Err(_) => return Err(memory(reader.alloc)),
+        Err(_) => return Err(Refusal::out_of_memory(reader.alloc)),
     };
     read_file(reader, bytes, inside, progress, names)?;
     progress.open_files.pop();

@@ -1,21 +1,19 @@
 //! What is known inside a file: the entry that goes on, and the blocks that are open.
 
-ghost use Rattle.std.specs.Prelude.{◌≡◌, ◌+◌, ◌≤◌, ◌||◌, IfErr, OnOk, None, Some, length, map, option_map};
+ghost use Rattle.std.specs.Prelude.{◌≡◌, ◌+◌, ◌||◌, IfErr, OnOk, None, Some, length, option_map};
 ghost use Rattle.std.specs.List.{list_any};
 ghost use Rattle.kc_read.specs.Blocks as blocks;
 ghost use Rattle.kc_read.specs.Expansion as expansion;
 ghost use Rattle.kc_read.specs.Progress.{IsShallow, open_blocks_after, entry_after};
 ghost use Rattle.kc_read.specs.StatementViews.{statement_view};
-ghost use Rattle.kc_read.specs.LineReads.{IsFault, cause_of};
-ghost use Rattle.kc_read.specs.Lines.{cause};
-ghost use Rattle.kc_read.specs.declared.refusal.Code.TheVariants.{TooDeep};
+ghost use Rattle.kc_read.specs.LineReads.{IsFault};
 
 use crate::refusal::Code;
-use crate::statement::{Block, EntryKind, Fault, OpenBlock, Statement};
+use crate::statement::{Block, EntryKind, LineFault, OpenBlock, Statement};
 use std::rc::Rc;
 
-/// How many blocks may be open at once.
-pub const MAX_BLOCKS: usize = 64;
+// The most blocks that may be open at once.
+const MOST_BLOCKS: usize = 64;
 
 /// What is known inside a file: its name, how many blocks are open in the files that source it and whether one of
 /// them is a choice, its own open blocks, the innermost last, and the entry that the next line may add to.
@@ -41,7 +39,7 @@ fn opened(statement: &Statement) -> Option<Block>
 }
 
 // Whether a statement closes a block.
-fn closes(statement: &Statement) -> bool
+fn is_closer(statement: &Statement) -> bool
     ensures { result ≡ blocks.is_closer (blocks.bracket (statement_view statement.now)) }
 {
     matches!(
@@ -101,7 +99,7 @@ impl Frame {
     }
 
     /// Takes a statement: a block is opened or closed, and the entry goes on or ends. The 65th open block is refused.
-    pub fn take(&mut self, statement: &Statement, line: u32) -> Result<(), Fault<'static>>
+    pub fn take(&mut self, statement: &Statement, line: u32) -> Result<(), LineFault<'static>>
         requires { IsShallow self.old }
         ensures blocks { OnOk result (self.new.blocks.items ≡ open_blocks_after (blocks.bracket (statement_view statement.now)) line self.old.blocks.items) }
         ensures entry { OnOk result (self.new.entry ≡ entry_after self.old.entry (statement_view statement.now)) }
@@ -111,15 +109,15 @@ impl Frame {
         ensures fault { IfErr result (λ f. IsFault f (λ c. expansion.nesting_cause (self.old.depth + length self.old.blocks.items) (blocks.bracket (statement_view statement.now)) ≡ Some c)) }
     {
         if let Some(block) = opened(statement) {
-            if self.depth + self.blocks.len() >= MAX_BLOCKS {
-                return Err(Fault {
+            if self.depth + self.blocks.len() >= MOST_BLOCKS {
+                return Err(LineFault {
                     code: Code::TooDeep,
                     detail: b"",
                 });
             }
             self.blocks.push(OpenBlock { block, line })?;
         }
-        if closes(statement) {
+        if is_closer(statement) {
             self.blocks.pop();
         }
         self.entry = entry_after(self.entry, statement);

@@ -1,12 +1,10 @@
 //! The words that begin a line.
 
-ghost use Rattle.std.specs.Prelude.{◌≡◌, Some, None, ◌<◌};
+ghost use Rattle.std.specs.Prelude.{◌≡◌};
 ghost use Rattle.kc_read.specs.Lines as spec;
-ghost use Rattle.std.specs.Prelude.{Option};
-ghost use Rattle.kc_expr.specs.declared.expression.SymId.{SymId};
 
-use crate::statement::{Keyword, Prompt};
-use kc_expr::expression::{Kind, SymId};
+use crate::statement::Keyword;
+use kc_expr::expression::Kind;
 
 // The words that begin statements.
 fn block_word(word: &[u8]) -> Option<Keyword>
@@ -120,7 +118,7 @@ fn left_out_word(word: &[u8]) -> Option<Keyword>
     }
 }
 
-// What a first word says. Most lines are attributes, so their words are looked at first.
+/// What a first word says. Most lines are attributes, so their words are looked at first.
 pub fn keyword_of(word: &[u8]) -> Option<Keyword>
     ensures { result ≡ spec.keyword_of word.now }
 {

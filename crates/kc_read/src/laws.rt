@@ -4,7 +4,7 @@ ghost use Rattle.kc_read.specs.Existing.{HasOneExpansion};
 ghost use Rattle.kc_read.specs.Expansion.{OneExpansion};
 ghost use Rattle.kc_read.specs.Lines.{OneStatement};
 ghost use Rattle.kc_read.specs.OpenedFiles.{AskedAreNamed, HasOneListOfNames};
-ghost use Rattle.kc_read.specs.Replaced.{ExpandedIsListOf};
+ghost use Rattle.kc_read.specs.Replaced.{ExpandedIsListOf, OneListOf};
 
 /// The law of statements: in each context the tokens of a line are one statement or are refused for one cause, and
 /// nothing else. It does nothing.
@@ -26,6 +26,11 @@ pub fn has_one_expansion()
 /// with its file and line, and in place of each `source` statement the list of the file that it names. It does nothing.
 pub fn expanded_is_list_of_root()
     ensures { ExpandedIsListOf }
+{}
+
+/// The law of lists: over any files a file has at most one list. It does nothing.
+pub fn one_list_of()
+    ensures { OneListOf }
 {}
 
 /// The law of sources: each file that an expansion opens after the root, and one that it asks for in vain, is among

@@ -19,6 +19,7 @@ mod step;
 
 pub use expansion::{Expansion, expand};
 pub use file_map::FileMap;
+pub use files::MOST_LINES;
 pub use refusal::{Code, Refusal};
 pub use sources::sources_of;
 pub use statement::Line;

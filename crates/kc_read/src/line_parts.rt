@@ -1,19 +1,17 @@
 //! The parts of a line: texts, names, operands and expressions.
 
-ghost use Rattle.std.specs.Prelude.{◌≡◌, ◌≤◌, ◌+◌, [], length, IfOk, IfErr, OnOk, option_map, false, Ok, Some, None, Err, IsTrue, ◌<◌};
+ghost use Rattle.std.specs.Prelude.{◌≡◌, ◌≤◌, [], length, IfOk, IfErr, OnOk, Err, IsTrue, ◌<◌};
 ghost use Rattle.kc_expr.specs.Form.{form_of, leaf_of};
 ghost use Rattle.kc_expr.specs.Grammar.{lexemes_from, if_word, is_tristate_constant};
 ghost use Rattle.kc_expr.specs.Names.{IsNumber, same_name, mention, Extends};
 ghost use Rattle.kc_read.specs.declared.refusal.Code.TheVariants.{Memory};
 ghost use Rattle.kc_read.specs.Lines as spec;
 ghost use Rattle.kc_read.specs.Lines.{syntax_cause, IsMore, ExpressionFault, WholeFault, ConditionFault};
-ghost use Rattle.std.specs.Prelude.{List, Option};
-ghost use Rattle.kc_expr.specs.declared.expression.SymId.{SymId};
 ghost use Rattle.kc_expr.specs.When.{when_view};
 ghost use Rattle.kc_read.specs.LineReads.{IsToken, IsFault, IsPart, IsFront, IsWholeForm, IsConditionForm, IsOperand, cause_of, unquoted_text};
 
 use crate::refusal::Code;
-use crate::statement::Fault;
+use crate::statement::LineFault;
 use kc_expr::expression::{Expr, Operand, SymId};
 use kc_expr::names::{Names, are_name_bytes};
 use kc_expr::parse::{ExprFault, parse};
@@ -23,9 +21,9 @@ use std::alloc::Global;
 use std::rc::Rc;
 
 // The most bytes of a symbol's name.
-const MAX_NAME: usize = 255;
+const LONGEST_NAME: usize = 255;
 
-// The token at a place, if there is one.
+/// The token at a place, if there is one.
 pub fn next<'a>(tokens: &[Token<'a>], at: usize) -> Option<TokenKind<'a>>
     ensures { IsToken result tokens.now at }
 {
@@ -36,7 +34,7 @@ pub fn next<'a>(tokens: &[Token<'a>], at: usize) -> Option<TokenKind<'a>>
     }
 }
 
-// Whether this word stands at a place.
+/// Whether this word stands at a place.
 pub fn begins_with(tokens: &[Token], at: usize, word: &[u8]) -> bool
     ensures word { result ≡ spec.begins_with word.now (lexemes_from tokens.now at) }
     ensures within { IsTrue result → at < length tokens.now }
@@ -47,31 +45,32 @@ pub fn begins_with(tokens: &[Token], at: usize, word: &[u8]) -> bool
     }
 }
 
-// The word `if`.
+/// The word `if`.
 pub fn is_if(word: &[u8]) -> bool
     ensures { result ≡ same_name word.now if_word }
 {
     word == b"if".as_slice()
 }
 
-// The words n, m and y.
+/// The words n, m and y.
 pub fn is_tristate_constant(word: &[u8]) -> bool
     ensures { result ≡ is_tristate_constant word.now }
 {
     tristate_constant(word).is_some()
 }
 
-pub fn syntax() -> Fault<'static>
+/// The refusal of a line that is no statement.
+pub fn syntax() -> LineFault<'static>
     ensures { cause_of result ≡ syntax_cause }
 {
-    Fault {
+    LineFault {
         code: Code::Syntax,
         detail: b"",
     }
 }
 
-// The line ends at a place.
-pub fn end<'a>(tokens: &[Token<'a>], at: usize) -> Result<(), Fault<'a>>
+/// The line ends at a place.
+pub fn end<'a>(tokens: &[Token<'a>], at: usize) -> Result<(), LineFault<'a>>
     ensures end { OnOk result (lexemes_from tokens.now at ≡ []) }
     ensures more { IfErr result (λ f. IsMore (lexemes_from tokens.now at) × (cause_of f ≡ syntax_cause)) }
 {
@@ -81,8 +80,8 @@ pub fn end<'a>(tokens: &[Token<'a>], at: usize) -> Result<(), Fault<'a>>
     }
 }
 
-// The word at a place.
-pub fn word_at<'a>(tokens: &[Token<'a>], at: usize) -> Result<&'a [u8], Fault<'a>>
+/// The word at a place.
+pub fn word_at<'a>(tokens: &[Token<'a>], at: usize) -> Result<&'a [u8], LineFault<'a>>
     ensures part { IsPart (spec.word_of (lexemes_from tokens.now at)) (λ w. w.now) result }
     ensures within { OnOk result (at < length tokens.now) }
 {
@@ -92,8 +91,8 @@ pub fn word_at<'a>(tokens: &[Token<'a>], at: usize) -> Result<&'a [u8], Fault<'a
     }
 }
 
-// The text at a place as it is written, and whether it is quoted.
-pub fn raw_text<'a>(tokens: &[Token<'a>], at: usize) -> Result<(&'a [u8], bool), Fault<'a>>
+/// The text at a place as it is written, and whether it is quoted.
+pub fn raw_text<'a>(tokens: &[Token<'a>], at: usize) -> Result<(&'a [u8], bool), LineFault<'a>>
     ensures part { IsPart (spec.text_of (lexemes_from tokens.now at)) (λ t. unquoted_text t.1 t.0.now) result }
     ensures within { OnOk result (at < length tokens.now) }
 {
@@ -109,8 +108,8 @@ pub fn raw_text<'a>(tokens: &[Token<'a>], at: usize) -> Result<(&'a [u8], bool),
     }
 }
 
-// The text at a place.
-pub fn text_at<'a>(alloc: Global, tokens: &[Token<'a>], at: usize) -> Result<Vec<u8>, Fault<'a>>
+/// The text at a place.
+pub fn text_at<'a>(alloc: Global, tokens: &[Token<'a>], at: usize) -> Result<Vec<u8>, LineFault<'a>>
     ensures part { IsPart (spec.text_of (lexemes_from tokens.now at)) (λ t. t.items) result }
     ensures within { OnOk result (at < length tokens.now) }
 {
@@ -123,8 +122,8 @@ pub fn text_at<'a>(alloc: Global, tokens: &[Token<'a>], at: usize) -> Result<Vec
     Ok(out)
 }
 
-// The name that a select or an imply names.
-pub fn target_at<'a>(tokens: &[Token<'a>], at: usize) -> Result<&'a [u8], Fault<'a>>
+/// The name that a select or an imply names.
+pub fn target_at<'a>(tokens: &[Token<'a>], at: usize) -> Result<&'a [u8], LineFault<'a>>
     ensures part { IsPart (spec.target_of (lexemes_from tokens.now at)) (λ w. w.now) result }
     ensures within { OnOk result (at < length tokens.now) }
 {
@@ -140,31 +139,32 @@ pub fn target_at<'a>(tokens: &[Token<'a>], at: usize) -> Result<&'a [u8], Fault<
     }
 }
 
-pub fn fault_of<'a>(fault: ExprFault) -> Fault<'a>
+/// The refusal of a line whose expression is refused.
+pub fn fault_of<'a>(fault: ExprFault) -> LineFault<'a>
     ensures code { result.code ≡ spec.code_of fault }
     ensures detail { result.detail.now ≡ [] }
 {
     match fault {
         ExprFault::Syntax => syntax(),
-        ExprFault::TooDeep => Fault {
+        ExprFault::TooDeep => LineFault {
             code: Code::TooDeep,
             detail: b"",
         },
-        ExprFault::Memory => Fault {
+        ExprFault::Memory => LineFault {
             code: Code::Memory,
             detail: b"",
         },
     }
 }
 
-// The expression at a place, and the place after it.
+/// The expression at a place, and the place after it.
 pub fn front<'a>(
     alloc: Global,
     tokens: &[Token<'a>],
     at: usize,
     condition: Option<SymId>,
     names: &mut Names,
-) -> Result<(Expr, usize), Fault<'a>>
+) -> Result<(Expr, usize), LineFault<'a>>
     requires { at ≤ length tokens.now }
     ensures front { IfOk result (λ r. IsFront condition names.old names.new (lexemes_from tokens.now at) (lexemes_from tokens.now r.1) (form_of r.0)) }
     ensures within { IfOk result (λ r. r.1 ≤ length tokens.now) }
@@ -177,14 +177,14 @@ pub fn front<'a>(
     }
 }
 
-// An expression up to the end of the line. It is shared with what is made of the line.
+/// An expression up to the end of the line. It is shared with what is made of the line.
 pub fn whole<'a>(
     alloc: Global,
     tokens: &[Token<'a>],
     at: usize,
     condition: Option<SymId>,
     names: &mut Names,
-) -> Result<Rc<Expr>, Fault<'a>>
+) -> Result<Rc<Expr>, LineFault<'a>>
     requires { at ≤ length tokens.now }
     ensures whole { IfOk result (λ e. IsWholeForm condition names.old names.new (lexemes_from tokens.now at) (form_of e.value)) }
     ensures fault { IfErr result (λ f. IsFault f (WholeFault (lexemes_from tokens.now at))) }
@@ -195,14 +195,14 @@ pub fn whole<'a>(
     Ok(Rc::new(alloc, expr)?)
 }
 
-// Nothing, or `if` and an expression, up to the end of the line.
+/// Nothing, or `if` and an expression, up to the end of the line.
 pub fn condition<'a>(
     alloc: Global,
     tokens: &[Token<'a>],
     at: usize,
     modules: Option<SymId>,
     names: &mut Names,
-) -> Result<Option<Rc<Expr>>, Fault<'a>>
+) -> Result<Option<Rc<Expr>>, LineFault<'a>>
     requires { at ≤ length tokens.now }
     ensures condition { IfOk result (λ e. IsConditionForm modules names.old names.new (lexemes_from tokens.now at) (when_view e)) }
     ensures fault { IfErr result (λ f. IsFault f (ConditionFault (lexemes_from tokens.now at))) }
@@ -216,8 +216,8 @@ pub fn condition<'a>(
     Ok(None)
 }
 
-// The number of a name, which stays its number.
-pub fn name_number<'a>(names: &mut Names, word: &[u8]) -> Result<SymId, Fault<'a>>
+/// The number of a name, which stays its number.
+pub fn name_number<'a>(names: &mut Names, word: &[u8]) -> Result<SymId, LineFault<'a>>
     ensures number { IfOk result (λ id. IsNumber names.new word.now id) }
     ensures mentions { OnOk result (names.new ≡ mention names.old word.now) }
     ensures memory { IfErr result (λ f. f.code ≡ Memory) }
@@ -227,13 +227,13 @@ pub fn name_number<'a>(names: &mut Names, word: &[u8]) -> Result<SymId, Fault<'a
     Ok(id)
 }
 
-// The operand at a place.
+/// The operand at a place.
 pub fn operand_at<'a>(
     alloc: Global,
     tokens: &[Token<'a>],
     at: usize,
     names: &mut Names,
-) -> Result<Operand, Fault<'a>>
+) -> Result<Operand, LineFault<'a>>
     ensures operand { IfOk result (λ o. IsOperand names.old names.new (spec.operand_of (lexemes_from tokens.now at)) (leaf_of o)) }
     ensures fault { IfErr result (λ f. IsFault f (λ c. spec.operand_of (lexemes_from tokens.now at) ≡ Err c)) }
     ensures within { OnOk result (at < length tokens.now) }
@@ -244,8 +244,8 @@ pub fn operand_at<'a>(
             if is_if(word) {
                 return Err(syntax());
             }
-            if let Some(letter) = tristate_constant(word) {
-                return Ok(Operand::TristateConstant(letter));
+            if let Some(constant) = tristate_constant(word) {
+                return Ok(Operand::TristateConstant(constant));
             }
             let id = name_number(names, word)?;
             Ok(Operand::Sym(id))
@@ -259,7 +259,7 @@ pub fn operand_at<'a>(
     }
 }
 
-// Whether a symbol may have the name.
+/// Whether a symbol may have the name.
 pub fn is_good_name(word: &[u8]) -> bool
     ensures { result ≡ spec.is_good_name word.now }
 {
@@ -267,10 +267,10 @@ pub fn is_good_name(word: &[u8]) -> bool
         return false;
     }
     let length = word.len();
-    1 <= length && length <= MAX_NAME && are_name_bytes(word)
+    1 <= length && length <= LONGEST_NAME && are_name_bytes(word)
 }
 
-// `*`, `?` or `[` stands in the text.
+/// `*`, `?` or `[` stands in the text.
 pub fn is_pattern(text: &[u8]) -> bool
     ensures { result ≡ spec.is_pattern text.now }
 {

@@ -1,37 +1,35 @@
 //! Whether a line stands in a right place.
 
-ghost use Rattle.std.specs.Prelude.{◌≡◌, option_map, false, Some, None, ◌<◌};
+ghost use Rattle.std.specs.Prelude.{◌≡◌, option_map};
 ghost use Rattle.kc_expr.specs.Grammar.{lexemes_from};
 ghost use Rattle.kc_read.specs.Lines as spec;
 ghost use Rattle.kc_read.specs.Lines.{placement_cause};
 ghost use Rattle.kc_read.specs.Progress.{context_in};
-ghost use Rattle.std.specs.Prelude.{Option};
-ghost use Rattle.kc_expr.specs.declared.expression.SymId.{SymId};
 ghost use Rattle.kc_read.specs.LineReads.{cause_of};
 
 use crate::frame::Frame;
 use crate::line_parts::begins_with;
 use crate::progress::Progress;
 use crate::refusal::Code;
-use crate::statement::{Block, EntryKind, Fault, Keyword, Prompt};
-use kc_expr::expression::{Kind, SymId};
+use crate::statement::{Block, EntryKind, Keyword, LineFault};
+use kc_expr::expression::Kind;
 use kc_text::Token;
 
-// What is wrong with the placement of a line.
+/// What is wrong with the placement of a line.
 pub fn placement_fault<'a>(
     frame: &Frame,
     progress: &Progress,
     word: &'a [u8],
     tokens: &[Token<'a>],
     keyword: Keyword,
-) -> Option<Fault<'a>>
+) -> Option<LineFault<'a>>
     ensures { option_map cause_of result ≡ placement_cause (context_in frame.now progress.now) word.now (lexemes_from tokens.now 1) keyword }
 {
     match keyword {
         Keyword::Config | Keyword::If | Keyword::Comment | Keyword::Source => None,
-        Keyword::EndIf => closes(Block::If, frame.own_block()),
-        Keyword::EndMenu => closes(Block::Menu, frame.own_block()),
-        Keyword::EndChoice => closes(Block::Choice, frame.own_block()),
+        Keyword::EndIf => closing_fault(Block::If, frame.own_block()),
+        Keyword::EndMenu => closing_fault(Block::Menu, frame.own_block()),
+        Keyword::EndChoice => closing_fault(Block::Choice, frame.own_block()),
         Keyword::Menu | Keyword::Choice | Keyword::MainMenu => unless_placed(!frame.is_in_choice()),
         Keyword::Type(kind) => type_placement(frame.entry, kind),
         Keyword::Prompt | Keyword::Default | Keyword::Help => unless_placed(matches!(
@@ -57,38 +55,39 @@ pub fn placement_fault<'a>(
     }
 }
 
-pub fn left_out(word: &[u8]) -> Fault<'_>
+/// The refusal of what is left out of the language: a word, or what `word` names.
+pub fn left_out(word: &[u8]) -> LineFault<'_>
     ensures { cause_of result ≡ spec.left_out word.now }
 {
-    Fault {
+    LineFault {
         code: Code::LeftOut,
         detail: word,
     }
 }
 
 // A misplaced line, unless it stands in a right place.
-fn unless_placed<'a>(placed: bool) -> Option<Fault<'a>>
+fn unless_placed<'a>(placed: bool) -> Option<LineFault<'a>>
     ensures { option_map cause_of result ≡ spec.unless_placed placed }
 {
     if placed {
         None
     } else {
-        Some(Fault {
+        Some(LineFault {
             code: Code::Misplaced,
             detail: b"",
         })
     }
 }
 
-// A closer closes the innermost block of its file.
-fn closes<'a>(block: Block, own: Option<Block>) -> Option<Fault<'a>>
-    ensures { option_map cause_of result ≡ spec.closes block own }
+// What is wrong with a closer: it closes the innermost open block of its file.
+fn closing_fault<'a>(block: Block, own: Option<Block>) -> Option<LineFault<'a>>
+    ensures { option_map cause_of result ≡ spec.closing_cause block own }
 {
     match (block, own) {
         (Block::If, Some(Block::If)) => None,
         (Block::Menu, Some(Block::Menu)) => None,
         (Block::Choice, Some(Block::Choice)) => None,
-        _ => Some(Fault {
+        _ => Some(LineFault {
             code: Code::Block,
             detail: b"",
         }),
@@ -96,7 +95,7 @@ fn closes<'a>(block: Block, own: Option<Block>) -> Option<Fault<'a>>
 }
 
 // A type may stand in a config, and in a choice bool alone.
-fn type_placement<'a>(entry: EntryKind, kind: Kind) -> Option<Fault<'a>>
+fn type_placement<'a>(entry: EntryKind, kind: Kind) -> Option<LineFault<'a>>
     ensures { option_map cause_of result ≡ spec.type_placement entry kind }
 {
     match (entry, kind) {

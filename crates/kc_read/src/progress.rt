@@ -1,21 +1,21 @@
 //! What is remembered of all files read so far.
 
-ghost use Rattle.std.specs.Prelude.{◌≡◌, ◌≤◌, IfErr, OnOk, [], ◌∷◌, ◌++◌, None, Some, false, true, length, nat_lt, nat_le, IfOk};
+ghost use Rattle.std.specs.Prelude.{◌≡◌, IfErr, OnOk, None, Some};
 ghost use Rattle.std.specs.Option.{option_or};
 ghost use Rattle.kc_expr.specs.Order.{ranked};
 ghost use Rattle.kc_read.specs.Progress.{defining_cause, ids_match, HasSymbolsWithin, IsRemembered, placing_cause};
 ghost use Rattle.kc_read.specs.StatementViews.{statement_view};
-ghost use Rattle.kc_read.specs.LineReads.{IsFault, cause_of};
-ghost use Rattle.kc_read.specs.declared.refusal.Code.TheVariants.{TooManySymbols};
+ghost use Rattle.kc_read.specs.LineReads.{IsFault};
 ghost use Rattle.kc_read.specs.Blocks.{defined_name};
 
 use crate::refusal::Code;
-use crate::statement::{Fault, Line, Statement};
+use crate::statement::{Line, LineFault, Statement};
 use kc_expr::expression::SymId;
 use kc_expr::order::SymbolOrder;
 use std::rc::Rc;
 
-const MAX_SYMBOLS: usize = 65535;
+// The most symbols that may be defined.
+const MOST_SYMBOLS: usize = 65535;
 
 /// What is remembered of all files read so far: their lines, the sum of their physical lines, the defined symbols in
 /// order of their first definition, the symbol defined last, the symbol of the first `modules` line, and the open
@@ -43,7 +43,7 @@ impl Progress {
     }
 
     // The symbol is defined. The 65,536th is refused.
-    fn define(&mut self, id: SymId) -> Result<(), Fault<'static>>
+    fn define(&mut self, id: SymId) -> Result<(), LineFault<'static>>
         requires { HasSymbolsWithin self.old }
         ensures defined { OnOk result (self.new.defined ≡ ranked self.old.defined id) }
         ensures config { OnOk result (self.new.config ≡ Some id) }
@@ -53,8 +53,8 @@ impl Progress {
         ensures fault { IfErr result (λ f. IsFault f (λ c. placing_cause self.old.defined id ≡ Some c)) }
     {
         let rank = self.defined.rank(id)?;
-        if rank.0 >= MAX_SYMBOLS {
-            return Err(Fault {
+        if rank.0 >= MOST_SYMBOLS {
+            return Err(LineFault {
                 code: Code::TooManySymbols,
                 detail: b"",
             });
@@ -75,7 +75,7 @@ impl Progress {
 
     /// Remembers a statement: a config line defines its symbol, of which the 65,536th is refused, and the first `modules`
     /// line is remembered.
-    pub fn remember(&mut self, statement: &Statement) -> Result<(), Fault<'static>>
+    pub fn remember(&mut self, statement: &Statement) -> Result<(), LineFault<'static>>
         requires { HasSymbolsWithin self.old }
         ensures seen { OnOk result (IsRemembered (statement_view statement.now) self.old self.new) }
         ensures within { OnOk result (HasSymbolsWithin self.new) }

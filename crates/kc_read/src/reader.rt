@@ -1,6 +1,6 @@
 //! Reads the statement of a line.
 
-ghost use Rattle.std.specs.Prelude.{◌≡◌, ◌≤◌, ℕ, length, IfOk, IfErr, Ok, Some, None, Err, ◌<◌};
+ghost use Rattle.std.specs.Prelude.{◌≡◌, ◌≤◌, ℕ, length, IfOk, IfErr, Ok, Some, Err};
 ghost use Rattle.kc_expr.specs.Grammar.{lexemes_from};
 ghost use Rattle.kc_expr.specs.Names.{Extends};
 ghost use Rattle.kc_read.specs.Lines as spec;
@@ -20,7 +20,7 @@ use crate::line_parts::{
 use crate::placement::{left_out, placement_fault};
 use crate::progress::Progress;
 use crate::refusal::Code;
-use crate::statement::{Bounds, Fault, Keyword, Prompt, Statement};
+use crate::statement::{Bounds, Keyword, LineFault, Prompt, Statement};
 use kc_expr::expression::{Kind, SymId};
 use kc_expr::names::Names;
 use kc_text::Token;
@@ -37,14 +37,14 @@ pub struct Position<'p> {
     pub progress: &'p Progress,
 }
 
-fn config_line<'a>(tokens: &[Token<'a>], names: &mut Names) -> Result<Statement, Fault<'a>>
+fn config_line<'a>(tokens: &[Token<'a>], names: &mut Names) -> Result<Statement, LineFault<'a>>
     ensures read { (modules : Option SymId) → IsRead modules names.old names.new (ReadsConfig (lexemes_from tokens.now 1)) result }
     ensures names { Extends names.old names.new }
 {
     let word = word_at(tokens, 1)?;
     end(tokens, 2)?;
     if !is_good_name(word) {
-        return Err(Fault {
+        return Err(LineFault {
             code: Code::BadName,
             detail: word,
         });
@@ -58,7 +58,7 @@ fn if_line<'a>(
     tokens: &[Token<'a>],
     modules: Option<SymId>,
     names: &mut Names,
-) -> Result<Statement, Fault<'a>>
+) -> Result<Statement, LineFault<'a>>
     requires { 1 ≤ length tokens.now }
     ensures read { IsRead modules names.old names.new (ReadsWhole IfLine (lexemes_from tokens.now 1)) result }
     ensures names { Extends names.old names.new }
@@ -67,7 +67,7 @@ fn if_line<'a>(
     Ok(Statement::If(when))
 }
 
-fn comment_line<'a>(alloc: Global, tokens: &[Token<'a>]) -> Result<Statement, Fault<'a>>
+fn comment_line<'a>(alloc: Global, tokens: &[Token<'a>]) -> Result<Statement, LineFault<'a>>
     ensures { (modules : Option SymId) (names : List (List ℕ)) → IsRead modules names names (ReadsTextLine CommentLine (lexemes_from tokens.now 1)) result }
 {
     let text = text_at(alloc, tokens, 1)?;
@@ -76,7 +76,7 @@ fn comment_line<'a>(alloc: Global, tokens: &[Token<'a>]) -> Result<Statement, Fa
 }
 
 /// The name in a `source` line.
-pub fn source_name<'a>(alloc: Global, tokens: &[Token<'a>]) -> Result<Vec<u8>, Fault<'a>>
+pub fn source_name<'a>(alloc: Global, tokens: &[Token<'a>]) -> Result<Vec<u8>, LineFault<'a>>
     ensures name { IfOk result (λ name. ReadsSource (lexemes_from tokens.now 1) (Ok (SourceLine name.items))) }
     ensures fault { IfErr result (λ f. IsFault f (λ c. ReadsSource (lexemes_from tokens.now 1) (Err c))) }
 {
@@ -88,7 +88,7 @@ pub fn source_name<'a>(alloc: Global, tokens: &[Token<'a>]) -> Result<Vec<u8>, F
     Ok(name)
 }
 
-fn source_line<'a>(alloc: Global, tokens: &[Token<'a>]) -> Result<Statement, Fault<'a>>
+fn source_line<'a>(alloc: Global, tokens: &[Token<'a>]) -> Result<Statement, LineFault<'a>>
     ensures { (modules : Option SymId) (names : List (List ℕ)) → IsRead modules names names (ReadsSource (lexemes_from tokens.now 1)) result }
 {
     let name = source_name(alloc, tokens)?;
@@ -100,7 +100,7 @@ fn default_line<'a>(
     tokens: &[Token<'a>],
     modules: Option<SymId>,
     names: &mut Names,
-) -> Result<Statement, Fault<'a>>
+) -> Result<Statement, LineFault<'a>>
     requires { 1 ≤ length tokens.now }
     ensures read { IsRead modules names.old names.new (ReadsValue DefaultLine (lexemes_from tokens.now 1)) result }
     ensures names { Extends names.old names.new }
@@ -115,7 +115,7 @@ fn prompt_line<'a>(
     tokens: &[Token<'a>],
     modules: Option<SymId>,
     names: &mut Names,
-) -> Result<Statement, Fault<'a>>
+) -> Result<Statement, LineFault<'a>>
     ensures read { IsRead modules names.old names.new (ReadsPrompt PromptLine (lexemes_from tokens.now 1)) result }
     ensures names { Extends names.old names.new }
 {
@@ -130,7 +130,7 @@ fn depends_line<'a>(
     tokens: &[Token<'a>],
     modules: Option<SymId>,
     names: &mut Names,
-) -> Result<Statement, Fault<'a>>
+) -> Result<Statement, LineFault<'a>>
     ensures read { IsRead modules names.old names.new (ReadsDepends (lexemes_from tokens.now 1)) result }
     ensures names { Extends names.old names.new }
 {
@@ -141,7 +141,7 @@ fn depends_line<'a>(
     Ok(Statement::Depends(when))
 }
 
-fn end_line<'a>(tokens: &[Token<'a>], statement: Statement) -> Result<Statement, Fault<'a>>
+fn end_line<'a>(tokens: &[Token<'a>], statement: Statement) -> Result<Statement, LineFault<'a>>
     ensures { (x : Named) (modules : Option SymId) (names : List (List ℕ)) → IsMade modules names names statement x → IsRead modules names names (λ r. r ≡ finish x (lexemes_from tokens.now 1)) result }
 {
     // The call drops the statement once, where `?` would write out the drop of every kind of it.
@@ -152,7 +152,7 @@ fn end_line<'a>(tokens: &[Token<'a>], statement: Statement) -> Result<Statement,
     Ok(statement)
 }
 
-fn choice_line<'a>(tokens: &[Token<'a>]) -> Result<Statement, Fault<'a>>
+fn choice_line<'a>(tokens: &[Token<'a>]) -> Result<Statement, LineFault<'a>>
     ensures { (modules : Option SymId) (names : List (List ℕ)) → IsRead modules names names (λ r. r ≡ spec.choice_line (lexemes_from tokens.now 1)) result }
 {
     match next(tokens, 1) {
@@ -166,7 +166,7 @@ fn select_line<'a>(
     tokens: &[Token<'a>],
     modules: Option<SymId>,
     names: &mut Names,
-) -> Result<Statement, Fault<'a>>
+) -> Result<Statement, LineFault<'a>>
     ensures read { IsRead modules names.old names.new (ReadsTarget SelectLine (lexemes_from tokens.now 1)) result }
     ensures names { Extends names.old names.new }
 {
@@ -181,7 +181,7 @@ fn range_line<'a>(
     tokens: &[Token<'a>],
     modules: Option<SymId>,
     names: &mut Names,
-) -> Result<Statement, Fault<'a>>
+) -> Result<Statement, LineFault<'a>>
     ensures read { IsRead modules names.old names.new (ReadsRange (lexemes_from tokens.now 1)) result }
     ensures names { Extends names.old names.new }
 {
@@ -192,7 +192,7 @@ fn range_line<'a>(
     Ok(Statement::Range(bounds, when))
 }
 
-fn option_line<'a>(tokens: &[Token<'a>]) -> Result<Statement, Fault<'a>>
+fn option_line<'a>(tokens: &[Token<'a>]) -> Result<Statement, LineFault<'a>>
     ensures { (modules : Option SymId) (names : List (List ℕ)) → IsRead modules names names (λ r. r ≡ spec.option_line (lexemes_from tokens.now 1)) result }
 {
     if begins_with(tokens, 1, b"modules") {
@@ -212,7 +212,7 @@ fn option_line<'a>(tokens: &[Token<'a>]) -> Result<Statement, Fault<'a>>
     Err(syntax())
 }
 
-fn menu_line<'a>(alloc: Global, tokens: &[Token<'a>]) -> Result<Statement, Fault<'a>>
+fn menu_line<'a>(alloc: Global, tokens: &[Token<'a>]) -> Result<Statement, LineFault<'a>>
     ensures { (modules : Option SymId) (names : List (List ℕ)) → IsRead modules names names (ReadsTextLine MenuLine (lexemes_from tokens.now 1)) result }
 {
     let text = text_at(alloc, tokens, 1)?;
@@ -220,7 +220,7 @@ fn menu_line<'a>(alloc: Global, tokens: &[Token<'a>]) -> Result<Statement, Fault
     Ok(Statement::Menu(text))
 }
 
-fn main_menu_line<'a>(alloc: Global, tokens: &[Token<'a>]) -> Result<Statement, Fault<'a>>
+fn main_menu_line<'a>(alloc: Global, tokens: &[Token<'a>]) -> Result<Statement, LineFault<'a>>
     ensures { (modules : Option SymId) (names : List (List ℕ)) → IsRead modules names names (ReadsTextLine MainMenuLine (lexemes_from tokens.now 1)) result }
 {
     let text = text_at(alloc, tokens, 1)?;
@@ -233,7 +233,7 @@ fn imply_line<'a>(
     tokens: &[Token<'a>],
     modules: Option<SymId>,
     names: &mut Names,
-) -> Result<Statement, Fault<'a>>
+) -> Result<Statement, LineFault<'a>>
     ensures read { IsRead modules names.old names.new (ReadsTarget ImplyLine (lexemes_from tokens.now 1)) result }
     ensures names { Extends names.old names.new }
 {
@@ -248,7 +248,7 @@ fn visible_line<'a>(
     tokens: &[Token<'a>],
     modules: Option<SymId>,
     names: &mut Names,
-) -> Result<Statement, Fault<'a>>
+) -> Result<Statement, LineFault<'a>>
     ensures read { IsRead modules names.old names.new (ReadsVisible (lexemes_from tokens.now 1)) result }
     ensures names { Extends names.old names.new }
 {
@@ -265,7 +265,7 @@ fn def_line<'a>(
     kind: Kind,
     modules: Option<SymId>,
     names: &mut Names,
-) -> Result<Statement, Fault<'a>>
+) -> Result<Statement, LineFault<'a>>
     requires { 1 ≤ length tokens.now }
     ensures read { IsRead modules names.old names.new (ReadsValue (DefLine kind) (lexemes_from tokens.now 1)) result }
     ensures names { Extends names.old names.new }
@@ -281,7 +281,7 @@ fn prompted_type<'a>(
     kind: Kind,
     modules: Option<SymId>,
     names: &mut Names,
-) -> Result<Statement, Fault<'a>>
+) -> Result<Statement, LineFault<'a>>
     ensures read { IsRead modules names.old names.new (ReadsPrompt (λ p. TypeLine kind (Some p)) (lexemes_from tokens.now 1)) result }
     ensures names { Extends names.old names.new }
 {
@@ -297,7 +297,7 @@ fn type_line<'a>(
     kind: Kind,
     modules: Option<SymId>,
     names: &mut Names,
-) -> Result<Statement, Fault<'a>>
+) -> Result<Statement, LineFault<'a>>
     ensures read { IsRead modules names.old names.new (ReadsType kind (lexemes_from tokens.now 1)) result }
     ensures names { Extends names.old names.new }
 {
@@ -315,7 +315,7 @@ fn rest_of_line<'a>(
     keyword: Keyword,
     modules: Option<SymId>,
     names: &mut Names,
-) -> Result<Statement, Fault<'a>>
+) -> Result<Statement, LineFault<'a>>
     requires { 1 ≤ length tokens.now }
     ensures read { IsRead modules names.old names.new (ReadsRest word.now keyword (lexemes_from tokens.now 1)) result }
     ensures names { Extends names.old names.new }
@@ -352,7 +352,7 @@ pub fn read_line<'a>(
     position: &Position<'_>,
     tokens: &[Token<'a>],
     names: &mut Names,
-) -> Result<Statement, Fault<'a>>
+) -> Result<Statement, LineFault<'a>>
     ensures read { IsRead position.now.modules names.old names.new (ReadsLine (context_in position.now.frame.now position.now.progress.now) (lexemes_from tokens.now 0)) result }
     ensures names { Extends names.old names.new }
 {

@@ -5,6 +5,7 @@ ghost use Rattle.kc_text.specs.Limits.{longest_line};
 ghost use Rattle.kc_text.specs.Lines.{UnreadLines, TakesLine, unread_lines};
 ghost use Rattle.kc_text.specs.declared.faults.TextFault.TheVariants.{Memory};
 ghost use Rattle.kc_read.specs.declared.sources.NextSource.TheVariants.{Nothing};
+ghost use Rattle.kc_read.specs.Lines.{source_word};
 ghost use Rattle.kc_read.specs.QuietFiles.{BeginsLine, EndsLine, HasNoJoin, HasNoSource, IsQuiet};
 ghost use Rattle.kc_read.specs.Sources as spec;
 ghost use Rattle.kc_read.specs.Sources.{HasMoreLines, Holds, IsFound, IsSilent};
@@ -114,7 +115,7 @@ fn ends_line(after: &[u8]) -> bool
 // Whether a line begins with `source`.
 fn has_source(file: &[u8]) -> bool
     ensures silent { result ≡ false → HasNoSource file.now }
-    ensures heard { result ≡ true → Holds file.now (codes "source") }
+    ensures heard { result ≡ true → Holds file.now source_word }
 {
     let mut at = 0;
     'words: loop {
@@ -149,7 +150,7 @@ fn has_join(file: &[u8]) -> bool
 // Whether a file may have a `source` line, seen without cutting it into tokens. A `\` may join the parts of the word.
 fn may_source(file: &[u8]) -> bool
     ensures silent { result ≡ false → IsQuiet file.now }
-    ensures heard { result ≡ true → Holds file.now (codes "source") ⊎ Holds file.now (codes "\\") }
+    ensures heard { result ≡ true → Holds file.now source_word ⊎ Holds file.now (codes "\\") }
 {
     has_source(file) || has_join(file)
 }

@@ -115,27 +115,27 @@ pub enum EntryKind {
 
 /// Why a line is refused: a kind, and the word or name that it is about.
 #[derive(Clone, Copy, Debug)]
-pub struct Fault<'a> {
+pub struct LineFault<'a> {
     pub code: Code,
     pub detail: &'a [u8],
 }
 
-impl<'a> From<AllocError> for Fault<'a> {
+impl<'a> From<AllocError> for LineFault<'a> {
     ghost from_gives = { λ _ e. e.code ≡ Memory };
 
-    fn from(_e: AllocError) -> Fault<'a> {
-        Fault {
+    fn from(_e: AllocError) -> LineFault<'a> {
+        LineFault {
             code: Code::Memory,
             detail: b"",
         }
     }
 }
 
-impl<'a, T: Drop> From<AllocFailed<T>> for Fault<'a> {
+impl<'a, T: Drop> From<AllocFailed<T>> for LineFault<'a> {
     ghost from_gives = { λ _ e. e.code ≡ Memory };
 
-    fn from(_e: AllocFailed<T>) -> Fault<'a> {
-        Fault {
+    fn from(_e: AllocFailed<T>) -> LineFault<'a> {
+        LineFault {
             code: Code::Memory,
             detail: b"",
         }

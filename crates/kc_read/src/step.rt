@@ -1,23 +1,21 @@
 //! The next line of a file.
 
-ghost use Rattle.std.specs.Prelude.{◌≡◌, ◌≢◌, ◌≤◌, [], length, IfOk, IfErr, IsTrue, None, Some};
+ghost use Rattle.std.specs.Prelude.{◌≡◌, ◌≤◌, [], length, IfOk, IfErr, None};
 ghost use Rattle.kc_text.specs.Limits.{longest_line};
-ghost use Rattle.kc_expr.specs.Grammar.{lexemes_from};
 ghost use Rattle.kc_expr.specs.Names.{Extends};
 ghost use Rattle.kc_text.specs.Lines.{UnreadLines, TakesLine};
 ghost use Rattle.kc_text.specs.Tokens.{token_views};
-ghost use Rattle.kc_read.specs.declared.refusal.Code.TheVariants.{Memory};
-ghost use Rattle.kc_read.specs.Expansion.{is_help, long_line, lexemes, refused, text_cause};
+ghost use Rattle.kc_read.specs.Expansion.{is_help, long_line, lexemes, text_cause};
 ghost use Rattle.kc_read.specs.LineReads.{cause_of};
 ghost use Rattle.kc_read.specs.Progress.{context_in};
-ghost use Rattle.kc_read.specs.RefusalView.{IsMemory, out_of_memory, refusal_view};
+ghost use Rattle.kc_read.specs.RefusalView.{IsMemory};
 ghost use Rattle.kc_read.specs.NextStep.{IsStep, IsStepRefusal};
 
 use crate::line_parts::begins_with;
 use crate::reader::{Position, read_line};
 use crate::refusal::{Code, Refusal};
-use crate::refuse::{memory, refuse};
-use crate::statement::{Fault, Statement};
+use crate::refuse::refuse;
+use crate::statement::{LineFault, Statement};
 use kc_expr::names::Names;
 use kc_text::{LogicalLines, TextFault, Token, lex};
 use std::alloc::{AllocError, Global};
@@ -30,7 +28,7 @@ pub enum Step {
     Next(u32, Statement),
 }
 
-fn text_fault(fault: TextFault) -> Fault<'static>
+fn text_fault(fault: TextFault) -> LineFault<'static>
     ensures { cause_of result ≡ text_cause fault }
 {
     let code = match fault {
@@ -39,7 +37,7 @@ fn text_fault(fault: TextFault) -> Fault<'static>
         TextFault::Macro => Code::Macro,
         TextFault::Memory => Code::Memory,
     };
-    Fault { code, detail: b"" }
+    LineFault { code, detail: b"" }
 }
 
 // The number of the line that is too long.
@@ -55,7 +53,7 @@ fn long_line(fault: TextFault) -> u32
 // How many tokens get room at once: nearly no line has more.
 const TOKENS: usize = 8;
 
-// No tokens yet, with room for those of the line where it has a byte.
+/// No tokens yet, with room for those of the line where it has a byte.
 pub fn token_list<'a>(alloc: Global, line: &[u8]) -> Result<Vec<Token<'a>>, AllocError>
     ensures { IfOk result (λ v. v.items ≡ []) }
 {
@@ -65,7 +63,7 @@ pub fn token_list<'a>(alloc: Global, line: &[u8]) -> Result<Vec<Token<'a>>, Allo
     Vec::with_capacity(alloc, TOKENS)
 }
 
-// Whether a help text follows.
+/// Whether a help text follows.
 pub fn begins_help(tokens: &[Token]) -> bool
     ensures { result ≡ is_help (lexemes (token_views tokens.now)) }
 {
@@ -138,7 +136,7 @@ fn next_joined(
         }
     };
     let Ok(mut own) = token_list(position.alloc, text) else {
-        return Err(memory(position.alloc));
+        return Err(Refusal::out_of_memory(position.alloc));
     };
     step_of_line(position, number, text, &mut own, lines, names)
 }

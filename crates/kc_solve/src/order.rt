@@ -3,7 +3,7 @@
 ghost use Rattle.std.specs.Prelude.{◌≡◌, ◌≢◌, ◌++◌, length, IfOk, IfErr, OnOk};
 ghost use Rattle.kc_order.specs.Needs.{needs_in, SomeUnordered};
 ghost use Rattle.kc_order.specs.Order.{Orders};
-ghost use Rattle.kc_read.specs.RefusalView.{IsMemory, out_of_memory, refusal_view};
+ghost use Rattle.kc_read.specs.RefusalView.{IsMemory, refusal_view};
 ghost use Rattle.kc_read.specs.declared.refusal.Code.TheVariants.{Memory};
 ghost use Rattle.kc_solve.specs.LoopText.{arrows, loop_text};
 ghost use Rattle.kc_solve.specs.Graphs.{IsGraphOf};
@@ -60,7 +60,7 @@ impl Order {
         match tree_order(alloc, tree, layout) {
             Ok(inner) => Ok(Order { inner }),
             Err(LoopFault::Loop(text)) => Err(loop_refusal(text)),
-            Err(LoopFault::Memory) => Err(memory(alloc)),
+            Err(LoopFault::Memory) => Err(Refusal::out_of_memory(alloc)),
         }
     }
 
@@ -80,17 +80,6 @@ fn loop_refusal(text: Vec<u8>) -> Refusal
         code: Code::Loop,
         location: None,
         detail: text,
-    }
-}
-
-// Memory ran out.
-fn memory(alloc: Global) -> Refusal
-    ensures { refusal_view result ≡ out_of_memory }
-{
-    Refusal {
-        code: Code::Memory,
-        location: None,
-        detail: Vec::new(alloc),
     }
 }
 

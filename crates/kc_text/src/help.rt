@@ -74,7 +74,7 @@ fn drop_lines(rest: &[u8], number: u32, indent: Option<u128>) -> Unread<'_>
     }
 }
 
-// Drops the lines of a help text.
+/// Drops the lines of a help text.
 pub(crate) fn drop_help(rest: &[u8], number: u32) -> Unread<'_>
     ensures { Drops (unread_lines rest.now number) (unread_lines result.rest.now result.number)
         (after_help (physical_lines rest.now)) }

@@ -1,12 +1,11 @@
 //! The physical lines of a file.
-ghost use Rattle.std.specs.Prelude.{◌≡◌, ◌==◌, ◌<◌, ◌≤◌, ◌∷◌, length, count_by};
-ghost use Rattle.kc_text.specs.Bytes.{byte};
-ghost use Rattle.kc_text.specs.Lines.{physical_lines, Physical, continues, without_continuation};
+ghost use Rattle.std.specs.Prelude.{◌≡◌, ◌<◌, ◌≤◌, ◌∷◌, length, count_by};
+ghost use Rattle.kc_text.specs.Lines.{physical_lines, continues, is_line_feed, without_continuation};
 
 use crate::bytes::without_carriage_return;
 use bstr::ByteSlice;
 
-// A physical line without its end, whether it has one, and the bytes after it.
+/// A physical line without its end, whether it has one, and the bytes after it.
 #[derive(Drop)]
 pub(crate) struct PhysicalLine<'a> {
     pub(crate) text: &'a [u8],
@@ -15,14 +14,14 @@ pub(crate) struct PhysicalLine<'a> {
 }
 
 impl<'a> PhysicalLine<'a> {
-    // Whether the line is joined with the next one.
+    /// Whether the line is joined with the next one.
     pub(crate) fn continues(&self) -> bool
         ensures { result ≡ continues (record { text = self.now.text.now; ended = self.now.ended }) }
     {
         self.ended && self.text.last_byte() == Some(b'\\')
     }
 
-    // What the line gives to its logical line: its text without the `\` that joins it.
+    /// What the line gives to its logical line: its text without the `\` that joins it.
     pub(crate) fn without_continuation(&self) -> &'a [u8]
         ensures { result.now ≡ without_continuation (record { text = self.now.text.now; ended = self.now.ended }) }
     {
@@ -34,15 +33,15 @@ impl<'a> PhysicalLine<'a> {
     }
 }
 
-// The bytes of a file that are still to be read, and the number of the physical line that they
-// begin with.
+/// The bytes of a file that are still to be read, and the number of the physical line that they
+/// begin with.
 #[derive(Drop)]
 pub(crate) struct Unread<'a> {
     pub(crate) rest: &'a [u8],
     pub(crate) number: u32,
 }
 
-// The first physical line of what is left of a file.
+/// The first physical line of what is left of a file.
 #[inline(always)]
 pub(crate) fn first_physical(rest: &[u8]) -> PhysicalLine<'_>
     requires { 0 < length rest.now }
@@ -70,7 +69,7 @@ const BLOCK: usize = 224;
 // How many of a few bytes are line feeds.
 fn few_line_feeds(bytes: &[u8]) -> u8
     requires { length bytes.now ≤ 255 }
-    ensures { result ≡ count_by (λ b. b == byte "\n") bytes.now }
+    ensures { result ≡ count_by is_line_feed bytes.now }
 {
     let mut count = 0;
     for b in bytes {
@@ -83,7 +82,7 @@ fn few_line_feeds(bytes: &[u8]) -> u8
 
 // How many of the bytes are line feeds.
 fn line_feeds(bytes: &[u8]) -> usize
-    ensures count { result ≡ count_by (λ b. b == byte "\n") bytes.now }
+    ensures count { result ≡ count_by is_line_feed bytes.now }
     ensures within { result ≤ length bytes.now }
 {
     let mut count = 0;

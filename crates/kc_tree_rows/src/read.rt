@@ -275,7 +275,7 @@ mainmenu m => +-+++
 
 // Each statement, where the modules symbol has the number 0.
 const STATEMENTS: &str = r#"mainmenu "D" => MainMenu([68])
-if A = m && m => If(All([Rel(Eq, Sides { left: Sym(SymId(1)), right: TristateConstant(M) }), All([One(TristateConstant(M)), One(Sym(SymId(0)))])]))
+if A = m && m => If(All([Rel(Eq, Operands { left: Sym(SymId(1)), right: TristateConstant(M) }), All([One(TristateConstant(M)), One(Sym(SymId(0)))])]))
 endif => EndIf
 menu 'a\'b' => Menu([97, 39, 98])
 visible if A => Visible(One(Sym(SymId(1))))

@@ -335,7 +335,7 @@ const PICTURES: &[(&str, &str, &str)] = &[
     (
         "config I\nint\ndefault 10\nconfig S\nstring\ndefault \"FOO\"\nconfig A\ndef_bool I > 9\nconfig B\ndef_bool \"10\" < \"9\"\nconfig D\ndef_bool S = FOO\nconfig E\ndef_bool !I=9\n",
         "",
-        "Int None\ndep []\ndefault One(Sym(SymId(7))) []\nStr None\ndep []\ndefault One(Const([70, 79, 79])) []\nBool None\ndep []\ndefault Rel(Gt, Sides { left: Sym(SymId(0)), right: Sym(SymId(8)) }) []\nBool None\ndep []\ndefault Rel(Lt, Sides { left: Const([49, 48]), right: Const([57]) }) []\nBool None\ndep []\ndefault Rel(Eq, Sides { left: Sym(SymId(1)), right: Sym(SymId(9)) }) []\nBool None\ndep []\ndefault Not(Rel(Eq, Sides { left: Sym(SymId(0)), right: Sym(SymId(8)) })) []\n[0]\n[1]\n[2]\n[3]\n[4]\n[5]\n",
+        "Int None\ndep []\ndefault One(Sym(SymId(7))) []\nStr None\ndep []\ndefault One(Const([70, 79, 79])) []\nBool None\ndep []\ndefault Rel(Gt, Operands { left: Sym(SymId(0)), right: Sym(SymId(8)) }) []\nBool None\ndep []\ndefault Rel(Lt, Operands { left: Const([49, 48]), right: Const([57]) }) []\nBool None\ndep []\ndefault Rel(Eq, Operands { left: Sym(SymId(1)), right: Sym(SymId(9)) }) []\nBool None\ndep []\ndefault Not(Rel(Eq, Operands { left: Sym(SymId(0)), right: Sym(SymId(8)) })) []\n[0]\n[1]\n[2]\n[3]\n[4]\n[5]\n",
     ),
     // help is no line
     (

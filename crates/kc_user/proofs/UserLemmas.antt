@@ -4,11 +4,11 @@ use Rattle.std.proofs.lemmas.Bool.{lt-leb, cases_Bool}
 use Rattle.std.proofs.lemmas.List.{map-set}
 use Rattle.std.proofs.lemmas.List.Sums.{sum_by-cons}
 use Rattle.std.specs.Option.{option_map}
-use Rattle.kc_text.specs.Escapes.{escape, escape_byte}
+use Rattle.kc_text.specs.Escapes.{escape, escape_byte, is_escaped}
 use Rattle.kc_expr.specs.declared.expression.SymId.{SymId}
 use Rattle.kc_tree.specs.TreeFacts.{TreeFacts}
 use Rattle.kc_user.specs.GivenValue.{GivenValue}
-use Rattle.kc_user.specs.Places.{Places, is_special, no_places}
+use Rattle.kc_user.specs.Places.{Places, no_places}
 use Rattle.kc_user.specs.ValueView.{given_of_value}
 use Rattle.kc_user.specs.declared.value.UserValue.{UserValue}
 
@@ -35,22 +35,22 @@ pub fills : (items : List (Option UserValue)) (choices : List (Option SymId)) (i
 fills items choices i value =
     ap (λ (s : List (Option GivenValue)). let p : Places = record { symbols = s; choices = choices } in p) (map-set (option_map given_of_value) items i (Some value))
 
-one_byte : (b : ℕ) → length (escape_byte b) ≡ 1 + cond (is_special b) 1 0
-one_byte b = elim (cases_Bool (is_special b)) [
+one_byte : (b : ℕ) → length (escape_byte b) ≡ 1 + cond (is_escaped b) 1 0
+one_byte b = elim (cases_Bool (is_escaped b)) [
   | inl e ↦ rw e refl
   | inr e ↦ rw e refl
 ]
 
 -- a `\` goes before each special byte
-pub length-escape : (text : List ℕ) → length (escape text) ≡ length text + count_by is_special text
+pub length-escape : (text : List ℕ) → length (escape text) ≡ length text + count_by is_escaped text
 length-escape [] = refl
 length-escape (b ∷ bs) =
     let e = length-append (escape_byte b) (escape bs) in
-    let s = sum_by-cons (λ x. cond (is_special x) 1 0) b bs in
+    let s = sum_by-cons (λ x. cond (is_escaped x) 1 0) b bs in
     omega (arith, e, s, one_byte b, length-escape bs)
 
 -- the text, quoted and escaped, has at most so many bytes
-pub quoted_within : (text : List ℕ) (limit : ℕ) → leb (length text + count_by is_special text + 2) limit ≡ leb (length (escape text) + 2) limit
+pub quoted_within : (text : List ℕ) (limit : ℕ) → leb (length text + count_by is_escaped text + 2) limit ≡ leb (length (escape text) + 2) limit
 quoted_within text limit = rw length-escape refl
 
 pub quoted_over : (text : List ℕ) (limit : ℕ) → limit < length text → false ≡ leb (length (escape text) + 2) limit

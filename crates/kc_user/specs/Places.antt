@@ -1,7 +1,6 @@
 -- Trusted: What stands in the user's places, and what may stand there.
-use Rattle.std.specs.Prelude.{◌≡◌, ℕ, ◌+◌, List, [], length, Bool, true, false, not, ◌&&◌, ◌||◌, ◌==◌, nat_le, Option, Some, None, is_some, slice_get, slice_index_or, replicate}
+use Rattle.std.specs.Prelude.{◌≡◌, ℕ, ◌+◌, List, [], length, Bool, true, false, not, ◌&&◌, nat_le, Option, Some, None, is_some, slice_get, slice_index_or, replicate}
 use Rattle.std.specs.List.{Contains, list_any}
-use Rattle.kc_text.specs.Bytes.{byte}
 use Rattle.kc_text.specs.Escapes.{escape}
 use Rattle.kc_text.specs.Lines.{is_line_feed}
 use Rattle.kc_text.specs.Numbers.{int_of, hex_of}
@@ -42,9 +41,6 @@ no_places tree = record {
 }
 
 -- Allowed: exactly the values that some set or unset line of a .config gives.
--- `"` and `\`
-abbrev pub is_special : ℕ → Bool
-is_special b = b == byte "\"" || b == byte "\\"
 
 -- `"TEXT"` with a `\` before each `"` and `\` is no longer than a value may be, and no line end stands in it
 abbrev pub fits_quoted : List ℕ → Bool

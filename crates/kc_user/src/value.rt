@@ -3,12 +3,12 @@ ghost use Rattle.std.specs.Prelude.{◌≡◌, ◌+◌, length, nat_le, count_by
 ghost use Rattle.std.specs.List.{list_any};
 ghost use Rattle.kc_text.specs.Lines.{is_line_feed};
 ghost use Rattle.kc_user.specs.Limits.{longest_value};
-ghost use Rattle.kc_text.specs.Escapes.{escape};
+ghost use Rattle.kc_text.specs.Escapes.{escape, is_escaped};
 ghost use Rattle.kc_user.specs.Places as spec;
 ghost use Rattle.kc_user.specs.ValueView.{given_of_value};
 
 use kc_expr::expression::{Kind, SymId, Tri};
-use kc_text::{read_hex, read_int};
+use kc_text::{is_escaped, read_hex, read_int};
 use kc_tree::tree::Tree;
 
 /// The most bytes that may stand right of a `.config` line's `=` (our own limit).
@@ -71,10 +71,10 @@ fn is_allowed_text(kind: Kind, text: &[u8]) -> bool
 }
 
 // How many bytes get a `\` before them.
-fn special_count(text: &[u8]) -> usize
-    ensures count { result ≡ count_by spec.is_special text.now }
+fn escaped_count(text: &[u8]) -> usize
+    ensures count { result ≡ count_by is_escaped text.now }
 {
-    text.iter().filter(|b| **b == b'"' || **b == b'\\').count()
+    text.iter().filter(|b| is_escaped(**b)).count()
 }
 
 // Whether a line end stands in the text.
@@ -88,7 +88,7 @@ fn has_line_feed(text: &[u8]) -> bool
 fn is_short_quoted(text: &[u8]) -> bool
     ensures { result ≡ nat_le (length (escape text.now) + 2) longest_value }
 {
-    text.len() <= LONGEST_VALUE && text.len() + special_count(text) + 2 <= LONGEST_VALUE
+    text.len() <= LONGEST_VALUE && text.len() + escaped_count(text) + 2 <= LONGEST_VALUE
 }
 
 // Whether the text, quoted and escaped, may stand right of a line's `=`.

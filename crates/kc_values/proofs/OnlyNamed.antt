@@ -11,13 +11,13 @@ use Rattle.kc_expr.specs.declared.expression.Kind.TheVariants.{Undefined, Bool a
 use Rattle.kc_expr.specs.Form.{Form, Leaf, Text, Symbol, Single, Related, Negated, Every, Some_of, symbols, leaf_symbols}
 use Rattle.kc_expr.specs.Value.{SymbolValue, Truth, TextValue, value, text, least, greatest, lesser, greater, truth_of_value, text_of_value, DependsOnSymbols}
 use Rattle.kc_tree.specs.TreeFacts.{Condition, Guarded, Bounds, SymbolFacts, ChoiceFacts, TreeFacts}
-use Rattle.kc_expr.specs.Names.{symbol}
+use Rattle.kc_expr.specs.Names.{symbol, same_symbol}
 use Rattle.kc_values.specs.declared.numbers.Interval.{Interval}
 use Rattle.kc_values.specs.Lookups.{facts, name, choice_at, is_defined}
 use Rattle.kc_values.specs.Numbers.{number_or_zero}
 use Rattle.kc_values.specs.Values as v
 use Rattle.kc_user.specs.GivenValue.{GivenValue, GivenTruth, GivenText, Member, UserPlace}
-use Rattle.kc_tree.specs.Common.{same_symbol, is_symbol_of}
+use Rattle.kc_tree.specs.Common.{is_symbol_of}
 use Rattle.kc_values.specs.Values.{is_n, upgrade}
 use Rattle.kc_values.specs.Needs as n
 use Rattle.kc_values.specs.Needs.{needs_of}

@@ -9,7 +9,7 @@ use Rattle.std.specs.Option.{option_or}
 use Rattle.kc_tree.specs.TreeFacts.{Guarded, ChoiceFacts, TreeFacts}
 use Rattle.kc_values.specs.Values as v
 use Rattle.kc_user.specs.GivenValue.{GivenValue, GivenTruth, GivenText, Member}
-use Rattle.kc_tree.specs.Common.{same_symbol}
+use Rattle.kc_expr.specs.Names.{same_symbol}
 use Rattle.kc_values.specs.Values.{is_n}
 use Rattle.kc_values.proofs.Same.{same_symbol_itself}
 use Rattle.kc_values.proofs.TreeNeeds.{among}

@@ -13,7 +13,7 @@ use Rattle.kc_tree.specs.TreeFacts.{TreeFacts}
 use Rattle.kc_values.specs.Lookups.{is_defined}
 use Rattle.kc_user.specs.GivenValue.{UserPlace, GivenValue}
 use Rattle.kc_values.specs.Solution.{symbol_count, equations}
-use Rattle.kc_tree.specs.Common.{same_symbol}
+use Rattle.kc_expr.specs.Names.{same_symbol}
 use Rattle.kc_values.specs.Needs.{needs, needs_of, names_of, defined_numbers}
 use Rattle.kc_values.proofs.Once.{from_once}
 use Rattle.kc_values.proofs.Same.{same_symbol-true}

@@ -11,7 +11,8 @@ use Rattle.kc_expr.specs.declared.expression.Tri.{Tri}
 use Rattle.kc_expr.specs.declared.expression.Tri.TheVariants.{N, M, Y}
 use Rattle.kc_expr.specs.declared.expression.Kind.{Kind}
 use Rattle.kc_expr.specs.declared.expression.Kind.TheVariants.{Undefined, Bool as IsBool, Tristate, Str, Int, Hex}
-use Rattle.kc_tree.specs.Common.{same_symbol, is_symbol_of}
+use Rattle.kc_expr.specs.Names.{same_symbol}
+use Rattle.kc_tree.specs.Common.{is_symbol_of}
 use Rattle.kc_tree.specs.TreeFacts.{Condition, Guarded, Bounds, SymbolFacts, ChoiceFacts, TreeFacts}
 use Rattle.kc_user.specs.GivenValue.{GivenValue, GivenTruth, GivenText, Member}
 use Rattle.kc_values.specs.Lookups.{facts, name, choice_at}

@@ -2,7 +2,7 @@
 
 ghost use Rattle.std.specs.Prelude.{◌≡◌, Some};
 ghost use Rattle.std.specs.List.{list_any};
-ghost use Rattle.kc_tree.specs.Common.{same_symbol};
+ghost use Rattle.kc_expr.specs.Names.{same_symbol};
 ghost use Rattle.kc_tree.specs.Layouts.{choice_facts};
 ghost use Rattle.kc_user.specs.Places.{member_place};
 ghost use Rattle.kc_values.specs.TableFacts.{known_at};

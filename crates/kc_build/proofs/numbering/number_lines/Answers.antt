@@ -1,7 +1,7 @@
 use Rattle.std.proofs.Common.{◌≤◌, ◌∙◌, length, subst, sym, arith}
 use Rattle.kc_read.specs.Blocks.{modules_of}
 use Rattle.kc_read.specs.Expanded.{AreNumbers}
-use Rattle.kc_read.specs.Expansion.{statements}
+use Rattle.kc_read.specs.Statements.{statements}
 use Rattle.kc_read.specs.Numbering.{names_of}
 use Rattle.kc_build.proofs.NumberingLemmas.{listing-is, renumbered}
 use Rattle.kc_build.proofs.numbering.number_lines.Goals as goal

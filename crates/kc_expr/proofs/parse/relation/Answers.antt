@@ -34,7 +34,7 @@ returns-clause-parsed c =
     let f : c.args.at + 2 + 1 ≡ c.args.at + 3 = omega arith in
     let third = ap (terminals_from c.args.tokens.now) e ∙ right.next ∙ ap (λ n. Plain right.atom ∷ terminals_from c.args.tokens.now n) f in
     let text = left.next ∙ ap (λ l. Plain left.atom ∷ l) (op.1 ∙ ap (λ l. Compares c.in-Some-relation_op.op ∷ l) third) in
-    rw c.in_ok-sides.ensures.ok (parsed_compare _ _ _ _ _ _ left.atom right.atom c.in-Some-relation_op.op _ _ text left.mentions right.mentions left.leaf_is right.leaf_is)
+    rw c.in_ok-operands.ensures.ok (parsed_compare _ _ _ _ _ _ left.atom right.atom c.in-Some-relation_op.op _ _ text left.mentions right.mentions left.leaf_is right.leaf_is)
 
 pub returns-in_err-left-clause-fails : goal.returns-in_err-left-clause-fails
 returns-in_err-left-clause-fails c =
@@ -55,8 +55,8 @@ returns-in_err-right-clause-fails c =
     fault_passed c.from_residual-in_err-right.result (λ f. (k : ℕ) → FailsNot f k ts) _ c.from_residual-in_err-right.ensures.1
     (λ k. memory_not _ k ts (is_memory _ _ c.in_err-right.ensures.memory) (operand_here ts _ left.atom left.next))
 
-pub returns-in_err-sides-clause-fails : goal.returns-in_err-sides-clause-fails
-returns-in_err-sides-clause-fails c =
+pub returns-in_err-operands-clause-fails : goal.returns-in_err-operands-clause-fails
+returns-in_err-operands-clause-fails c =
     let ts = terminals_from c.args.tokens.now c.args.at in
     let left = rw c.in-Some.is at c.in_ok-left.ensures.reads in
-    fault_passed c.from_residual-in_err-sides.result (λ f. (k : ℕ) → FailsNot f k ts) Memory c.from_residual-in_err-sides.ensures.1 (λ k. operand_here ts _ left.atom left.next)
+    fault_passed c.from_residual-in_err-operands.result (λ f. (k : ℕ) → FailsNot f k ts) Memory c.from_residual-in_err-operands.ensures.1 (λ k. operand_here ts _ left.atom left.next)

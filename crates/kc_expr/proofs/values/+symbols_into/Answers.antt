@@ -1,7 +1,7 @@
 -- What the check left open in `symbols_into`.
 use Rattle.std.proofs.Common.{◌≡◌, ◌++◌, ◌∙◌, ap, sym, ⊎_elim, append-nil}
 use Rattle.std.proofs.lemmas.Result.{err_from_is_err_and, on_err_weaker}
-use Rattle.kc_expr.specs.declared.expression.Sides.{Sides}
+use Rattle.kc_expr.specs.declared.expression.Operands.{Operands}
 use Rattle.kc_expr.specs.Form.{form_of, symbols, leaf_of, leaf_symbols, AppendsFront}
 use Rattle.kc_expr.proofs.FormLemmas.{both_on_err, front_within, symbols_of_all, symbols-All, symbols-Any}
 use Rattle.kc_expr.proofs.values.+symbols_into.Goals as goal
@@ -14,8 +14,8 @@ returns-in_err-symbols_into-in-All-clause-err t c =
 pub returns-in_ok-symbol_into-in-Rel-clause-err : goal.returns-in_ok-symbol_into-in-Rel-clause-err
 returns-in_ok-symbol_into-in-Rel-clause-err t c =
     let left = leaf_symbols (leaf_of c.deref.result.now.left) in
-    let right = leaf_symbols (leaf_of c.in-Rel.sides.value.right) in
-    let both : symbols (form_of c.args.e.now) ≡ left ++ right = ap (λ e. symbols (form_of e)) c.in-Rel.is ∙ ap (λ (s : Sides). leaf_symbols (leaf_of s.left) ++ right) (sym c.deref.ensures) in
+    let right = leaf_symbols (leaf_of c.in-Rel.operands.value.right) in
+    let both : symbols (form_of c.args.e.now) ≡ left ++ right = ap (λ e. symbols (form_of e)) c.in-Rel.is ∙ ap (λ (s : Operands). leaf_symbols (leaf_of s.left) ++ right) (sym c.deref.ensures) in
     on_err_weaker {Q = AppendsFront c.args.out.now.items (symbols (form_of c.args.e.now)) c.symbol_into-in-Rel-2.new.out.items} _
     (λ h. (left, right, both, h.0 ∙ c.in_ok-symbol_into-in-Rel.ensures.ok, h.1))
     (both_on_err c.symbol_into-in-Rel-2.result _ _ c.symbol_into-in-Rel-2.ensures.err (rw c.deref-in-Rel.ensures at c.symbol_into-in-Rel-2.ensures.some))

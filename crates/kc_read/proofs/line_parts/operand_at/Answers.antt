@@ -6,7 +6,7 @@ use Rattle.kc_read.proofs.line_parts.operand_at.Goals as goal
 
 pub returns-in-Some-clause-operand : goal.returns-in-Some-clause-operand
 returns-in-Some-clause-operand c =
-    operand_constant (lexemes_from c.args.tokens.now c.args.at) _ c.in-Some-Word.word.now c.in-Some.letter c.args.names.now
+    operand_constant (lexemes_from c.args.tokens.now c.args.at) _ c.in-Some-Word.word.now c.in-Some.constant c.args.names.now
     (rw c.in-Some-Word.field-0-is at c.in-Some-Word.ensures).1 (sym c.is_if.ensures ∙ c.if-is_if.false) (sym c.in-Some.ensures)
 
 pub returns-in_ok-id-in-Some-Word-clause-operand : goal.returns-in_ok-id-in-Some-Word-clause-operand

@@ -4,7 +4,7 @@ use Rattle.kc_user.proofs.UserLemmas.{quoted_within, quoted_over}
 use Rattle.kc_user.proofs.value.is_short_quoted.Goals as goal
 
 pub returns-then-text-le-LONGEST_VALUE : goal.returns-then-text-le-LONGEST_VALUE
-returns-then-text-le-LONGEST_VALUE c = rw c.special_count.ensures.count (quoted_within c.args.text.now 65000)
+returns-then-text-le-LONGEST_VALUE c = rw c.escaped_count.ensures.count (quoted_within c.args.text.now 65000)
 
 pub returns-else-text-le-LONGEST_VALUE : goal.returns-else-text-le-LONGEST_VALUE
 returns-else-text-le-LONGEST_VALUE c =

@@ -1,0 +1,133 @@
+-- A file has at most one list.
+use Rattle.std.proofs.Common.{◌≡◌, ◌≢◌, ◌⊎◌, inl, inr, ℕ, false, List, [], ◌∷◌, ◌++◌, Some, None, Ok, refl, sym, ap, subst, ◌∙◌}
+use Rattle.std.proofs.lemmas.Bool.{both_ways}
+use Rattle.kc_text.specs.Lines.{UnreadLines, unread_lines}
+use Rattle.kc_text.specs.Tokens.{TokenView}
+use Rattle.kc_read.specs.Expansion.{NextStatement, is_source, lexemes}
+use Rattle.kc_read.specs.Files.{Files}
+use Rattle.kc_read.specs.Lines.{LineContext, ReadsLine}
+use Rattle.kc_read.specs.Replaced.{Owns, Replaces, OneListOf, located, no_line, no_tokens, one_more, nothing, kept, replaced}
+use Rattle.kc_read.specs.Statements.{Located, Named, SourceLine}
+use Rattle.kc_read.proofs.OneExpansion.{Turn, Ends, Long, Line, IsTurn, one_turn, one_some, same_source}
+use Rattle.kc_read.proofs.OneLine.{same_statement}
+
+-- ---- The statements of a file, by its next line
+
+-- the next line has tokens, which are a statement
+record Begins (file : List ℕ) (l m : UnreadLines) (ts : List TokenView) (own : List (Located Named)) : Type 0 where
+  pub some : ts ≢ []
+  pub context : LineContext
+  pub first : Named
+  pub more : List (Located Named)
+  pub reads : ReadsLine context (lexemes ts) (Ok first)
+  pub owns : Owns file m more
+  pub is : own ≡ located file l.number first ∷ more
+
+abbrev Gives : List ℕ → UnreadLines → Turn → List (Located Named) → Type 0
+Gives file l Ends own = own ≡ []
+Gives file l Long own = ⊥
+Gives file l (Line m ts (Some why)) own = ⊥
+Gives file l (Line m ts None) own = ((ts ≡ []) × Owns file m own) ⊎ Begins file l m ts own
+
+goes : {file : List ℕ} {l : UnreadLines} {own : List (Located Named)} → Owns file l own → (t : Turn) × IsTurn l t × Gives file l t own
+goes (no_line l none) = (Ends, none, refl)
+goes (no_tokens l m own next d) = (Line m [] None, next, inl (refl, d))
+goes (one_more l m c s own n d) = (Line m n.tokens None, n.next, inr (record { some = n.some; context = c; first = s; more = own; reads = n.reads; owns = d; is = refl }))
+
+-- what the next line gives
+gives : (file : List ℕ) (l : UnreadLines) (own : List (Located Named)) (t : Turn) → IsTurn l t → Owns file l own → Gives file l t own
+gives file l own t is d =
+    let (u, is', h) = goes d in
+    subst (λ v. Gives file l v own) (one_turn l u t is' is) h
+
+same_after_blank : (file : List ℕ) (l m : UnreadLines) (own other : List (Located Named)) → ((more : List (Located Named)) → Owns file m more → own ≡ more) →
+    Gives file l (Line m [] None) other → own ≡ other
+same_after_blank file l m own other same (inl x) = same other x.1
+same_after_blank file l m own other same (inr x) = absurd (x.some refl)
+
+same_after_statement : (file : List ℕ) (l m : UnreadLines) (c : LineContext) (s : Named) (n : NextStatement l m c (Ok s)) (own other : List (Located Named)) →
+    ((more : List (Located Named)) → Owns file m more → own ≡ more) → Gives file l (Line m n.tokens None) other → located file l.number s ∷ own ≡ other
+same_after_statement file l m c s n own other same (inl x) = absurd (n.some x.0)
+same_after_statement file l m c s n own other same (inr x) =
+    ap (λ t. located file l.number t ∷ own) (same_statement c x.context (lexemes n.tokens) s x.first n.reads x.reads)
+    ∙ ap (λ ls. located file l.number x.first ∷ ls) (same x.more x.owns) ∙ sym x.is
+
+one_own : {file : List ℕ} {l : UnreadLines} {own : List (Located Named)} → Owns file l own → (other : List (Located Named)) → Owns file l other → own ≡ other
+one_own {file} (no_line l none) other e = sym (gives file l other Ends none e)
+one_own {file} (no_tokens l m own next d) other e = same_after_blank file l m own other (λ more f. one_own d more f) (gives file l other (Line m [] None) next e)
+one_own {file} (one_more l m c s own n d) other e = same_after_statement file l m c s n own other (λ more f. one_own d more f) (gives file l other (Line m n.tokens None) n.next e)
+
+-- ---- The list, by the first statement
+
+record Inside (files : Files) (s : Located Named) (own list : List (Located Named)) : Type 0 where
+  pub name : List ℕ
+  pub bytes : List ℕ
+  pub inner : List (Located Named)
+  pub inside : List (Located Named)
+  pub more : List (Located Named)
+  pub names : s.statement ≡ SourceLine name
+  pub there : files name ≡ Some bytes
+  pub owns : Owns name (unread_lines bytes 1) inner
+  pub replaces : Replaces files inner inside
+  pub behind : Replaces files own more
+  pub is : list ≡ inside ++ more
+
+record Stays (files : Files) (s : Located Named) (own list : List (Located Named)) : Type 0 where
+  pub plain : is_source s.statement ≡ false
+  pub more : List (Located Named)
+  pub behind : Replaces files own more
+  pub is : list ≡ s ∷ more
+
+abbrev ByFirst : Files → List (Located Named) → List (Located Named) → Type 0
+ByFirst files [] list = list ≡ []
+ByFirst files (s ∷ own) list = Stays files s own list ⊎ Inside files s own list
+
+by_first : {files : Files} {own list : List (Located Named)} → Replaces files own list → ByFirst files own list
+by_first nothing = refl
+by_first (kept s own list plain d) = inl (record { plain = plain; more = list; behind = d; is = refl })
+by_first (replaced s name bytes own inner inside list names there owns d f) = inr (record {
+  name = name;
+  bytes = bytes;
+  inner = inner;
+  inside = inside;
+  more = list;
+  names = names;
+  there = there;
+  owns = owns;
+  replaces = d;
+  behind = f;
+  is = refl;
+})
+
+plain_or_source : {B : Type 0} (s : Located Named) (name : List ℕ) → is_source s.statement ≡ false → s.statement ≡ SourceLine name → B
+plain_or_source s name plain names = absurd (both_ways (is_source s.statement) plain (ap is_source names))
+
+same_kept : (files : Files) (s : Located Named) (own list other : List (Located Named)) → is_source s.statement ≡ false →
+    ((more : List (Located Named)) → Replaces files own more → list ≡ more) → ByFirst files (s ∷ own) other → s ∷ list ≡ other
+same_kept files s own list other plain same (inl x) = ap (λ ls. s ∷ ls) (same x.more x.behind) ∙ sym x.is
+same_kept files s own list other plain same (inr x) = plain_or_source s x.name plain x.names
+
+same_replaced : (files : Files) (s : Located Named) (name bytes : List ℕ) (own inner inside list other : List (Located Named)) → s.statement ≡ SourceLine name →
+    files name ≡ Some bytes → Owns name (unread_lines bytes 1) inner → ((more : List (Located Named)) → Replaces files inner more → inside ≡ more) →
+    ((more : List (Located Named)) → Replaces files own more → list ≡ more) → ByFirst files (s ∷ own) other → inside ++ list ≡ other
+same_replaced files s name bytes own inner inside list other names there owns same_inside same (inl x) = plain_or_source s name x.plain names
+same_replaced files s name bytes own inner inside list other names there owns same_inside same (inr x) =
+    let named : x.name ≡ name = same_source s.statement x.name name x.names names in
+    let held : files name ≡ Some x.bytes = subst (λ w. files w ≡ Some x.bytes) named x.there in
+    let read : x.bytes ≡ bytes = one_some (files name) x.bytes bytes held there in
+    let owned : Owns name (unread_lines bytes 1) x.inner = subst (λ b. Owns name (unread_lines b 1) x.inner) read (subst (λ w. Owns w (unread_lines x.bytes 1) x.inner) named x.owns) in
+    let own_is : x.inner ≡ inner = one_own owned inner owns in
+    let first : inside ≡ x.inside = same_inside x.inside (subst (λ ls. Replaces files ls x.inside) own_is x.replaces) in
+    ap (λ ls. ls ++ list) first ∙ ap (λ ls. x.inside ++ ls) (same x.more x.behind) ∙ sym x.is
+
+one_replaced : {files : Files} {own list : List (Located Named)} → Replaces files own list → (other : List (Located Named)) → Replaces files own other → list ≡ other
+one_replaced nothing other e = sym (by_first e)
+one_replaced {files} (kept s own list plain d) other e = same_kept files s own list other plain (λ more f. one_replaced d more f) (by_first e)
+one_replaced {files} (replaced s name bytes own inner inside list names there owns d f) other e =
+    same_replaced files s name bytes own inner inside list other names there owns (λ more g. one_replaced d more g) (λ more g. one_replaced f more g) (by_first e)
+
+pub one_list_of : OneListOf
+one_list_of files name list other x y =
+    let read : x.bytes ≡ y.bytes = one_some (files name) x.bytes y.bytes x.there y.there in
+    let own_is : x.own ≡ y.own = one_own (subst (λ b. Owns name (unread_lines b 1) x.own) read x.owns) y.own y.owns in
+    one_replaced (subst (λ ls. Replaces files ls list) own_is x.replaces) other y.replaces
