@@ -90,8 +90,8 @@ impl<'t> Table<'t> {
     }
 }
 
-/// The value in a place, if it is there and filled (our own).
-pub fn filled_value(values: &[Option<Value>], id: SymId) -> Option<&Value>
+/// The value of a symbol, if it is found (our own).
+pub fn value_of(values: &[Option<Value>], id: SymId) -> Option<&Value>
     ensures { value_at result ≡ value_in values.now id }
 {
     match values.get(id.0) {
@@ -108,14 +108,14 @@ impl<'t> Values for Table<'t> {
     ghost kind_of = { λ t s. kind_in (lookup.facts t.tree.now s) };
 
     fn tri(&self, id: SymId) -> Tri {
-        match filled_value(&self.values, id) {
+        match value_of(&self.values, id) {
             Some(Value::Truth(tri)) => *tri,
             _ => Tri::N,
         }
     }
 
     fn text(&self, id: SymId) -> &[u8] {
-        match filled_value(&self.values, id) {
+        match value_of(&self.values, id) {
             Some(Value::Text(text)) => text,
             _ => name(self.tree, id),
         }
