@@ -48,10 +48,7 @@ pub(crate) fn upgraded(table: &Table<'_>, kind: Kind, value: Tri) -> Tri
 pub(crate) fn definition<'t>(table: &Table<'t>, symbol: &Symbol, i: usize) -> Option<&'t Definition>
     ensures { IsDefinitionOf table.now symbol.now i result }
 {
-    match symbol.definition(i) {
-        Some(id) => table.layout.definition(id),
-        None => None,
-    }
+    table.layout.definition_of(symbol, i)
 }
 
 // The condition of the prompt of a definition; n without one.
