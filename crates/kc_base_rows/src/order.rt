@@ -2,7 +2,7 @@
 
 
 use kc_order::{
-    Graph, NoOrder, Order, accepted_have_one_solution, cycles_are_unordered, filling_solves,
+    Graph, NoOrder, Order, accepted_have_one_solution, computing_solves, cycles_are_unordered,
     minimal_has_nothing_to_spare, minimal_restores, named_loop_goes_round, named_loop_is_within,
     one_named_loop, order_of, ordered_are_accepted, rounds_solve, solutions_agree,
 };
@@ -182,7 +182,7 @@ fn laws_hold_of_bytes(_rt: HostRuntime) -> Result<(), Fail> {
     one_named_loop();
     accepted_have_one_solution::<u8>();
     solutions_agree::<u8>();
-    filling_solves::<u8>();
+    computing_solves::<u8>();
     rounds_solve::<u8>();
     minimal_restores::<u8, usize, u8>();
     minimal_has_nothing_to_spare::<u8, usize, u8>();

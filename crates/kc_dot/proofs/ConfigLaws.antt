@@ -20,7 +20,7 @@ use Rattle.kc_values.specs.Laws.{MembersAreTheirs, MembersAreBools}
 use Rattle.kc_values.specs.Lookups.{choice_at}
 use Rattle.kc_values.specs.Solution.{symbol_count, known_from, user_place, equations}
 use Rattle.kc_values.specs.WrittenSymbols as ls
-use Rattle.kc_values.proofs.FixedLines.{slot_cases, slot_of_member, Sel}
+use Rattle.kc_values.proofs.FixedLines.{place_cases, place_of_member, Sel}
 use Rattle.kc_values.proofs.Selection.{found}
 use Rattle.kc_dot.specs.Effects.{name_of}
 use Rattle.kc_dot.specs.Prefixes.{is_prefix}
@@ -173,7 +173,7 @@ module _ (tree : TreeFacts) (user : UserPlace → Option GivenValue) (V : ℕ �
       let (w, is_y) = and_parts (ls.written tree K m) (value.is_yes (V m.0)) wrote in
       let bool : g.kind ≡ kind.Bool = bools m g c found_g choice in
       let ok : allowed tree m (given_of (V m.0)) ≡ true = ap (λ o. allowed_for o (given_of (V m.0))) found_g ∙ ap (λ k. allowed_by k (given_of (V m.0))) bool ∙ yes_allowed (V m.0) is_y in
-      (lt, and_from (ls.written tree K m) (allowed tree m (given_of (V m.0))) w ok, choice_by_slot tree m c (slot_of_member tree m g c found_g choice), yes_known (V m.0) ∙ is_y)
+      (lt, and_from (ls.written tree K m) (allowed tree m (given_of (V m.0))) w ok, choice_by_slot tree m c (place_of_member tree m g c found_g choice), yes_known (V m.0) ∙ is_y)
 
   -- a candidate is a member that is written and y
   candidate_found : (c : ℕ) (x : SymId) → IsCandidate tree value_to has_line config_given config_holds c x → (f : ChoiceFacts) × (choice_at tree c ≡ Some f) × Contains f.members x × (Wrote x ≡ true)
@@ -201,7 +201,7 @@ module _ (tree : TreeFacts) (user : UserPlace → Option GivenValue) (V : ℕ �
 
   -- the places that the written text gives are those that the written lines stand for
   pub reread_at : (i : ℕ) → i < symbol_count tree → place_at Reread (user_place tree i) ≡ reread_places tree V (user_place tree i)
-  reread_at i lt = elim (slot_cases tree i) [
+  reread_at i lt = elim (place_cases tree i) [
     | inl at ↦ rw at (reread_own i lt)
     | inr (c, at) ↦ rw at (reread_found c (choice_at tree c) (find Wrote (members_of (choice_at tree c))) (choice_there tree (symbol i) c formed lt (choice_by_slot tree (symbol i) c at)) refl refl)
   ]

@@ -13,7 +13,7 @@ use Rattle.kc_values.specs.Differs.{differs, default_selection, minimal_line, Al
 use Rattle.kc_values.specs.Laws.{MembersAreTheirs, MembersAreBools, DifferingAreAllowed}
 use Rattle.kc_values.specs.Solution.{symbol_count, user_place, rhs, equations}
 use Rattle.kc_tree.specs.Common.{is_symbol_of}
-use Rattle.kc_values.proofs.FixedLines.{slot_cases, named, Sel, differs-member}
+use Rattle.kc_values.proofs.FixedLines.{place_cases, named, Sel, differs-member}
 use Rattle.kc_dot.specs.Prefixes.{is_prefix}
 use Rattle.kc_dot.specs.Reading.{ReadResult, lines_from, reading, places_given}
 use Rattle.kc_dot.specs.Reread.{valuation_view, kept_lines, read_alone, IsOneSolution, HasOtherSolution}
@@ -79,7 +79,7 @@ module _ (tree : TreeFacts) (user : UserPlace → Option GivenValue) (V : ℕ �
       )
 
   gone : (keep : SymId → Bool) (s : SymId) → s.0 < symbol_count tree → differs tree user V s.0 ≡ true → keep s ≡ false → Stays keep (user_place tree s.0) ≡ false
-  gone keep s lt other away = elim (slot_cases tree s.0) [
+  gone keep s lt other away = elim (place_cases tree s.0) [
     | inl at ↦ ap (Stays keep) at ∙ away
     | inr (c, at) ↦
         let both = and_parts (is_symbol_of s (Sel tree user V solves c)) (not (is_symbol_of s (default_selection tree V c))) (sym (differs-member tree user V solves s.0 c at) ∙ other) in

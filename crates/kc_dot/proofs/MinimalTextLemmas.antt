@@ -21,7 +21,7 @@ use Rattle.kc_values.specs.Lookups.{facts, choice_at}
 use Rattle.kc_values.specs.Solution as sol
 use Rattle.kc_values.specs.Solution.{symbol_count, known_from, user_place, equations}
 use Rattle.kc_tree.specs.Common.{is_symbol_of}
-use Rattle.kc_values.proofs.FixedLines.{slot_cases, slot_of_member, names_itself, named, Sel, member_now, differs-member}
+use Rattle.kc_values.proofs.FixedLines.{place_cases, place_of_member, names_itself, named, Sel, member_now, differs-member}
 use Rattle.kc_values.proofs.Selection.{selected_member}
 use Rattle.kc_dot.specs.Effects.{name_of}
 use Rattle.kc_dot.specs.Prefixes.{is_prefix}
@@ -96,7 +96,7 @@ module _ (tree : TreeFacts) (user : UserPlace → Option GivenValue) (V : ℕ �
   selected_yes x c sel =
       let at = selected_member tree (known_from tree V) (choice_at tree c) (user (ChoicePlace c)) x sel in
       let mine = theirs c at.0 x at.1 at.2 in
-      let place = slot_of_member tree x mine.1.0 c mine.1.1 mine.1.2 in
+      let place = place_of_member tree x mine.1.0 c mine.1.1 mine.1.2 in
       let now = member_now tree user V solves x.0 c mine.0 place ∙ ap (λ r. Truth (cond (is_symbol_of x r) Y N)) sel ∙ ap (λ b. Truth (cond b Y N)) (names_itself x) in
       (mine.0, place, ap (λ k. is_yes (given_of k)) now)
 
@@ -117,7 +117,7 @@ module _ (tree : TreeFacts) (user : UserPlace → Option GivenValue) (V : ℕ �
   kept_own i at lt = rw (lt-ltb i (symbol_count tree) lt, at) refl
 
   own_slot : (i : ℕ) → is_own (user_place tree i) ≡ true → user_place tree i ≡ SymbolPlace i
-  own_slot i e = elim (slot_cases tree i) [
+  own_slot i e = elim (place_cases tree i) [
     | inl at ↦ at
     | inr (c, at) ↦ let never : false ≡ true = sym (ap is_own at) ∙ e in cc
   ]
@@ -142,7 +142,7 @@ module _ (tree : TreeFacts) (user : UserPlace → Option GivenValue) (V : ℕ �
       telling (ChoicePlace c) e = tell_member c (Selected c) refl e
 
       told_each : (i : ℕ) → i < symbol_count tree → differs tree user V i ≡ true → keeps_differing (user_place tree i) ≡ true
-      told_each i lt e = elim (slot_cases tree i) [
+      told_each i lt e = elim (place_cases tree i) [
         | inl at ↦ ap keeps_differing at ∙ kept_own i at lt ∙ e
         | inr (c, at) ↦ ap keeps_differing at ∙ member_told i c at e
       ]
@@ -276,7 +276,7 @@ module _ (tree : TreeFacts) (user : UserPlace → Option GivenValue) (V : ℕ �
 
   -- the places that these lines leave are those that the lines stand for
   pub left_at : (i : ℕ) → i < symbol_count tree → Left (user_place tree i) ≡ Lines (user_place tree i)
-  left_at i lt = elim (slot_cases tree i) [
+  left_at i lt = elim (place_cases tree i) [
     | inl at ↦ rw at (left_own i lt at)
     | inr (c, at) ↦ rw at (left_member c (Sel tree user V solves c) (choice_there tree (symbol i) c formed lt (choice_by_slot tree (symbol i) c at)) refl)
   ]

@@ -1,5 +1,5 @@
 -- Needs that are alike, and orders of graphs.
-use Rattle.std.proofs.Common.{◌≡◌, ℕ, ◌<◌, ◌≤◌, Bool, true, false, List, [], ◌∷◌, length, get_or, zero, suc, sym, ◌∙◌, ap, refl, inl, inr, arith, take, filter, All, subst}
+use Rattle.std.proofs.Common.{◌≡◌, ℕ, ◌<◌, ◌≤◌, Bool, true, false, List, [], ◌∷◌, length, get_or, zero, suc, sym, ◌∙◌, ap, refl, inl, inr, arith, take, filter, subst}
 use Rattle.std.specs.List.{Contains, list_any, flat_map, slice_index}
 use Rattle.std.proofs.lemmas.Bool.{cases_Bool, cases_lt}
 use Rattle.std.proofs.lemmas.List.{get_or_default, get_or-take, length-take-le}

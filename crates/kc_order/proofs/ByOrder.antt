@@ -1,4 +1,4 @@
--- What an order gives: nothing is unordered, and a table filled along it solves.
+-- What an order gives: nothing is unordered, and values that are computed along it solve.
 use Rattle.std.proofs.Common.{◌≡◌, ℕ, ◌<◌, ◌≤◌, ◌+◌, ◌≢◌, false, List, length, get_or, zero, suc, sym, ◌∙◌, ap, inl, inr, arith, take, eqb, subst}
 use Rattle.std.specs.List.{Contains}
 use Rattle.std.proofs.lemmas.Bool.{cases_lt, eqb-true, eqb-false}
@@ -18,8 +18,8 @@ in_front xs k t l c =
     (c.0, i_lt, get_or_default xs c.0 0 t (omega arith) ∙ sym (get_or-take k xs c.0 t i_lt) ∙ c.2)
 
 -- the equations of the first i symbols of the order hold
-abbrev pub IsFilled : {A : Type 0} → List ℕ → (ℕ → (ℕ → A) → A) → ℕ → (ℕ → A) → Type 0
-IsFilled order rhs i V = (j : ℕ) → j < i → j < length order → V (get_or order j 0) ≡ rhs (get_or order j 0) V
+abbrev pub IsComputedTo : {A : Type 0} → List ℕ → (ℕ → (ℕ → A) → A) → ℕ → (ℕ → A) → Type 0
+IsComputedTo order rhs i V = (j : ℕ) → j < i → j < length order → V (get_or order j 0) ≡ rhs (get_or order j 0) V
 
 module _ (n : ℕ) (needs : ℕ → List ℕ) (order : List ℕ) (is : IsOrderOf n needs order) where
   -- the first k symbols of an order are free after k rounds
@@ -54,9 +54,9 @@ module _ (n : ℕ) (needs : ℕ → List ℕ) (order : List ℕ) (is : IsOrderOf
       let w = in_front order j t (omega arith) (is.needs_first j t (omega arith) c) in
       u.others t (λ e. differ w.0 i (omega (arith, w.1)) b (w.2 ∙ e)))
 
-  pub fill_one : {A : Type 0} (rhs : ℕ → (ℕ → A) → A) → ReadsNeeds needs rhs → (i : ℕ) (V W : ℕ → A) → IsFilled order rhs i V → i < length order →
-      IsUpdate V W (get_or order i 0) (rhs (get_or order i 0) V) → IsFilled order rhs (i + 1) W
-  fill_one rhs reads i V W h b u j l c =
+  pub compute_one : {A : Type 0} (rhs : ℕ → (ℕ → A) → A) → ReadsNeeds needs rhs → (i : ℕ) (V W : ℕ → A) → IsComputedTo order rhs i V → i < length order →
+      IsUpdate V W (get_or order i 0) (rhs (get_or order i 0) V) → IsComputedTo order rhs (i + 1) W
+  compute_one rhs reads i V W h b u j l c =
       elim (cases_lt j i) [
         | inl before ↦ u.others (get_or order j 0) (differ j i before b) ∙ h j before c ∙ sym (unread rhs reads i j V W _ b u (omega arith))
         | inr last ↦
@@ -64,25 +64,21 @@ module _ (n : ℕ) (needs : ℕ → List ℕ) (order : List ℕ) (is : IsOrderOf
             ap (λ m. W (get_or order m 0)) same ∙ u.here ∙ ap (λ m. rhs (get_or order m 0) V) (sym same) ∙ sym (unread rhs reads i j V W _ b u (omega arith))
       ]
 
-  pub all_filled : {A : Type 0} (rhs : ℕ → (ℕ → A) → A) (V : ℕ → A) → IsFilled order rhs (length order) V → Solves n rhs V
-  all_filled rhs V h s l =
+  pub all_computed : {A : Type 0} (rhs : ℕ → (ℕ → A) → A) (V : ℕ → A) → IsComputedTo order rhs (length order) V → Solves n rhs V
+  all_computed rhs V h s l =
       let c = is.all_there s l in
       subst (λ x. V x ≡ rhs x V) (get_or_default order c.0 0 s c.1 ∙ c.2) (h c.0 c.1 c.1)
 
-  -- after each step of a filling the equations so far hold
-  filled_to : {A : Type 0} (rhs : ℕ → (ℕ → A) → A) → ReadsNeeds needs rhs → (filled : ℕ → ℕ → A) →
-      ((i : ℕ) → i < length order → IsUpdate (filled i) (filled (i + 1)) (get_or order i 0) (rhs (get_or order i 0) (filled i))) → (i : ℕ) → i ≤ length order → IsFilled order rhs i (filled i)
-  filled_to rhs reads filled steps zero l = λ j up. absurd (omega arith)
-  filled_to rhs reads filled steps (suc i) l =
+  -- after each step the equations so far hold
+  computed_to : {A : Type 0} (rhs : ℕ → (ℕ → A) → A) → ReadsNeeds needs rhs → (values : ℕ → ℕ → A) →
+      ((i : ℕ) → i < length order → IsUpdate (values i) (values (i + 1)) (get_or order i 0) (rhs (get_or order i 0) (values i))) → (i : ℕ) → i ≤ length order → IsComputedTo order rhs i (values i)
+  computed_to rhs reads values steps zero l = λ j up. absurd (omega arith)
+  computed_to rhs reads values steps (suc i) l =
       let e : i + 1 ≡ suc i = omega arith in
-      let step = fill_one rhs reads i (filled i) (filled (i + 1)) (filled_to rhs reads filled steps i (omega arith)) (omega arith) (steps i (omega arith)) in
-      subst (λ k. IsFilled order rhs k (filled k)) e step
+      let step = compute_one rhs reads i (values i) (values (i + 1)) (computed_to rhs reads values steps i (omega arith)) (omega arith) (steps i (omega arith)) in
+      subst (λ k. IsComputedTo order rhs k (values k)) e step
 
-  pub filled_solves : {A : Type 0} (rhs : ℕ → (ℕ → A) → A) → ReadsNeeds needs rhs → (filled : ℕ → ℕ → A) →
-      ((i : ℕ) → i < length order → IsUpdate (filled i) (filled (i + 1)) (get_or order i 0) (rhs (get_or order i 0) (filled i))) → Solves n rhs (filled (length order))
-  filled_solves rhs reads filled steps =
-      all_filled rhs (filled (length order)) (λ j up. filled_to rhs reads filled steps (length order) (omega arith) j up)
-
--- a symbol of an order is one of the first n
-pub symbol_below : (n : ℕ) (needs : ℕ → List ℕ) (order : List ℕ) → IsOrderOf n needs order → (i : ℕ) → i < length order → get_or order i 0 < n
-symbol_below n needs order is i l = is.all_below (get_or order i 0) (Contains-get_or order i 0 l)
+  pub computed_solves : {A : Type 0} (rhs : ℕ → (ℕ → A) → A) → ReadsNeeds needs rhs → (values : ℕ → ℕ → A) →
+      ((i : ℕ) → i < length order → IsUpdate (values i) (values (i + 1)) (get_or order i 0) (rhs (get_or order i 0) (values i))) → Solves n rhs (values (length order))
+  computed_solves rhs reads values steps =
+      all_computed rhs (values (length order)) (λ j up. computed_to rhs reads values steps (length order) (omega arith) j up)

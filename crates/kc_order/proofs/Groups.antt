@@ -1,5 +1,5 @@
 -- What groups stand for, and which symbols are unordered through them.
-use Rattle.std.proofs.Common.{◌≡◌, ℕ, ◌<◌, ◌≤◌, ◌+◌, ◌-◌, true, false, cond, List, [], ◌∷◌, ◌++◌, length, get_or, zero, suc, sym, ◌∙◌, ap, refl, inl, inr, arith, ltb, take, drop, map, subst, All, length-drop}
+use Rattle.std.proofs.Common.{◌≡◌, ℕ, ◌<◌, ◌≤◌, ◌+◌, ◌-◌, true, false, cond, List, [], ◌∷◌, ◌++◌, length, get_or, zero, suc, sym, ◌∙◌, ap, refl, inl, inr, arith, take, drop, subst, All, length-drop}
 use Rattle.std.specs.List.{Contains, flat_map}
 use Rattle.std.proofs.lemmas.Bool.{cases_lt, cases_Bool, lt-ltb, le-ltb, true≢false}
 use Rattle.std.proofs.lemmas.List.{get_or_append_left, get_or_push, length_push, get_or_default, get_or-map, get_or-take, get_or-drop, length-take-le, length-map}
@@ -105,15 +105,6 @@ flat_contains f (x ∷ xs) w v c d =
     ]
 
 module _ (g : Nodes) (is : IsGraph g) where
-  abbrev n : ℕ
-  n = g.symbols
-
-  abbrev groups : List (List ℕ)
-  groups = groups_of g
-
-  abbrev stands : ℕ → List ℕ
-  stands = stands_for g.symbols (groups_of g)
-
   down : GoesDown (g.symbols + 0) (drop g.symbols g.rows)
   down i l k d b =
       let at : get_or (drop g.symbols g.rows) i [] ≡ get_or g.rows (g.symbols + i) [] = get_or-drop g.symbols g.rows i [] in

@@ -3,12 +3,12 @@ use Rattle.std.proofs.Common.{ℕ, Bool, Option, None, sym, ◌∙◌, ap, inl, 
 use Rattle.std.proofs.lemmas.Bool.{cases_Bool}
 use Rattle.kc_order.specs.Needs.{NeedsBelow, NothingUnordered}
 use Rattle.kc_order.specs.Solution.{Solves, ReadsNeeds}
-use Rattle.kc_order.specs.Minimal.{equations_under, kept, Restores, NothingCanGo, KeepsWhatDiffers}
+use Rattle.kc_order.specs.Minimal.{equations, kept, Restores, NothingCanGo, KeepsWhatDiffers}
 use Rattle.kc_order.proofs.Unique.{only}
 
 module _ {A Place G : Type 0} (n : ℕ) (needs : ℕ → List ℕ) (place : ℕ → Place) (rhs : ℕ → Option G → (ℕ → A) → A) (below : NeedsBelow n needs)
-    (reads : (given : Place → Option G) → ReadsNeeds needs (equations_under place rhs given)) (lines : Place → Option G) (V : ℕ → A) (keep : Place → Bool) where
-  pub solves_kept : KeepsWhatDiffers n place rhs lines V keep → Solves n (equations_under place rhs (kept keep lines)) V
+    (reads : (given : Place → Option G) → ReadsNeeds needs (equations place rhs given)) (lines : Place → Option G) (V : ℕ → A) (keep : Place → Bool) where
+  pub solves_kept : KeepsWhatDiffers n place rhs lines V keep → Solves n (equations place rhs (kept keep lines)) V
   solves_kept m s l =
       elim (cases_Bool (keep (place s))) [
         | inl t ↦ m.given s l t ∙ sym (ap (λ b. rhs s (cond b (lines (place s)) None) V) t)
@@ -18,7 +18,7 @@ module _ {A Place G : Type 0} (n : ℕ) (needs : ℕ → List ℕ) (place : ℕ 
   pub restores : NothingUnordered n needs → KeepsWhatDiffers n place rhs lines V keep → Restores n place rhs lines V keep
   restores free m = record {
     solves = solves_kept m;
-    only = only n needs (equations_under place rhs (kept keep lines)) below (reads (kept keep lines)) free V (solves_kept m);
+    only = only n needs (equations place rhs (kept keep lines)) below (reads (kept keep lines)) free V (solves_kept m);
   }
 
   pub nothing_can_go : KeepsWhatDiffers n place rhs lines V keep → NothingCanGo n place rhs lines V keep

@@ -1,12 +1,12 @@
 -- Each step of the search keeps what the search keeps.
-use Rattle.std.proofs.Common.{◌≡◌, ℕ, ◌<◌, ◌≤◌, ◌+◌, ◌≢◌, true, false, Bool, List, [], ◌∷◌, ◌++◌, length, get_or, zero, suc, sym, ◌∙◌, ap, refl, inl, inr, arith, take, drop, eqb, subst, ◌⊎◌}
+use Rattle.std.proofs.Common.{◌≡◌, ℕ, ◌<◌, ◌≤◌, ◌+◌, ◌-◌, ◌≢◌, true, false, Bool, List, [], ◌∷◌, ◌++◌, length, get_or, zero, suc, sym, ◌∙◌, ap, refl, inl, inr, arith, take, drop, eqb, subst, ◌⊎◌}
 use Rattle.std.proofs.Common.{get_or-set_other, get_or-set_same}
 use Rattle.std.proofs.Math.ListN.{set}
 use Rattle.std.specs.Cmp.{nat_eq_equiv}
 use Rattle.std.specs.List.{Contains, IsDistinct, slice_index}
 use Rattle.std.proofs.lemmas.Bool.{cases_eq, cases_lt, cases_Bool, ne_eqb, eqb-false}
-use Rattle.std.proofs.lemmas.List.{get_or_append_left, get_or_push, length_push, drop_more, length-drop, take-append-le, take_at, get_or_default}
-use Rattle.std.proofs.lemmas.List.Elements.{Contains-push, Contains-push_cases, Contains-append_left, Contains-append_cases, Contains-get_or}
+use Rattle.std.proofs.lemmas.List.{get_or_append_left, get_or_push, length_push, get_or-drop, length-drop, take-append-le, take_at, get_or_default}
+use Rattle.std.proofs.lemmas.List.Elements.{Contains-push, Contains-push_cases, Contains-append_left, Contains-get_or}
 use Rattle.std.proofs.lemmas.List.Folds.{list_any_none, list_any_at, Any-from_list_any}
 use Rattle.std.proofs.lemmas.Map.Keys.{IsDistinct-push, apart_from_distinct, IsDistinct-from_apart}
 use Rattle.kc_order.specs.declared.search.Mark.{Mark}
@@ -15,9 +15,7 @@ use Rattle.std.proofs.Common.{All, map, sum, sum_by}
 use Rattle.std.proofs.lemmas.List.{length-set}
 use Rattle.std.proofs.lemmas.List.Sums.{sum_by-set}
 use Rattle.kc_order.specs.Needs.{NeedsBelow, needs_in, unordered_after}
-use Rattle.kc_order.specs.Loop.{IsFirstUnordered}
 use Rattle.kc_order.specs.Rows.{RowsBelow}
-use Rattle.kc_order.specs.FirstUnordered.{TellsUnordered}
 use Rattle.kc_order.specs.Order.{IsOrderOf}
 use Rattle.kc_order.specs.declared.search.Search.{Search}
 use Rattle.kc_order.specs.Search.{IsSearch, IsSound, IsFinished, Opens, Closes, GivesUp, KeepsMet, weight, work, mark_of, is_unordered}
@@ -70,16 +68,9 @@ true≢false b t f = cc
 goes_at : (needs : ℕ → List ℕ) (xs : List ℕ) (k a b : ℕ) → slice_index xs k ≡ a → slice_index xs (k + 1) ≡ b → Contains (needs a) b → Contains (needs (slice_index xs k)) (slice_index xs (k + 1))
 goes_at needs xs k a b p q h = subst (λ x. Contains (needs x) (slice_index xs (k + 1))) (sym p) (subst (λ y. Contains (needs a) y) (sym q) h)
 
-cons_cases : (x : ℕ) (xs : List ℕ) (v : ℕ) → Contains (x ∷ xs) v → (x ≡ v) ⊎ Contains xs v
-cons_cases x xs v c =
-    elim (Contains-append_cases (x ∷ []) xs v c) [
-      | inl one ↦ elim (Contains-push_cases [] x v one) [ inl none ↦ absurd (omega (arith, none.1)) | inr same ↦ inl same ]
-      | inr more ↦ inr more
-    ]
-
--- one need fewer is left of s, and of each symbol that needs the same; of the others as many as before
-abbrev pub PassesOne : ℕ → (ℕ → List ℕ) → (ℕ → ℕ) → (ℕ → ℕ) → ℕ → ℕ → Type 0
-PassesOne n needs left left' s j = (t : ℕ) → t < n → ((needs t ≡ needs s) × (left' t ≡ j)) ⊎ (left' t ≡ left t)
+-- j needs are left of s, and of each symbol that needs the same; of the others as many as before
+abbrev pub PassesTo : ℕ → (ℕ → List ℕ) → (ℕ → ℕ) → (ℕ → ℕ) → ℕ → ℕ → Type 0
+PassesTo n needs left left' s j = (t : ℕ) → t < n → ((needs t ≡ needs s) × (left' t ≡ j)) ⊎ (left' t ≡ left t)
 
 module _ (n : ℕ) (needs : ℕ → List ℕ) where
   pub opened : (mark mark' : ℕ → Mark) (left : ℕ → ℕ) (path order : List ℕ) (s : ℕ) → IsSearch n needs mark left path order → s < n → mark s ≡ New →
@@ -127,8 +118,8 @@ module _ (n : ℕ) (needs : ℕ → List ℕ) where
       }
 
   -- a symbol whose needs are all done is not unordered
-  now_settled : NeedsBelow n needs → (mark : ℕ → Mark) (left : ℕ → ℕ) (path order : List ℕ) (s : ℕ) → IsSearch n needs mark left path order → s < n → left s ≡ 0 → unordered_after needs n s ≡ false
-  now_settled below mark left path order s h l none =
+  free_when_passed : NeedsBelow n needs → (mark : ℕ → Mark) (left : ℕ → ℕ) (path order : List ℕ) (s : ℕ) → IsSearch n needs mark left path order → s < n → left s ≡ 0 → unordered_after needs n s ≡ false
+  free_when_passed below mark left path order s h l none =
       elim (cases_Bool (unordered_after needs n s)) [
         | inl unordered ↦
             let a = Any-from_list_any (unordered_after needs n) (needs s) (stays_unordered n needs below s l unordered) in
@@ -185,7 +176,7 @@ module _ (n : ℕ) (needs : ℕ → List ℕ) where
             ];
         done_ordered = λ t b e.
             elim (cases_eq t s) [
-              | inl same ↦ ap (unordered_after needs n) same ∙ now_settled below mark left (path ++ s ∷ []) order s h there.0 none
+              | inl same ↦ ap (unordered_after needs n) same ∙ free_when_passed below mark left (path ++ s ∷ []) order s h there.0 none
               | inr other ↦ h.done_ordered t b (sym (u.others t other) ∙ e)
             ];
         unordered_is = λ t k b e.
@@ -240,9 +231,9 @@ module _ (n : ℕ) (needs : ℕ → List ℕ) where
         passed = λ t v b c. done_stays v (h.passed t v b c);
       }
 
-  pub passed_one : (mark : ℕ → Mark) (left left' : ℕ → ℕ) (path order : List ℕ) (s j : ℕ) → IsSearch n needs mark left path order → s < n → left s ≡ j + 1 →
-      mark (get_or (needs s) j 0) ≡ Done → PassesOne n needs left left' s j → IsSearch n needs mark left' path order
-  passed_one mark left left' path order s j h l e done u = record {
+  pub passed_to : (mark : ℕ → Mark) (left left' : ℕ → ℕ) (path order : List ℕ) (s j : ℕ) → IsSearch n needs mark left path order → s < n → j ≤ left s →
+      ((k : ℕ) → j ≤ k → k < left s → mark (get_or (needs s) k 0) ≡ Done) → PassesTo n needs left left' s j → IsSearch n needs mark left' path order
+  passed_to mark left left' path order s j h l e done u = record {
     path_is = h.path_is;
     open_is = h.open_is;
     path_apart = h.path_apart;
@@ -262,10 +253,14 @@ module _ (n : ℕ) (needs : ℕ → List ℕ) where
         elim (u t b) [
           | inl same ↦
               let here = subst (λ i. Contains (drop i (needs s)) v) same.1 (subst (λ xs. Contains (drop (left' t) xs) v) same.0 c) in
-              let split = drop_more (needs s) j 0 (omega (arith, h.left_le s l)) in
-              elim (cons_cases (get_or (needs s) j 0) (drop (j + 1) (needs s)) v (subst (λ xs. Contains xs v) split here)) [
-                | inl is ↦ sym (ap mark is) ∙ done
-                | inr later ↦ h.passed s v l (subst (λ i. Contains (drop i (needs s)) v) (sym e) later)
+              let at : get_or (needs s) (j + here.0) v ≡ v = sym (get_or-drop j (needs s) here.0 v) ∙ here.2 in
+              let there : j + here.0 < length (needs s) = omega (arith, here.1, length-drop j (needs s)) in
+              elim (cases_lt (j + here.0) (left s)) [
+                | inl passed ↦ sym (ap mark (get_or_default (needs s) (j + here.0) 0 v there ∙ at)) ∙ done (j + here.0) (omega arith) passed
+                | inr later ↦
+                    let back : left s + ((j + here.0) - left s) ≡ j + here.0 = omega arith in
+                    h.passed s v l
+                    ((j + here.0) - left s, omega (arith, there, length-drop (left s) (needs s)), get_or-drop (left s) (needs s) ((j + here.0) - left s) v ∙ ap (λ i. get_or (needs s) i v) back ∙ at)
               ]
           | inr other ↦ h.passed t v b (subst (λ i. Contains (drop i (needs t)) v) other c)
         ];
@@ -354,17 +349,6 @@ module _ (rows : List (List ℕ)) (search : Search) (over : IsFinished rows sear
         | inr free ↦ free ∙ sym (keeps.done_ordered s b (met_is_done (get_or search.marks.items s New) (over.met s b) closed_now free))
       ]
 
-  pub marks_are : TellsUnordered rows search.marks.items
-  marks_are = record { count = over.sound.marks_len; each = unordered_iff }
-
-  pub first_is : (i : ℕ) → i < length search.marks.items → is_unordered (get_or search.marks.items i New) ≡ true → ((k : ℕ) → k < i → is_unordered (get_or search.marks.items k New) ≡ false) →
-      IsFirstUnordered (length rows) (needs_in rows) i
-  first_is i l given before = record {
-    below = omega (arith, l, over.sound.marks_len);
-    unordered = sym (unordered_iff i (omega (arith, l, over.sound.marks_len))) ∙ given;
-    none_before = λ u b. sym (unordered_iff u (omega (arith, b, l, over.sound.marks_len))) ∙ before u b;
-  }
-
   -- where none is unordered, all are in order
   pub finishes : All (λ m. is_unordered m ≡ false) search.marks.items → IsOrderOf (length rows) (needs_in rows) search.order.items
   finishes free =
@@ -383,10 +367,10 @@ counts_are [] r = refl
 counts_are (row ∷ rows) zero = refl
 counts_are (row ∷ rows) (suc r) = counts_are rows r
 
--- one need fewer is left in a row
-pub row_passes_one : (rows : List (List ℕ)) (left : List ℕ) (s j : ℕ) → s < length left →
-    PassesOne (length rows) (needs_in rows) (λ t. get_or left t 0) (λ t. get_or (set left s j) t 0) s j
-row_passes_one rows left s j l t c =
+-- fewer needs are left in a row
+pub row_passes_to : (rows : List (List ℕ)) (left : List ℕ) (s j : ℕ) → s < length left →
+    PassesTo (length rows) (needs_in rows) (λ t. get_or left t 0) (λ t. get_or (set left s j) t 0) s j
+row_passes_to rows left s j l t c =
     elim (cases_eq t s) [
       | inl same ↦ inl (ap (needs_in rows) same, ap (λ r. get_or (set left s j) r 0) same ∙ get_or-set_same left s j 0 l)
       | inr other ↦ inr (get_or-set_other left s t j 0 other)

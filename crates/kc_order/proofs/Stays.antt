@@ -31,8 +31,8 @@ was_unordered needs (suc k) s e = list_any_narrow (unordered_after needs k) (uno
 abbrev IsFixpoint : ℕ → (ℕ → List ℕ) → ℕ → Type 0
 IsFixpoint n needs k = (s : ℕ) → s < n → unordered_after needs k s ≡ unordered_after needs (suc k) s
 
-settled_next : (n : ℕ) (needs : ℕ → List ℕ) (k : ℕ) → NeedsBelow n needs → IsFixpoint n needs k → IsFixpoint n needs (suc k)
-settled_next n needs k below h s l =
+fixpoint_next : (n : ℕ) (needs : ℕ → List ℕ) (k : ℕ) → NeedsBelow n needs → IsFixpoint n needs k → IsFixpoint n needs (suc k)
+fixpoint_next n needs k below h s l =
     list_any_agree (unordered_after needs k) (unordered_after needs (suc k)) (needs s)
     (λ j d lt. h (get_or (needs s) j d) (below s (get_or (needs s) j d) l (Contains-get_or (needs s) j d lt)))
 
@@ -71,13 +71,13 @@ fewer p q h (x ∷ xs) =
     ]
 
 -- either nothing more is taken away, or each round took one away
-settled_or_fewer : (n : ℕ) (needs : ℕ → List ℕ) → NeedsBelow n needs → (k : ℕ) → IsFixpoint n needs k ⊎ (count_by (unordered_after needs k) (range_with_len 0 n) + k ≤ n)
-settled_or_fewer n needs below zero = inr (omega (arith, count_by-le-length (unordered_after needs zero) (range_with_len 0 n), length-range_with_len 0 n))
-settled_or_fewer n needs below (suc k) =
-    elim (settled_or_fewer n needs below k) [
-      | inl done ↦ inl (settled_next n needs k below done)
+fixpoint_or_fewer : (n : ℕ) (needs : ℕ → List ℕ) → NeedsBelow n needs → (k : ℕ) → IsFixpoint n needs k ⊎ (count_by (unordered_after needs k) (range_with_len 0 n) + k ≤ n)
+fixpoint_or_fewer n needs below zero = inr (omega (arith, count_by-le-length (unordered_after needs zero) (range_with_len 0 n), length-range_with_len 0 n))
+fixpoint_or_fewer n needs below (suc k) =
+    elim (fixpoint_or_fewer n needs below k) [
+      | inl done ↦ inl (fixpoint_next n needs k below done)
       | inr few ↦ elim (fewer (unordered_after needs k) (unordered_after needs (suc k)) (was_unordered needs k) (range_with_len 0 n)) [
-        | inl same ↦ inl (settled_next n needs k below
+        | inl same ↦ inl (fixpoint_next n needs k below
             (λ s l. subst (λ x. unordered_after needs k x ≡ unordered_after needs (suc k) x) (get_or-range_with_len 0 n s 0 l ∙ zero-add s) (same s 0 (omega (arith, length-range_with_len 0 n)))))
         | inr less ↦ inr (omega arith)
       ]
@@ -86,7 +86,7 @@ settled_or_fewer n needs below (suc k) =
 -- what is unordered needs something unordered
 pub stays_unordered : (n : ℕ) (needs : ℕ → List ℕ) → NeedsBelow n needs → (s : ℕ) → s < n → unordered_after needs n s ≡ true → list_any (unordered_after needs n) (needs s) ≡ true
 stays_unordered n needs below s l e =
-    elim (settled_or_fewer n needs below n) [
+    elim (fixpoint_or_fewer n needs below n) [
       | inl done ↦ sym (done s l) ∙ e
       | inr none ↦
           let at = get_or-le-sum_by (λ x. cond (unordered_after needs n x) 1 0) (range_with_len 0 n) s 0 (omega (arith, length-range_with_len 0 n)) in

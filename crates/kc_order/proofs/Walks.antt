@@ -1,6 +1,6 @@
 -- The walk along unordered symbols.
 use Rattle.std.proofs.Common.{false, replicate, ◌||◌, get_or-set_same, get_or-set_other, ◌≡◌, ℕ, ◌<◌, ◌≤◌, ◌+◌, Bool, true, false, List, [], ◌∷◌}
-use Rattle.std.proofs.Common.{◌++◌, length, get_or, sym, ◌∙◌, ap, refl, inl, inr, arith, All, take, drop, eqb, filter, ◌≢◌, subst}
+use Rattle.std.proofs.Common.{◌++◌, length, get_or, sym, ◌∙◌, ap, inl, inr, arith, All, take, drop, eqb, filter, ◌≢◌, subst}
 use Rattle.std.specs.Cmp.{nat_eq_equiv}
 use Rattle.std.proofs.lemmas.Map.Keys.{IsDistinct-push}
 use Rattle.std.proofs.lemmas.Map.Views.{list_any-from_Contains}
@@ -11,19 +11,11 @@ use Rattle.std.proofs.lemmas.List.Folds.{list_any_none, Any-from_list_any}
 use Rattle.std.proofs.lemmas.List.{length-replicate, get_or-replicate, length-set, get_or_append_left, get_or_push, length_push, drop_more, take-append-drop, length-drop}
 use Rattle.std.specs.List.{Contains, list_any, IsDistinct}
 use Rattle.std.proofs.lemmas.Bool.{eqb-false, cases_eq, cases_Bool, ne_eqb, eqb-true, cases_lt}
-use Rattle.std.proofs.lemmas.List.Elements.{All-tail, Contains-get_or, All-contains, All-filter, filter_passes, All-contains_itself, All-push, Contains-push}
+use Rattle.std.proofs.lemmas.List.Elements.{Contains-get_or, All-contains, All-filter, filter_passes, All-contains_itself, All-push, Contains-push}
 use Rattle.kc_order.specs.Needs.{NeedsBelow, unordered_after}
 use Rattle.kc_order.specs.Rows.{AreMarks}
 use Rattle.kc_order.specs.Loop.{IsFirstUnordered, IsNext, IsUnorderedWalk, IsNamedLoop}
 use Rattle.kc_order.proofs.Stays.{stays_unordered}
-
--- tests that agree on each element keep the same
-pub filter_agree_on : {X : Type 0} (p q : X → Bool) (xs : List X) → All (λ x. p x ≡ q x) xs → filter p xs ≡ filter q xs
-filter_agree_on p q [] h = refl
-filter_agree_on p q (x ∷ xs) h =
-    let here : p x ≡ q x = h 0 x (omega arith) in
-    let rest : filter p xs ≡ filter q xs = filter_agree_on p q xs (All-tail (λ x. p x ≡ q x) x xs h) in
-    cc
 
 pub kept_from : {X : Type 0} (p : X → Bool) (xs : List X) (x : X) → Contains (filter p xs) x → Contains xs x × (p x ≡ true)
 kept_from p xs x c = (

@@ -6,7 +6,7 @@ use Rattle.kc_order.specs.Needs.{needs_in, AreAlike, AreWithin, IsAccepted, Some
 use Rattle.kc_order.specs.Loop.{IsNamedLoop, IsPath}
 use Rattle.kc_order.specs.Order.{Orders}
 use Rattle.kc_order.specs.Solution.{Solves, IsOnlySolution, ReadsNeeds, HasOneSolution, IsUpdate, IsRound}
-use Rattle.kc_order.specs.Minimal.{equations_under, Restores, NothingCanGo, KeepsWhatDiffers}
+use Rattle.kc_order.specs.Minimal.{equations, Restores, NothingCanGo, KeepsWhatDiffers}
 
 -- needs that have an order are accepted
 abbrev pub OrderedAreAccepted : Type 0
@@ -79,9 +79,9 @@ SolutionsAgree A =
 abbrev pub ComputingSolves : Type 0 → Type 0
 ComputingSolves A =
     (needs : List (List ℕ)) (symbols : List ℕ) (rhs : ℕ → (ℕ → A) → A) → Orders needs symbols → ReadsNeeds (needs_in needs) rhs →
-    (filled : ℕ → ℕ → A) →
-    ((i : ℕ) → i < length symbols → IsUpdate (filled i) (filled (i + 1)) (slice_index symbols i) (rhs (slice_index symbols i) (filled i))) →
-    Solves (length needs) rhs (filled (length symbols))
+    (values : ℕ → ℕ → A) →
+    ((i : ℕ) → i < length symbols → IsUpdate (values i) (values (i + 1)) (slice_index symbols i) (rhs (slice_index symbols i) (values i))) →
+    Solves (length needs) rhs (values (length symbols))
 
 -- as many rounds as there are symbols, whatever the values before: the equations hold
 abbrev pub RoundsSolve : Type 0 → Type 0
@@ -94,12 +94,12 @@ RoundsSolve A =
 abbrev pub MinimalRestores : Type 0 → Type 0 → Type 0 → Type 0
 MinimalRestores A Place G =
     (needs : List (List ℕ)) (place : ℕ → Place) (rhs : ℕ → Option G → (ℕ → A) → A) (lines : Place → Option G) (V : ℕ → A) (keep : Place → Bool) →
-    AreWithin needs → IsAccepted needs → ((given : Place → Option G) → ReadsNeeds (needs_in needs) (equations_under place rhs given)) →
+    AreWithin needs → IsAccepted needs → ((given : Place → Option G) → ReadsNeeds (needs_in needs) (equations place rhs given)) →
     KeepsWhatDiffers (length needs) place rhs lines V keep → Restores (length needs) place rhs lines V keep
 
 -- and none of them can go
 abbrev pub MinimalHasNothingToSpare : Type 0 → Type 0 → Type 0 → Type 0
 MinimalHasNothingToSpare A Place G =
     (needs : List (List ℕ)) (place : ℕ → Place) (rhs : ℕ → Option G → (ℕ → A) → A) (lines : Place → Option G) (V : ℕ → A) (keep : Place → Bool) →
-    AreWithin needs → ((given : Place → Option G) → ReadsNeeds (needs_in needs) (equations_under place rhs given)) →
+    AreWithin needs → ((given : Place → Option G) → ReadsNeeds (needs_in needs) (equations place rhs given)) →
     KeepsWhatDiffers (length needs) place rhs lines V keep → NothingCanGo (length needs) place rhs lines V keep

@@ -27,10 +27,6 @@ pub record IsSearch (n : ℕ) (needs : ℕ → List ℕ) (mark : ℕ → Mark) (
 abbrev pub mark_of : Search → ℕ → Mark
 mark_of search s = slice_index_or search.marks.items s New
 
--- how many needs of symbol s are left
-abbrev pub left_of : Search → ℕ → ℕ
-left_of search s = slice_index_or search.left.items s 0
-
 -- a search over rows
 pub record IsSound (rows : List (List ℕ)) (search : Search) : Type 0 where
   pub marks_len : length search.marks.items ≡ length rows

@@ -56,8 +56,8 @@ pub fn solutions_agree<A>()
     ensures { SolutionsAgree A }
 {}
 
-/// A table filled along an order, each place written once, solves the equations.
-pub fn filling_solves<A>()
+/// Values that are computed along an order, each once, solve the equations.
+pub fn computing_solves<A>()
     ensures { ComputingSolves A }
 {}
 

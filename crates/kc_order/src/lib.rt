@@ -11,7 +11,7 @@ mod search;
 
 pub use graph::Graph;
 pub use laws::{
-    accepted_have_one_solution, alike_needs, cycles_are_unordered, filling_solves,
+    accepted_have_one_solution, alike_needs, computing_solves, cycles_are_unordered,
     groups_stand_for_symbols, minimal_has_nothing_to_spare, minimal_restores,
     named_loop_goes_round, named_loop_is_within, one_named_loop, ordered_are_accepted,
     rounds_solve, solutions_agree, unordered_have_a_loop,

@@ -1,6 +1,6 @@
 //! A depth-first search for an order, with a stack of its own. It goes on past what is unordered, so that it finds all of it.
 
-ghost use Rattle.std.specs.Prelude.{◌≡◌, ℕ, ◌<◌, length, IfOk, MatchOption, OnOk, All, slice_index_or, take, vec_len, replicate, map, ◌≢◌, ◌^◌, ◌++◌, ◌∷◌, [], ◌-◌, true, false};
+ghost use Rattle.std.specs.Prelude.{◌≡◌, ℕ, ◌<◌, ◌≤◌, ◌↔◌, length, slice_index, IfOk, IsTrue, MatchOption, OnOk, All, slice_index_or, take, vec_len, replicate, map, ◌≢◌, ◌^◌, ◌++◌, ◌∷◌, [], ◌-◌, true, false};
 ghost use Rattle.kc_order.specs.Rows.{RowsBelow};
 ghost use Rattle.kc_order.specs.Search.{IsSound, IsFinished, KeepsMet, Opens, Closes, GivesUp, work, mark_of, is_unordered};
 
@@ -31,6 +31,13 @@ pub struct Search {
     path: Vec<u32>,
     /// The done nodes, in order.
     pub order: Vec<u32>,
+}
+
+// Whether a node is done.
+fn is_done(mark: Mark) -> bool
+    ensures { IsTrue result ↔ mark ≡ Mark.Done }
+{
+    matches!(mark, Mark::Done)
 }
 
 // Opens a node.
@@ -65,7 +72,21 @@ fn give_up(search: &mut Search, node: u32)
     search.marks[node as usize] = Mark::Unordered;
 }
 
-// Looks at one more need of the last open node, or closes that node. It is unordered where that need is open itself, so that the
+// How many of the first needs of a row are left, once those at their end that are done are passed.
+fn pass_done(row: &[u32], marks: &[Mark], count: usize) -> usize
+    requires count { count ≤ length row.now }
+    requires row { All (λ t. t < length marks.now) row.now }
+    ensures fewer { result ≤ count }
+    ensures done { (k : ℕ) → result ≤ k → k < count → slice_index_or marks.now (slice_index row.now k) Mark.New ≡ Mark.Done }
+{
+    let mut left = count;
+    while left > 0 && is_done(marks[row[left - 1] as usize]) {
+        left -= 1;
+    }
+    left
+}
+
+// Looks at the next needs of the last open node, up to one that is not done, or closes that node. It is unordered where that need is open itself, so that the
 // path comes back to it, or unordered.
 fn advance(rows: &Rows, search: &mut Search, top: u32) -> Result<(), AllocError>
     requires rows_below { RowsBelow (length rows.now) rows.now }
@@ -81,9 +102,10 @@ fn advance(rows: &Rows, search: &mut Search, top: u32) -> Result<(), AllocError>
         close(search, top)?;
         return Ok(());
     }
-    let need = rows.row(top as usize)[left - 1];
+    let row = rows.row(top as usize);
+    let need = row[left - 1];
     match search.marks[need as usize] {
-        Mark::Done => search.left[top as usize] = left - 1,
+        Mark::Done => search.left[top as usize] = pass_done(row, &search.marks, left - 1),
         Mark::New => open(search, need)?,
         Mark::Open => give_up(search, top),
         Mark::Unordered => give_up(search, top),

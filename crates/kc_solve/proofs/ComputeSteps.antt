@@ -287,8 +287,8 @@ contexts_stay tree l values values' contexts selections id free others right i t
 -- one more node of a table
 module _ (tree : TreeFacts) (given : List (Option UserValue)) (chosen : List (Option SymId)) (nodes : List ℕ) (k : ℕ) (old new : Table) (now : IsComputedTable tree given chosen nodes k old)
     (b : k < length nodes) where
-  abbrev SymbolPlace : Layout → List (Option Value) → List (Option Tri) → List (Option (Option SymId)) → Type 0
-  SymbolPlace l values contexts selections = IsComputedTo tree l given chosen nodes (k + 1) values contexts selections
+  abbrev IsNext : Layout → List (Option Value) → List (Option Tri) → List (Option (Option SymId)) → Type 0
+  IsNext l values contexts selections = IsComputedTo tree l given chosen nodes (k + 1) values contexts selections
 
   pub symbol_next : AreNamesThere tree old.layout.now now.1.order.graph → (id : SymId) → get_or nodes k 0 ≡ id.0 → id.0 < length old.layout.now.symbols.items →
       IsComputedSymbol given chosen id old new → IsComputedTable tree given chosen nodes (k + 1) new
@@ -297,23 +297,23 @@ module _ (tree : TreeFacts) (given : List (Option UserValue)) (chosen : List (Op
       let free = unread tree l given chosen nodes k old.values.items old.contexts.items old.selections.items now.1 b names id.0 at below in
       let values = subst (λ u. AreComputedValues u given chosen id old.values.items new.values.items) now.0 f.values in
       let next = symbol_computed tree l given chosen nodes k old.values.items old.contexts.items old.selections.items now.1 b id new.values.items at below free values in
-      let a = subst (λ v. SymbolPlace l new.values.items v.items old.selections.items) (sym f.contexts) next in
-      let c = subst (λ v. SymbolPlace l new.values.items new.contexts.items v.items) (sym f.selections) a in
-      (ap (λ t. t.now) f.keeps.tree ∙ now.0, subst (λ r. SymbolPlace r.now new.values.items new.contexts.items new.selections.items) (sym f.keeps.layout) c)
+      let a = subst (λ v. IsNext l new.values.items v.items old.selections.items) (sym f.contexts) next in
+      let c = subst (λ v. IsNext l new.values.items new.contexts.items v.items) (sym f.selections) a in
+      (ap (λ t. t.now) f.keeps.tree ∙ now.0, subst (λ r. IsNext r.now new.values.items new.contexts.items new.selections.items) (sym f.keeps.layout) c)
 
   pub context_next : (i : ℕ) → get_or nodes k 0 ≡ context_number old.layout.now i → IsComputedContext i old new → IsComputedTable tree given chosen nodes (k + 1) new
   context_next i at f =
       let l = old.layout.now in
       let next = context_computed tree l given chosen nodes k old.values.items old.contexts.items old.selections.items now.1 b i new.contexts.items at f.contexts in
-      let a = subst (λ v. SymbolPlace l v.items new.contexts.items old.selections.items) (sym f.values) next in
-      let c = subst (λ v. SymbolPlace l new.values.items new.contexts.items v.items) (sym f.selections) a in
-      (ap (λ t. t.now) f.keeps.tree ∙ now.0, subst (λ r. SymbolPlace r.now new.values.items new.contexts.items new.selections.items) (sym f.keeps.layout) c)
+      let a = subst (λ v. IsNext l v.items new.contexts.items old.selections.items) (sym f.values) next in
+      let c = subst (λ v. IsNext l new.values.items new.contexts.items v.items) (sym f.selections) a in
+      (ap (λ t. t.now) f.keeps.tree ∙ now.0, subst (λ r. IsNext r.now new.values.items new.contexts.items new.selections.items) (sym f.keeps.layout) c)
 
   pub choice_next : (i : ℕ) → get_or nodes k 0 ≡ choice_number old.layout.now i → IsComputedSelection chosen i old new → IsComputedTable tree given chosen nodes (k + 1) new
   choice_next i at f =
       let l = old.layout.now in
       let here = subst (λ u. IsSelection u old.values.items new.selections.items i (slice_index_or chosen i None)) now.0 f.here in
       let next = selection_computed tree l given chosen nodes k old.values.items old.contexts.items old.selections.items now.1 b i new.selections.items at here f.selections in
-      let a = subst (λ v. SymbolPlace l v.items old.contexts.items new.selections.items) (sym f.values) next in
-      let c = subst (λ v. SymbolPlace l new.values.items v.items new.selections.items) (sym f.contexts) a in
-      (ap (λ t. t.now) f.keeps.tree ∙ now.0, subst (λ r. SymbolPlace r.now new.values.items new.contexts.items new.selections.items) (sym f.keeps.layout) c)
+      let a = subst (λ v. IsNext l v.items old.contexts.items new.selections.items) (sym f.values) next in
+      let c = subst (λ v. IsNext l new.values.items v.items new.selections.items) (sym f.contexts) a in
+      (ap (λ t. t.now) f.keeps.tree ∙ now.0, subst (λ r. IsNext r.now new.values.items new.contexts.items new.selections.items) (sym f.keeps.layout) c)

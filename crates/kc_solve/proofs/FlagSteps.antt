@@ -62,10 +62,10 @@ module _ (tree : TreeFacts) (values : List (Option Value)) (full : length values
       ∙ ap (λ o. equation tree (known_in tree values) (symbol i) o None) at
       ∙ ap (λ o. by_choice tree (known_in tree values) (symbol i) f o None) e
 
-  by_slot : (c : Option ℕ) → f.choice ≡ c → ((d : ℕ) → c ≡ Some d → d < length tree.choices) →
+  by_place : (c : Option ℕ) → f.choice ≡ c → ((d : ℕ) → c ≡ Some d → d < length tree.choices) →
       differs_by tree (known_in tree values) (symbol i) f c selections defaults ≡ differs_at tree U V i (user_place_by i c)
-  by_slot None e below = ap (λ x. not (same_value (V i) x)) (sym (without None e))
-  by_slot (Some c) e below =
+  by_place None e below = ap (λ x. not (same_value (V i) x)) (sym (without None e))
+  by_place (Some c) e below =
       let l = below c refl in
       let a : slice_index_or selections c None ≡ selection tree U V c =
       ap (λ xs. slice_index_or xs c None) sel ∙ get_or-map-range_with_len (selection tree U V) 0 (length tree.choices) c c None l (omega arith) in
@@ -75,7 +75,7 @@ module _ (tree : TreeFacts) (values : List (Option Value)) (full : length values
       ∙ ap (λ x. is_symbol_of (symbol i) (selection tree U V c) && not (is_symbol_of (symbol i) x)) b
 
   differs_is : ((d : ℕ) → f.choice ≡ Some d → d < length tree.choices) → differs_by tree (known_in tree values) (symbol i) f f.choice selections defaults ≡ differs tree U V i
-  differs_is below = by_slot f.choice refl below ∙ ap (differs_at tree U V i) (sym (ap (user_place_of i) at))
+  differs_is below = by_place f.choice refl below ∙ ap (differs_at tree U V i) (sym (ap (user_place_of i) at))
 
   pub one_more_differs : ((d : ℕ) → f.choice ≡ Some d → d < length tree.choices) → (x : Bool) (old new : List Bool) → old ≡ map (differs tree U V) (range_with_len 0 i) →
       new ≡ old ++ x ∷ [] → x ≡ differs_by tree (known_in tree values) (symbol i) f f.choice selections defaults → new ≡ map (differs tree U V) (range_with_len 0 (i + 1))

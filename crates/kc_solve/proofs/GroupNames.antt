@@ -15,7 +15,7 @@ use Rattle.kc_values.specs.NeedRows.{AreNodeRows}
 use Rattle.kc_values.specs.Needs.{condition_names, names_of_choice}
 use Rattle.kc_values.specs.Nodes.{choice_number, context_number}
 use Rattle.kc_values.proofs.AnyLemmas.{stands, stands_in}
-use Rattle.kc_values.proofs.NeedsAlike.{choice_told, told}
+use Rattle.kc_values.proofs.NeedsAlike.{choice_stands, stand}
 use Rattle.kc_values.proofs.RowNeeds.{hit, names}
 use Rattle.kc_solve.proofs.ComputeSteps.{AreNamesThere}
 
@@ -40,8 +40,8 @@ pub names_there : (tree : TreeFacts) (l : Layout) (g : Nodes) → IsLayoutOf tre
 names_there tree l g laid is rows = record {
   contexts = λ i s b below c.
       let stood : ℕ → List ℕ = stands_for g.symbols (groups_of g) in
-      let one = told tree l laid g rows is s i b ∙ named tree l s (condition_names tree (condition_in l.tables.contexts i)) below c in
+      let one = stand tree l laid g rows is s i b ∙ named tree l s (condition_names tree (condition_in l.tables.contexts i)) below c in
       stands_in s (stood (context_number l i)) (one_context (λ t. stands s (stood t)) i (context_number l i) one);
   choices = λ k s b below c.
-      stands_in s (stands_for g.symbols (groups_of g) (choice_number l k)) (choice_told tree l laid g rows is s k b ∙ named tree l s (names_of_choice tree (choice_at tree k)) below c);
+      stands_in s (stands_for g.symbols (groups_of g) (choice_number l k)) (choice_stands tree l laid g rows is s k b ∙ named tree l s (names_of_choice tree (choice_at tree k)) below c);
 }

@@ -142,11 +142,11 @@ place_given given i v None l e o = ap given_at (o ∙ e ∙ get_or_default given
 place_given given i v (Some u) l e o = ap given_at (o ∙ e ∙ get_or_default given i v None l)
 
 -- a symbol computed: it has the value that its equation gives
-pub filled_value : (t : Table) (id : SymId) (s : Symbol) (given : List (Option UserValue)) (chosen : List (Option SymId)) (x : Value) → IsRowOf t id s →
+pub computed_value : (t : Table) (id : SymId) (s : Symbol) (given : List (Option UserValue)) (chosen : List (Option SymId)) (x : Value) → IsRowOf t id s →
     length t.values.items ≡ symbol_count t.tree.now → id.0 < length t.values.items →
     known_value s.kind x ≡ by_choice t.tree.now (known_at t) id (facts_of t.layout.now id.0 s) (mode_view s.choice) (given_for s.choice (given_at (slice_index_or given id.0 None)) chosen) →
     AreComputedValues t.tree.now given chosen id t.values.items (slice_set t.values.items id.0 (Some x))
-filled_value t id s given chosen x row count below e =
+computed_value t id s given chosen x row count below e =
     let tree = t.tree.now in
     let values = t.values.items in
     let f = facts_of t.layout.now id.0 s in

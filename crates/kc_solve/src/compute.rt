@@ -88,6 +88,7 @@ pub fn compute<'t>(
     requires chosen { length chosen.now ≡ length tree.now.choices }
     ensures tree { IfOk result (λ t. t.tree.now ≡ tree.now) }
     ensures count { IfOk result (λ t. length t.values.items ≡ symbol_count tree.now) }
+    ensures selected { IfOk result (λ t. AreSelected t chosen.now) }
     ensures solves { IfOk result (λ t. Solves (symbol_count tree.now) (equations tree.now (places given.now chosen.now)) (valuation tree.now t.values.items)) }
 {
     let mut table = Table::empty(alloc, tree, layout)?;

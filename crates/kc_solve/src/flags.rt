@@ -6,11 +6,12 @@ ghost use Rattle.kc_order.specs.Solution.{Solves};
 ghost use Rattle.kc_solve.specs.Flags as flag;
 ghost use Rattle.kc_solve.specs.Flags.{IsSolvedOwn};
 ghost use Rattle.kc_solve.specs.PlaceLists.{valuation};
-ghost use Rattle.kc_user.specs.Places.{ArePlacesOf, place_at};
+ghost use Rattle.kc_user.specs.Places.{ArePlacesOf, member_place, place_at};
 ghost use Rattle.kc_tree.specs.Layouts.{facts_of};
 ghost use Rattle.kc_values.specs.Differs as spec;
 ghost use Rattle.kc_values.specs.Solution.{symbol_count, equations};
-ghost use Rattle.kc_values.specs.TableFacts.{known_at, IsRowOf};
+ghost use Rattle.kc_values.specs.Lookups.{choice_at};
+ghost use Rattle.kc_values.specs.TableFacts.{known_at, AreSelected, IsRowOf};
 ghost use Rattle.kc_values.specs.User.{given_in};
 ghost use Rattle.kc_values.specs.Values as value;
 ghost use Rattle.kc_values.specs.Warnings.{value_warnings};
@@ -21,7 +22,7 @@ use kc_tree::rows::{ChoiceId, Symbol};
 use kc_tree::tree::Tree;
 use kc_user::user::User;
 use kc_user::value::UserValue;
-use kc_values::choices::selected_in;
+use kc_values::choices::{selected_in, selection};
 use kc_values::differs::{can_count, member_differs, own_differs};
 use kc_values::table::Table;
 use kc_values::truths::visibility;
@@ -36,36 +37,51 @@ fn choice_count(tree: &Tree) -> usize
     tree.choices().len()
 }
 
-/// The selection of each choice under the values of a full table and a user's places of that tree.
-pub fn selections(
-    alloc: Global,
+// The selection of a choice without the user's member, by the one with it, which is the same where none was given.
+fn default_of(
     table: &Table,
-    user: &User,
-) -> Result<Vec<Option<SymId>>, AllocError>
-    requires full { length table.now.values.items ≡ symbol_count table.now.tree.now }
-    requires user { ArePlacesOf table.now.tree.now user.now }
-    ensures { IfOk result (λ v. v.items ≡ map (spec.selection table.now.tree.now (place_at user.now) (valuation table.now.tree.now table.now.values.items)) (range_with_len 0 (length table.now.tree.now.choices))) }
+    choice: ChoiceId,
+    given: Option<SymId>,
+    selection: Option<SymId>,
+) -> Option<SymId>
+    requires { selection ≡ value.selected table.now.tree.now (known_at table.now) (choice_at table.now.tree.now choice.0) (member_place given) }
+    ensures { result ≡ value.selected table.now.tree.now (known_at table.now) (choice_at table.now.tree.now choice.0) None }
 {
-    let count = choice_count(table.tree);
-    let mut selected = Vec::with_capacity(alloc, count)?;
-    for c in 0..count {
-        let choice = ChoiceId(c);
-        selected.push(selected_in(table, choice, user.selected(choice)))?;
+    match given {
+        Some(_) => selected_in(table, choice, None),
+        None => selection,
     }
-    Ok(selected)
 }
 
-/// The default selection of each choice under the values of a full table: that without the user's member.
-pub fn default_selections(alloc: Global, table: &Table) -> Result<Vec<Option<SymId>>, AllocError>
+/// What each choice selects, by number.
+#[derive(Drop)]
+pub struct ChoiceSelections {
+    /// The selection.
+    pub selected: Vec<Option<SymId>>,
+    /// The default selection: that without the user's member.
+    pub default: Vec<Option<SymId>>,
+}
+
+/// What each choice selects under the values of a full table and a user's places of that tree. What the table has computed is
+/// not found again.
+pub fn selections(alloc: Global, table: &Table, user: &User) -> Result<ChoiceSelections, AllocError>
     requires full { length table.now.values.items ≡ symbol_count table.now.tree.now }
-    ensures { IfOk result (λ v. v.items ≡ map (spec.default_selection table.now.tree.now (valuation table.now.tree.now table.now.values.items)) (range_with_len 0 (length table.now.tree.now.choices))) }
+    requires user { ArePlacesOf table.now.tree.now user.now }
+    requires selected { AreSelected table.now user.now.choices }
+    ensures selected { IfOk result (λ s. s.selected.items ≡ map (spec.selection table.now.tree.now (place_at user.now) (valuation table.now.tree.now table.now.values.items)) (range_with_len 0 (length table.now.tree.now.choices))) }
+    ensures default { IfOk result (λ s. s.default.items ≡ map (spec.default_selection table.now.tree.now (valuation table.now.tree.now table.now.values.items)) (range_with_len 0 (length table.now.tree.now.choices))) }
 {
     let count = choice_count(table.tree);
     let mut selected = Vec::with_capacity(alloc, count)?;
+    let mut default = Vec::with_capacity(alloc, count)?;
     for c in 0..count {
-        selected.push(selected_in(table, ChoiceId(c), None))?;
+        let choice = ChoiceId(c);
+        let given = user.selected(choice);
+        let selection = selection(table, choice, given);
+        selected.push(selection)?;
+        default.push(default_of(table, choice, given, selection))?;
     }
-    Ok(selected)
+    Ok(ChoiceSelections { selected, default })
 }
 
 /// The selection at the place of a choice.
@@ -91,14 +107,14 @@ fn symbol_differs(
     id: SymId,
     symbol: &Symbol,
     user: Option<&UserValue>,
-    shown: Tri,
+    visibility: Tri,
     selections: &[Option<SymId>],
     defaults: &[Option<SymId>],
 ) -> Result<bool, AllocError>
     requires row { IsRowOf table.now id symbol.now }
     requires selections { IfSome symbol.now.choice (λ c. c.0 < length selections.now) }
     requires defaults { IfSome symbol.now.choice (λ c. c.0 < length defaults.now) }
-    requires shown { shown ≡ value.visibility table.now.tree.now (known_at table.now) (facts_of table.now.layout.now id.0 symbol.now) }
+    requires visibility { visibility ≡ value.visibility table.now.tree.now (known_at table.now) (facts_of table.now.layout.now id.0 symbol.now) }
     requires solved { IsSolvedOwn table.now.tree.now (known_at table.now) id (facts_of table.now.layout.now id.0 symbol.now) (facts_of table.now.layout.now id.0 symbol.now).choice (given_in user) }
     ensures { IfOk result (λ b. b ≡ flag.differs_by table.now.tree.now (known_at table.now) id (facts_of table.now.layout.now id.0 symbol.now) (facts_of table.now.layout.now id.0 symbol.now).choice selections.now defaults.now) }
 {
@@ -109,7 +125,7 @@ fn symbol_differs(
             id,
         )),
         None => {
-            if can_count(user, shown) {
+            if can_count(user, visibility) {
                 own_differs(alloc, table, id, symbol)
             } else {
                 Ok(false)
@@ -156,11 +172,13 @@ pub fn flags_of(
         let id = SymId(i);
         let symbol = symbol_row(table.layout, id);
         let own = user.get(id);
-        let shown = visibility(table, symbol);
-        let differs = symbol_differs(alloc, table, id, symbol, own, shown, selections, defaults)?;
+        let visibility = visibility(table, symbol);
+        let differs = symbol_differs(
+            alloc, table, id, symbol, own, visibility, selections, defaults,
+        )?;
         differing.push(differs)?;
-        written.push(is_written(table, id, symbol, shown))?;
-        warnings_into(alloc, table, id, symbol, shown, own, &mut warnings)?;
+        written.push(is_written(table, id, symbol, visibility))?;
+        warnings_into(alloc, table, id, symbol, visibility, own, &mut warnings)?;
     }
     Ok(Flags {
         differing,

@@ -9,9 +9,10 @@ ghost use Rattle.kc_tree.specs.Layouts.{IsLayoutOf};
 ghost use Rattle.kc_user.specs.Places.{ArePlacesOf, place_at};
 ghost use Rattle.kc_values.specs.Laws.{IsAccepted};
 ghost use Rattle.kc_values.specs.Solution.{symbol_count, equations};
+ghost use Rattle.kc_values.specs.TableFacts.{AreSelected};
 
 use crate::compute::compute;
-use crate::flags::{Flags, default_selections, flags_of, selections};
+use crate::flags::{ChoiceSelections, Flags, flags_of, selections};
 use crate::order::Order;
 use crate::solved::Solved;
 use kc_order::{alike_needs, groups_stand_for_symbols, ordered_are_accepted};
@@ -36,6 +37,7 @@ fn full_table<'t>(
     ensures tree { IfOk result (λ t. t.tree.now ≡ tree.now) }
     ensures accepted { OnOk result (IsAccepted tree.now) }
     ensures count { IfOk result (λ t. length t.values.items ≡ symbol_count tree.now) }
+    ensures selected { IfOk result (λ t. AreSelected t user.now.choices) }
     ensures solves { IfOk result (λ t. Solves (symbol_count tree.now) (equations tree.now (place_at user.now)) (valuation tree.now t.values.items)) }
     ensures only { IfOk result (λ t. IsOnlySolution (symbol_count tree.now) (equations tree.now (place_at user.now)) (valuation tree.now t.values.items)) }
 {
@@ -71,18 +73,17 @@ pub fn solve<'a>(
     ensures idempotent { IfOk result IdempotentWhere }
 {
     let table = full_table(alloc, tree, layout, order, user)?;
-    let selections = selections(alloc, &table, user)?;
-    let default_selections = default_selections(alloc, &table)?;
+    let ChoiceSelections { selected, default } = selections(alloc, &table, user)?;
     let Flags {
         differing,
         written,
         warnings,
-    } = flags_of(alloc, &table, user, &selections, &default_selections)?;
+    } = flags_of(alloc, &table, user, &selected, &default)?;
     let solved = Solved {
         table,
         user,
-        selections,
-        default_selections,
+        selections: selected,
+        default_selections: default,
         differing,
         written,
         warnings,

@@ -10,7 +10,7 @@ use kc_values::choices::selected_in;
 use kc_values::differs::member_differs;
 use kc_values::equation::own_equation;
 use kc_values::lookups::name;
-use kc_values::table::{Table, Value, filled_value};
+use kc_values::table::{Table, Value, value_of};
 use kc_values::truths::visibility;
 use kc_values::warnings;
 use kc_values::written::written;
@@ -55,7 +55,7 @@ fn differs(
         return Ok(member_differs(selection, default, id));
     }
     let without = own_equation(alloc, table, id, symbol, None)?;
-    Ok(!holds(filled_value(&table.values, id), &without))
+    Ok(!holds(value_of(&table.values, id), &without))
 }
 
 // The value as a text.

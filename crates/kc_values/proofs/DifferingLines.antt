@@ -20,7 +20,7 @@ use Rattle.kc_values.specs.Solution as sol
 use Rattle.kc_values.specs.Solution.{known_from, rhs}
 use Rattle.kc_values.specs.Differs.{given_of, default_selection}
 use Rattle.kc_values.specs.Laws.{MembersAreBools, DifferingAreAllowed}
-use Rattle.kc_values.proofs.FixedLines.{slot_cases, Sel, member_now, other_value, differs-member}
+use Rattle.kc_values.proofs.FixedLines.{place_cases, Sel, member_now, other_value, differs-member}
 use Rattle.kc_values.proofs.IdempotentLines.{upgrade_allowed, is_truth_kind}
 
 -- a text is the user's, which was allowed, or is the one without it
@@ -105,7 +105,7 @@ member_allowed tree i c (Some f) at bools e =
 pub differing_allowed : DifferingAreAllowed
 differing_allowed tree user V i l bools given solves t =
     let K = known_from tree V in
-    elim (slot_cases tree i) [
+    elim (place_cases tree i) [
       | inl at ↦
           let e = solves i l ∙ ap (λ p. rhs tree i (user p) V) at in
           elim (facts_allowed tree K (symbol i) i (facts tree (symbol i)) (user (SymbolPlace i)) at (given i)) [

@@ -144,19 +144,19 @@ module _ (tree : TreeFacts) (k : SymId → SymbolValue) where
   pub reselected : (o : Option ChoiceFacts) (u : Option GivenValue) → v.selected tree k o (option_map Member (v.selected tree k o u)) ≡ v.selected tree k o u
   reselected o u = reselected_to o u (v.selected tree k o u) refl
 
-slot_cases_choice : (i : ℕ) (c : Option ℕ) → (sol.user_place_by i c ≡ SymbolPlace i) ⊎ ((d : ℕ) × (sol.user_place_by i c ≡ ChoicePlace d))
-slot_cases_choice i None = inl refl
-slot_cases_choice i (Some c) = inr (c, refl)
+place_cases_by : (i : ℕ) (c : Option ℕ) → (sol.user_place_by i c ≡ SymbolPlace i) ⊎ ((d : ℕ) × (sol.user_place_by i c ≡ ChoicePlace d))
+place_cases_by i None = inl refl
+place_cases_by i (Some c) = inr (c, refl)
 
-slot_cases_facts : (i : ℕ) (f : Option SymbolFacts) → (sol.user_place_of i f ≡ SymbolPlace i) ⊎ ((d : ℕ) × (sol.user_place_of i f ≡ ChoicePlace d))
-slot_cases_facts i None = inl refl
-slot_cases_facts i (Some f) = slot_cases_choice i f.choice
+place_cases_of : (i : ℕ) (f : Option SymbolFacts) → (sol.user_place_of i f ≡ SymbolPlace i) ⊎ ((d : ℕ) × (sol.user_place_of i f ≡ ChoicePlace d))
+place_cases_of i None = inl refl
+place_cases_of i (Some f) = place_cases_by i f.choice
 
-pub slot_cases : (tree : TreeFacts) (i : ℕ) → (user_place tree i ≡ SymbolPlace i) ⊎ ((d : ℕ) × (user_place tree i ≡ ChoicePlace d))
-slot_cases tree i = slot_cases_facts i (facts tree (symbol i))
+pub place_cases : (tree : TreeFacts) (i : ℕ) → (user_place tree i ≡ SymbolPlace i) ⊎ ((d : ℕ) × (user_place tree i ≡ ChoicePlace d))
+place_cases tree i = place_cases_of i (facts tree (symbol i))
 
-pub slot_of_member : (tree : TreeFacts) (m : SymId) (g : SymbolFacts) (c : ℕ) → facts tree m ≡ Some g → g.choice ≡ Some c → user_place tree m.0 ≡ ChoicePlace c
-slot_of_member tree m g c e h = ap (sol.user_place_of m.0) e ∙ ap (sol.user_place_by m.0) h
+pub place_of_member : (tree : TreeFacts) (m : SymId) (g : SymbolFacts) (c : ℕ) → facts tree m ≡ Some g → g.choice ≡ Some c → user_place tree m.0 ≡ ChoicePlace c
+place_of_member tree m g c e h = ap (sol.user_place_of m.0) e ∙ ap (sol.user_place_by m.0) h
 
 pub names_itself : (m : SymId) → is_symbol_of m (Some m) ≡ true
 names_itself m = same_symbol_itself m
@@ -211,7 +211,7 @@ module _ (tree : TreeFacts) (user : UserPlace → Option GivenValue) (V : ℕ �
   -- a value that its own line gives again
   pub line_fixed_at : (i : ℕ) → i < symbol_count tree → differs tree user V i ≡ true → V i ≡ rhs tree i (minimal_line tree user V (user_place tree i)) V
   line_fixed_at i l t =
-      elim (slot_cases tree i) [
+      elim (place_cases tree i) [
         | inl at ↦
             elim (fixed_at tree (known_from tree V) i (user (user_place tree i)) (V i) at (solves i l)) [
               | inl a ↦ absurd (other_value i at t a)
@@ -221,9 +221,9 @@ module _ (tree : TreeFacts) (user : UserPlace → Option GivenValue) (V : ℕ �
       ]
 
   -- a member of a choice of which no member differs
-  settled_member : (i c : ℕ) (r d : Option SymId) → (r ≡ None → d ≡ None) → ((m : SymId) → r ≡ Some m → is_symbol_of m d ≡ true) → is_symbol_of (symbol i) r ≡ is_symbol_of (symbol i) d
-  settled_member i c None d none some = ap (λ x. is_symbol_of (symbol i) x) (sym (none refl))
-  settled_member i c (Some m) d none some = ap (λ x. is_symbol_of (symbol i) x) (sym (named d m (some m refl)))
+  member_same : (i c : ℕ) (r d : Option SymId) → (r ≡ None → d ≡ None) → ((m : SymId) → r ≡ Some m → is_symbol_of m d ≡ true) → is_symbol_of (symbol i) r ≡ is_symbol_of (symbol i) d
+  member_same i c None d none some = ap (λ x. is_symbol_of (symbol i) x) (sym (none refl))
+  member_same i c (Some m) d none some = ap (λ x. is_symbol_of (symbol i) x) (sym (named d m (some m refl)))
 
   module _ (theirs : MembersAreTheirs tree) (keep : UserPlace → Bool) (tells : TellsDiffering tree user V keep) where
     unkept : (i : ℕ) → i < symbol_count tree → keep (user_place tree i) ≡ false → differs tree user V i ≡ false
@@ -238,7 +238,7 @@ module _ (tree : TreeFacts) (user : UserPlace → Option GivenValue) (V : ℕ �
     default_too c m f e =
         let at = selected_member tree (known_from tree V) (choice_at tree c) (user (ChoicePlace c)) m e in
         let mine = theirs c at.0 m at.1 at.2 in
-        let place = slot_of_member tree m mine.1.0 c mine.1.1 mine.1.2 in
+        let place = place_of_member tree m mine.1.0 c mine.1.1 mine.1.2 in
         let same = sym (differs-member m.0 c place) ∙ unkept m.0 mine.0 (ap keep place ∙ f) in
         let sel : is_symbol_of m (Sel c) ≡ true = ap (λ r. is_symbol_of m r) e ∙ names_itself m in
         not-false (is_symbol_of m (default_selection tree V c))
@@ -247,7 +247,7 @@ module _ (tree : TreeFacts) (user : UserPlace → Option GivenValue) (V : ℕ �
     same_for_member : (i c : ℕ) → i < symbol_count tree → user_place tree i ≡ ChoicePlace c → keep (ChoicePlace c) ≡ false → V i ≡ rhs tree i None V
     same_for_member i c l d f =
         member_now i c l d
-        ∙ ap (λ b. Truth (cond b Y N)) (settled_member i c (Sel c) (default_selection tree V c)
+        ∙ ap (λ b. Truth (cond b Y N)) (member_same i c (Sel c) (default_selection tree V c)
         (none_selected tree (known_from tree V) (choice_at tree c) (user (ChoicePlace c))) (λ m e. default_too c m f e))
         ∙ sym (member_at tree (known_from tree V) i c None d)
 
@@ -264,7 +264,7 @@ module _ (tree : TreeFacts) (user : UserPlace → Option GivenValue) (V : ℕ �
     is_minimal = record {
       given = λ i l t. fixed_of i l t;
       same = λ i l f.
-          elim (slot_cases tree i) [
+          elim (place_cases tree i) [
             | inl at ↦ same_without i l at (unkept i l f)
             | inr d ↦ same_for_member i d.0 l d.1 (ap keep (sym d.1) ∙ f)
           ];
@@ -274,7 +274,7 @@ module _ (tree : TreeFacts) (user : UserPlace → Option GivenValue) (V : ℕ �
             i,
             o.1,
             o.2,
-            elim (slot_cases tree i) [
+            elim (place_cases tree i) [
               | inl at ↦ λ e. other_value i at o.3 e
               | inr d ↦ λ e. member_other i d.0 o.1 d.1 o.3 e
             ],
@@ -283,10 +283,10 @@ module _ (tree : TreeFacts) (user : UserPlace → Option GivenValue) (V : ℕ �
       where
         fixed_of : (i : ℕ) → i < symbol_count tree → keep (user_place tree i) ≡ true → V i ≡ rhs tree i (minimal_line tree user V (user_place tree i)) V
         fixed_of i l t =
-            elim (slot_cases tree i) [
+            elim (place_cases tree i) [
               | inl at ↦
                   let o = tells.differing (user_place tree i) t in
-                  let same : o.0 ≡ i = own_place (user_place tree o.0) o.0 i (slot_cases tree o.0) (o.2 ∙ at) in
+                  let same : o.0 ≡ i = own_place (user_place tree o.0) o.0 i (place_cases tree o.0) (o.2 ∙ at) in
                   line_fixed_at i l (sym (ap (differs tree user V) same) ∙ o.3)
               | inr d ↦ member_now i d.0 l d.1 ∙ sym (member_line i d.0 d.1)
             ]

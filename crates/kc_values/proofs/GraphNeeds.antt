@@ -35,9 +35,6 @@ choices_there tree l laid formed i s k e c =
     ]
 
 module _ (tree : TreeFacts) (l : Layout) (g : Nodes) (made : AreNodeRows tree l g) where
-  abbrev n : ℕ
-  n = length l.symbols.items
-
   symbol_length : length (rows.symbol_rows tree l) ≡ length l.symbols.items
   symbol_length = length-map-range_with_len (λ i. rows.symbol_row tree l i (slice_get l.symbols.items i)) 0 (length l.symbols.items)
 

@@ -28,7 +28,7 @@ use Rattle.kc_values.specs.Differs.{given_of, is_yes, reread_places, changes_on_
 use Rattle.kc_values.specs.Laws.{MembersAreTheirs, IdempotentWhere}
 use Rattle.kc_values.proofs.TruthLines.{upgrade_if, outcome, base_of, line_keeps}
 use Rattle.kc_values.proofs.Selection.{found, selected_again, none_selected, selected_member, selected_visible}
-use Rattle.kc_values.proofs.FixedLines.{member_at, slot_cases, slot_of_member, names_itself, named, Sel, member_now}
+use Rattle.kc_values.proofs.FixedLines.{member_at, place_cases, place_of_member, names_itself, named, Sel, member_now}
 
 -- the same, and unchanged on rereading; or another, and changed
 abbrev pub Keeps : SymbolValue → SymbolValue → Bool → Type 0
@@ -230,9 +230,9 @@ module _ (tree : TreeFacts) (k : SymId → SymbolValue) where
   kept_choice f i c t None e = cc
   kept_choice f i c t (Some d) e = refl
 
-  member_settled : (i c : ℕ) (f : Option SymbolFacts) (t : Tri) → sol.user_place_of i f ≡ ChoicePlace c → ls.changes_on_reread_facts tree k f t ≡ false
-  member_settled i c None t e = cc
-  member_settled i c (Some f) t e = kept_choice f i c t f.choice e
+  member_fixed : (i c : ℕ) (f : Option SymbolFacts) (t : Tri) → sol.user_place_of i f ≡ ChoicePlace c → ls.changes_on_reread_facts tree k f t ≡ false
+  member_fixed i c None t e = cc
+  member_fixed i c (Some f) t e = kept_choice f i c t f.choice e
 
   is_n-upgrade : (t : Tri) → is_n (upgrade t) ≡ is_n t
   is_n-upgrade N = refl
@@ -287,7 +287,7 @@ module _ (tree : TreeFacts) (user : UserPlace → Option GivenValue) (V : ℕ �
   value_of_member : (c : ℕ) (f : ChoiceFacts) (m : SymId) → choice_at tree c ≡ Some f → Contains f.members m → V m.0 ≡ Truth (cond (is_symbol_of m (Selected c)) Y N)
   value_of_member c f m e i =
       let mine = theirs c f m e i in
-      member_now tree user V solves m.0 c mine.0 (slot_of_member tree m mine.1.0 c mine.1.1 mine.1.2)
+      member_now tree user V solves m.0 c mine.0 (place_of_member tree m mine.1.0 c mine.1.1 mine.1.2)
 
   -- the found member is the selected one, and none is found where none is selected
   found_one : (c : ℕ) (r : Option SymId) (x : SymId) (o : Option ChoiceFacts) → choice_at tree c ≡ o → Selected c ≡ r → find Wrote (members_of o) ≡ Some x → v.selected tree K o (Some (Member x)) ≡ r
@@ -314,7 +314,7 @@ module _ (tree : TreeFacts) (user : UserPlace → Option GivenValue) (V : ℕ �
 
   one_keeps : AllowedPlaces tree user → (i : ℕ) → i < symbol_count tree → Keeps (V i) (equations tree (reread_places tree V) i V) (changes_on_reread tree V i)
   one_keeps given i l =
-      elim (slot_cases tree i) [
+      elim (place_cases tree i) [
         | inl at ↦
             let e = solves i l ∙ ap (λ p. rhs tree i (user p) V) at in
             let z = settles_facts tree K (symbol i) i (facts tree (symbol i)) (user (SymbolPlace i)) at (given i) in
@@ -327,7 +327,7 @@ module _ (tree : TreeFacts) (user : UserPlace → Option GivenValue) (V : ℕ �
             let now = member_now tree user V solves i c l d.1 in
             let then_ = ap (λ p. rhs tree i (reread_places tree V p) V) d.1 ∙ member_at tree K i c (reread_places tree V (ChoicePlace c)) d.1 in
             let same = again_to c (Selected c) _ refl refl in
-            inl (now ∙ ap (λ r. Truth (cond (is_symbol_of (symbol i) r) Y N)) (sym same) ∙ sym then_, member_settled tree K i c (facts tree (symbol i)) (truth_of_value (V i)) d.1)
+            inl (now ∙ ap (λ r. Truth (cond (is_symbol_of (symbol i) r) Y N)) (sym same) ∙ sym then_, member_fixed tree K i c (facts tree (symbol i)) (truth_of_value (V i)) d.1)
       ]
 
 pub idempotent_where : IdempotentWhere

@@ -69,18 +69,18 @@ module _ (tree : TreeFacts) (l : Layout) (laid : IsLayoutOf tree l) (g : Nodes) 
   of_row ns ss = list_any-append st ns (rows.defined l ss) ∙ ap (λ b. list_any st ns || b) (of_names ss)
 
   -- contexts below a bound stand for what their conditions name
-  abbrev pub Told : ℕ → Type 0
-  Told bound = (i : ℕ) → i < bound → list_any st (rows.context_nodes l i) ≡ asks tree l v (condition_in l.tables.contexts i)
+  abbrev pub ContextsStand : ℕ → Type 0
+  ContextsStand bound = (i : ℕ) → i < bound → list_any st (rows.context_nodes l i) ≡ asks tree l v (condition_in l.tables.contexts i)
 
   -- the mode of a choice
-  module _ (bound : ℕ) (told : Told bound) where
+  module _ (bound : ℕ) (stand : ContextsStand bound) where
     mode_row : (k : ℕ) (o : Option Choice) → slice_get l.tables.choices.items k ≡ o →
         ((c : Choice) → o ≡ Some c → (c.within.0 < bound) × ((p : EntryPrompt) → c.prompt ≡ Some p → p.visible.0 < bound)) →
         (list_any st (rows.nodes_of_choice l o) || names tree l v (rows.names_of_choice o)) ≡ names tree l v (spec.prompt_names (option_map (choice_facts l.tables) o))
     mode_row k None e there = refl
     mode_row k (Some c) e there =
         let h = there c refl in
-        choice_prompt_needs tree l v st bound told c.within.0 c.prompt h.0 (l.tables.choices_plain k c e) (λ p q. (h.1 p q, l.tables.choice_prompts_plain k c p e q))
+        choice_prompt_needs tree l v st bound stand c.within.0 c.prompt h.0 (l.tables.choices_plain k c e) (λ p q. (h.1 p q, l.tables.choice_prompts_plain k c p e q))
 
     mode_needs : (o : Option ChoiceId) → ((c : Choice) → rows.choice_row l o ≡ Some c → (c.within.0 < bound) × ((p : EntryPrompt) → c.prompt ≡ Some p → p.visible.0 < bound)) →
         (list_any st (rows.mode_nodes l o) || names tree l v (rows.mode_names l o)) ≡ mode tree l v (mode_view o)
@@ -97,7 +97,7 @@ module _ (tree : TreeFacts) (l : Layout) (laid : IsLayoutOf tree l) (g : Nodes) 
     asked_needs outer (Some e) o b keeps begins there =
         let c = condition_in l.tables.contexts outer in
         let own = names tree l v (symbols (form_of e.value)) in
-        ap (λ x. x || own) (list_any-append st (rows.context_nodes l outer) [] ∙ ap (λ x. x || false) (told outer b ∙ asks_parts tree l v c))
+        ap (λ x. x || own) (list_any-append st (rows.context_nodes l outer) [] ∙ ap (λ x. x || false) (stand outer b ∙ asks_parts tree l v c))
         ∙ turned (forms tree l v c.parts) (mode tree l v c.mode) own
         ∙ sym (asks_parts tree l v (record { parts = c.parts ++ listed (Some (form_of e.value)); mode = mode_view o })
         ∙ ap (λ x. x || mode tree l v (mode_view o))
@@ -111,7 +111,7 @@ module _ (tree : TreeFacts) (l : Layout) (laid : IsLayoutOf tree l) (g : Nodes) 
         let mn = rows.mode_nodes l o in
         let mw = names tree l v (rows.mode_names l o) in
         let first : list_any st (rows.context_nodes l outer) ≡ (forms tree l v c.parts || false) =
-        told outer b ∙ asks_parts tree l v c ∙ ap (λ x. forms tree l v c.parts || x) (no_mode tree l v c.mode (begins refl)) in
+        stand outer b ∙ asks_parts tree l v c ∙ ap (λ x. forms tree l v c.parts || x) (no_mode tree l v c.mode (begins refl)) in
         ap (λ x. x || mw) (list_any-append st (rows.context_nodes l outer) mn ∙ ap (λ x. x || list_any st mn) first)
         ∙ turned (forms tree l v c.parts) (list_any st mn) mw
         ∙ ap (λ x. (forms tree l v c.parts || false) || x) (mode_needs o there)
@@ -121,11 +121,11 @@ module _ (tree : TreeFacts) (l : Layout) (laid : IsLayoutOf tree l) (g : Nodes) 
         turned : (a n x : Bool) → (((a || false) || n) || x) ≡ ((a || false) || (n || x))
         turned a n x = grind arith
 
-  context_row : (i : ℕ) (row : List ℕ) → IsContextRow l i row → Told i → list_any st row ≡ asks tree l v (condition_in l.tables.contexts i)
-  context_row i row (asks_nothing e r) told = ap (list_any st) r ∙ sym (ap (asks tree l v) e)
-  context_row i row (asks_this c step r) told =
+  context_row : (i : ℕ) (row : List ℕ) → IsContextRow l i row → ContextsStand i → list_any st row ≡ asks tree l v (condition_in l.tables.contexts i)
+  context_row i row (asks_nothing e r) stand = ap (list_any st) r ∙ sym (ap (asks tree l v) e)
+  context_row i row (asks_this c step r) stand =
       ap (list_any st) r ∙ of_row (rows.context_row_nodes l c) (rows.context_row_names l c)
-      ∙ asked_needs i told c.outer.0 c.own_condition c.mode step.smaller step.keeps step.begins (behind tree l g made i c step)
+      ∙ asked_needs i stand c.outer.0 c.own_condition c.mode step.smaller step.keeps step.begins (behind tree l g made i c step)
       ∙ sym (ap (asks tree l v) step.is)
 
   nothing_first : (row : List ℕ) → IsContextRow l 0 row → false ≡ asks tree l v (condition_in l.tables.contexts 0)
@@ -133,14 +133,14 @@ module _ (tree : TreeFacts) (l : Layout) (laid : IsLayoutOf tree l) (g : Nodes) 
   nothing_first row (asks_this c step r) = absurd (let h = step.smaller in omega (arith, h))
 
   -- one context, with those before it
-  one_context : (i : ℕ) → i < length l.tables.contexts → Told i → list_any st (rows.context_nodes l i) ≡ asks tree l v (condition_in l.tables.contexts i)
-  one_context zero b told = nothing_first (get_or made.contexts 0 []) (made.contexts_are.1 0 (omega (arith, made.contexts_are.0)))
-  one_context (suc i) b told =
+  one_context : (i : ℕ) → i < length l.tables.contexts → ContextsStand i → list_any st (rows.context_nodes l i) ≡ asks tree l v (condition_in l.tables.contexts i)
+  one_context zero b stand = nothing_first (get_or made.contexts 0 []) (made.contexts_are.1 0 (omega (arith, made.contexts_are.0)))
+  one_context (suc i) b stand =
       ap (λ x. list_any st (cond x [] (context_number l (suc i) ∷ []))) (other i)
       ∙ alone (st (context_number l (suc i)))
       ∙ of_group (context_number l (suc i)) (omega arith) (omega arith)
       ∙ ap (list_any st) (row_of_context tree l g made (suc i) b)
-      ∙ context_row (suc i) (get_or made.contexts (suc i) []) (made.contexts_are.1 (suc i) (omega (arith, made.contexts_are.0))) told
+      ∙ context_row (suc i) (get_or made.contexts (suc i) []) (made.contexts_are.1 (suc i) (omega (arith, made.contexts_are.0))) stand
     where
       other : (i : ℕ) → (suc i == 0) ≡ false
       other i = grind arith
@@ -148,40 +148,40 @@ module _ (tree : TreeFacts) (l : Layout) (laid : IsLayoutOf tree l) (g : Nodes) 
       alone : (b : Bool) → (b || false) ≡ b
       alone b = grind arith
 
-  told_to : (bound : ℕ) → bound ≤ length l.tables.contexts → Told bound
-  told_to zero b i h = absurd (omega arith)
-  told_to (suc k) b i h =
-      let before = told_to k (omega arith) in
+  contexts_stand : (bound : ℕ) → bound ≤ length l.tables.contexts → ContextsStand bound
+  contexts_stand zero b i h = absurd (omega arith)
+  contexts_stand (suc k) b i h =
+      let before = contexts_stand k (omega arith) in
       elim (cases_lt i k) [
         | inl less ↦ before i less
         | inr same ↦ one_context i (omega arith) (λ j d. before j (omega arith))
       ]
 
-  pub told : Told (length l.tables.contexts)
-  told = told_to (length l.tables.contexts) (omega arith)
+  pub stand : ContextsStand (length l.tables.contexts)
+  stand = contexts_stand (length l.tables.contexts) (omega arith)
 
   -- the selection of a choice
-  pub choice_told : (k : ℕ) → k < length l.tables.choices.items → st (choice_number l k) ≡ names tree l v (spec.names_of_choice tree (choice_at tree k))
-  choice_told k b =
+  pub choice_stands : (k : ℕ) → k < length l.tables.choices.items → st (choice_number l k) ≡ names tree l v (spec.names_of_choice tree (choice_at tree k))
+  choice_stands k b =
       elim (slice_get_cases l.tables.choices.items k).1 [
         | inl h ↦
             of_group (choice_number l k) (omega arith) (omega arith)
             ∙ ap (list_any st) (row_of_choice tree l g made k h.0 h.2 b)
             ∙ of_row (rows.choice_nodes l h.0) (rows.choice_names l h.0)
-            ∙ choice_needs tree l v st told laid k h.0 h.2
+            ∙ choice_needs tree l v st stand laid k h.0 h.2
             ∙ ap (λ o. names tree l v (spec.names_of_choice tree o)) (sym (choices_laid tree l laid k ∙ ap (option_map (choice_facts l.tables)) h.2))
         | inr h ↦ absurd (omega (arith, h.0))
       ]
 
   module _ (there : AreChoicesThere l) where
     -- and a symbol
-    symbol_told : (i : ℕ) → i < length l.symbols.items → list_any st (needs_in g.rows i) ≡ names tree l v (spec.names_of tree (facts tree (symbol i)))
-    symbol_told i b =
+    symbol_stands : (i : ℕ) → i < length l.symbols.items → list_any st (needs_in g.rows i) ≡ names tree l v (spec.names_of tree (facts tree (symbol i)))
+    symbol_stands i b =
         elim (slice_get_cases l.symbols.items i).1 [
           | inl h ↦
               ap (list_any st) (row_of_symbol tree l g made i h.0 b h.2)
               ∙ of_row (rows.symbol_nodes l i h.0) (rows.symbol_names tree l i h.0)
-              ∙ symbol_needs tree l v st told i h.0 (λ k e. choice_told k.0 (there i h.0 k h.2 e))
+              ∙ symbol_needs tree l v st stand i h.0 (λ k e. choice_stands k.0 (there i h.0 k h.2 e))
               ∙ ap (λ o. names tree l v (spec.names_of tree o)) (sym (facts_laid tree l laid i ∙ ap (option_map (facts_of l i)) h.2))
           | inr h ↦ absurd (omega (arith, h.0))
         ]
@@ -190,7 +190,7 @@ module _ (tree : TreeFacts) (l : Layout) (laid : IsLayoutOf tree l) (g : Nodes) 
     graph_needs i b =
         ap (stands v) (needs_stand g is i (omega (arith, made.symbols_are)))
         ∙ any_flat (λ m. m == v) (stands_for g.symbols (groups_of g)) (needs_in g.rows i)
-        ∙ symbol_told i b
+        ∙ symbol_stands i b
 
   numbers_seen : (ss : List SymId) → stands v (map (λ (s : SymId). s.0) (filter (is_defined tree) ss)) ≡ names tree l v ss
   numbers_seen ss =

@@ -100,23 +100,23 @@ unfolding natural_of digits
 low_warned = refl
 
 -- A number that is inside keeps its text, also what is no number and counts as 0, and nothing at all.
-abbrev around : List ℕ → List ℕ → SymbolFacts → TreeFacts
-around a b f = tree (codes "I" ∷ (codes "FOO" ∷ [])) (record f { ranges = from_to (Text a) (Text b) ∷ [] } ∷ []) [] None
+abbrev with_range : List ℕ → List ℕ → SymbolFacts → TreeFacts
+with_range a b f = tree (codes "I" ∷ (codes "FOO" ∷ [])) (record f { ranges = from_to (Text a) (Text b) ∷ [] } ∷ []) [] None
 
-keeps_word : given_by (around (codes "-5") (codes "5") (plain Int (always ∷ []) (line (named 1) ∷ []))) nothing (TextValue Int (codes "FOO") ∷ []) ≡ TextValue Int (codes "FOO") ∷ []
+keeps_word : given_by (with_range (codes "-5") (codes "5") (plain Int (always ∷ []) (line (named 1) ∷ []))) nothing (TextValue Int (codes "FOO") ∷ []) ≡ TextValue Int (codes "FOO") ∷ []
 unfolding natural_of digits
 keeps_word = refl
 
-keeps_empty : given_by (around (codes "0") (codes "9") (plain Int (always ∷ []) [])) nothing (TextValue Int [] ∷ []) ≡ TextValue Int [] ∷ []
+keeps_empty : given_by (with_range (codes "0") (codes "9") (plain Int (always ∷ []) [])) nothing (TextValue Int [] ∷ []) ≡ TextValue Int [] ∷ []
 unfolding natural_of digits
 keeps_empty = refl
 
 -- A low bound above the high one: below the low goes first.
-turned_low : given_by (around (codes "10") (codes "5") (plain Int (always ∷ []) (line (constant (codes "7")) ∷ []))) nothing (TextValue Int (codes "10") ∷ []) ≡ TextValue Int (codes "10") ∷ []
+turned_low : given_by (with_range (codes "10") (codes "5") (plain Int (always ∷ []) (line (constant (codes "7")) ∷ []))) nothing (TextValue Int (codes "10") ∷ []) ≡ TextValue Int (codes "10") ∷ []
 unfolding natural_of digits
 turned_low = refl
 
-turned_high : given_by (around (codes "10") (codes "5") (plain Int (always ∷ []) (line (constant (codes "11")) ∷ []))) nothing (TextValue Int (codes "5") ∷ []) ≡ TextValue Int (codes "5") ∷ []
+turned_high : given_by (with_range (codes "10") (codes "5") (plain Int (always ∷ []) (line (constant (codes "11")) ∷ []))) nothing (TextValue Int (codes "5") ∷ []) ≡ TextValue Int (codes "5") ∷ []
 unfolding natural_of digits
 turned_high = refl
 

@@ -1,13 +1,14 @@
 -- The numbers of texts are below 2^64.
-use Rattle.std.proofs.Common.{◌≡◌, ℕ, zero, suc, ◌<◌, ◌+◌, ◌^◌, Bool, true, false, ◌&&◌, cond, List, drop, Option, Some, None, pos, unwrap_or, refl, arith}
-use Rattle.std.specs.Prelude.{unsigned_abs, nat_lt}
+use Rattle.std.proofs.Common.{◌≡◌, ℕ, zero, suc, ◌<◌, ◌+◌, ◌^◌, Bool, true, false, ◌&&◌, not, cond, List, drop, Option, Some, None, pos, unwrap_or, refl, arith}
+use Rattle.std.specs.Prelude.{unsigned_abs, nat_lt, int_lt}
 use Rattle.std.specs.Option.{option_map}
 use Rattle.std.specs.Str.Parse.{digits_value, starts_with_minus}
 use Rattle.std.proofs.lemmas.Bool.{and_parts, ltb-true}
 use Rattle.kc_text.specs.Numbers.{natural_of, is_numeral, negated, without_hex_prefix}
 use Rattle.kc_expr.specs.declared.expression.Kind.{Kind}
 use Rattle.kc_expr.specs.declared.expression.Kind.TheVariants.{Undefined, Bool as IsBool, Tristate, Str, Int, Hex}
-use Rattle.kc_values.specs.Numbers.{number_or_zero}
+use Rattle.kc_values.specs.Numbers.{number_or_zero, number_text, is_inside, clamped}
+use Rattle.kc_values.specs.declared.numbers.Interval.{Interval}
 
 below_if : (b : Bool) (n limit : ℕ) → 0 < limit → (b ≡ true → n < limit) → unwrap_or (cond b (Some n) None) 0 < limit
 below_if true n limit l h = h refl
@@ -49,3 +50,13 @@ number_or_zero_below Undefined text = omega arith
 number_or_zero_below IsBool text = omega arith
 number_or_zero_below Tristate text = omega arith
 number_or_zero_below Str text = omega arith
+
+neither : (a b : Bool) (x y t : List ℕ) → (not a && not b) ≡ true → cond a x (cond b y t) ≡ t
+neither true b x y t e = cc
+neither false true x y t e = cc
+neither false false x y t e = refl
+
+-- what is inside keeps its text
+pub inside_keeps : (kind : Kind) (range : Option Interval) (t : List ℕ) → is_inside kind range t ≡ true → clamped kind range t ≡ t
+inside_keeps kind None t e = refl
+inside_keeps kind (Some r) t e = neither (int_lt (number_or_zero kind t) r.low) (int_lt r.high (number_or_zero kind t)) (number_text kind r.low) (number_text kind r.high) t e

@@ -1,9 +1,7 @@
 -- Trusted: Which symbols differ from what they would be without the user, and the lines that the values give.
-use Rattle.std.specs.Prelude.{◌≡◌, ℕ, ◌<◌, ◌&&◌, Bool, true, false, not, if◌then◌else◌, Option, Some, None}
+use Rattle.std.specs.Prelude.{bytes_eq, ◌≡◌, ℕ, ◌<◌, ◌&&◌, Bool, true, false, not, if◌then◌else◌, Option, Some, None}
 use Rattle.std.specs.List.{find}
 use Rattle.std.specs.Option.{option_map}
-use Rattle.std.specs.Cmp.Lexicographic.{pointwise}
-use Rattle.std.specs.Prelude.{nat_eq}
 use Rattle.kc_expr.specs.Names.{symbol}
 use Rattle.kc_expr.specs.Value.{SymbolValue, Truth, TextValue, truth_of_value}
 use Rattle.kc_expr.specs.declared.expression.SymId.{SymId}
@@ -34,7 +32,7 @@ abbrev pub same_value : SymbolValue → SymbolValue → Bool
 same_value (Truth t) (Truth u) = same_tri t u
 same_value (Truth t) (TextValue k bytes) = false
 same_value (TextValue k bytes) (Truth t) = false
-same_value (TextValue k bytes) (TextValue l more) = pointwise nat_eq bytes more
+same_value (TextValue k bytes) (TextValue l more) = bytes_eq bytes more
 
 -- a value as its line gives it to the user
 abbrev pub given_of : SymbolValue → GivenValue

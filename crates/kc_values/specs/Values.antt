@@ -145,12 +145,14 @@ module _ (tree : TreeFacts) (known : SymId → SymbolValue) where
   default_value None = N
   default_value (Some g) = lesser (value known g.what) (condition g.when)
 
+  -- the default as an `imply` raises it
+  abbrev pub implied_value : SymbolFacts → Tri
+  implied_value f = implied (default_value (first_met f.defaults)) (weak_reverse f) (direct f)
+
   -- Bool and tristate outside a choice: the user's value or the default, at least the reverse dependency, even against
   -- its direct dependency (the document: "select should be used with care").
   abbrev pub truth_equation : SymbolFacts → Option GivenValue → Tri
-  truth_equation f user =
-      let d = default_value (first_met f.defaults) in
-      upgraded f.kind (greater (user_or user (visibility f) (implied d (weak_reverse f) (direct f))) (reverse f))
+  truth_equation f user = upgraded f.kind (greater (user_or user (visibility f) (implied_value f)) (reverse f))
 
   -- String: the visible user text, else the text of the default, else nothing (kconfiglib's `str_value`).
   abbrev pub text_equation : SymbolFacts → Option GivenValue → List ℕ

@@ -102,8 +102,19 @@ pub fn selected_in(table: &Table<'_>, choice: ChoiceId, user: Option<SymId>) -> 
     }
 }
 
+/// The same, where one that is computed is not found again (our own). The caller owes that it was computed under this member.
+pub fn selection(table: &Table<'_>, choice: ChoiceId, user: Option<SymId>) -> Option<SymId>
+    requires { IsSelected table.now choice.0 user }
+    ensures { result ≡ spec.selected table.now.tree.now (known_at table.now) (choice_at table.now.tree.now choice.0) (member_place user) }
+{
+    match table.computed_selection(choice) {
+        Some(computed) => computed,
+        None => selected_in(table, choice, user),
+    }
+}
+
 /// The value of a member: y where it is selected, else n; its own defaults count for nothing (the kernel's kconfig-language
-/// document on choices). A selection that is computed is not found again; `user` is the member that was given for the choice.
+/// document on choices). `user` is the member that was given for the choice.
 pub(crate) fn member_equation(
     table: &Table<'_>,
     id: SymId,
@@ -113,11 +124,7 @@ pub(crate) fn member_equation(
     requires { IsSelected table.now choice.0 user }
     ensures { result ≡ spec.member_equation table.now.tree.now (known_at table.now) id choice.0 (member_place user) }
 {
-    let selection = match table.computed_selection(choice) {
-        Some(settled) => settled,
-        None => selected_in(table, choice, user),
-    };
-    match selection {
+    match selection(table, choice, user) {
         Some(member) if member.0 == id.0 => Tri::Y,
         _ => Tri::N,
     }

@@ -11,9 +11,9 @@ ghost use Rattle.kc_values.specs.Values as value;
 
 use crate::conditions::is_n;
 use crate::lookups::name;
-use crate::numbers::number_equation;
+use crate::numbers::differs_from_default;
 use crate::table::Table;
-use crate::texts::text_equation;
+use crate::texts::default_text;
 use crate::truths::truth_equation;
 use kc_expr::expression::{Kind, SymId, Tri};
 use kc_expr::values::Values;
@@ -35,28 +35,19 @@ pub fn own_differs(
     match symbol.kind {
         Kind::Bool => Ok(table.tri(id) != truth_equation(table, id, symbol, None)),
         Kind::Tristate => Ok(table.tri(id) != truth_equation(table, id, symbol, None)),
-        Kind::Str => {
-            let without = text_equation(alloc, table, symbol, None)?;
-            Ok(table.text(id) != without.as_slice())
-        }
-        Kind::Int => {
-            let without = number_equation(alloc, table, symbol, None)?;
-            Ok(table.text(id) != without.as_slice())
-        }
-        Kind::Hex => {
-            let without = number_equation(alloc, table, symbol, None)?;
-            Ok(table.text(id) != without.as_slice())
-        }
+        Kind::Str => Ok(table.text(id) != default_text(table, symbol)),
+        Kind::Int => differs_from_default(alloc, table, symbol, table.text(id)),
+        Kind::Hex => differs_from_default(alloc, table, symbol, table.text(id)),
         Kind::Undefined => Ok(table.text(id) != name(table.tree, id)),
     }
 }
 
 /// Whether what the user gave for a symbol of this visibility can count: it is visible, and something was given. Where it
 /// can't, the equation gives the same value without it, so that the symbol does not differ (kconfiglib's `visibility`).
-pub fn can_count(user: Option<&UserValue>, shown: Tri) -> bool
-    ensures { result ≡ (is_some (given_in user.entry) && not (value.is_n shown)) }
+pub fn can_count(user: Option<&UserValue>, visibility: Tri) -> bool
+    ensures { result ≡ (is_some (given_in user.entry) && not (value.is_n visibility)) }
 {
-    user.is_some() && !is_n(shown)
+    user.is_some() && !is_n(visibility)
 }
 
 // Whether a selection is the symbol.

@@ -1,6 +1,6 @@
 //! What the equation of each symbol names: its needs, be it through contexts and choices.
 
-ghost use Rattle.std.specs.Prelude.{◌≡◌, ℕ, List, ◌<◌, ◌^◌, ◌++◌, ◌∷◌, [], length, option_map, IfOk, IfSome, OnOk};
+ghost use Rattle.std.specs.Prelude.{◌≡◌, ℕ, List, ◌<◌, ◌^◌, ◌++◌, ◌∷◌, [], length, IfOk, IfSome, OnOk};
 ghost use Rattle.std.specs.List.{flat_map};
 ghost use Rattle.kc_expr.specs.Form.{leaf_of, leaf_symbols};
 ghost use Rattle.kc_order.specs.Graph.{IsGraph, needs_of};
@@ -109,22 +109,12 @@ fn context_row_into(layout: &Layout, context: &Context, out: &mut Row) -> Result
     }
 }
 
-// The definition of a symbol with a number, if there is one.
-fn definition<'l>(layout: &'l Layout, symbol: &Symbol, i: usize) -> Option<&'l Definition>
-    ensures { option_map (λ d. d.now) result ≡ rows.definition_row layout.now symbol.now i }
-{
-    match symbol.definition(i) {
-        Some(id) => layout.definition(id),
-        None => None,
-    }
-}
-
 // Adds the prompts of a symbol.
 fn prompts_into(layout: &Layout, symbol: &Symbol, out: &mut Row) -> Result<(), AllocError>
     ensures { OnOk result (Adds out.old out.new (rows.prompts_nodes layout.now symbol.now) (rows.prompts_names layout.now symbol.now)) }
 {
     for i in 0..symbol.definition_count() {
-        if let Some(definition) = definition(layout, symbol, i) {
+        if let Some(definition) = layout.definition_of(symbol, i) {
             if definition.prompt.is_some() {
                 context_into(layout, definition.within, out)?;
                 prompt_into(layout, &definition.prompt, out)?;
@@ -221,7 +211,7 @@ fn definitions_into(layout: &Layout, symbol: &Symbol, out: &mut Row) -> Result<(
     ensures { OnOk result (Adds out.old out.new (rows.definitions_nodes layout.now symbol.now) (rows.definitions_names layout.now symbol.now)) }
 {
     for i in 0..symbol.definition_count() {
-        if let Some(definition) = definition(layout, symbol, i) {
+        if let Some(definition) = layout.definition_of(symbol, i) {
             definition_into(layout, symbol.kind, definition, out)?;
         }
     }

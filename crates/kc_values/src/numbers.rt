@@ -1,6 +1,6 @@
 //! Ranges of numbers, and the equation of an int or hex symbol.
 
-ghost use Rattle.std.specs.Prelude.{◌≡◌, ◌<◌, Some, IfOk, IfSome, unsigned_abs};
+ghost use Rattle.std.specs.Prelude.{◌≡◌, ◌<◌, None, Some, IfOk, IfSome, bytes_eq, not, unsigned_abs};
 ghost use Rattle.kc_text.specs.Limits.{hex_limit};
 ghost use Rattle.kc_tree.specs.Layouts.{definition_facts, facts_of, range_view};
 ghost use Rattle.kc_tree.specs.Contexts.{condition_in};
@@ -177,4 +177,24 @@ pub(crate) fn number_equation(
     let default = default_text(table, symbol);
     let value = clamped(alloc, symbol.kind, range, default)?;
     Ok(value)
+}
+
+/// Whether a text is another than the value of an int or hex symbol outside a choice without the user's: the first default's
+/// text, clamped (our own rule of the minimal file). Fails only when it is out of memory.
+#[tactic(auto, using(crate::proofs::SmallNumbers::inside_keeps))]
+pub(crate) fn differs_from_default(
+    alloc: Global,
+    table: &Table<'_>,
+    symbol: &Symbol,
+    text: &[u8],
+) -> Result<bool, AllocError>
+    ensures { IfOk result (λ b. b ≡ not (bytes_eq text.now (spec.number_equation table.now.tree.now (known_at table.now) (facts_of table.now.layout.now 0 symbol.now) None))) }
+{
+    let range = active_range(table, symbol);
+    let default = default_text(table, symbol);
+    if is_inside(symbol.kind, range, default) {
+        return Ok(text != default);
+    }
+    let used = clamped(alloc, symbol.kind, range, default)?;
+    Ok(text != used.as_slice())
 }

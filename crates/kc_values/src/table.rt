@@ -13,6 +13,7 @@ use kc_expr::values::Values;
 use kc_tree::layout::Layout;
 use kc_tree::rows::{ChoiceId, ContextId};
 use kc_tree::tree::Tree;
+use kc_user::user::empty_places;
 use std::alloc::{AllocError, Global};
 
 /// The value of a symbol: a truth of a bool or tristate, a text of the others (kconfiglib's `tri_value` and `str_value`).
@@ -43,17 +44,6 @@ pub struct Table<'t> {
     ghost laid: { ∥ IsLayoutOf tree.now layout.now ∥₁ },
     ghost formed: { ∥ IsWellFormed tree.now ∥₁ },
     ghost computed: { AreContextsComputed tree.now layout.now values.items contexts.items },
-}
-
-// So many empty places.
-fn empty_places(alloc: Global, count: usize) -> Result<Vec<Option<Value>>, AllocError>
-    ensures { IfOk result (λ v. v.items ≡ replicate count None) }
-{
-    let mut places = Vec::with_capacity(alloc, count)?;
-    for _place in 0..count {
-        places.push(None)?;
-    }
-    Ok(places)
 }
 
 impl<'t> Table<'t> {
@@ -100,8 +90,8 @@ impl<'t> Table<'t> {
     }
 }
 
-/// The value in a place, if it is there and filled (our own).
-pub fn filled_value(values: &[Option<Value>], id: SymId) -> Option<&Value>
+/// The value of a symbol, if it is found (our own).
+pub fn value_of(values: &[Option<Value>], id: SymId) -> Option<&Value>
     ensures { value_at result ≡ value_in values.now id }
 {
     match values.get(id.0) {
@@ -118,14 +108,14 @@ impl<'t> Values for Table<'t> {
     ghost kind_of = { λ t s. kind_in (lookup.facts t.tree.now s) };
 
     fn tri(&self, id: SymId) -> Tri {
-        match filled_value(&self.values, id) {
+        match value_of(&self.values, id) {
             Some(Value::Truth(tri)) => *tri,
             _ => Tri::N,
         }
     }
 
     fn text(&self, id: SymId) -> &[u8] {
-        match filled_value(&self.values, id) {
+        match value_of(&self.values, id) {
             Some(Value::Text(text)) => text,
             _ => name(self.tree, id),
         }

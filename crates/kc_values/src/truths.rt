@@ -48,14 +48,11 @@ pub(crate) fn upgraded(table: &Table<'_>, kind: Kind, value: Tri) -> Tri
 pub(crate) fn definition<'t>(table: &Table<'t>, symbol: &Symbol, i: usize) -> Option<&'t Definition>
     ensures { IsDefinitionOf table.now symbol.now i result }
 {
-    match symbol.definition(i) {
-        Some(id) => table.layout.definition(id),
-        None => None,
-    }
+    table.layout.definition_of(symbol, i)
 }
 
 // The condition of the prompt of a definition; n without one.
-fn shown_by(table: &Table<'_>, definition: &Definition) -> Tri
+fn prompt_visibility(table: &Table<'_>, definition: &Definition) -> Tri
     requires { IsDefinitionAt table.now definition.now }
     ensures { result ≡ spec.conditions table.now.tree.now (known_at table.now) (listed (definition_facts table.now.layout.now.tables definition.now).prompt) }
 {
@@ -72,7 +69,7 @@ pub(crate) fn prompts_condition(table: &Table<'_>, symbol: &Symbol) -> Tri
     let mut greatest = Tri::N;
     for i in 0..symbol.definition_count() {
         if let Some(definition) = definition(table, symbol, i) {
-            greatest = greater(greatest, shown_by(table, definition));
+            greatest = greater(greatest, prompt_visibility(table, definition));
         }
     }
     greatest
@@ -191,7 +188,7 @@ pub(crate) fn weak_reverse(table: &Table<'_>, id: SymId, symbol: &Symbol) -> Tri
 
 // The default, which an imply raises up to the direct dependency. That is looked at only where something implies the symbol.
 fn implied(table: &Table<'_>, id: SymId, symbol: &Symbol) -> Tri
-    ensures { result ≡ spec.implied (spec.default_value table.now.tree.now (known_at table.now) (spec.first_met table.now.tree.now (known_at table.now) (facts_of table.now.layout.now id.0 symbol.now).defaults)) (spec.weak_reverse table.now.tree.now (known_at table.now) (facts_of table.now.layout.now id.0 symbol.now)) (spec.direct table.now.tree.now (known_at table.now) (facts_of table.now.layout.now id.0 symbol.now)) }
+    ensures { result ≡ spec.implied_value table.now.tree.now (known_at table.now) (facts_of table.now.layout.now id.0 symbol.now) }
 {
     let default = default_truth(table, symbol);
     let weak_reverse = weak_reverse(table, id, symbol);
@@ -203,12 +200,12 @@ fn implied(table: &Table<'_>, id: SymId, symbol: &Symbol) -> Tri
 
 // The user's truth up to the visibility, where the symbol is visible, and else its default. Only what counts is looked at.
 fn given_or_implied(table: &Table<'_>, id: SymId, symbol: &Symbol, user: Option<&UserValue>) -> Tri
-    ensures { result ≡ spec.user_or (given_in user.entry) (spec.visibility table.now.tree.now (known_at table.now) (facts_of table.now.layout.now id.0 symbol.now)) (spec.implied (spec.default_value table.now.tree.now (known_at table.now) (spec.first_met table.now.tree.now (known_at table.now) (facts_of table.now.layout.now id.0 symbol.now).defaults)) (spec.weak_reverse table.now.tree.now (known_at table.now) (facts_of table.now.layout.now id.0 symbol.now)) (spec.direct table.now.tree.now (known_at table.now) (facts_of table.now.layout.now id.0 symbol.now))) }
+    ensures { let f = facts_of table.now.layout.now id.0 symbol.now in result ≡ spec.user_or (given_in user.entry) (spec.visibility table.now.tree.now (known_at table.now) f) (spec.implied_value table.now.tree.now (known_at table.now) f) }
 {
     match user {
         Some(UserValue::Tri(given)) => match visibility(table, symbol) {
             Tri::N => implied(table, id, symbol),
-            shown => lesser(*given, shown),
+            visible => lesser(*given, visible),
         },
         _ => implied(table, id, symbol),
     }

@@ -201,15 +201,15 @@ fn range_warnings(
     table: &Table<'_>,
     name: &[u8],
     symbol: &Symbol,
-    shown: Tri,
+    visibility: Tri,
     user: Option<&UserValue>,
     out: &mut Vec<Vec<u8>>,
 ) -> Result<(), AllocError>
-    requires { shown ≡ value.visibility table.now.tree.now (known_at table.now) (facts_of table.now.layout.now 0 symbol.now) }
+    requires { visibility ≡ value.visibility table.now.tree.now (known_at table.now) (facts_of table.now.layout.now 0 symbol.now) }
     ensures { OnOk result (map (λ w. w.items) out.new.items ≡ map (λ w. w.items) out.old.items ++ spec.range_warnings table.now.tree.now (known_at table.now) name.now (facts_of table.now.layout.now 0 symbol.now) (given_in user.entry)) }
 {
     let range = active_range(table, symbol);
-    let given = visible_text(user, shown);
+    let given = visible_text(user, visibility);
     let used = if_inside(symbol.kind, range, given);
     let default = met_text(table, symbol);
     user_warning(alloc, symbol.kind, name, range, given, out)?;
@@ -251,11 +251,11 @@ pub fn warnings_into(
     table: &Table<'_>,
     id: SymId,
     symbol: &Symbol,
-    shown: Tri,
+    visibility: Tri,
     user: Option<&UserValue>,
     out: &mut Vec<Vec<u8>>,
 ) -> Result<(), AllocError>
-    requires { shown ≡ value.visibility table.now.tree.now (known_at table.now) (facts_of table.now.layout.now id.0 symbol.now) }
+    requires { visibility ≡ value.visibility table.now.tree.now (known_at table.now) (facts_of table.now.layout.now id.0 symbol.now) }
     ensures { OnOk result (map (λ w. w.items) out.new.items ≡ map (λ w. w.items) out.old.items ++ spec.warnings_of table.now.tree.now (known_at table.now) (lookup.name table.now.tree.now id) (Some (facts_of table.now.layout.now id.0 symbol.now)) (given_in user.entry)) }
 {
     if symbol.choice.is_some() {
@@ -267,7 +267,7 @@ pub fn warnings_into(
         Kind::Bool => select_warnings(alloc, table, name, id, symbol, out),
         Kind::Tristate => select_warnings(alloc, table, name, id, symbol, out),
         Kind::Str => Ok(()),
-        Kind::Int => range_warnings(alloc, table, name, symbol, shown, user, out),
-        Kind::Hex => range_warnings(alloc, table, name, symbol, shown, user, out),
+        Kind::Int => range_warnings(alloc, table, name, symbol, visibility, user, out),
+        Kind::Hex => range_warnings(alloc, table, name, symbol, visibility, user, out),
     }
 }

@@ -13,33 +13,33 @@ use kc_expr::expression::{Kind, SymId, Tri};
 use kc_tree::rows::Symbol;
 
 // Whether a bool or tristate symbol outside a choice is written.
-fn truth_is_written(table: &Table<'_>, id: SymId, symbol: &Symbol, shown: Tri) -> bool
-    requires { shown ≡ value.visibility table.now.tree.now (known_at table.now) (facts_of table.now.layout.now id.0 symbol.now) }
+fn truth_is_written(table: &Table<'_>, id: SymId, symbol: &Symbol, visibility: Tri) -> bool
+    requires { visibility ≡ value.visibility table.now.tree.now (known_at table.now) (facts_of table.now.layout.now id.0 symbol.now) }
     ensures { result ≡ spec.written_truth table.now.tree.now (known_at table.now) (facts_of table.now.layout.now id.0 symbol.now) }
 {
-    !is_n(shown)
+    !is_n(visibility)
         || !is_n(default_truth(table, symbol))
         || !is_n(reverse(table, id, symbol))
         || (!is_n(weak_reverse(table, id, symbol)) && !is_n(direct(table, symbol)))
 }
 
 // Whether a string, int or hex symbol is written.
-fn text_is_written(table: &Table<'_>, symbol: &Symbol, shown: Tri) -> bool
-    requires { shown ≡ value.visibility table.now.tree.now (known_at table.now) (facts_of table.now.layout.now 0 symbol.now) }
+fn text_is_written(table: &Table<'_>, symbol: &Symbol, visibility: Tri) -> bool
+    requires { visibility ≡ value.visibility table.now.tree.now (known_at table.now) (facts_of table.now.layout.now 0 symbol.now) }
     ensures { result ≡ spec.written_text table.now.tree.now (known_at table.now) (facts_of table.now.layout.now 0 symbol.now) }
 {
-    !is_n(shown) || met_default(table, symbol).is_some()
+    !is_n(visibility) || met_default(table, symbol).is_some()
 }
 
 // Whether a symbol outside a choice is written, by its type.
-fn own_is_written(table: &Table<'_>, id: SymId, symbol: &Symbol, shown: Tri) -> bool
-    requires { shown ≡ value.visibility table.now.tree.now (known_at table.now) (facts_of table.now.layout.now id.0 symbol.now) }
+fn own_is_written(table: &Table<'_>, id: SymId, symbol: &Symbol, visibility: Tri) -> bool
+    requires { visibility ≡ value.visibility table.now.tree.now (known_at table.now) (facts_of table.now.layout.now id.0 symbol.now) }
     ensures { result ≡ spec.written_by_kind table.now.tree.now (known_at table.now) (facts_of table.now.layout.now id.0 symbol.now) symbol.now.kind }
 {
     match symbol.kind {
         Kind::Undefined => false,
-        Kind::Bool | Kind::Tristate => truth_is_written(table, id, symbol, shown),
-        Kind::Str | Kind::Int | Kind::Hex => text_is_written(table, symbol, shown),
+        Kind::Bool | Kind::Tristate => truth_is_written(table, id, symbol, visibility),
+        Kind::Str | Kind::Int | Kind::Hex => text_is_written(table, symbol, visibility),
     }
 }
 
@@ -47,12 +47,12 @@ fn own_is_written(table: &Table<'_>, id: SymId, symbol: &Symbol, shown: Tri) -> 
 /// choice, a bool or tristate whose default, reverse dependency, or weak one within its direct dependency is not n, or a
 /// string, int or hex one of whose defaults has a condition that is not n. Without a type it has none (kconfiglib's
 /// `config_string`). The caller owes the visibility, so that it is found once for all that asks for it.
-pub fn written(table: &Table<'_>, id: SymId, symbol: &Symbol, shown: Tri) -> bool
-    requires { shown ≡ value.visibility table.now.tree.now (known_at table.now) (facts_of table.now.layout.now id.0 symbol.now) }
+pub fn written(table: &Table<'_>, id: SymId, symbol: &Symbol, visibility: Tri) -> bool
+    requires { visibility ≡ value.visibility table.now.tree.now (known_at table.now) (facts_of table.now.layout.now id.0 symbol.now) }
     ensures { result ≡ spec.written_facts table.now.tree.now (known_at table.now) (Some (facts_of table.now.layout.now id.0 symbol.now)) }
 {
     match symbol.choice {
-        Some(_) => !is_n(shown),
-        None => own_is_written(table, id, symbol, shown),
+        Some(_) => !is_n(visibility),
+        None => own_is_written(table, id, symbol, visibility),
     }
 }

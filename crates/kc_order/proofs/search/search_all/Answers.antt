@@ -1,4 +1,4 @@
-use Rattle.std.proofs.Common.{arith, length, ◌∙◌, ap, get_or}
+use Rattle.std.proofs.Common.{arith, length, ◌∙◌, ap}
 use Rattle.std.proofs.lemmas.List.{length-replicate, get_or-replicate, length-map}
 use Rattle.kc_order.specs.declared.search.Mark.TheVariants.{New}
 use Rattle.kc_order.specs.Needs.{needs_in}

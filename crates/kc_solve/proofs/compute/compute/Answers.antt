@@ -93,3 +93,8 @@ returns-clause-solves c =
     solves tree t.layout.now c.args.given.now c.args.chosen.now c.args.nodes.now t.values.items t.contexts.items t.selections.items
     (now.value_count ∙ row_count t ∙ ap symbol_count c.loop-node.invariant.0)
     (subst (λ n. IsComputedTo tree t.layout.now c.args.given.now c.args.chosen.now c.args.nodes.now n t.values.items t.contexts.items t.selections.items) end now)
+
+pub returns-clause-selected : goal.returns-clause-selected
+returns-clause-selected c =
+    let t = c.loop-node.table in
+    subst (λ (u : TreeFacts). (n : ℕ) → IsSelection u t.values.items t.selections.items n (slice_index_or c.args.chosen.now n None)) (sym c.loop-node.invariant.0) c.loop-node.invariant.1.selected_are

@@ -5,7 +5,7 @@ use Rattle.kc_values.specs.Values.{by_choice}
 use Rattle.kc_tree.specs.Contexts.{mode_view}
 use Rattle.kc_tree.specs.Layouts.{facts_of}
 use Rattle.kc_solve.proofs.ComputeSteps.{contexts_stay}
-use Rattle.kc_solve.proofs.TableSteps.{filled_value, place_given, row_count}
+use Rattle.kc_solve.proofs.TableSteps.{computed_value, place_given, row_count}
 use Rattle.kc_solve.proofs.compute.compute_symbol.Goals as goal
 
 pub symbol_row-symbol-requires : goal.symbol_row-symbol-requires
@@ -18,7 +18,7 @@ invariant_of-table c =
     let own = place_given c.args.given.now c.args.id.0 c.index-given-id.result c.as_ref-own.result (omega (arith, c.requires.defined, c.requires.given))
     c.index-given-id.is c.as_ref-own.ensures.value in
     let e = c.in_ok-value.ensures ∙ ap (λ g. by_choice t.tree.now (known_at t) c.args.id (facts_of t.layout.now c.args.id.0 s) (mode_view s.choice) (given_for s.choice g c.args.chosen.now)) own in
-    let f = filled_value t c.args.id s c.args.given.now c.args.chosen.now c.in_ok-value.value c.symbol_row-symbol.ensures c.requires.full c.requires.defined e in
+    let f = computed_value t c.args.id s c.args.given.now c.args.chosen.now c.in_ok-value.value c.symbol_row-symbol.ensures c.requires.full c.requires.defined e in
     record {
       laid = t.laid;
       formed = t.formed;
@@ -34,7 +34,7 @@ returns c =
     let e = c.in_ok-value.ensures ∙ ap (λ g. by_choice t.tree.now (known_at t) c.args.id (facts_of t.layout.now c.args.id.0 s) (mode_view s.choice) (given_for s.choice g c.args.chosen.now)) own in
     record {
       keeps = record { tree = refl; layout = refl };
-      values = filled_value t c.args.id s c.args.given.now c.args.chosen.now c.in_ok-value.value c.symbol_row-symbol.ensures c.requires.full c.requires.defined e;
+      values = computed_value t c.args.id s c.args.given.now c.args.chosen.now c.in_ok-value.value c.symbol_row-symbol.ensures c.requires.full c.requires.defined e;
       contexts = refl;
       selections = refl;
     }

@@ -1,10 +1,12 @@
 use Rattle.std.proofs.Common.{◌≡◌, map}
 use Rattle.std.specs.List.{range_with_len}
-use Rattle.kc_values.specs.Differs.{selection}
+use Rattle.kc_values.specs.Differs.{selection, default_selection}
 use Rattle.kc_solve.specs.PlaceLists.{valuation}
 use Rattle.kc_user.specs.Places.{place_at}
 use Rattle.kc_solve.proofs.flags.selections.Given as goal
 
 abbrev pub invariant-loop-c : goal.invariant-loop-c
-invariant-loop-c l =
-    l.selected.items ≡ map (selection l.table.tree.now (place_at l.user) (valuation l.table.tree.now l.table.values.items)) (range_with_len 0 l.c)
+invariant-loop-c l = record {
+  selected : l.selected.items ≡ map (selection l.table.tree.now (place_at l.user) (valuation l.table.tree.now l.table.values.items)) (range_with_len 0 l.c);
+  default : l.default.items ≡ map (default_selection l.table.tree.now (valuation l.table.tree.now l.table.values.items)) (range_with_len 0 l.c);
+}

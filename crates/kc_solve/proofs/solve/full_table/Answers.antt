@@ -1,4 +1,5 @@
-use Rattle.std.proofs.Common.{◌∙◌, ap, length}
+use Rattle.std.proofs.Common.{◌∙◌, ap, length, subst}
+use Rattle.kc_values.specs.TableFacts.{AreSelected}
 use Rattle.kc_solve.proofs.OrderSteps.{accepted_through}
 use Rattle.kc_order.specs.Graph.{needs_of}
 use Rattle.kc_values.specs.Needs.{needs}
@@ -37,3 +38,6 @@ returns-clause-accepted c =
     let g = c.args.order.now in
     let accepted = accepted_through g c.requires.order.graph (c.ordered_are_accepted.ensures g.rows c.nodes.result.now c.nodes.ensures) in
     c.alike_needs.ensures.accepted (needs_of g) (needs c.args.tree.now) c.requires.order.alike accepted
+
+pub returns-clause-selected : goal.returns-clause-selected
+returns-clause-selected c = subst (AreSelected c.in_ok-table.table) c.choices-chosen.ensures c.in_ok-table.ensures.selected

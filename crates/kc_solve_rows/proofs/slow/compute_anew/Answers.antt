@@ -1,6 +1,6 @@
 use Rattle.std.proofs.Common.{arith, refl}
 use Rattle.kc_tree.specs.Layouts.{facts_of}
-use Rattle.kc_solve.proofs.TableSteps.{choice_below, filled_value, row_count, row_facts}
+use Rattle.kc_solve.proofs.TableSteps.{choice_below, computed_value, row_count, row_facts}
 use Rattle.kc_solve_rows.proofs.SlowSteps.{computed_none}
 use Rattle.kc_solve_rows.proofs.slow.compute_anew.Goals as goal
 
@@ -25,7 +25,7 @@ returns c =
     let s = c.symbol_row-symbol.result.now in
     record {
       keeps = record { tree = refl; layout = refl };
-      values = filled_value t c.args.id s c.args.given.now c.args.chosen.now c.in_ok-value.value c.symbol_row-symbol.ensures c.requires.full c.requires.defined c.in_ok-value.ensures;
+      values = computed_value t c.args.id s c.args.given.now c.args.chosen.now c.in_ok-value.value c.symbol_row-symbol.ensures c.requires.full c.requires.defined c.in_ok-value.ensures;
       contexts = refl;
       selections = refl;
     }

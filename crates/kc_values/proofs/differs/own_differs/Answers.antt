@@ -23,24 +23,24 @@ returns-in-Tristate c =
     in
     search rules
 
-pub returns-in_ok-without-in-Str : goal.returns-in_ok-without-in-Str
-returns-in_ok-without-in-Str c =
+pub returns-in-Str : goal.returns-in-Str
+returns-in-Str c =
     let t = c.args.table.now in
     let typed : kind_in (facts t.tree.now c.args.id) ≡ c.args.symbol.now.kind =
     ∥∥₁_elim t.laid (Coded-set kind.the_row.coded _ _) (λ laid. sym (kind_laid t.tree.now t.layout.now laid c.args.id.0 (Some c.args.symbol.now) (sym c.requires)))
     in
     search rules
 
-pub returns-in_ok-without-in-Int : goal.returns-in_ok-without-in-Int
-returns-in_ok-without-in-Int c =
+pub returns-in-Int : goal.returns-in-Int
+returns-in-Int c =
     let t = c.args.table.now in
     let typed : kind_in (facts t.tree.now c.args.id) ≡ c.args.symbol.now.kind =
     ∥∥₁_elim t.laid (Coded-set kind.the_row.coded _ _) (λ laid. sym (kind_laid t.tree.now t.layout.now laid c.args.id.0 (Some c.args.symbol.now) (sym c.requires)))
     in
     search rules
 
-pub returns-in_ok-without-in-Hex : goal.returns-in_ok-without-in-Hex
-returns-in_ok-without-in-Hex c =
+pub returns-in-Hex : goal.returns-in-Hex
+returns-in-Hex c =
     let t = c.args.table.now in
     let typed : kind_in (facts t.tree.now c.args.id) ≡ c.args.symbol.now.kind =
     ∥∥₁_elim t.laid (Coded-set kind.the_row.coded _ _) (λ laid. sym (kind_laid t.tree.now t.layout.now laid c.args.id.0 (Some c.args.symbol.now) (sym c.requires)))

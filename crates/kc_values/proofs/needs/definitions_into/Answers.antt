@@ -12,8 +12,8 @@ loop-i-preserved c =
     let ids = definition_ids c.args.symbol.now in
     let lt : c.loop-i.i < length (definition_ids c.args.symbol.now) = omega arith in
     let now = c.loop-i.out in
-    let next = c.match-definition.out in
-    elim c.match-definition.branch [
+    let next = c.match-definition_of.out in
+    elim c.match-definition_of.branch [
       | in-Some+in_ok-definition_into w ↦
           let d = w.in-Some.definition.now in
           adds_more c.args.out.now now next _ (rows.definition_nodes l kind d) _ _ (rows.definition_names l kind d) _ c.loop-i.invariant (rw w.out-is w.in_ok-definition_into.ensures)

@@ -11,8 +11,8 @@ loop-i-preserved c =
     let ids = definition_ids c.args.symbol.now in
     let lt : c.loop-i.i < length (definition_ids c.args.symbol.now) = omega arith in
     let now = c.loop-i.out in
-    let next = c.match-definition.out in
-    elim c.match-definition.branch [
+    let next = c.match-definition_of.out in
+    elim c.match-definition_of.branch [
       | in-Some+then-is_some+in_ok-context_into+in_ok-prompt_into w ↦
           let d = w.in-Some.definition.now in
           let some : rows.context_nodes l d.within.0 ++ rows.prompt_nodes l d.prompt ≡ rows.entry_nodes l d =

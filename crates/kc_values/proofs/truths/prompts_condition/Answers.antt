@@ -15,7 +15,7 @@ loop-i-preserved c =
     let rest = prompts_from t.tree.now k t.layout.now s (i + 1) in
     elim c.match-definition.branch [
       | in-Some w ↦
-          ap (λ x. greater x rest) (w.greatest-is ∙ w.greater-greatest.ensures ∙ ap (greater c.loop-i.greatest) w.shown_by.ensures)
+          ap (λ x. greater x rest) (w.greatest-is ∙ w.greater-greatest.ensures ∙ ap (greater c.loop-i.greatest) w.prompt_visibility.ensures)
           ∙ greater-step c.loop-i.greatest _ rest _ _ (prompts-some t.tree.now k t.layout.now s i w.in-Some.definition.now w.in-Some.ensures) c.loop-i.invariant
       | in_default w ↦
           ap (λ x. greater x rest) w.greatest-is ∙ ap (greater c.loop-i.greatest) (sym (prompts-none t.tree.now k t.layout.now s i w.in_default.ensures)) ∙ c.loop-i.invariant

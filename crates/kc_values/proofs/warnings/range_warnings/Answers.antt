@@ -8,7 +8,7 @@ pub returns : goal.returns
 returns c =
     let t = c.args.table.now in
     range_joined t.tree.now (known_at t) c.args.name.now (facts_of t.layout.now 0 c.args.symbol.now) (given_in c.args.user)
-    c.active_range-range.result c.args.shown (text_at c.visible_text-given.result)
+    c.active_range-range.result c.args.visibility (text_at c.visible_text-given.result)
     (text_at c.if_inside-used.result) (text_at c.met_text-default.result) _ _ _
     c.active_range-range.ensures.range
     c.requires

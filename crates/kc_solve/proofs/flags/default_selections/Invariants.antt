@@ -1,9 +1,0 @@
-use Rattle.std.proofs.Common.{◌≡◌, map}
-use Rattle.std.specs.List.{range_with_len}
-use Rattle.kc_values.specs.Differs.{default_selection}
-use Rattle.kc_solve.specs.PlaceLists.{valuation}
-use Rattle.kc_solve.proofs.flags.default_selections.Given as goal
-
-abbrev pub invariant-loop-c : goal.invariant-loop-c
-invariant-loop-c l =
-    l.selected.items ≡ map (default_selection l.table.tree.now (valuation l.table.tree.now l.table.values.items)) (range_with_len 0 l.c)
