@@ -1,18 +1,21 @@
 -- Reading piece by piece, and stream by stream.
-use Rattle.std.proofs.Common.{◌≡◌, ℕ, List, [], ◌∷◌, ◌++◌, map, refl, sym, ap, ◌∙◌, append_assoc, append-nil, Option, Some, None}
+use Rattle.std.proofs.Common.{◌≡◌, ℕ, suc, ◌+◌, ◌<◌, Bool, true, false, List, [], ◌∷◌, ◌++◌, length, map, get_or, refl, sym, ap, subst, ◌∙◌, append_assoc, append-nil, length-append, arith, Option, Some, None}
+use Rattle.std.specs.List.{All}
 use Rattle.kc_tree.specs.TreeFacts.{TreeFacts}
 use Rattle.kc_user.specs.Places.{Places}
 use Rattle.kc_dot.specs.Feeding.{StreamPosition, stream_start, to_come, ReadsPiece, Feeds, StopsBecause, Refuses, Finishes, FailsToEnd}
-use Rattle.kc_dot.specs.Reading.{Line, ReadResult, lines_from, lines_of, reading, with_warnings}
+use Rattle.kc_dot.specs.Laws.{HasShortLines}
+use Rattle.kc_dot.specs.Reading.{Line, ReadResult, StreamLocation, is_within, lines_from, lines_of, places_after, reading, with_warnings}
 use Rattle.kc_dot.specs.Sink.{BeginsWith, extended}
 use Rattle.kc_dot.specs.declared.fault.DotFault.{DotFault}
 use Rattle.kc_dot.specs.declared.fault.DotFault.TheVariants.{ConfigLineTooLong, Sink, Memory}
 use Rattle.kc_dot.proofs.FeedLemmas.{begins_at_break, begins_at_end}
-use Rattle.kc_dot.proofs.ReadingLemmas.{reading-nothing}
+use Rattle.kc_dot.proofs.ReadingLemmas.{reading-nothing, reading_within}
 use Rattle.kc_dot.proofs.SinkLemmas.{extended-extended, extended-nothing}
 use Rattle.kc_conf.specs.InputBytes.{preceded, AreToCome, AreAllToCome}
 use Rattle.kc_conf.specs.Outcome.{streams}
-use Rattle.kc_conf.specs.Reads.{ended_with, TakenSoFar, TakesPieces, BreaksPieces, ReadsStream, BreaksStream, ReadSoFar, ReadsStreams, BreaksStreams}
+use Rattle.kc_conf.specs.Presence.{StreamsAreThere}
+use Rattle.kc_conf.specs.Reads.{Stops, ended_with, TakenSoFar, TakesPieces, BreaksPieces, ReadsStream, BreaksStream, ReadSoFar, ReadsStreams, BreaksStreams}
 
 -- ---- what inputs give
 
@@ -46,6 +49,27 @@ unfolding left_of
 AreToCome-all None rest bytes is = tt
 AreToCome-all (Some all) (Some more) bytes is = cc
 AreToCome-all (Some all) None bytes is = cc
+
+-- ---- which streams are there
+
+-- all of them
+pub there-all : (given : List (Option (List ℕ))) (all : List (List ℕ)) (there : List Bool) → length there ≡ length given → AreAllToCome given all →
+    ((i : ℕ) → i < length there → get_or there i false ≡ true) → StreamsAreThere all there
+there-all [] [] there same are is = tt
+there-all [] (bytes ∷ all) there same are is = absurd are
+there-all (this ∷ given) [] there same are is = absurd are
+there-all (this ∷ given) (bytes ∷ all) [] same are is = absurd (omega (arith, same))
+there-all (this ∷ given) (bytes ∷ all) (first ∷ there) same are is =
+    (is 0 (omega arith), λ short. there-all given all there (omega (arith, same)) are.1 (λ i within. is (suc i) (omega (arith, within))))
+
+-- those up to one with a line that is too long
+there-stopped : (done : List (List ℕ)) (bytes : List ℕ) (left : List (List ℕ)) (there : List Bool) → length done < length there →
+    ((i : ℕ) → i < length done + 1 → get_or there i false ≡ true) → (HasShortLines bytes → ⊥) → StreamsAreThere (done ++ bytes ∷ left) there
+there-stopped [] bytes left [] within is long = absurd (omega (arith, within))
+there-stopped [] bytes left (first ∷ there) within is long = (is 0 (omega arith), λ short. absurd (long short))
+there-stopped (read ∷ done) bytes left [] within is long = absurd (omega (arith, within))
+there-stopped (read ∷ done) bytes left (first ∷ there) within is long =
+    (is 0 (omega arith), λ short. there-stopped done bytes left there (omega (arith, within)) (λ i below. is (suc i) (omega (arith, below))) long)
 
 -- ---- what was told
 
@@ -207,42 +231,86 @@ module _ (tree : TreeFacts) (prefix : List ℕ) where
 
   -- ---- several streams
 
+  -- no line of these is too long
+  whole_lines : (lines : List Line) (places : Places) → All (λ l. is_within l ≡ true) lines → (reading tree prefix places lines).stopped ≡ None
+  whole_lines [] places short = ap (λ (r : ReadResult). r.stopped) (reading-nothing tree prefix places)
+  whole_lines (l ∷ lines) places short =
+      ap (λ (r : ReadResult). r.stopped) (reading_within tree prefix places l lines (short 0 l (omega arith)))
+      ∙ whole_lines lines (places_after tree prefix places (l ∷ [])) (λ k d within. short (suc k) d (omega (arith, within)))
+
+  -- a stream of which a line is refused has a line that is too long
+  long_stream : (name bytes : List ℕ) (before after : Places) (warned : List ℕ) (stop : StreamLocation) →
+      Stops tree prefix (lines_from name 1 bytes) before after warned stop → HasShortLines bytes → ⊥
+  long_stream name bytes before after warned stop stops short =
+      let lines = lines_from name 1 bytes in
+      let whole : (reading tree prefix before (lines ++ [])).stopped ≡ None =
+      ap (λ ls. (reading tree prefix before ls).stopped) (append-nil lines) ∙ whole_lines lines before (short name) in
+      let e : Some stop ≡ None = sym (ap (λ (r : ReadResult). r.stopped) (stops [])) ∙ whole in cc
+
+  -- no stream yet
+  pub ReadSoFar-nothing : (names : List (List ℕ)) (given : List (Option (List ℕ))) (places : Places) (text : Option (List ℕ)) →
+      ReadSoFar tree prefix 0 names names given given places places text text
+  ReadSoFar-nothing names given places text = ([], [], refl, extended-nothing text, λ left are. (are, refl))
+
   -- one stream more
-  pub ReadSoFar-stream : (names later : List (List ℕ)) (name : List ℕ) (given others : List (Option (List ℕ))) (this : Option (List ℕ))
+  pub ReadSoFar-stream : (count : ℕ) (names later : List (List ℕ)) (name : List ℕ) (given others : List (Option (List ℕ))) (this : Option (List ℕ))
       (before places after : Places) (text text_mid text_after : Option (List ℕ)) →
-      ReadSoFar tree prefix names (name ∷ later) given (this ∷ others) before places text text_mid → ReadsStream tree prefix name None this places after text_mid text_after →
-      ReadSoFar tree prefix names later given others before after text text_after
-  ReadSoFar-stream names later name given others this before places after text text_mid text_after (warned, grew, goes) (bytes, warned', are, grew', reads) = (
+      ReadSoFar tree prefix count names (name ∷ later) given (this ∷ others) before places text text_mid → ReadsStream tree prefix name None this places after text_mid text_after →
+      ReadSoFar tree prefix (count + 1) names later given others before after text text_after
+  ReadSoFar-stream count names later name given others this before places after text text_mid text_after (done, warned, counted, grew, goes) (bytes, warned', are, grew', reads) = (
+    done ++ bytes ∷ [],
     warned ++ warned',
+    length-append done (bytes ∷ []) ∙ ap (λ n. n + 1) counted,
     extended-three text text_mid text_after warned warned' grew grew',
     λ left are_left.
-        let (all, are_all, is) = goes (bytes ∷ left) (are, are_left) in
-        (all, are_all, is ∙ ap (with_warnings warned) (reads (lines_of (streams later left))) ∙ with_warnings-with_warnings warned warned' (reading tree prefix after (lines_of (streams later left)))),
+        let (are_all, is) = goes (bytes ∷ left) (are, are_left) in
+        let same : (done ++ bytes ∷ []) ++ left ≡ done ++ bytes ∷ left = append_assoc done (bytes ∷ []) left in (
+          subst (AreAllToCome given) (sym same) are_all,
+          ap (λ all. reading tree prefix before (lines_of (streams names all))) same
+              ∙ is ∙ ap (with_warnings warned) (reads (lines_of (streams later left))) ∙ with_warnings-with_warnings warned warned' (reading tree prefix after (lines_of (streams later left))),
+        ),
   )
 
   -- all streams were read
-  pub ReadsStreams-end : (names : List (List ℕ)) (given : List (Option (List ℕ))) (before after : Places) (text text_after : Option (List ℕ)) →
-      ReadSoFar tree prefix names [] given [] before after text text_after → ReadsStreams tree prefix names None given before after text text_after
-  ReadsStreams-end names given before after text text_after (warned, grew, goes) =
-      let (all, are, is) = goes [] tt in
-      (all, warned, are, grew, is ∙ ap (with_warnings warned) (reading-nothing tree prefix after) ∙ ap (λ w. ended_with after w None) (append-nil warned))
+  pub ReadsStreams-end : (count : ℕ) (names : List (List ℕ)) (given : List (Option (List ℕ))) (there : List Bool) (before after : Places) (text text_after : Option (List ℕ)) →
+      ((all : List (List ℕ)) → AreAllToCome given all → StreamsAreThere all there) →
+      ReadSoFar tree prefix count names [] given [] before after text text_after → ReadsStreams tree prefix names None given there before after text text_after
+  ReadsStreams-end count names given there before after text text_after are_there (done, warned, counted, grew, goes) =
+      let (are, is) = goes [] tt in (
+        done ++ [],
+        warned,
+        (are, are_there (done ++ []) are),
+        grew,
+        is ∙ ap (with_warnings warned) (reading-nothing tree prefix after) ∙ ap (λ w. ended_with after w None) (append-nil warned),
+      )
 
   -- a line of this stream is too long
-  pub ReadsStreams-long : (names later : List (List ℕ)) (name : List ℕ) (number : ℕ) (given others : List (Option (List ℕ))) (this : Option (List ℕ))
+  pub ReadsStreams-long : (count : ℕ) (names later : List (List ℕ)) (name : List ℕ) (number : ℕ) (given others : List (Option (List ℕ))) (there : List Bool) (this : Option (List ℕ))
       (before places after : Places) (text text_mid text_after : Option (List ℕ)) →
-      ReadSoFar tree prefix names (name ∷ later) given (this ∷ others) before places text text_mid → ReadsStream tree prefix name (Some number) this places after text_mid text_after →
-      ReadsStreams tree prefix names (Some (record { stream = name; number = number })) given before after text text_after
-  ReadsStreams-long names later name number given others this before places after text text_mid text_after (warned, grew, goes) (bytes, warned', are, grew', stops) =
+      count < length there → ((i : ℕ) → i < count + 1 → get_or there i false ≡ true) →
+      ReadSoFar tree prefix count names (name ∷ later) given (this ∷ others) before places text text_mid → ReadsStream tree prefix name (Some number) this places after text_mid text_after →
+      ReadsStreams tree prefix names (Some (record { stream = name; number = number })) given there before after text text_after
+  ReadsStreams-long count names later name number given others there this before places after text text_mid text_after within are_there
+      (done, warned, counted, grew, goes) (bytes, warned', are, grew', stops) =
       let left = map left_of others in
-      let (all, are_all, is) = goes (bytes ∷ left) (are, AreAllToCome-self others) in
-      (all, warned ++ warned', are_all, extended-three text text_mid text_after warned warned' grew grew', is ∙ ap (with_warnings warned) (stops (lines_of (streams later left))))
+      let (are_all, is) = goes (bytes ∷ left) (are, AreAllToCome-self others) in
+      let long = long_stream name bytes places after warned' (record { stream = name; number = number }) stops in (
+        done ++ bytes ∷ left,
+        warned ++ warned',
+        (
+          are_all,
+          there-stopped done bytes left there (let n = counted in omega (arith, n, within)) (λ i below. are_there i (let n = counted in omega (arith, n, below))) long,
+        ),
+        extended-three text text_mid text_after warned warned' grew grew',
+        is ∙ ap (with_warnings warned) (stops (lines_of (streams later left))),
+      )
 
   -- this stream broke off
-  pub BreaksStreams-stream : (names later : List (List ℕ)) (name : List ℕ) (given others : List (Option (List ℕ))) (this : Option (List ℕ))
+  pub BreaksStreams-stream : (count : ℕ) (names later : List (List ℕ)) (name : List ℕ) (given others : List (Option (List ℕ))) (this : Option (List ℕ))
       (before places : Places) (text text_mid text_after : Option (List ℕ)) →
-      ReadSoFar tree prefix names (name ∷ later) given (this ∷ others) before places text text_mid → BreaksStream tree prefix name this places text_mid text_after →
+      ReadSoFar tree prefix count names (name ∷ later) given (this ∷ others) before places text text_mid → BreaksStream tree prefix name this places text_mid text_after →
       BreaksStreams tree prefix names given before text text_after
-  BreaksStreams-stream names later name given others this before places text text_mid text_after (warned, grew, goes) (bytes, front, are, grew', begins) =
+  BreaksStreams-stream count names later name given others this before places text text_mid text_after (done, warned, counted, grew, goes) (bytes, front, are, grew', begins) =
       let left = map left_of others in
-      let (all, are_all, is) = goes (bytes ∷ left) (are, AreAllToCome-self others) in
-      (all, warned ++ front, are_all, extended-three text text_mid text_after warned front grew grew', BeginsWith-with_warnings warned front _ _ is (begins (lines_of (streams later left))))
+      let (are_all, is) = goes (bytes ∷ left) (are, AreAllToCome-self others) in
+      (done ++ bytes ∷ left, warned ++ front, are_all, extended-three text text_mid text_after warned front grew grew', BeginsWith-with_warnings warned front _ _ is (begins (lines_of (streams later left))))

@@ -15,7 +15,8 @@ use Rattle.kc_conf.specs.Faults.{Finishes, BreaksRun, StrikesNotes, IsNoInputFau
 use Rattle.kc_conf.specs.InputBytes.{AreAllToCome}
 use Rattle.kc_conf.specs.Outcome.{Outcome, has_text, IsLenientOutcome, strictly, noted, lines_text, refused, outcome_of, lost_warnings, read_of, names_of, streams, IsSolutionFor, IsOutcomeOfReading, long_line, whole, IsOutcomeOfTree, OneAnswer, IsAcceptedTree, IsRefusedTree, IsOutcome, refused_tree, accepted_tree, root_file, with_rule}
 use Rattle.kc_conf.specs.OutputStates.{OutputStates, BreaksOutput, with_text}
-use Rattle.kc_conf.specs.Reads.{behind_warnings, ended_with, without_notes, strictly_after, TellsStreams, BreaksTelling}
+use Rattle.kc_conf.specs.Presence.{MayStrike}
+use Rattle.kc_conf.specs.Reads.{AreRead, behind_warnings, ended_with, without_notes, strictly_after, TellsStreams, BreaksTelling}
 use Rattle.kc_conf.specs.declared.run_fault.RunFault.{RunFault}
 use Rattle.kc_conf.specs.declared.run_fault.RunFault.TheVariants.{Write, Memory}
 use Rattle.kc_conf.specs.declared.run_fault.RunFault.TheVariants as why
@@ -103,7 +104,7 @@ BreaksRun-solution_notes options tree before user s t lines old new solves solve
 
 -- ---- the streams
 
-module _ (options : Options) (tree : TreeFacts) (given : List (Option (List ℕ))) (user after : Places) (before later told : Bool) (old mid new : OutputStates) (empty : user ≡ no_places tree) where
+module _ (options : Options) (tree : TreeFacts) (given : List (Option (List ℕ))) (there : List Bool) (user after : Places) (before later told : Bool) (old mid new : OutputStates) (empty : user ≡ no_places tree) where
   read_is : (stopped : Option StreamLocation) (all : List (List ℕ)) (warned : List ℕ) → reading tree options.prefix user (lines_of (streams (names_of options) all)) ≡ ended_with after warned stopped →
       read_of options tree all ≡ ended_with after warned stopped
   read_is stopped all warned is = ap (λ (p : Places). reading tree options.prefix p (lines_of (streams (names_of options) all))) (sym empty) ∙ is
@@ -114,9 +115,9 @@ module _ (options : Options) (tree : TreeFacts) (given : List (Option (List ℕ)
   after_warned warned part known is =
       noted_strictly options.strict before told warned part (λ on. is ∙ ap (λ b. before || b) (known on))
 
-  pub Finishes-whole : (status : Status) → TellsStreams tree options.prefix options.strict (names_of options) None later given user after old mid → told ≡ (before || later) →
+  pub Finishes-whole : (status : Status) → TellsStreams tree options.prefix options.strict (names_of options) None later given there user after old mid → told ≡ (before || later) →
       (s : Solution) → IsSolutionFor tree after s → Finishes (strictly_after options.strict told (outcome_of options tree s)) status mid new →
-      (all : List (List ℕ)) × AreAllToCome given all × ((part : Outcome) × IsOutcomeOfReading options tree (read_of options tree all) part
+      (all : List (List ℕ)) × AreRead given there all × ((part : Outcome) × IsOutcomeOfReading options tree (read_of options tree all) part
       × Finishes (strictly_after options.strict before part) status old new)
   Finishes-whole status (all, warned, are, grew, is, known) has_text s solves finishes =
       let read : read_of options tree all ≡ ended_with after warned None = read_is None all warned is in (
@@ -132,11 +133,11 @@ module _ (options : Options) (tree : TreeFacts) (given : List (Option (List ℕ)
         ),
       )
 
-  pub BreaksRun-whole : (cause : RunFault) → TellsStreams tree options.prefix options.strict (names_of options) None later given user after old mid → told ≡ (before || later) →
+  pub BreaksRun-whole : (cause : RunFault) → TellsStreams tree options.prefix options.strict (names_of options) None later given there user after old mid → told ≡ (before || later) →
       ((s : Solution) → IsSolutionFor tree after s → BreaksRun (strictly_after options.strict told (outcome_of options tree s)) cause mid new) →
       (all : List (List ℕ)) × AreAllToCome given all × ((part : Outcome) → IsOutcomeOfReading options tree (read_of options tree all) part →
       BreaksRun (strictly_after options.strict before part) cause old new)
-  BreaksRun-whole cause (all, warned, are, grew, is, known) has_text broken = (all, are, each) where
+  BreaksRun-whole cause (all, warned, are, grew, is, known) has_text broken = (all, are.0, each) where
     read : read_of options tree all ≡ ended_with after warned None
     read = read_is None all warned is
 
@@ -148,9 +149,9 @@ module _ (options : Options) (tree : TreeFacts) (given : List (Option (List ℕ)
         subst (λ o. BreaksRun o cause old new) (after_warned warned (outcome_of options tree s) known has_text ∙ ap (strictly_after options.strict before) same)
         (BreaksRun-after warned (strictly_after options.strict told (outcome_of options tree s)) cause old mid new grew here)
 
-  pub Finishes-long : (status : Status) (stop : StreamLocation) → TellsStreams tree options.prefix options.strict (names_of options) (Some stop) later given user after old mid →
+  pub Finishes-long : (status : Status) (stop : StreamLocation) → TellsStreams tree options.prefix options.strict (names_of options) (Some stop) later given there user after old mid →
       Finishes (refused (too_long_line stop)) status mid new →
-      (all : List (List ℕ)) × AreAllToCome given all × ((part : Outcome) × IsOutcomeOfReading options tree (read_of options tree all) part
+      (all : List (List ℕ)) × AreRead given there all × ((part : Outcome) × IsOutcomeOfReading options tree (read_of options tree all) part
       × Finishes (strictly_after options.strict before part) status old new)
   Finishes-long status stop (all, warned, are, grew, is, known) finishes =
       let read : read_of options tree all ≡ ended_with after warned (Some stop) = read_is (Some stop) all warned is in (
@@ -163,11 +164,11 @@ module _ (options : Options) (tree : TreeFacts) (given : List (Option (List ℕ)
         ),
       )
 
-  pub BreaksRun-long : (cause : RunFault) (stop : StreamLocation) → TellsStreams tree options.prefix options.strict (names_of options) (Some stop) later given user after old mid →
+  pub BreaksRun-long : (cause : RunFault) (stop : StreamLocation) → TellsStreams tree options.prefix options.strict (names_of options) (Some stop) later given there user after old mid →
       BreaksRun (refused (too_long_line stop)) cause mid new →
       (all : List (List ℕ)) × AreAllToCome given all × ((part : Outcome) → IsOutcomeOfReading options tree (read_of options tree all) part →
       BreaksRun (strictly_after options.strict before part) cause old new)
-  BreaksRun-long cause stop (all, warned, are, grew, is, known) broken = (all, are, each) where
+  BreaksRun-long cause stop (all, warned, are, grew, is, known) broken = (all, are.0, each) where
     read : read_of options tree all ≡ ended_with after warned (Some stop)
     read = read_is (Some stop) all warned is
 
@@ -310,3 +311,9 @@ pub CountsInputs-outputs : (cause : RunFault) (counts : List ℕ) → IsNoInputF
 CountsInputs-outputs (why.Read input) counts never = absurd never
 CountsInputs-outputs Memory counts is = refl
 CountsInputs-outputs (Write output) counts is = refl
+
+-- nor is it a failure of one
+pub MayStrike-outputs : (cause : RunFault) (may_fail : List Bool) → IsNoInputFault cause → MayStrike may_fail cause
+MayStrike-outputs (why.Read input) may_fail never = absurd never
+MayStrike-outputs Memory may_fail is = tt
+MayStrike-outputs (Write output) may_fail is = tt

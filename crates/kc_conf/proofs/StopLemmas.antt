@@ -1,5 +1,5 @@
 -- A run whose tree is not accepted, and what is kept of one that is.
-use Rattle.std.proofs.Common.{◌≡◌, ◌≢◌, ◌⊎◌, inl, inr, ℕ, List, map, Option, Some, Result, Ok, Err, OnOk, refl, sym, subst}
+use Rattle.std.proofs.Common.{◌≡◌, ◌≢◌, ◌⊎◌, inl, inr, ℕ, Bool, List, map, Option, Some, Result, Ok, Err, OnOk, refl, sym, subst}
 use Rattle.std.specs.Prelude.{IfOk}
 use Rattle.kc_make.specs.Opened.{OpenedAreThere}
 use Rattle.kc_order.specs.Graph.{Nodes}
@@ -20,6 +20,7 @@ use Rattle.kc_conf.specs.InputBytes.{AreAllToCome}
 use Rattle.kc_conf.specs.AcceptedTree.{HoldsTree}
 use Rattle.kc_conf.specs.Outcome.{IsAcceptedTree, IsOutcome, IsRefusedTree, looped, no_tree, OneAnswer, Outcome, refused, refused_tree, root_file}
 use Rattle.kc_conf.specs.OutputStates.{OutputStates}
+use Rattle.kc_conf.specs.Presence.{StreamsAreThere}
 use Rattle.kc_conf.specs.Stops.{IsOutOfMemory}
 use Rattle.kc_conf.specs.declared.run_fault.RunFault.{RunFault}
 use Rattle.kc_conf.specs.declared.run_fault.RunFault.TheVariants.{Memory}
@@ -52,12 +53,14 @@ module _ (law : OneAnswer) (there : OpenedAreThere) (files : Files) (options : O
   its_line = refusal_line (refusal_view r)
 
   -- the run ends with the line of the refusal
-  pub Finishes-refusal : (given : List (Option (List ℕ))) (status : Status) (old new : OutputStates) → (r.code ≢ NoMemory) × Finishes (refused its_line) status old new →
-      (all : List (List ℕ)) × AreAllToCome given all × ((outcome : Outcome) × IsOutcome files options all outcome × Finishes outcome status old new)
-  Finishes-refusal given status old new (known, finishes) =
+  pub Finishes-refusal : (given : List (Option (List ℕ))) (flags : List Bool) (status : Status) (old new : OutputStates) → (r.code ≢ NoMemory) × Finishes (refused its_line) status old new →
+      (all : List (List ℕ)) × AreAllToCome given all × ((tree : TreeFacts) → IsAcceptedTree files (root_file options) tree → StreamsAreThere all flags)
+      × ((outcome : Outcome) × IsOutcome files options all outcome × Finishes outcome status old new)
+  Finishes-refusal given flags status old new (known, finishes) =
       let (opened, are) = there files (root_file options) in (
         map left_of given,
         AreAllToCome-self given,
+        λ tree accepted. absurd (law.not_both files (root_file options) (refusal_view r) tree (why known) accepted),
         (refused its_line, (refused its_line, opened, refused_tree (refusal_view r) (why known) refl, are, refl), finishes),
       )
 

@@ -9,6 +9,7 @@ pub mod Lost
 pub mod LostView
 pub mod Outcome
 pub mod OutputStates
+pub mod Presence
 pub mod Reads
 pub mod Reruns
 pub mod Rules

@@ -1,5 +1,5 @@
 -- For proofs: What reading the streams does.
-use Rattle.std.specs.Prelude.{◌≡◌, ℕ, Bool, true, ◌&&◌, ◌||◌, if◌then◌else◌, List, [], ◌++◌, Option, Some, None}
+use Rattle.std.specs.Prelude.{◌≡◌, ℕ, Bool, true, ◌&&◌, ◌||◌, if◌then◌else◌, List, [], ◌++◌, length, Option, Some, None, ⊤}
 use Rattle.kc_tree.specs.TreeFacts.{TreeFacts}
 use Rattle.kc_user.specs.Places.{Places}
 use Rattle.kc_solve.specs.Solved.{Solution}
@@ -11,6 +11,7 @@ use Rattle.kc_conf.specs.ErrorLines.{strict_line}
 use Rattle.kc_conf.specs.Faults.{after_fault}
 use Rattle.kc_conf.specs.Outcome.{Outcome, is_done, has_text, lines_text, lost_warnings, outcome_of, refused, streams}
 use Rattle.kc_conf.specs.OutputStates.{OutputStates, with_text}
+use Rattle.kc_conf.specs.Presence.{StreamsAreThere}
 use Rattle.kc_conf.specs.declared.options.Options.{Options}
 use Rattle.kc_conf.specs.declared.run_fault.RunFault.{RunFault}
 use Rattle.kc_conf.specs.declared.run_fault.RunFault.TheVariants as cause
@@ -55,6 +56,16 @@ abbrev pub IsStreamFault : ℕ → RunFault → Type 0
 IsStreamFault input (cause.Read other) = other ≡ input
 IsStreamFault input cause.Memory = Unit {0}
 IsStreamFault input (cause.Write output) = output ≡ Notes
+
+-- where the cause is a read of an input, that may fail
+abbrev pub StreamMayFail : Bool → RunFault → Type 0
+StreamMayFail may_fail (cause.Read input) = may_fail ≡ true
+StreamMayFail may_fail cause.Memory = ⊤
+StreamMayFail may_fail (cause.Write output) = ⊤
+
+-- the inputs give these bytes, and those whose turn came are there
+abbrev pub AreRead : List (Option (List ℕ)) → List Bool → List (List ℕ) → Type 0
+AreRead given there all = AreAllToCome given all × StreamsAreThere all there
 
 module _ (tree : TreeFacts) (prefix : List ℕ) where
   -- Whatever lines follow: reading these lines and them is these warnings, and then reading them from the new places.
@@ -111,15 +122,15 @@ module _ (tree : TreeFacts) (prefix : List ℕ) where
         (bytes front : List ℕ) × AreToCome given bytes × (text_after ≡ extended text front) × Warns (lines_from name 1 bytes) before front
 
   -- the streams were read to their end, or to a line that is too long
-  abbrev pub ReadsStreams : List (List ℕ) → Option StreamLocation → List (Option (List ℕ)) → Places → Places → Option (List ℕ) → Option (List ℕ) → Type 0
-  ReadsStreams names stopped given before after text text_after =
-      (all : List (List ℕ)) × (warned : List ℕ) × AreAllToCome given all × (text_after ≡ extended text warned)
+  abbrev pub ReadsStreams : List (List ℕ) → Option StreamLocation → List (Option (List ℕ)) → List Bool → Places → Places → Option (List ℕ) → Option (List ℕ) → Type 0
+  ReadsStreams names stopped given there before after text text_after =
+      (all : List (List ℕ)) × (warned : List ℕ) × AreRead given there all × (text_after ≡ extended text warned)
       × (reading tree prefix before (lines_of (streams names all)) ≡ ended_with after warned stopped)
 
   -- the same, with the warnings in the notes; under --strict it is known whether there is any
-  abbrev pub TellsStreams : Bool → List (List ℕ) → Option StreamLocation → Bool → List (Option (List ℕ)) → Places → Places → OutputStates → OutputStates → Type 0
-  TellsStreams strict names stopped is_warned given before after old new =
-      (all : List (List ℕ)) × (warned : List ℕ) × AreAllToCome given all × (new ≡ with_text Notes warned old)
+  abbrev pub TellsStreams : Bool → List (List ℕ) → Option StreamLocation → Bool → List (Option (List ℕ)) → List Bool → Places → Places → OutputStates → OutputStates → Type 0
+  TellsStreams strict names stopped is_warned given there before after old new =
+      (all : List (List ℕ)) × (warned : List ℕ) × AreRead given there all × (new ≡ with_text Notes warned old)
       × (reading tree prefix before (lines_of (streams names all)) ≡ ended_with after warned stopped)
       × (strict ≡ true → is_warned ≡ has_text warned)
 
@@ -135,9 +146,9 @@ module _ (tree : TreeFacts) (prefix : List ℕ) where
       (all : List (List ℕ)) × (front : List ℕ) × AreAllToCome given all × (text_after ≡ extended text front)
       × BeginsWith (reading tree prefix before (lines_of (streams names all))).warned front
 
-  -- Whatever bytes the other inputs give: the streams so far were read, and reading those goes on from these places.
-  abbrev pub ReadSoFar : List (List ℕ) → List (List ℕ) → List (Option (List ℕ)) → List (Option (List ℕ)) → Places → Places → Option (List ℕ) → Option (List ℕ) → Type 0
-  ReadSoFar names names_left given given_left before after text text_after =
-      (warned : List ℕ) × (text_after ≡ extended text warned)
-      × ((left : List (List ℕ)) → AreAllToCome given_left left → (all : List (List ℕ)) × AreAllToCome given all
-      × (reading tree prefix before (lines_of (streams names all)) ≡ with_warnings warned (reading tree prefix after (lines_of (streams names_left left)))))
+  -- So many streams were read. Whatever bytes the other inputs give, reading all goes on with those from these places.
+  abbrev pub ReadSoFar : ℕ → List (List ℕ) → List (List ℕ) → List (Option (List ℕ)) → List (Option (List ℕ)) → Places → Places → Option (List ℕ) → Option (List ℕ) → Type 0
+  ReadSoFar count names names_left given given_left before after text text_after =
+      (done : List (List ℕ)) × (warned : List ℕ) × (length done ≡ count) × (text_after ≡ extended text warned)
+      × ((left : List (List ℕ)) → AreAllToCome given_left left → AreAllToCome given (done ++ left)
+      × (reading tree prefix before (lines_of (streams names (done ++ left))) ≡ with_warnings warned (reading tree prefix after (lines_of (streams names_left left)))))

@@ -1,11 +1,12 @@
 //! Reads the streams, in whatever pieces they come.
-ghost use Rattle.std.specs.Prelude.{◌≡◌, ◌<◌, ◌+◌, ◌∷◌, [], length, map, None, IfOk, OnOk, IfErr, OnErr};
+ghost use Rattle.std.specs.Prelude.{◌≡◌, ◌<◌, ◌+◌, ◌∷◌, [], true, length, map, None, IfOk, OnOk, IfErr, OnErr};
 ghost use Rattle.std.specs.Option.{option_map};
 ghost use Rattle.kc_user.specs.Places.{ArePlacesOf};
 ghost use Rattle.kc_dot.specs.Feeding.{Feeds, Refuses, Finishes, FailsToEnd, fed, stream_start, failures_after};
 ghost use Rattle.kc_conf.specs.Faults.{CountsInputs, StrikesNotes};
 ghost use Rattle.kc_conf.specs.Outcome.{names_of};
-ghost use Rattle.kc_conf.specs.Reads.{stop_of, input_failures_after, notes_failures_after, IsStreamFault, TakesPieces, BreaksPieces, ReadsStream, BreaksStream, ReadsStreams, BreaksStreams};
+ghost use Rattle.kc_conf.specs.Presence.{MayStrike};
+ghost use Rattle.kc_conf.specs.Reads.{stop_of, input_failures_after, notes_failures_after, IsStreamFault, StreamMayFail, TakesPieces, BreaksPieces, ReadsStream, BreaksStream, ReadsStreams, BreaksStreams};
 
 use crate::input::Input;
 use crate::options::{Options, stream_name};
@@ -81,6 +82,10 @@ fn read_pieces<I: Input, S: Sink>(
     ensures cause { IfErr result (IsStreamFault at) }
     ensures quiet { OnOk result (S.failures sink.new ≡ S.failures sink.old) }
     ensures counted { IfErr result (λ cause. S.failures sink.new ≡ notes_failures_after cause (S.failures sink.old)) }
+    ensures there { OnOk result (I.is_there input.old ≡ true) }
+    ensures may { IfErr result (StreamMayFail (I.may_fail input.old)) }
+    ensures there_stays { I.is_there input.new ≡ I.is_there input.old }
+    ensures may_fail_stays { I.may_fail input.new ≡ I.may_fail input.old }
     ensures quiet_input { OnOk result (I.failures input.new ≡ I.failures input.old) }
     ensures input_failures_after { IfErr result (λ cause. I.failures input.new ≡ input_failures_after cause (I.failures input.old)) }
     ensures keeps { S.goes_to sink.old sink.new }
@@ -120,6 +125,10 @@ fn read_stream<I: Input, S: Sink>(
     ensures cause { IfErr result (IsStreamFault at) }
     ensures quiet { OnOk result (S.failures sink.new ≡ S.failures sink.old) }
     ensures counted { IfErr result (λ cause. S.failures sink.new ≡ notes_failures_after cause (S.failures sink.old)) }
+    ensures there { OnOk result (I.is_there input.old ≡ true) }
+    ensures may { IfErr result (StreamMayFail (I.may_fail input.old)) }
+    ensures there_stays { I.is_there input.new ≡ I.is_there input.old }
+    ensures may_fail_stays { I.may_fail input.new ≡ I.may_fail input.old }
     ensures quiet_input { OnOk result (I.failures input.new ≡ I.failures input.old) }
     ensures input_failures_after { IfErr result (λ cause. I.failures input.new ≡ input_failures_after cause (I.failures input.old)) }
     ensures keeps { S.goes_to sink.old sink.new }
@@ -150,11 +159,12 @@ pub fn read_streams<'a, I: Input, S: Sink>(
 ) -> Result<Option<LongLine<'a>>, RunFault>
     requires inputs { length inputs.old ≡ length options.now.fragments.items + 1 }
     requires user { ArePlacesOf tree.now user.old }
-    ensures ok { IfOk result (λ long. ReadsStreams tree.now options.now.prefix (names_of options.now) (option_map stop_of long) (map I.remaining inputs.old) user.old user.new (S.taken sink.old) (S.taken sink.new)) }
+    ensures ok { IfOk result (λ long. ReadsStreams tree.now options.now.prefix (names_of options.now) (option_map stop_of long) (map I.remaining inputs.old) (map I.is_there inputs.old) user.old user.new (S.taken sink.old) (S.taken sink.new)) }
     ensures err { OnErr result (BreaksStreams tree.now options.now.prefix (names_of options.now) (map I.remaining inputs.old) user.old (S.taken sink.old) (S.taken sink.new)) }
     ensures quiet { OnOk result (S.failures sink.new ≡ S.failures sink.old) }
     ensures cause { IfErr result StrikesNotes }
     ensures counted { IfErr result (λ cause. S.failures sink.new ≡ notes_failures_after cause (S.failures sink.old)) }
+    ensures may { IfErr result (MayStrike (map I.may_fail inputs.old)) }
     ensures quiet_inputs { OnOk result (map I.failures inputs.new ≡ map I.failures inputs.old) }
     ensures counted_inputs { IfErr result (λ cause. CountsInputs cause (map I.failures inputs.old) (map I.failures inputs.new)) }
     ensures keeps { S.goes_to sink.old sink.new }

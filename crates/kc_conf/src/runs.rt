@@ -16,9 +16,10 @@ ghost use Rattle.kc_conf.specs.InputBytes.{AreAllToCome};
 ghost use Rattle.kc_conf.specs.AcceptedTree.{HoldsTree};
 ghost use Rattle.kc_conf.specs.Outcome.{Outcome, has_text, lines_text, outcome_of, refused, strictly, with_rule, root_file, read_of, IsAcceptedTree, IsRefusedTree, IsSolutionFor, IsOutcome, IsOutcomeOfReading, IsOutcomeOfTree, OneAnswer, OneOutcome};
 ghost use Rattle.kc_conf.specs.OutputStates.{ChangesOnly};
+ghost use Rattle.kc_conf.specs.Presence.{MayStrike, StreamsAreThere};
 ghost use Rattle.kc_conf.specs.Rules.{BreaksInRule, EndsWithRule};
 ghost use Rattle.kc_conf.specs.Stops.{IsOutOfMemory};
-ghost use Rattle.kc_conf.specs.Reads.{behind_warnings, without_notes, stop_of, strictly_after};
+ghost use Rattle.kc_conf.specs.Reads.{AreRead, behind_warnings, without_notes, stop_of, strictly_after};
 ghost use Rattle.kc_conf.specs.declared.run_fault.RunFault.{RunFault};
 
 use crate::input::Input;
@@ -194,12 +195,13 @@ fn run_read<I: Input, O: Outputs>(
     requires laid { IsLayoutOf tree.now layout.now }
     requires order { IsGraphOf tree.now layout.now order.now }
     requires inputs { length inputs.old ≡ length options.now.fragments.items + 1 }
-    ensures ok { IfOk result (λ status. (all : List (List ℕ)) × AreAllToCome (map I.remaining inputs.old) all
+    ensures ok { IfOk result (λ status. (all : List (List ℕ)) × AreRead (map I.remaining inputs.old) (map I.is_there inputs.old) all
         × ((part : Outcome) × IsOutcomeOfReading options.now tree.now (read_of options.now tree.now all) part
         × Finishes (strictly_after options.now.strict is_warned part) status (O.states outputs.old) (O.states outputs.new))) }
     ensures err { IfErr result (λ cause. (all : List (List ℕ)) × AreAllToCome (map I.remaining inputs.old) all
         × ((part : Outcome) → IsOutcomeOfReading options.now tree.now (read_of options.now tree.now all) part
         → BreaksRun (strictly_after options.now.strict is_warned part) cause (O.states outputs.old) (O.states outputs.new))) }
+    ensures may { IfErr result (MayStrike (map I.may_fail inputs.old)) }
     ensures quiet_inputs { OnOk result (map I.failures inputs.new ≡ map I.failures inputs.old) }
     ensures counted_inputs { IfErr result (λ cause. CountsInputs cause (map I.failures inputs.old) (map I.failures inputs.new)) }
 {
@@ -232,12 +234,13 @@ fn run_tree<I: Input, O: Outputs>(
     requires laid { IsLayoutOf tree.now layout.now }
     requires order { IsGraphOf tree.now layout.now order.now }
     requires inputs { length inputs.old ≡ length options.now.fragments.items + 1 }
-    ensures ok { IfOk result (λ status. (all : List (List ℕ)) × AreAllToCome (map I.remaining inputs.old) all
+    ensures ok { IfOk result (λ status. (all : List (List ℕ)) × AreRead (map I.remaining inputs.old) (map I.is_there inputs.old) all
         × ((part : Outcome) × IsOutcomeOfTree options.now tree.now all part
         × Finishes (strictly options.now.strict part) status (O.states outputs.old) (O.states outputs.new))) }
     ensures err { IfErr result (λ cause. (all : List (List ℕ)) × AreAllToCome (map I.remaining inputs.old) all
         × ((part : Outcome) → IsOutcomeOfTree options.now tree.now all part
         → BreaksRun (strictly options.now.strict part) cause (O.states outputs.old) (O.states outputs.new))) }
+    ensures may { IfErr result (MayStrike (map I.may_fail inputs.old)) }
     ensures quiet_inputs { OnOk result (map I.failures inputs.new ≡ map I.failures inputs.old) }
     ensures counted_inputs { IfErr result (λ cause. CountsInputs cause (map I.failures inputs.old) (map I.failures inputs.new)) }
 {
@@ -285,12 +288,13 @@ fn run_accepted<I: Input, O: Outputs>(
     requires order { IsGraphOf tree.now layout.now order.now }
     requires inputs { length inputs.old ≡ length options.now.fragments.items + 1 }
     requires accepted { IsAcceptedTree (bytes_in files.now) (root_file options.now) tree.now }
-    ensures ok { IfOk result (λ status. (all : List (List ℕ)) × AreAllToCome (map I.remaining inputs.old) all
+    ensures ok { IfOk result (λ status. (all : List (List ℕ)) × AreRead (map I.remaining inputs.old) (map I.is_there inputs.old) all
         × ((outcome : Outcome) × IsOutcome (bytes_in files.now) options.now all outcome
         × Finishes outcome status (O.states outputs.old) (O.states outputs.new))) }
     ensures err { IfErr result (λ cause. (all : List (List ℕ)) × AreAllToCome (map I.remaining inputs.old) all
         × ((outcome : Outcome) → IsOutcome (bytes_in files.now) options.now all outcome
         → BreaksRun outcome cause (O.states outputs.old) (O.states outputs.new))) }
+    ensures may { IfErr result (MayStrike (map I.may_fail inputs.old)) }
     ensures quiet_inputs { OnOk result (map I.failures inputs.new ≡ map I.failures inputs.old) }
     ensures counted_inputs { IfErr result (λ cause. CountsInputs cause (map I.failures inputs.old) (map I.failures inputs.new)) }
 {
@@ -327,11 +331,13 @@ fn run_through<I: Input, O: Outputs>(
 ) -> Result<Status, RunFault>
     requires { length inputs.old ≡ length options.now.fragments.items + 1 }
     ensures ok { IfOk result (λ status. (all : List (List ℕ)) × AreAllToCome (map I.remaining inputs.old) all
+        × ((tree : TreeFacts) → IsAcceptedTree (bytes_in files.now) (root_file options.now) tree → StreamsAreThere all (map I.is_there inputs.old))
         × ((outcome : Outcome) × IsOutcome (bytes_in files.now) options.now all outcome
         × Finishes outcome status (O.states outputs.old) (O.states outputs.new))) }
     ensures err { IfErr result (λ cause. (all : List (List ℕ)) × AreAllToCome (map I.remaining inputs.old) all
         × ((outcome : Outcome) → IsOutcome (bytes_in files.now) options.now all outcome
         → BreaksRun outcome cause (O.states outputs.old) (O.states outputs.new))) }
+    ensures may { IfErr result (MayStrike (map I.may_fail inputs.old)) }
     ensures quiet_inputs { OnOk result (map I.failures inputs.new ≡ map I.failures inputs.old) }
     ensures counted_inputs { IfErr result (λ cause. CountsInputs cause (map I.failures inputs.old) (map I.failures inputs.new)) }
     ensures refused_inputs { (r : Refused) → IsRefusedTree (bytes_in files.now) (root_file options.now) r → inputs.new ≡ inputs.old }
@@ -378,15 +384,17 @@ pub fn run<I: Input, O: Outputs>(
     outputs: &mut O,
 ) -> Status
     requires { length inputs.old ≡ length options.now.fragments.items + 1 }
-    // Without a fault the outputs and the status are the outcome's, and no count rose.
+    // Without a fault the outputs and the status are the outcome's, and no count rose; and each stream whose turn came is there.
     ensures exactly { result ≢ Status.Faulted → (all : List (List ℕ)) × AreAllToCome (map I.remaining inputs.old) all
+        × ((tree : TreeFacts) → IsAcceptedTree (bytes_in files.now) (root_file options.now) tree → StreamsAreThere all (map I.is_there inputs.old))
         × ((outcome : Outcome) × IsOutcome (bytes_in files.now) options.now all outcome
         × Finishes outcome result (O.states outputs.old) (O.states outputs.new)) }
     ensures quiet_inputs { result ≢ Status.Faulted → map I.failures inputs.new ≡ map I.failures inputs.old }
     // After a fault there is its cause, whose count rose by one, and of the outcome all before it is whole. No other count
-    // rose but the notes', where they fail while the error line is written.
+    // rose but the notes', where they fail while the error line is written. An input that failed is one that may.
     ensures fault { result ≡ Status.Faulted → (cause : RunFault) × (all : List (List ℕ)) × AreAllToCome (map I.remaining inputs.old) all
         × CountsInputs cause (map I.failures inputs.old) (map I.failures inputs.new)
+        × MayStrike (map I.may_fail inputs.old) cause
         × ((outcome : Outcome) × IsOutcome (bytes_in files.now) options.now all outcome
         × Faults options.now outcome cause (O.states outputs.old) (O.states outputs.new)) }
     // A refused tree leaves the inputs untouched, and begins nothing.
@@ -409,15 +417,17 @@ pub fn run_keeping<I: Input, O: Outputs>(
     kept: &mut Option<AcceptedTree>,
 ) -> Status
     requires { length inputs.old ≡ length options.now.fragments.items + 1 }
-    // Without a fault the outputs and the status are the outcome's, and no count rose.
+    // Without a fault the outputs and the status are the outcome's, and no count rose; and each stream whose turn came is there.
     ensures exactly { result ≢ Status.Faulted → (all : List (List ℕ)) × AreAllToCome (map I.remaining inputs.old) all
+        × ((tree : TreeFacts) → IsAcceptedTree (bytes_in files.now) (root_file options.now) tree → StreamsAreThere all (map I.is_there inputs.old))
         × ((outcome : Outcome) × IsOutcome (bytes_in files.now) options.now all outcome
         × Finishes outcome result (O.states outputs.old) (O.states outputs.new)) }
     ensures quiet_inputs { result ≢ Status.Faulted → map I.failures inputs.new ≡ map I.failures inputs.old }
     // After a fault there is its cause, whose count rose by one, and of the outcome all before it is whole. No other count
-    // rose but the notes', where they fail while the error line is written.
+    // rose but the notes', where they fail while the error line is written. An input that failed is one that may.
     ensures fault { result ≡ Status.Faulted → (cause : RunFault) × (all : List (List ℕ)) × AreAllToCome (map I.remaining inputs.old) all
         × CountsInputs cause (map I.failures inputs.old) (map I.failures inputs.new)
+        × MayStrike (map I.may_fail inputs.old) cause
         × ((outcome : Outcome) × IsOutcome (bytes_in files.now) options.now all outcome
         × Faults options.now outcome cause (O.states outputs.old) (O.states outputs.new)) }
     // A refused tree leaves the inputs untouched, and begins nothing.

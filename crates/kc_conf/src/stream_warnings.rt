@@ -5,6 +5,7 @@ ghost use Rattle.kc_user.specs.Places.{ArePlacesOf};
 ghost use Rattle.kc_conf.specs.Faults.{CountsInputs, StrikesNotes};
 ghost use Rattle.kc_conf.specs.Outcome.{has_text, names_of};
 ghost use Rattle.kc_conf.specs.OutputStates.{ChangesOnly};
+ghost use Rattle.kc_conf.specs.Presence.{MayStrike};
 ghost use Rattle.kc_conf.specs.Reads.{stop_of, notes_failures_after, BreaksStreams, BreaksTelling, ReadsStreams, TellsStreams};
 
 use crate::input::Input;
@@ -87,11 +88,12 @@ fn read_to_notes<'a, I: Input, O: Outputs>(
 ) -> Result<Option<LongLine<'a>>, RunFault>
     requires inputs { length inputs.old ≡ length options.now.fragments.items + 1 }
     requires user { ArePlacesOf tree.now user.old }
-    ensures ok { IfOk result (λ long. ReadsStreams tree.now options.now.prefix (names_of options.now) (option_map stop_of long) (map I.remaining inputs.old) user.old user.new (O.states outputs.old).notes.text (O.states outputs.new).notes.text) }
+    ensures ok { IfOk result (λ long. ReadsStreams tree.now options.now.prefix (names_of options.now) (option_map stop_of long) (map I.remaining inputs.old) (map I.is_there inputs.old) user.old user.new (O.states outputs.old).notes.text (O.states outputs.new).notes.text) }
     ensures err { OnErr result (BreaksStreams tree.now options.now.prefix (names_of options.now) (map I.remaining inputs.old) user.old (O.states outputs.old).notes.text (O.states outputs.new).notes.text) }
     ensures quiet { OnOk result ((O.states outputs.new).notes.failures ≡ (O.states outputs.old).notes.failures) }
     ensures cause { IfErr result StrikesNotes }
     ensures counted { IfErr result (λ cause. (O.states outputs.new).notes.failures ≡ notes_failures_after cause (O.states outputs.old).notes.failures) }
+    ensures may { IfErr result (MayStrike (map I.may_fail inputs.old)) }
     ensures quiet_inputs { OnOk result (map I.failures inputs.new ≡ map I.failures inputs.old) }
     ensures counted_inputs { IfErr result (λ cause. CountsInputs cause (map I.failures inputs.old) (map I.failures inputs.new)) }
     ensures only { ChangesOnly Output.Notes (O.states outputs.old) (O.states outputs.new) }
@@ -113,9 +115,10 @@ fn tell<'a, I: Input, O: Outputs>(
     requires lenient { options.now.strict ≡ false }
     requires inputs { length inputs.old ≡ length options.now.fragments.items + 1 }
     requires user { ArePlacesOf tree.now user.old }
-    ensures ok { IfOk result (λ s. TellsStreams tree.now options.now.prefix options.now.strict (names_of options.now) (option_map stop_of s.long) s.is_warned (map I.remaining inputs.old) user.old user.new (O.states outputs.old) (O.states outputs.new)) }
+    ensures ok { IfOk result (λ s. TellsStreams tree.now options.now.prefix options.now.strict (names_of options.now) (option_map stop_of s.long) s.is_warned (map I.remaining inputs.old) (map I.is_there inputs.old) user.old user.new (O.states outputs.old) (O.states outputs.new)) }
     ensures err { IfErr result (λ cause. BreaksTelling tree.now options.now.prefix (names_of options.now) cause (map I.remaining inputs.old) user.old (O.states outputs.old) (O.states outputs.new)) }
     ensures cause { IfErr result StrikesNotes }
+    ensures may { IfErr result (MayStrike (map I.may_fail inputs.old)) }
     ensures quiet_inputs { OnOk result (map I.failures inputs.new ≡ map I.failures inputs.old) }
     ensures counted_inputs { IfErr result (λ cause. CountsInputs cause (map I.failures inputs.old) (map I.failures inputs.new)) }
     ensures user { ArePlacesOf tree.now user.new }
@@ -140,9 +143,10 @@ fn hold<'a, I: Input, O: Outputs>(
 ) -> Result<StreamsRead<'a>, RunFault>
     requires inputs { length inputs.old ≡ length options.now.fragments.items + 1 }
     requires user { ArePlacesOf tree.now user.old }
-    ensures ok { IfOk result (λ s. TellsStreams tree.now options.now.prefix options.now.strict (names_of options.now) (option_map stop_of s.long) s.is_warned (map I.remaining inputs.old) user.old user.new (O.states outputs.old) (O.states outputs.new)) }
+    ensures ok { IfOk result (λ s. TellsStreams tree.now options.now.prefix options.now.strict (names_of options.now) (option_map stop_of s.long) s.is_warned (map I.remaining inputs.old) (map I.is_there inputs.old) user.old user.new (O.states outputs.old) (O.states outputs.new)) }
     ensures err { IfErr result (λ cause. BreaksTelling tree.now options.now.prefix (names_of options.now) cause (map I.remaining inputs.old) user.old (O.states outputs.old) (O.states outputs.new)) }
     ensures cause { IfErr result StrikesNotes }
+    ensures may { IfErr result (MayStrike (map I.may_fail inputs.old)) }
     ensures quiet_inputs { OnOk result (map I.failures inputs.new ≡ map I.failures inputs.old) }
     ensures counted_inputs { IfErr result (λ cause. CountsInputs cause (map I.failures inputs.old) (map I.failures inputs.new)) }
     ensures user { ArePlacesOf tree.now user.new }
@@ -172,9 +176,10 @@ pub fn tell_streams<'a, I: Input, O: Outputs>(
 ) -> Result<StreamsRead<'a>, RunFault>
     requires inputs { length inputs.old ≡ length options.now.fragments.items + 1 }
     requires user { ArePlacesOf tree.now user.old }
-    ensures ok { IfOk result (λ s. TellsStreams tree.now options.now.prefix options.now.strict (names_of options.now) (option_map stop_of s.long) s.is_warned (map I.remaining inputs.old) user.old user.new (O.states outputs.old) (O.states outputs.new)) }
+    ensures ok { IfOk result (λ s. TellsStreams tree.now options.now.prefix options.now.strict (names_of options.now) (option_map stop_of s.long) s.is_warned (map I.remaining inputs.old) (map I.is_there inputs.old) user.old user.new (O.states outputs.old) (O.states outputs.new)) }
     ensures err { IfErr result (λ cause. BreaksTelling tree.now options.now.prefix (names_of options.now) cause (map I.remaining inputs.old) user.old (O.states outputs.old) (O.states outputs.new)) }
     ensures cause { IfErr result StrikesNotes }
+    ensures may { IfErr result (MayStrike (map I.may_fail inputs.old)) }
     ensures quiet_inputs { OnOk result (map I.failures inputs.new ≡ map I.failures inputs.old) }
     ensures counted_inputs { IfErr result (λ cause. CountsInputs cause (map I.failures inputs.old) (map I.failures inputs.new)) }
     ensures user { ArePlacesOf tree.now user.new }

@@ -1,5 +1,5 @@
 //! Devices in memory, which give and take pieces, and fail at a call of choice.
-ghost use Rattle.std.specs.Prelude.{◌≡◌, ◌<◌, ◌≤◌, ◌+◌, ◌-◌, ◌++◌, length, drop, take, Some, OnOk, OnErr, IfOk, Option, List, [], ℕ};
+ghost use Rattle.std.specs.Prelude.{◌≡◌, ◌<◌, ◌≤◌, ◌+◌, ◌-◌, ◌++◌, length, drop, take, true, nat_lt, Some, OnOk, OnErr, IfOk, Option, List, [], ℕ};
 ghost use Rattle.kc_conf.specs.OutputStates.{at, grown, begun, ended, failed};
 ghost use Rattle.kc_dot.specs.Sink.{next_failure};
 
@@ -50,6 +50,10 @@ impl<'a> MemoryInput<'a> {
 
 impl<'a> Input for MemoryInput<'a> {
     ghost remaining = { λ s. Some s.rest.now };
+
+    ghost is_there = { λ _. true };
+
+    ghost may_fail = { λ s. nat_lt 0 s.fail_at };
 
     ghost failures = { λ s. s.failures };
 

@@ -13,6 +13,8 @@ pieces-init g c =
       stands = refl;
       quiet = refl;
       quiet_input = refl;
+      there_stays = refl;
+      may_fail_stays = refl;
       keeps = g.met.S.Sink.stays c.args.sink.now;
       user = c.requires.user;
     }
@@ -37,6 +39,8 @@ pieces-preserved g c =
       stands = ensures.stands ∙ ap (λ (r : ReaderState). let s : ReaderState = record r { position = c.feed_piece.new.reader.position } in s) invariant.stands;
       quiet = ensures.quiet ∙ invariant.quiet;
       quiet_input = c.in-Ok.ensures.quiet ∙ invariant.quiet_input;
+      there_stays = c.read.ensures.there_stays ∙ invariant.there_stays;
+      may_fail_stays = c.read.ensures.may_fail_stays ∙ invariant.may_fail_stays;
       keeps = g.met.S.Sink.goes_on _ _ _ invariant.keeps ensures.keeps;
       user = rw tree at ensures.user;
     }

@@ -16,6 +16,8 @@ invariant-pieces g l =
       stands : l.reader ≡ record l.fn.reader { position = l.reader.position };
       quiet : faults l.sink ≡ faults l.fn.sink;
       quiet_input : failures l.input ≡ failures l.fn.input;
+      there_stays : g.I.Input.is_there l.input ≡ g.I.Input.is_there l.fn.input;
+      may_fail_stays : g.I.Input.may_fail l.input ≡ g.I.Input.may_fail l.fn.input;
       keeps : g.S.Sink.goes_to l.fn.sink l.sink;
       user : ArePlacesOf l.fn.reader.tree l.user;
     }

@@ -4,7 +4,7 @@ use Rattle.std.proofs.lemmas.Result.{IfOk-weaker, IfErr-weaker}
 use Rattle.std.proofs.Common.{List, ℕ}
 use Rattle.kc_read.specs.Files.{bytes_in}
 use Rattle.kc_conf.specs.Faults.{CountsInputs}
-use Rattle.kc_conf.proofs.RunLemmas.{BreaksRun-accepted, BreaksRun-accepted_rule, CountsInputs-outputs, Finishes-accepted}
+use Rattle.kc_conf.proofs.RunLemmas.{BreaksRun-accepted, BreaksRun-accepted_rule, CountsInputs-outputs, Finishes-accepted, MayStrike-outputs}
 use Rattle.kc_conf.proofs.runs.run_accepted.Goals as goal
 
 pub returns-in-Ok-clause-ok : goal.returns-in-Ok-clause-ok
@@ -22,7 +22,7 @@ returns-in-Ok-clause-err g c =
     let (all, are, part) = c.in-Ok.ensures.ok in
     IfErr-weaker c.end_run.result _ _ (λ cause breaks. (
       all,
-      are,
+      are.0,
       BreaksRun-accepted_rule c.one_answer.ensures c.opened_are_one_list.ensures.one (bytes_in c.args.files.now) c.args.options.now c.args.tree.now all c.in-Ok.status cause
           (g.O.Outputs.states c.args.outputs.now) (g.O.Outputs.states c.run_tree.new.outputs) (g.O.Outputs.states c.end_run.new.outputs) c.requires.accepted part breaks,
     )) c.end_run.ensures.err
@@ -32,6 +32,10 @@ returns-in-Ok-clause-counted_inputs g c =
     IfErr-weaker c.end_run.result _ _ (λ cause is.
     subst (λ (counts : List ℕ). CountsInputs cause (map g.I.Input.failures c.args.inputs.now) counts) (sym c.in-Ok.ensures.quiet_inputs)
     (CountsInputs-outputs cause (map g.I.Input.failures c.args.inputs.now) is)) c.end_run.ensures.cause
+
+pub returns-in-Ok-clause-may : goal.returns-in-Ok-clause-may
+returns-in-Ok-clause-may g c =
+    IfErr-weaker c.end_run.result _ _ (λ cause is. MayStrike-outputs cause (map g.I.Input.may_fail c.args.inputs.now) is) c.end_run.ensures.cause
 
 pub returns-in-Err-clause-err : goal.returns-in-Err-clause-err
 returns-in-Err-clause-err g c =

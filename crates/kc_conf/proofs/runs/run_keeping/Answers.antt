@@ -9,7 +9,7 @@ pub returns-in-Err-clause-fault : goal.returns-in-Err-clause-fault
 returns-in-Err-clause-fault g c = λ _.
     let (all, are, broken) = c.in-Err.ensures.err in
     let (outcome, is, one) = c.exactly_one_outcome.ensures (bytes_in c.args.files.now) c.args.options.now all in
-    (c.in-Err.cause, all, are, c.in-Err.ensures.counted_inputs, (outcome, is, (g.O.Outputs.states c.run_through.new.outputs, broken outcome is, c.report.ensures)))
+    (c.in-Err.cause, all, are, c.in-Err.ensures.counted_inputs, c.in-Err.ensures.may, (outcome, is, (g.O.Outputs.states c.run_through.new.outputs, broken outcome is, c.report.ensures)))
 
 pub returns-in-Err-clause-refused_outputs : goal.returns-in-Err-clause-refused_outputs
 returns-in-Err-clause-refused_outputs g c = λ r refused.

@@ -6,6 +6,7 @@ use Rattle.kc_read.specs.RefusalView.{refusal_view}
 use Rattle.kc_conf.specs.Faults.{Finishes}
 use Rattle.kc_conf.specs.ErrorLines.{refusal_line}
 use Rattle.kc_conf.specs.Outcome.{refused, root_file}
+use Rattle.kc_conf.proofs.RunLemmas.{MayStrike-outputs}
 use Rattle.kc_conf.proofs.StopLemmas.{accepted_as, looped_as, refused_as, BreaksRun-refusal, Finishes-refusal, HoldsTree-accepted, HoldsTree-ended, nothing_accepted}
 use Rattle.kc_conf.proofs.runs.run_through.Goals as goal
 
@@ -16,7 +17,7 @@ returns-in-Err-clause-ok g c =
     let files = bytes_in c.args.files.now in
     let why = refused_as files c.as_bytes.result.now (root_file c.args.options.now) c.as_bytes.ensures.value c.in-Err.refusal c.in-Err.ensures.refused in
     IfOk-weaker c.refuse.result _ _
-    (λ status. Finishes-refusal c.one_answer.ensures c.opened_are_one_list.ensures.there files c.args.options.now c.in-Err.refusal why (map g.I.Input.remaining c.args.inputs.now)
+    (λ status. Finishes-refusal c.one_answer.ensures c.opened_are_one_list.ensures.there files c.args.options.now c.in-Err.refusal why (map g.I.Input.remaining c.args.inputs.now) (map g.I.Input.is_there c.args.inputs.now)
     status (g.O.Outputs.states c.args.outputs.now) (g.O.Outputs.states c.refuse.new.outputs)) c.refuse.ensures.ok
 
 pub returns-in-Err-clause-err : goal.returns-in-Err-clause-err
@@ -27,6 +28,10 @@ returns-in-Err-clause-err g c =
     (λ cause. BreaksRun-refusal c.one_answer.ensures c.opened_are_one_list.ensures.there files c.args.options.now c.in-Err.refusal why (map g.I.Input.remaining c.args.inputs.now)
     cause (g.O.Outputs.states c.args.outputs.now) (g.O.Outputs.states c.refuse.new.outputs)) c.refuse.ensures.err
 
+pub returns-in-Err-clause-may : goal.returns-in-Err-clause-may
+returns-in-Err-clause-may g c =
+    IfErr-weaker c.refuse.result _ _ (λ cause is. MayStrike-outputs cause (map g.I.Input.may_fail c.args.inputs.now) is) c.refuse.ensures.cause
+
 pub returns-in-Err-clause-kept : goal.returns-in-Err-clause-kept
 returns-in-Err-clause-kept g c =
     let files = bytes_in c.args.files.now in
@@ -36,6 +41,10 @@ returns-in-Err-clause-kept g c =
     c.refuse.result c.refuse.ensures.ok
 
 -- ---- a tree that is accepted
+
+pub returns-in-Ok-of-clause-ok : goal.returns-in-Ok-of-clause-ok
+returns-in-Ok-of-clause-ok g c =
+    IfOk-weaker c.run_accepted-ended.result _ _ (λ status. λ (all, are, finishes). (all, are.0, λ tree accepted. are.1, finishes)) c.run_accepted-ended.ensures.ok
 
 pub returns-in-Ok-of-clause-refused_inputs : goal.returns-in-Ok-of-clause-refused_inputs
 returns-in-Ok-of-clause-refused_inputs g c = λ r refused.
@@ -80,7 +89,7 @@ returns-in-Err-of-clause-ok g c =
     let r = c.in-Err-of.refusal in
     let why = looped_as files c.as_bytes.result.now (root_file c.args.options.now) c.as_bytes.ensures.value c.in-Ok.tree r c.in-Ok.ensures.built c.in-Err-of.ensures.refused in
     IfOk-weaker c.refuse-in-Err-of.result _ _
-    (λ status. Finishes-refusal c.one_answer.ensures c.opened_are_one_list.ensures.there files c.args.options.now r why (map g.I.Input.remaining c.args.inputs.now)
+    (λ status. Finishes-refusal c.one_answer.ensures c.opened_are_one_list.ensures.there files c.args.options.now r why (map g.I.Input.remaining c.args.inputs.now) (map g.I.Input.is_there c.args.inputs.now)
     status (g.O.Outputs.states c.args.outputs.now) (g.O.Outputs.states c.refuse-in-Err-of.new.outputs)) c.refuse-in-Err-of.ensures.ok
 
 pub returns-in-Err-of-clause-err : goal.returns-in-Err-of-clause-err
@@ -91,6 +100,10 @@ returns-in-Err-of-clause-err g c =
     IfErr-weaker c.refuse-in-Err-of.result _ _
     (λ cause. BreaksRun-refusal c.one_answer.ensures c.opened_are_one_list.ensures.there files c.args.options.now r why (map g.I.Input.remaining c.args.inputs.now)
     cause (g.O.Outputs.states c.args.outputs.now) (g.O.Outputs.states c.refuse-in-Err-of.new.outputs)) c.refuse-in-Err-of.ensures.err
+
+pub returns-in-Err-of-clause-may : goal.returns-in-Err-of-clause-may
+returns-in-Err-of-clause-may g c =
+    IfErr-weaker c.refuse-in-Err-of.result _ _ (λ cause is. MayStrike-outputs cause (map g.I.Input.may_fail c.args.inputs.now) is) c.refuse-in-Err-of.ensures.cause
 
 pub returns-in-Err-of-clause-kept : goal.returns-in-Err-of-clause-kept
 returns-in-Err-of-clause-kept g c =
