@@ -1,10 +1,10 @@
 -- A text and what a file gives, side by side.
-use Rattle.std.proofs.Common.{◌≡◌, refl, ℕ, ◌<◌, ◌&&◌, Bool, true, false, List, [], ◌∷◌, ◌++◌, length, take, drop, sym, ap, ◌∙◌, Option, Some, bytes_eq, eq-eqb}
+use Rattle.std.proofs.Common.{◌≡◌, refl, ℕ, ◌&&◌, Bool, true, false, List, [], ◌∷◌, ◌++◌, length, take, drop, sym, ap, ◌∙◌, Option, Some, bytes_eq, eq-eqb}
 use Rattle.std.proofs.Math.Seq.{take-append_seam}
 use Rattle.std.proofs.lemmas.List.{take-append-drop}
 use Rattle.std.proofs.lemmas.Slice.Eq.{bytes_eq-Decides}
 use Rattle.kc_load.specs.Folders.{FolderFiles}
-use Rattle.kc_conf.specs.InputBytes.{IsAtEnd, preceded}
+use Rattle.kc_conf.specs.InputBytes.{preceded}
 use Rattle.kc_disk.specs.Openers.{to_come}
 
 same-behind : (c x y : List ℕ) → bytes_eq (c ++ x) (c ++ y) ≡ bytes_eq x y
@@ -37,10 +37,3 @@ same-not told files c old new rest is gave other = not-same (bytes_eq old rest) 
       let whole : rest ≡ c ++ new = sym same ∙ given told files c old new is gave in
       let front : take (length c) rest ≡ c = ap (take (length c)) whole ∙ take-append_seam c new in
       sym other ∙ (bytes_eq-Decides (take (length c) rest) c).1 front)
-
--- the file is at its end
-pub same-end : (told : FolderFiles) (files : List ℕ → Option (List ℕ)) (c old new : List ℕ) → told ≡ Some files → to_come told old ≡ preceded c (to_come told new) → c ≡ [] →
-    IsAtEnd (to_come told new) → old ≡ []
-same-end told files c old new is gave none ends =
-    let last : new ≡ [] = rw is at ends in
-    given told files c old new is gave ∙ ap (λ l. l ++ new) none ∙ last
