@@ -1,30 +1,17 @@
--- Whether a stream is there, and how far it was read.
-use Rattle.std.proofs.Common.{◌≡◌, ◌≢◌, refl, ℕ, ◌+◌, ◌≤◌, Bool, true, false, ◌||◌, List, ◌++◌, length, is_some, ap, ◌∙◌, Option, None, Some, arith, length-append}
+-- How far a stream was read.
+use Rattle.std.proofs.Common.{◌≡◌, refl, ℕ, ◌+◌, ◌≤◌, Bool, true, false, ◌||◌, List, ◌++◌, length, ap, ◌∙◌, Option, None, Some, arith, length-append}
 use Rattle.std.proofs.lemmas.Bool.{le-leb}
 use Rattle.kc_load.specs.Folders.{FolderFiles}
 use Rattle.kc_conf.specs.InputBytes.{preceded}
 use Rattle.kc_disk.specs.Devices.{most_reads}
-use Rattle.kc_disk.specs.Openers.{contents, is_there, may_be_endless, stream}
-use Rattle.kc_disk.specs.Stages.{IsThere, ReadsWithin, left}
+use Rattle.kc_disk.specs.Openers.{contents, may_be_endless}
+use Rattle.kc_disk.specs.Stages.{ReadsWithin, left}
 use Rattle.kc_disk.specs.declared.input.Stage.{Stage}
 use Rattle.kc_disk.specs.declared.input.Stage.TheVariants.{Unopened, Open, Ended}
-
--- ---- whether one is there
-
-some-of : (found : Option (List ℕ)) → found ≢ None → is_some found ≡ true
-some-of None some = absurd (some refl)
-some-of (Some bytes) some = refl
-
-pub there-of : (told : FolderFiles) (name : List ℕ) (may_be_missing : Bool) → IsThere told name may_be_missing → is_there told (stream name may_be_missing) ≡ true
-there-of None name may_be_missing there = refl
-there-of (Some files) name true there = refl
-there-of (Some files) name false there = some-of (files name) (there files refl refl)
 
 pub or-right : (a b : Bool) → b ≡ true → (a || b) ≡ true
 or-right true b e = refl
 or-right false b e = e
-
--- ---- the reads of one
 
 -- a read gave these bytes
 pub reads_within-more : (old new all : Option (List ℕ)) (taken : List ℕ) (reads more : ℕ) → old ≡ preceded taken new → more ≤ length taken →

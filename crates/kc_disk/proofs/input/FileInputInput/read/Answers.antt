@@ -1,18 +1,13 @@
 -- The reads are counted, and a fault is one of the stream.
 use Rattle.std.proofs.Common.{◌≤◌, length, take, arith}
 use Rattle.std.proofs.lemmas.List.{length-take-le}
-use Rattle.kc_disk.proofs.StreamLemmas.{reads_within-more, endless-of, or-right, there-of}
+use Rattle.kc_disk.proofs.StreamLemmas.{reads_within-more, endless-of, or-right}
 use Rattle.kc_disk.proofs.input.FileInputInput.read.Goals as goal
 
 pub returns-then-self-ge-MOST_READS-clause-fault : goal.returns-then-self-ge-MOST_READS-clause-fault
 returns-then-self-ge-MOST_READS-clause-fault g c =
     let s = c.args.self.now in
     or-right _ _ (endless-of g.P.Opener.rest (g.P.Opener.files s.opener.now) s.name.now s.stage s.reads c.if-self-ge-MOST_READS.true s.reads_within)
-
-pub returns-in-Ok-clause-there : goal.returns-in-Ok-clause-there
-returns-in-Ok-clause-there g c =
-    let s = c.args.self.now in
-    there-of (g.P.Opener.files s.opener.now) s.name.now s.may_be_missing c.in-Ok.ensures.there
 
 pub invariant_of-self-then-count-gt0-clause-reads_within : goal.invariant_of-self-then-count-gt0-clause-reads_within
 invariant_of-self-then-count-gt0-clause-reads_within g c =
