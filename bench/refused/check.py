@@ -169,16 +169,10 @@ def is_compared(case, struck):
     return case.replaces() and struck.startswith("<") and output_of(case, struck) is not None
 
 
-def may_be_made(case, kind):
-    """The outputs of a run with --replace that may be made beside their places: those whose text is another, and where all
-    growths from one on are refused each, since it may then not be seen that one holds its text."""
-    return [name for name, text in cases.texts_of(case).items() if kind.is_lasting or before(case)[name] != text]
-
-
 def error_lines(case, kind, struck):
     """The error lines, of which one has to come, each with whether it tells of an output."""
     if kind.name == "growth":
-        kept = may_be_made(case, kind) if case.replaces() else []
+        kept = case.outputs if case.replaces() else {}
         return [("error E20: out of memory\n", False)] + [(f"error E19: cannot write {name}\n", True) for name in kept]
     output = output_of(case, struck)
     if output and not struck.startswith("<"):
@@ -311,6 +305,21 @@ def judge_closed(case, run, kind, is_refused):
     return begun_in_order(case, run.outputs, not case.notes)
 
 
+def judge_growths(case, kind, said):
+    """What is wrong with the outputs that the last notes name, where one growth after another was refused; None where nothing is.
+    With --replace first the texts grow, in the order of the outputs, and then those are made, in order, whose text is another; or
+    each, where all growths from one on are refused and it may not be seen that one holds its text."""
+    names = list(case.outputs)
+    lines = {f"error E19: cannot write {name}".encode(): at for at, name in enumerate(names)}
+    named = [lines[line] for line in (notes.splitlines()[-1] for notes in said if notes) if line in lines]
+    turns = [at for at in range(1, len(named)) if named[at] < named[at - 1]]
+    if len(turns) > 1:
+        return f"the outputs were named in the order {[names[at] for at in named]}"
+    made = {names[at] for at in named[turns[0] :]} if turns else set()
+    same = {name for name, text in cases.texts_of(case).items() if before(case)[name] == text}
+    return f"{sorted(made & same)} held their texts" if made & same and not kind.is_lasting else None
+
+
 def check_closed(work, between, program, case, kind):
     """Refuses each call of a kind with standard error closed. The answer: how many runs there were, and what was wrong."""
     count = Run(work, between, program, case, kind, 0, has_stderr=False).calls
@@ -333,14 +342,17 @@ def check_kind(work, between, program, case, kind):
         return 0, 0, [f"without a refused call: {wrong}"]
     if start.calls == 0 and kind.name in needed(case):
         return 0, 0, [f"no call of {kind.name}"]
-    went_on, wrong, stayed = 0, [], 0
+    went_on, wrong, stayed, said = 0, [], 0, []
     for number in range(1, start.calls + 1):
         run = Run(work, between, program, case, kind, number)
         why = judge(case, run, kind)
         went_on += run.left() == right(case)
         stayed += len(run.beside)
+        said.append(run.notes)
         if why:
             wrong.append(f"{kind} {number} {run.struck}: {why}: status {run.status}, notes {run.notes[-200:]!r}")
+    if kind.name == "growth" and judge_growths(case, kind, said):
+        wrong.append(f"{kind}: {judge_growths(case, kind, said)}")
     if kind.besides and {"move", kind.name} <= set(needed(case)) and not (stayed or wrong):
         wrong.append(f"{kind}: no file stayed beside, so nothing was to be removed")
     return start.calls, went_on, wrong
