@@ -42,15 +42,15 @@ pub ran-of : {I : Type 0} (rest : I → Option (List ℕ)) (there may : I → Bo
     Ran folder opened options status (maker_call state state_after notes_fail)
 ran-of rest there may fails folder opened options status state state_after fail_at notes_fail files inputs items counts_after first last states
     are h same unread are_there may_be quiet is_first is_last reached known failed = record {
-  files = files;
-  are_files = are;
-  counts = counts_after;
-  states = last;
-  leaves = leaves-of files options _ _ _ _ _ _ _ _ counts_after status first _ last states (ap (map rest) same ∙ unread) (ap (map there) same ∙ are_there)
-      (ap (map may) same ∙ may_be) (ap (map fails) same ∙ quiet) is_first is_last h;
-  notes_fail = λ some. sym known ∙ failed some;
-  reached = reached;
-}
+      files = files;
+      are_files = are;
+      counts = counts_after;
+      states = last;
+      leaves = leaves-of files options _ _ _ _ _ _ _ _ counts_after status first _ last states (ap (map rest) same ∙ unread) (ap (map there) same ∙ are_there)
+          (ap (map may) same ∙ may_be) (ap (map fails) same ∙ quiet) is_first is_last h;
+      notes_fail = λ some. sym known ∙ failed some;
+      reached = reached;
+    }
 
 -- the tree could not be loaded
 pub unloaded-of : (folder opened : ReadDevice) (options : Options) (ended : Result Status LoadFault) (fault : LoadFault) (state mid new : Option MakerState) (was may_fail : Bool) → ended ≡ Err fault →

@@ -34,6 +34,6 @@ pub same-not : (told : FolderFiles) (files : List ℕ → Option (List ℕ)) (c 
     bytes_eq (take (length c) rest) c ≡ false → false ≡ bytes_eq old rest
 same-not told files c old new rest is gave other = not-same (bytes_eq old rest) old rest refl
     (λ same.
-      let whole : rest ≡ c ++ new = sym same ∙ given told files c old new is gave in
-      let front : take (length c) rest ≡ c = ap (take (length c)) whole ∙ take-append_seam c new in
-      sym other ∙ (bytes_eq-Decides (take (length c) rest) c).1 front)
+    let whole : rest ≡ c ++ new = sym same ∙ given told files c old new is gave in
+    let front : take (length c) rest ≡ c = ap (take (length c)) whole ∙ take-append_seam c new in
+    sym other ∙ (bytes_eq-Decides (take (length c) rest) c).1 front)

@@ -145,7 +145,10 @@ impl<'a> Mover for SystemMover<'a> {
             return false;
         };
         let opener = SystemOpener::new(self.rt);
-        matches!(holds_text(&opener, place.as_path().as_str(), bytes), Ok(true))
+        matches!(
+            holds_text(&opener, place.as_path().as_str(), bytes),
+            Ok(true)
+        )
     }
 
     fn start(&mut self, name: &str) -> Result<(), Fault> {

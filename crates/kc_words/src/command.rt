@@ -65,11 +65,13 @@ const PREFIX: OptionTexts = OptionTexts {
     help: "What stands before each symbol's name [default: CONFIG_]",
 };
 
-const MUST_EXIST: &str = "Fail with E18, once the tree is accepted, where the file of --config does not exist";
+const MUST_EXIST: &str =
+    "Fail with E18, once the tree is accepted, where the file of --config does not exist";
 
 const STRICT: &str = "Refuse to write where any warning was told";
 
-const WARN_LOST: &str = "Warn of each value read of a symbol with a prompt that is not the symbol's value";
+const WARN_LOST: &str =
+    "Warn of each value read of a symbol with a prompt that is not the symbol's value";
 
 const REPLACE: &str = "Replace each file in one step, at the end and only where its text changes";
 

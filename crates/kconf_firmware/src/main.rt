@@ -104,7 +104,9 @@ fn replace_other_texts(rt: &HostRuntime) -> io::Result<()> {
         run(rt, REPLACES[0])?;
         let is_same = file_in(rt, "kept.config")? == before;
         let is_whole = fs::read(rt, "kept.config")? == whole;
-        println!(rt; "kept.config is the file that it was: {is_same}, and full.config: {is_whole}")?;
+        println!(rt;
+            "kept.config is the file that it was: {is_same}, and full.config: {is_whole}"
+        )?;
     }
     Ok(())
 }
