@@ -80,6 +80,21 @@ def equal_text_keeps_time_and_inode(folder):
     want("times and inodes", folder.marks(".config", "h", "min", "d"), before)
 
 
+def a_text_that_is_cut_or_longer_is_replaced(folder):
+    folder.put("Kconfig", TREE + "".join(f'config FLAG_{i}\n\tbool "f"\n' for i in range(1_000)))
+    folder.run("--out", "plain", "--header", "plain.h", "Kconfig")
+    for name, plain in ((".config", "plain"), ("h", "plain.h")):
+        whole = folder.get(plain)
+        # The comparison reads 4,096 bytes at once.
+        cuts = [0, 1, len(whole) // 2, 4_096, len(whole) - 1]
+        for text in [*(whole[:cut] for cut in cuts if cut < len(whole)), whole + "\n", whole + whole, "x" + whole[1:], whole[:-1] + "x"]:
+            folder.put(name, text)
+            before = folder.marks(name)
+            folder.run("--config", "none", "--out", ".config", "--replace", "--header", "h", "Kconfig")
+            want(f"{name} over {len(text)} bytes", folder.get(name), whole)
+            want(f"another file in {name}, over {len(text)} bytes", folder.marks(name) != before, True)
+
+
 def another_text_changes_its_file_alone(folder):
     folder.run("--replace", *FILES, "Kconfig")
     before = folder.marks(".config", "h", "min", "d")
@@ -250,6 +265,8 @@ def killed_runs_leave_the_old_or_the_new(folder):
         for name in folder.left():
             left += 1
             os.remove(folder.at(name))
+    want("runs changed .config", changes > 0, True)
+    want("a run was killed before it was done", ended < KILLS, True)
     print(f"  of {KILLS} killed runs {ended} were done before, {changes} changed .config, {left} files were left beside")
 
 
@@ -258,6 +275,7 @@ def main():
     for check in (
         plain_texts,
         equal_text_keeps_time_and_inode,
+        a_text_that_is_cut_or_longer_is_replaced,
         another_text_changes_its_file_alone,
         a_new_fragment_changes_the_rule_alone,
         a_rule_that_cannot_be_made_leaves_all,

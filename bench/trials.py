@@ -8,6 +8,7 @@ of docs/formats.md, and to leave what is said there. Root may write everywhere, 
 Each trial has a folder of its own. The script ends with status 1 where one does not end so, and names it.
 """
 
+import collections
 import os
 import pathlib
 import pwd
@@ -26,6 +27,7 @@ FILES = {"--out": "config", "--header": "header", "--savedefconfig": "minimal", 
 OLD = "from the run before\n"
 RUNS = 8  # at once
 LINES = 300  # of warnings of each of them
+HELD = 1_500  # of warnings that --strict holds, which are more than 64 KiB
 MOST = 2_000_000  # warnings of one run
 SECONDS = 2.0  # of processor time for them
 
@@ -64,30 +66,46 @@ class Place:
         return sorted(str(it) for it in self.path.rglob("*.kconf-*"))
 
 
-def want_lines(what, found, names):
+def want_lines(what, found, lines):
     """Each line of each run has to be there, whole."""
-    lines = [f"dot.config:{n}: warning K7: unknown symbol {name}\n" for n, name in enumerate(names, 1)]
     torn = [line for line in found if line not in lines]
     want(f"{what}: torn lines ({len(torn)})", torn[:3], [])
-    want(f"{what}: how often each came", {found.count(line) for line in lines}, {RUNS})
+    counts = collections.Counter(found)
+    want(f"{what}: how often each came", {counts[line] for line in lines}, {RUNS})
+
+
+def runs_at_once(place, words, status, lines):
+    """Runs at once into one log, as 2>>log and 2>log of a shell make it, and into a pipe."""
+    start = [place.kconf, *words, "--config", "dot.config", "--out"]
+    for mode in ("a", "w"):
+        with open(place.path / "log", mode) as log:
+            for run in [subprocess.Popen([*start, f"o{n}", "Kconfig"], cwd=place.path, stderr=log) for n in range(RUNS)]:
+                want("status", run.wait(), status)
+        want_lines("the log", place.get("log").splitlines(keepends=True), lines)
+        os.unlink(place.path / "log")
+    reader, writer = os.pipe()
+    runs = [subprocess.Popen([*start, f"o{n}", "Kconfig"], cwd=place.path, stderr=writer) for n in range(RUNS)]
+    os.close(writer)
+    with open(reader) as pipe:
+        want_lines("the pipe", list(pipe), lines)
+    want("statuses", [run.wait() for run in runs], [status] * RUNS)
+
+
+def warned(place, count):
+    """Lays out a .config with so many unknown symbols: the warnings of it, in order."""
+    names = [f"UNKNOWN_{n}_{'X' * (n % 80)}" for n in range(count)]
+    place.put("dot.config", "".join(f"CONFIG_{name}=y\n" for name in names))
+    return dict.fromkeys(f"dot.config:{n}: warning K7: unknown symbol {name}\n" for n, name in enumerate(names, 1))
 
 
 def runs_at_once_tear_no_line(place):
-    names = [f"UNKNOWN_{n}_{'X' * (n % 80)}" for n in range(LINES)]
-    place.put("dot.config", "".join(f"CONFIG_{name}=y\n" for name in names))
-    words = [place.kconf, "--config", "dot.config", "--out"]
-    for mode in ("a", "w"):  # as 2>>log and 2>log of a shell make it
-        with open(place.path / "log", mode) as log:
-            for run in [subprocess.Popen([*words, f"o{n}", "Kconfig"], cwd=place.path, stderr=log) for n in range(RUNS)]:
-                want("status", run.wait(), 0)
-        want_lines("the log", place.get("log").splitlines(keepends=True), names)
-        os.unlink(place.path / "log")
-    reader, writer = os.pipe()
-    runs = [subprocess.Popen([*words, f"o{n}", "Kconfig"], cwd=place.path, stderr=writer) for n in range(RUNS)]
-    os.close(writer)
-    with open(reader) as pipe:
-        want_lines("the pipe", list(pipe), names)
-    want("statuses", [run.wait() for run in runs], [0] * RUNS)
+    runs_at_once(place, [], 0, warned(place, LINES))
+
+
+def runs_at_once_tear_no_line_that_was_held(place):
+    lines = warned(place, HELD)
+    want("more than 64 KiB", sum(map(len, lines)) > 65_536, True)
+    runs_at_once(place, ["--strict"], 1, lines | {"error E21: warnings are refused\n": None})
 
 
 def a_full_disk_is_told(place):
@@ -230,6 +248,7 @@ def main():
         become_nobody(folder)
     for trial in (
         runs_at_once_tear_no_line,
+        runs_at_once_tear_no_line_that_was_held,
         a_full_disk_is_told,
         a_closed_standard_error_gets_into_no_file,
         what_may_not_be_written_or_read_is_named,

@@ -5,9 +5,9 @@
  * there, each later call of the kind for the same file is refused too. A refused call of the kinds "short read" and "short
  * write" moves one byte, one of the kinds "interrupted read" and "interrupted write" is told to be tried again. BESIDES names a
  * kind of which every call is refused, whatever KIND says.
- * When the program ends, the file that REPORT names gets one line: how many calls of the kind there were, and what the refused
- * one was for: '<' or '>' and the name of a file that was opened to read or to write, '>' and the place of a file that was to be
- * moved, or ">&2" for standard error.
+ * When the program ends, the file that REPORT names gets one line: how many calls of the kind there were, how many writes
+ * standard error took, and what the refused call was for: '<' or '>' and the name of a file that was opened to read or to write,
+ * '>' and the place of a file that was to be moved, or ">&2" for standard error.
  */
 #define _GNU_SOURCE
 #include <dlfcn.h>
@@ -24,7 +24,7 @@
 #define FILES 64
 
 static const char *kind = "", *besides = "";
-static long refused, calls;
+static long refused, calls, told;
 static int lasting;
 static char files[FILES][512] = {"<&0", ">&1", ">&2"};
 static char struck[512];
@@ -46,7 +46,7 @@ __attribute__((destructor)) static void end(void) {
     kind = besides = "";
     file = name ? fopen(name, "w") : NULL;
     if (file) {
-        fprintf(file, "%ld %s\n", calls, struck);
+        fprintf(file, "%ld %ld %s\n", calls, told, struck);
         fclose(file);
     }
 }
@@ -125,6 +125,7 @@ ssize_t write(int file, const void *bytes, size_t count) {
     if (is_refused("write", file_of(file))) return errno = ENOSPC, -1;
     if (is_refused("interrupted write", file_of(file))) return errno = EINTR, -1;
     if (is_refused("short write", file_of(file)) && count) count = 1;
+    told += file == 2;
     return real(file, bytes, count);
 }
 

@@ -5,13 +5,14 @@ output holds another text before a run, so that one that was begun is told from 
 hold its text, or not be there.
 
 A run without a refused call has to end with its status, its notes and its outputs, to the byte. A run in which a call was
-refused ends with status 3. Its notes are then a beginning of the right ones, in whole lines, and the one error line: E20 for
-memory, E18 with the name of the file that could not be read, E19 with the name of the output that could not be written; where
-the notes themselves were refused, a beginning and nothing else. Of the outputs, each that was begun holds a beginning of its
-text, and nothing is begun before the notes and the outputs before it are whole. Behind a file that could not be read nothing is
-begun, and before an output that could not be written all is whole. What a program may get along without, it may also get along
-without, to the same end as if nothing had been refused: a growth, the closing of a file. A call that was interrupted may be
-tried again, and where it is not it counts as refused. A call that moves one byte is no fault.
+refused ends with status 3. In each, standard error gets one write for each line, but where a write or a growth was refused. Its
+notes are then a beginning of the right ones, in whole lines, and the one error line: E20 for memory, E18 with the name of the
+file that could not be read, E19 with the name of the output that could not be written; where the notes themselves were refused,
+a beginning and nothing else. Of the outputs, each that was begun holds a beginning of its text, and nothing is begun before the
+notes and the outputs before it are whole. Behind a file that could not be read nothing is begun, and before an output that
+could not be written all is whole. What a program may get along without, it may also get along without, to the same end as if
+nothing had been refused: a growth, the closing of a file. A call that was interrupted may be tried again, and where it is not
+it counts as refused. A call that moves one byte is no fault.
 
 With --replace a run that does not end with status 0 leaves every output as it was, the same file of the same time, and nothing
 beside it (no file *.kconf-*); only where a move is refused the outputs before that one are the new ones. A file that stands
@@ -90,9 +91,9 @@ def before(case):
 
 def needed(case):
     """The kinds of which a run has to make a call: without one nothing is looked at."""
-    names = ["growth", "open", "read"] + ["write"] * (bool(case.notes) and not case.status)
+    names = ["growth", "open", "read", "close"] + ["write"] * bool(case.notes or case.outputs)
     if not case.replaces() or case.status:
-        return names + ["write"] * bool(case.outputs)
+        return names
     new = [name for name, text in cases.texts_of(case).items() if before(case)[name] != text]
     made_over = [name for name in new if before(case)[name] is not None]
     return names + ["look"] + ["write", "sync", "move"] * bool(new) + ["mode"] * bool(made_over) + ["link"] * bool(case.links)
@@ -121,8 +122,8 @@ class Run:
         self.outputs = {name: (work / name).read_bytes() if (work / name).exists() else None for name in before(case)}
         self.touched = [name for name, mark in self.marks().items() if mark != marks[name]]
         self.beside = self.standing()
-        count, _, self.struck = (report.read_text() if report.exists() else "0 ").rstrip("\n").partition(" ")
-        self.calls = int(count)
+        count, told, self.struck = (report.read_text() if report.exists() else "0 0 ").rstrip("\n").split(" ", 2)
+        self.calls, self.note_writes = int(count), int(told)
 
     def lay(self):
         """Lays out what is there before the run."""
@@ -170,7 +171,7 @@ def is_compared(case, struck):
 
 def error_lines(case, kind, struck):
     """The error lines, of which one has to come, each with whether it tells of an output."""
-    if kind == "growth":
+    if kind.name == "growth":
         kept = case.outputs if case.replaces() else {}
         return [("error E20: out of memory\n", False)] + [(f"error E19: cannot write {name}\n", True) for name in kept]
     output = output_of(case, struck)
@@ -253,8 +254,20 @@ def judge_outputs(case, run, kind, are_notes_whole, is_output):
     return None
 
 
+def judge_writes(run, kind):
+    """What is wrong with the writes of the notes; None where nothing is."""
+    if kind.name == "growth" or kind.name.endswith("write") or run.note_writes == run.notes.count(b"\n"):
+        return None
+    return f"{run.note_writes} writes of {run.notes.count(bytes([10]))} lines of notes"
+
+
 def judge(case, run, kind):
     """What is wrong with a run in which a call was refused; None where nothing is."""
+    return judge_writes(run, kind) or judge_left(case, run, kind)
+
+
+def judge_left(case, run, kind):
+    """What is wrong with what a run left in which a call was refused; None where nothing is."""
     compared = is_compared(case, run.struck)
     if (kind.may_go_on or compared) and run.left() == right(case):
         return judge_whole(case, run, kind)
@@ -264,7 +277,7 @@ def judge(case, run, kind):
         return "it did not end with status 3, and nothing on standard output"
     if run.struck == ">&2":
         return judge_notes_refused(case, run, kind)
-    lines = error_lines(case, kind.name, run.struck)
+    lines = error_lines(case, kind, run.struck)
     found = [(line, is_output) for line, is_output in lines if run.notes.endswith(line.encode())]
     if not found:
         return f"its last note is not: {lines[0][0].strip()}"
@@ -292,6 +305,21 @@ def judge_closed(case, run, kind, is_refused):
     return begun_in_order(case, run.outputs, not case.notes)
 
 
+def judge_growths(case, kind, said):
+    """What is wrong with the outputs that the last notes name, where one growth after another was refused; None where nothing is.
+    With --replace first the texts grow, in the order of the outputs, and then those are made, in order, whose text is another; or
+    each, where all growths from one on are refused and it may not be seen that one holds its text."""
+    names = list(case.outputs)
+    lines = {f"error E19: cannot write {name}".encode(): at for at, name in enumerate(names)}
+    named = [lines[line] for line in (notes.splitlines()[-1] for notes in said if notes) if line in lines]
+    turns = [at for at in range(1, len(named)) if named[at] < named[at - 1]]
+    if len(turns) > 1:
+        return f"the outputs were named in the order {[names[at] for at in named]}"
+    made = {names[at] for at in named[turns[0] :]} if turns else set()
+    same = {name for name, text in cases.texts_of(case).items() if before(case)[name] == text}
+    return f"{sorted(made & same)} held their texts" if made & same and not kind.is_lasting else None
+
+
 def check_closed(work, between, program, case, kind):
     """Refuses each call of a kind with standard error closed. The answer: how many runs there were, and what was wrong."""
     count = Run(work, between, program, case, kind, 0, has_stderr=False).calls
@@ -309,19 +337,22 @@ def check_kind(work, between, program, case, kind):
     start = Run(work, between, program, case, kind._replace(besides=""), 0)
     if start.left() != right(case):
         return 0, 0, [f"without a refused call: status {start.status}, notes {start.notes[-200:]!r}, or another text of an output"]
-    touched = judge_whole(case, start, kind)
-    if touched:
-        return 0, 0, [f"without a refused call: {touched}"]
+    wrong = judge_whole(case, start, kind) or judge_writes(start, Kind("none"))
+    if wrong:
+        return 0, 0, [f"without a refused call: {wrong}"]
     if start.calls == 0 and kind.name in needed(case):
         return 0, 0, [f"no call of {kind.name}"]
-    went_on, wrong, stayed = 0, [], 0
+    went_on, wrong, stayed, said = 0, [], 0, []
     for number in range(1, start.calls + 1):
         run = Run(work, between, program, case, kind, number)
         why = judge(case, run, kind)
         went_on += run.left() == right(case)
         stayed += len(run.beside)
+        said.append(run.notes)
         if why:
             wrong.append(f"{kind} {number} {run.struck}: {why}: status {run.status}, notes {run.notes[-200:]!r}")
+    if kind.name == "growth" and judge_growths(case, kind, said):
+        wrong.append(f"{kind}: {judge_growths(case, kind, said)}")
     if kind.besides and {"move", kind.name} <= set(needed(case)) and not (stayed or wrong):
         wrong.append(f"{kind}: no file stayed beside, so nothing was to be removed")
     return start.calls, went_on, wrong

@@ -8,6 +8,7 @@
  * OTHER_NAME names another file where one cannot be read or written
  * EARLY      begins each output before the one before it is whole
  * GOES_ON    writes the outputs behind one that could not be written too
+ * TORN       writes each line of the notes in two writes
  * BLIND      writes to descriptor 2 where standard error is closed, and so into a file that it opened
  *
  * and with REPLACES:
@@ -36,6 +37,19 @@ static int put(int file, const char *bytes, size_t count) {
         if (done <= 0) return -1;
         bytes += done;
         count -= done;
+    }
+    return 0;
+}
+
+/* Writes the notes, each line in one write. */
+static int tell(void) {
+    for (const char *line = notes, *end; line < notes + NOTES; line = end) {
+        end = strchr(line, '\n') + 1;
+#ifdef TORN
+        if (put(2, line, 1)) return -1;
+        line += 1;
+#endif
+        if (put(2, line, end - line)) return -1;
     }
     return 0;
 }
@@ -143,7 +157,7 @@ int main(void) {
 #endif
     for (size_t at = 0; at < INPUTS; at++)
         if (take(&inputs[at])) return 3;
-    if (NOTES && (!has_stderr || put(2, notes, NOTES))) return 3;
+    if (NOTES && (!has_stderr || tell())) return 3;
 #if defined REPLACES && !defined IN_PLACE
     return replace();
 #else

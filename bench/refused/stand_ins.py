@@ -1,7 +1,7 @@
 """Shows that the checker tells right from wrong: stand_ins.py BETWEEN
 
 BETWEEN is the library that between.c gives. For some of the runs of cases.py stand_in.c is built as it is, which has to pass,
-and once for each of its faults, which has to fail: at a run in which a call was refused, ANY_TEXT and TOUCHES already where none was,
+and once for each of its faults, which has to fail: at a run in which a call was refused, ANY_TEXT, TORN and TOUCHES already where none was,
 BLIND, in a run that has no notes, where standard error is closed.
 
 The status is 1 where the checker judges one of them otherwise.
@@ -16,7 +16,7 @@ import tempfile
 import cases
 import check
 
-FAULTS = ["ANY_TEXT", "SILENT", "OTHER_NAME", "EARLY", "GOES_ON"]
+FAULTS = ["ANY_TEXT", "SILENT", "OTHER_NAME", "EARLY", "GOES_ON", "TORN"]
 REPLACING = ["IN_PLACE", "ONE_BY_ONE", "LEAVES", "TOUCHES", "SILENT"]
 RUNS = [
     ("fragments", FAULTS),

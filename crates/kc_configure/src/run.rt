@@ -21,7 +21,8 @@ use std::alloc::Global;
 ///
 /// For these files, the options and the bytes of the streams there is exactly one outcome: the tree's refusal (E1 to E16), a
 /// line's (E17), that of warnings (E21), or the files and notes of the tree's one solution. `Done` and `Refused` are answered
-/// only where the outputs are the outcome's; `Faulted` as `run_keeping` of kc_conf answers it.
+/// only where the outputs are the outcome's and, of an accepted tree, each stream whose turn came is there; `Faulted` as
+/// `run_keeping` of kc_conf answers it.
 ///
 /// An error is a fault of loading: E18 where the folder's device failed at a file whose turn it was and at whose path it may
 /// fail, E20 where memory was refused. Nothing was read from an input then, no output was begun or written, and `files` and
@@ -40,7 +41,7 @@ pub fn configure<F: Folder, I: Input, O: Outputs>(
     // The run leaves the outcome of the folder's files, or a part of it and a cause. A refused tree leaves the inputs
     // untouched.
     ensures ran { IfOk result (λ status. (tree_files : Files) × AreFilesOf (F.files folder.old) (string_bytes options.now.root) tree_files
-        × Leaves tree_files options.now (map I.remaining inputs.old) (map I.failures inputs.old) (map I.failures inputs.new) status (O.states outputs.old) (O.states outputs.new)
+        × Leaves tree_files options.now (map I.remaining inputs.old) (map I.is_there inputs.old) (map I.may_fail inputs.old) (map I.failures inputs.old) (map I.failures inputs.new) status (O.states outputs.old) (O.states outputs.new)
         × ((r : Refused) → IsRefusedTree tree_files (root_file options.now) r → inputs.new ≡ inputs.old)
         × Keeps tree_files options.now status kept.old kept.new) }
     // What was read of the folder is handed out.

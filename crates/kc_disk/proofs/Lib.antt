@@ -4,6 +4,7 @@ pub mod LineLemmas
 pub mod OutputLemmas
 pub mod PlaceLemmas
 pub mod RanLemmas
+pub mod SameLemmas
 pub mod ReachedLemmas
 pub mod ReportLemmas
 pub mod MoverLemmas

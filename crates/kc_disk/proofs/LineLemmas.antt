@@ -1,24 +1,83 @@
 -- A line of the notes on its way.
-use Rattle.std.proofs.Common.{◌≡◌, refl, ℕ, ◌+◌, ◌-◌, ◌<◌, ◌≤◌, false, List, [], ◌∷◌, ◌++◌, length, take, sym, ap, ◌∙◌, Option, append-nil, append_assoc, arith, length-append}
+use Rattle.std.proofs.Common.{◌≡◌, refl, ℕ, ◌+◌, ◌-◌, ◌<◌, ◌≤◌, ◌&&◌, true, false, List, [], ◌∷◌, ◌++◌, length, take, drop, sym, ap, ◌∙◌, Option, append-nil, append_assoc, arith, length-append, length-drop, codes, nat_eq, eq-eqb, ne_eqb}
 use Rattle.std.proofs.Math.Seq.{drop-append-add, take-append_seam}
-use Rattle.std.proofs.lemmas.List.{length-take-le}
+use Rattle.std.proofs.lemmas.List.{length-take-le, take-append-drop}
+use Rattle.std.proofs.lemmas.List.Elements.{All-append, All-cons, All-drop, All-nil, All-tail, All-take}
 use Rattle.std.proofs.lemmas.Grind.{common_steps}
+use Rattle.std.specs.Cmp.Lexicographic.{pointwise}
 use Rattle.kc_conf.specs.declared.options.Options.{Options}
 use Rattle.kc_conf.specs.OutputStates.{OutputStates, at, failed, grown, with_state}
 use Rattle.kc_conf.specs.declared.outputs.Output.{Output}
 use Rattle.kc_conf.specs.declared.outputs.Output.TheVariants.{Notes}
 use Rattle.kc_disk.specs.MakerOutputs.{states_of, record_at, record_failed, with_record}
-use Rattle.kc_disk.specs.Lines.{ends_line}
+use Rattle.kc_text.specs.Lines.{is_line_feed}
+use Rattle.kc_disk.specs.Lines.{HoldsNoLineFeed, ends_line}
 use Rattle.kc_disk.specs.Makers.{MakerState}
 use Rattle.kc_disk.specs.Flushed.{Flushes}
 use Rattle.kc_disk.specs.declared.records.OutputRecords.{OutputRecords}
 use Rattle.kc_disk.proofs.OutputLemmas.{failed-states, grown-notes, moved-notes}
 
--- a line ends as its last part does
-pub ends-chunk : (rest chunk : List ℕ) → 0 < length chunk → ends_line chunk ≡ false → ends_line (rest ++ chunk) ≡ false
-ends-chunk rest chunk some not =
-    let e : length (rest ++ chunk) - 1 ≡ length rest + (length chunk - 1) = rw (length-append rest chunk) (omega arith) in
-    rw (e, drop-append-add rest chunk (length chunk - 1)) not
+-- ---- line feeds
+
+-- other bytes end no line
+feed-of : (b : ℕ) → is_line_feed b ≡ false → nat_eq 10 b ≡ false
+feed-of b e = ne_eqb 10 b (λ same. let clash : true ≡ false = sym (eq-eqb b 10 (sym same)) ∙ e in absurd (cc))
+
+no-feed-of : (b : ℕ) → (nat_eq 10 b && true) ≡ false → is_line_feed b ≡ false
+no-feed-of b e = ne_eqb b 10 (λ same. let clash : true ≡ false = sym (ap (λ c. c && true) (eq-eqb 10 b (sym same))) ∙ e in absurd (cc))
+
+last-of : (bytes : List ℕ) → HoldsNoLineFeed bytes → pointwise nat_eq (codes "\n") bytes ≡ false
+last-of [] none = refl
+last-of (b ∷ bytes) none = ap (λ c. c && pointwise nat_eq [] bytes) (feed-of b (none 0 b (omega arith)))
+
+-- a text ends as its last part does
+pub ends-part : (rest part : List ℕ) → 0 < length part → ends_line (rest ++ part) ≡ ends_line part
+ends-part rest part some =
+    let e : length (rest ++ part) - 1 ≡ length rest + (length part - 1) = rw (length-append rest part) (omega arith) in
+    rw (e, drop-append-add rest part (length part - 1)) refl
+
+-- bytes without a line feed end no line
+pub no-line-ends : (bytes : List ℕ) → HoldsNoLineFeed bytes → ends_line bytes ≡ false
+no-line-ends bytes none = last-of (drop (length bytes - 1) bytes) (All-drop (λ b. is_line_feed b ≡ false) (length bytes - 1) bytes none)
+
+lone-of : (bytes : List ℕ) → length bytes ≤ 1 → pointwise nat_eq (codes "\n") bytes ≡ false → HoldsNoLineFeed bytes
+lone-of [] one e = All-nil (λ b. is_line_feed b ≡ false)
+lone-of (b ∷ []) one e = All-cons (λ b. is_line_feed b ≡ false) b [] (no-feed-of b e) (All-nil (λ b. is_line_feed b ≡ false))
+lone-of (b ∷ c ∷ bytes) one e = absurd (omega (arith, one))
+
+-- where only the last byte may be a line feed and none ends them, there is none
+whole-line : (text : List ℕ) → HoldsNoLineFeed (take (length text - 1) text) → ends_line text ≡ false → HoldsNoLineFeed text
+whole-line text none not =
+    let last = drop (length text - 1) text in
+    let lone : length last ≤ 1 = omega (arith, length-drop (length text - 1) text) in
+    rw (sym (take-append-drop (length text - 1) text))
+    (All-append (λ b. is_line_feed b ≡ false) (take (length text - 1) text) last none (lone-of last lone not))
+
+take-take : {X : Type 0} (m n : ℕ) (l : List X) → m ≤ n → take m (take n l) ≡ take m l
+take-take m n l h = grind (arith, common_steps)
+
+-- so it is of a beginning of them
+front-line : (text : List ℕ) (count : ℕ) → count ≤ length text → HoldsNoLineFeed (take (length text - 1) text) → ends_line (take count text) ≡ false →
+    HoldsNoLineFeed (take count text)
+front-line text count fits none not =
+    let counted : length (take count text) ≡ count = length-take-le count text fits in
+    let front : HoldsNoLineFeed (take (count - 1) (take (length text - 1) text)) = All-take (λ b. is_line_feed b ≡ false) (count - 1) _ none in
+    let short : take (count - 1) (take (length text - 1) text) ≡ take (count - 1) (take count text) =
+    take-take (count - 1) (length text - 1) text (omega (arith, fits)) ∙ sym (take-take (count - 1) count text (omega arith)) in
+    whole-line (take count text) (rw (counted, sym short) front) not
+
+behind : (front rest : List ℕ) → HoldsNoLineFeed (front ++ rest) → HoldsNoLineFeed rest
+behind [] rest none = none
+behind (b ∷ front) rest none = behind front rest (All-tail (λ c. is_line_feed c ≡ false) b (front ++ rest) none)
+
+-- what waits on holds none where the line held none, with its next part
+pub waits-on : (old front rest text line : List ℕ) (count : ℕ) → HoldsNoLineFeed old → old ≡ front ++ rest → line ≡ rest ++ take count text → count ≤ length text →
+    HoldsNoLineFeed (take (length text - 1) text) → ends_line (take count text) ≡ false → HoldsNoLineFeed line
+waits-on old front rest text line count before is line_is fits none not =
+    let kept : HoldsNoLineFeed rest = behind front rest (rw is at before) in
+    rw line_is (All-append (λ b. is_line_feed b ≡ false) rest (take count text) kept (front-line text count fits none not))
+
+-- ---- a write that was cut short
 
 -- what reached the notes of the last part
 pub given-back : (mid chunk front rest : List ℕ) → mid ++ chunk ≡ front ++ rest → front ++ take (length rest - length chunk) rest ≡ mid ++ take (length chunk - length rest) chunk
@@ -38,9 +97,6 @@ given-back (x ∷ mid) chunk (y ∷ front) rest e =
     let t : mid ++ chunk ≡ front ++ rest = cc in
     let r = given-back mid chunk front rest t in
     rw h (ap (λ l. y ∷ l) r)
-
-take-take : {X : Type 0} (m n : ℕ) (l : List X) → m ≤ n → take m (take n l) ≡ take m l
-take-take m n l h = grind (arith, common_steps)
 
 -- after a write that was cut short the line that waits is what was taken and did not reach the notes
 pub noted-states : (options : Options) (state mid after : Option MakerState) (o : Option Output) (bytes : List ℕ) (r : OutputRecords)

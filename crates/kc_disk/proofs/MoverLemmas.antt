@@ -6,6 +6,7 @@ use Rattle.kc_disk.specs.Movers.{Held, IsClear, MoverState, Shows, NamedText, ch
 use Rattle.kc_disk.specs.Texts.{added, moved_times, staged, texts_of}
 use Rattle.kc_disk.specs.declared.replace_files.NamedText.{NamedText as CodeText}
 use Rattle.std.proofs.lemmas.Slice.Eq.{bytes_eq-Decides}
+use Rattle.kc_disk.proofs.StreamLemmas.{or-right}
 
 abbrev with_more : List ℕ → NamedText → NamedText
 with_more bytes t = record { name = t.name; bytes = t.bytes ++ bytes }
@@ -68,10 +69,6 @@ replaced-all count texts some None mid last clear is made moves whole = rw (move
 replaced-all count texts some (Some s) mid last clear is made moves whole =
     let none = clear s refl in
     rw (moves, made, whole, sym (is s refl)) (rw (none.0, none.1, take_all (length some) some (le_refl (length some)), drop_all (length some) some (le_refl (length some))) refl)
-
-or-right : (a b : Bool) → b ≡ true → (a || b) ≡ true
-or-right true b e = refl
-or-right false b e = e
 
 -- a text among others has its name there
 pub named : (texts : List CodeText) (i : ℕ) (d : CodeText) → i < length texts → has_name (get_or texts i d).name.now (texts_of texts) ≡ true

@@ -1,6 +1,6 @@
 -- What a run over devices was.
-use Rattle.std.proofs.Common.{◌≡◌, ◌≢◌, refl, ℕ, zero, suc, Bool, true, List, [], ◌∷◌, map, Option, Result, Err, sym, ap, ◌∙◌, subst, string_bytes}
-use Rattle.std.specs.Prelude.{IfErr, OnErr, slice_index}
+use Rattle.std.proofs.Common.{◌≡◌, ◌≢◌, refl, ℕ, Bool, true, List, map, Option, Result, Err, sym, ap, ◌∙◌, subst, string_bytes}
+use Rattle.std.specs.Prelude.{IfErr, OnErr}
 use Rattle.kc_read.specs.Files.{Files}
 use Rattle.kc_conf.specs.declared.options.Options.{Options}
 use Rattle.kc_load.specs.Expanding.{AreFilesOf}
@@ -12,52 +12,45 @@ use Rattle.kc_conf.specs.declared.options.Status.{Status}
 use Rattle.kc_conf.specs.declared.options.Status.TheVariants.{Faulted}
 use Rattle.kc_configure.specs.Configured.{Leaves}
 use Rattle.kc_disk.specs.Makers.{Tells, MakerState, maker_call}
-use Rattle.kc_disk.specs.Openers.{ReadDevice, contents, one_may_fail}
-use Rattle.kc_disk.specs.Program.{Ends, Fails, Ran, Reports, load_line, streams_of, unloaded}
+use Rattle.kc_disk.specs.Openers.{ReadDevice, contents, is_there, may_fail}
+use Rattle.kc_disk.specs.Program.{Ends, Ran, Reports, load_line, streams_of, unloaded}
 use Rattle.kc_disk.specs.Reached.{Reached, unused}
 use Rattle.kc_disk.proofs.ReportLemmas.{reports-from}
 
-leaves-of : (files : Files) (options : Options) (given given_is : List (Option (List ℕ))) (counts counts_are counts_after : List ℕ) (status : Status) (first first_is last states : OutputStates) →
-    given ≡ given_is → counts ≡ counts_are → first ≡ first_is → last ≡ states → Leaves files options given counts counts_after status first states →
-    Leaves files options given_is counts_are counts_after status first_is last
-leaves-of files options given given_is counts counts_are counts_after status first first_is last states a b c d h =
-    subst (λ (x : List (Option (List ℕ))). Leaves files options x counts_are counts_after status first_is last) a
-    (subst (λ (x : List ℕ). Leaves files options given x counts_after status first_is last) b
-    (subst (λ (x : OutputStates). Leaves files options given counts counts_after status x last) c
-    (subst (λ (x : OutputStates). Leaves files options given counts counts_after status first x) (sym d) h)))
-
--- what holds where an input failed
-one-failed : {I : Type 0} (fails : I → ℕ) (P : Type 0) → ((i : I) → fails i ≢ 0 → P) → (inputs : List I) (input : ℕ) → slice_index (map fails inputs) input ≢ 0 → P
-one-failed fails P reports [] zero some = absurd (some refl)
-one-failed fails P reports [] (suc input) some = absurd (some refl)
-one-failed fails P reports (i ∷ inputs) zero some = reports i some
-one-failed fails P reports (i ∷ inputs) (suc input) some = one-failed fails P reports inputs input some
-
--- where the inputs and the outputs failed
-pub fails-of : {I : Type 0} (fails : I → ℕ) (streams streams_are notes notes_are : Bool) (inputs : List I) (states : OutputStates) → streams ≡ streams_are → notes ≡ notes_are →
-    ((i : I) → fails i ≢ 0 → streams ≡ true) → (states.notes.failures ≢ 0 → notes ≡ true) → Fails streams_are notes_are (map fails inputs) states
-fails-of fails streams streams_are notes notes_are inputs states a b inputs_say notes_say = record {
-  streams = λ input some. sym a ∙ one-failed fails (streams ≡ true) inputs_say inputs input some;
-  notes = λ some. sym b ∙ notes_say some;
-}
+leaves-of : (files : Files) (options : Options) (given given_is : List (Option (List ℕ))) (there there_is may_fail may_fail_is : List Bool)
+    (counts counts_are counts_after : List ℕ) (status : Status) (first first_is last states : OutputStates) →
+    given ≡ given_is → there ≡ there_is → may_fail ≡ may_fail_is → counts ≡ counts_are → first ≡ first_is → last ≡ states →
+    Leaves files options given there may_fail counts counts_after status first states →
+    Leaves files options given_is there_is may_fail_is counts_are counts_after status first_is last
+leaves-of files options given given_is there there_is may_fail may_fail_is counts counts_are counts_after status first first_is last states a t m b c d h =
+    subst (λ (x : List (Option (List ℕ))). Leaves files options x there_is may_fail_is counts_are counts_after status first_is last) a
+    (subst (λ (x : List Bool). Leaves files options given x may_fail_is counts_are counts_after status first_is last) t
+    (subst (λ (x : List Bool). Leaves files options given there x counts_are counts_after status first_is last) m
+    (subst (λ (x : List ℕ). Leaves files options given there may_fail x counts_after status first_is last) b
+    (subst (λ (x : OutputStates). Leaves files options given there may_fail counts counts_after status x last) c
+    (subst (λ (x : OutputStates). Leaves files options given there may_fail counts counts_after status first x) (sym d) h)))))
 
 -- what a run over these inputs leaves, by their names
-pub ran-of : {I : Type 0} (rest : I → Option (List ℕ)) (fails : I → ℕ) (folder opened : ReadDevice) (options : Options) (status : Status)
-    (state state_after : Option MakerState) (may_fail : Bool) (files : Files) (inputs items : List I) (counts_after : List ℕ) (first last states : OutputStates)
+pub ran-of : {I : Type 0} (rest : I → Option (List ℕ)) (there may : I → Bool) (fails : I → ℕ) (folder opened : ReadDevice) (options : Options) (status : Status)
+    (state state_after : Option MakerState) (fail_at notes_fail : Bool) (files : Files) (inputs items : List I) (counts_after : List ℕ) (first last states : OutputStates)
     →
-    AreFilesOf folder.files (string_bytes options.root) files → Leaves files options (map rest inputs) (map fails inputs) counts_after status first states → inputs ≡ items →
-    map rest items ≡ map (contents opened.files) (names_of options) → map fails items ≡ map (λ _. 0) (names_of options) → first ≡ unused options state →
-    last ≡ states → Tells state_after (Reached last) →
-    Fails (one_may_fail opened (streams_of options)) may_fail counts_after last → Ran folder opened options status (maker_call state state_after may_fail)
-ran-of rest fails folder opened options status state state_after may_fail files inputs items counts_after first last states are h same unread quiet is_first is_last reached failed = record {
-  files = files;
-  are_files = are;
-  counts = counts_after;
-  states = last;
-  leaves = leaves-of files options _ _ _ _ counts_after status first _ last states (ap (map rest) same ∙ unread) (ap (map fails) same ∙ quiet) is_first is_last h;
-  fails = failed;
-  reached = reached;
-}
+    AreFilesOf folder.files (string_bytes options.root) files →
+    Leaves files options (map rest inputs) (map there inputs) (map may inputs) (map fails inputs) counts_after status first states → inputs ≡ items →
+    map rest items ≡ map (contents opened.files) (names_of options) → map there items ≡ map (is_there opened.files) (streams_of options) →
+    map may items ≡ map (may_fail opened) (streams_of options) → map fails items ≡ map (λ _. 0) (names_of options) → first ≡ unused options state →
+    last ≡ states → Tells state_after (Reached last) → fail_at ≡ notes_fail → (last.notes.failures ≢ 0 → fail_at ≡ true) →
+    Ran folder opened options status (maker_call state state_after notes_fail)
+ran-of rest there may fails folder opened options status state state_after fail_at notes_fail files inputs items counts_after first last states
+    are h same unread are_there may_be quiet is_first is_last reached known failed = record {
+      files = files;
+      are_files = are;
+      counts = counts_after;
+      states = last;
+      leaves = leaves-of files options _ _ _ _ _ _ _ _ counts_after status first _ last states (ap (map rest) same ∙ unread) (ap (map there) same ∙ are_there)
+          (ap (map may) same ∙ may_be) (ap (map fails) same ∙ quiet) is_first is_last h;
+      notes_fail = λ some. sym known ∙ failed some;
+      reached = reached;
+    }
 
 -- the tree could not be loaded
 pub unloaded-of : (folder opened : ReadDevice) (options : Options) (ended : Result Status LoadFault) (fault : LoadFault) (state mid new : Option MakerState) (was may_fail : Bool) → ended ≡ Err fault →

@@ -4,12 +4,12 @@ use Rattle.kc_conf.specs.declared.outputs.Output.{Output}
 use Rattle.kc_conf.specs.declared.outputs.Output.TheVariants.{Config, Header, Minimal, Depfile}
 use Rattle.kc_conf.specs.declared.options.Options.{Options}
 use Rattle.kc_disk.specs.MakerOutputs.{AreConsistent, IsConsistent, is_current, state_of, states_of, waiting}
-use Rattle.kc_disk.specs.Lines.{ends_line}
+use Rattle.kc_disk.specs.Lines.{HoldsNoLineFeed, ends_line}
 use Rattle.kc_disk.specs.Makers.{MadeFile, Tells, MakerState}
 use Rattle.kc_disk.specs.Reached.{FileReached, Reached}
 use Rattle.kc_disk.specs.declared.records.OutputRecord.{OutputRecord}
 use Rattle.kc_disk.specs.declared.records.OutputRecords.{OutputRecords}
-use Rattle.kc_disk.proofs.LineLemmas.{ends-chunk}
+use Rattle.kc_disk.proofs.LineLemmas.{ends-part, no-line-ends}
 use Rattle.kc_disk.proofs.OutputLemmas.{unwaiting}
 
 file-reached : (name : List ℕ) (r : OutputRecord) (made : MadeFile) (o : Option Output) (w : Output) (bytes : List ℕ) → made.is_open ≡ is_current o w → IsConsistent name r made →
@@ -24,15 +24,15 @@ file-reached name r made o w bytes is h = record {
       (shut, ap Some (ap (λ l. made.bytes ++ l) none ∙ append-nil made.bytes));
 }
 
-notes-whole : (out line : List ℕ) → ends_line line ≡ false → ends_line (out ++ line) ≡ true → out ++ line ≡ out
-notes-whole out [] not ends = append-nil out
-notes-whole out (b ∷ line) not ends =
+notes-whole : (out line : List ℕ) → HoldsNoLineFeed line → ends_line (out ++ line) ≡ true → out ++ line ≡ out
+notes-whole out [] none ends = append-nil out
+notes-whole out (b ∷ line) none ends =
     let some : 0 < length (b ∷ line) = omega arith in
-    let clash : true ≡ false = sym ends ∙ ends-chunk out (b ∷ line) some not in
+    let clash : true ≡ false = sym ends ∙ ends-part out (b ∷ line) some ∙ no-line-ends (b ∷ line) none in
     absurd (cc)
 
 reached-some : (options : Options) (o : Option Output) (bytes line : List ℕ) (r : OutputRecords) (t : MakerState) →
-    (r.notes.failures ≡ 0 → ends_line line ≡ false) → AreConsistent options o r t → Reached (states_of options (Some t) o bytes line r) t
+    (r.notes.failures ≡ 0 → HoldsNoLineFeed line) → AreConsistent options o r t → Reached (states_of options (Some t) o bytes line r) t
 reached-some options o bytes line r t waits h = record {
   made = h.9;
   config = file-reached _ r.config t.config o Config bytes h.0 h.5;
@@ -47,6 +47,6 @@ reached-some options o bytes line r t waits h = record {
 }
 
 pub reached : (options : Options) (o : Option Output) (bytes line : List ℕ) (r : OutputRecords) (state : Option MakerState) →
-    (r.notes.failures ≡ 0 → ends_line line ≡ false) → Tells state (AreConsistent options o r) →
+    (r.notes.failures ≡ 0 → HoldsNoLineFeed line) → Tells state (AreConsistent options o r) →
     Tells state (Reached (states_of options state o bytes line r))
 reached options o bytes line r state waits consistent = λ t is. rw is (reached-some options o bytes line r t waits (consistent t is))

@@ -8,10 +8,6 @@ use Rattle.kc_disk.specs.declared.drafts.Draft.{Draft}
 abbrev pub made_from : Draft → MadeFile
 made_from d = record { name = string_bytes d.name; bytes = d.bytes.items; is_open = d.is_open }
 
--- a draft of which nothing was made
-abbrev pub unmade : MadeFile
-unmade = record { name = []; bytes = []; is_open = false }
-
 abbrev pub opened_as : List ℕ → MadeFile
 opened_as name = record { name = name; bytes = []; is_open = true }
 

@@ -1,6 +1,7 @@
 pub mod Answering
 pub mod Devices
 pub mod Drafted
+pub mod FileStates
 pub mod Lines
 pub mod Makers
 pub mod Flushed

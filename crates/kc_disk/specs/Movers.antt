@@ -70,9 +70,13 @@ IsClear s = (s.begun ≡ None) × (s.whole ≡ [])
 
 -- ---- what is to be
 
+-- what was found is a file of these bytes
+abbrev pub is_text : Option (List ℕ) → List ℕ → Bool
+is_text found bytes = option_map_or (λ b. bytes_eq b bytes) found false
+
 -- the file of this name holds these bytes
 abbrev pub is_held : Held → List ℕ → List ℕ → Bool
-is_held held name bytes = option_map_or (λ b. bytes_eq b bytes) (held.bytes name) false
+is_held held name bytes = is_text (held.bytes name) bytes
 
 -- one of the texts has this name
 abbrev pub has_name : List ℕ → List NamedText → Bool

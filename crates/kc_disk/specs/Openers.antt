@@ -1,5 +1,5 @@
 -- Trusted: What files give that are opened by name.
-use Rattle.std.specs.Prelude.{◌≡◌, ◌≢◌, ℕ, Bool, true, false, not, ◌&&◌, ◌||◌, List, [], ◌∷◌, length, nat_le, Option, None, Some, is_none, option_map, unwrap_or}
+use Rattle.std.specs.Prelude.{ℕ, Bool, true, not, ◌&&◌, ◌||◌, List, [], length, nat_le, Option, None, Some, is_none, is_some, option_map, unwrap_or}
 use Rattle.kc_load.specs.Folders.{FolderFiles}
 use Rattle.kc_disk.specs.Devices.{most_reads}
 
@@ -23,10 +23,6 @@ to_come told rest = option_map (λ _. rest) told
 abbrev pub contents : FolderFiles → List ℕ → Option (List ℕ)
 contents told name = option_map (λ files. unwrap_or (files name) []) told
 
--- There is a file of this name, or there need not be one.
-abbrev pub IsThere : FolderFiles → List ℕ → Bool → Type 0
-IsThere told name may_be_missing = (files : List ℕ → Option (List ℕ)) → told ≡ Some files → may_be_missing ≡ false → files name ≢ None
-
 -- a file that a run reads by name, and whether it may be missing
 pub record Stream : Type 0 where
   pub name : List ℕ
@@ -35,7 +31,12 @@ pub record Stream : Type 0 where
 abbrev pub stream : List ℕ → Bool → Stream
 stream name may_be_missing = record { name = name; may_be_missing = may_be_missing }
 
--- whether there is no file of this name, where that is told
+-- whether a stream is there, or need not be; one of which nothing is told is
+abbrev pub is_there : FolderFiles → Stream → Bool
+is_there None s = true
+is_there (Some files) s = s.may_be_missing || is_some (files s.name)
+
+-- whether there is no file of this name, or that is not told
 abbrev pub may_miss : FolderFiles → List ℕ → Bool
 may_miss None name = true
 may_miss (Some files) name = is_none (files name)
@@ -48,8 +49,3 @@ may_be_endless (Some bytes) = nat_le most_reads (length bytes)
 -- whether a stream may fail: the opener may at its name, or there is no file and there has to be one, or it may have no end
 abbrev pub may_fail : ReadDevice → Stream → Bool
 may_fail opened s = opened.failing s.name || (not s.may_be_missing && may_miss opened.files s.name) || may_be_endless (contents opened.files s.name)
-
--- whether one of the streams may fail
-abbrev pub one_may_fail : ReadDevice → List Stream → Bool
-one_may_fail opened [] = false
-one_may_fail opened (s ∷ streams) = may_fail opened s || one_may_fail opened streams

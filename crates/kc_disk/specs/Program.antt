@@ -1,5 +1,5 @@
 -- Trusted: How a run over devices ends.
-use Rattle.std.specs.Prelude.{◌≡◌, ◌≢◌, ◌⊎◌, ℕ, Bool, true, false, not, List, ◌∷◌, map, option_map, slice_index, string_bytes}
+use Rattle.std.specs.Prelude.{◌≡◌, ◌≢◌, ◌⊎◌, ℕ, true, false, not, List, ◌∷◌, Option, map, option_map, string_bytes}
 use Rattle.kc_read.specs.Files.{Files}
 use Rattle.kc_dot.specs.Sink.{BeginsWith}
 use Rattle.kc_words.specs.Refusals.{text_of}
@@ -17,29 +17,29 @@ use Rattle.kc_conf.specs.declared.options.Status.{Status}
 use Rattle.kc_conf.specs.declared.options.Status.TheVariants as ended
 use Rattle.kc_conf.specs.declared.outputs.Output.TheVariants.{Notes}
 use Rattle.kc_configure.specs.Configured.{Leaves}
-use Rattle.kc_disk.specs.Makers.{MakerCall, Tells, appended}
-use Rattle.kc_disk.specs.Openers.{ReadDevice, Stream, contents, one_may_fail, stream}
+use Rattle.kc_disk.specs.Makers.{MakerCall, MakerState, Tells, appended}
+use Rattle.kc_disk.specs.Openers.{ReadDevice, Stream, contents, is_there, may_fail, stream}
 use Rattle.kc_disk.specs.Reached.{Reached, unused}
 
 -- the streams of a run: the `.config`, and then the fragments, each of which has to be there
 abbrev pub streams_of : Options → List Stream
 streams_of options = stream (string_bytes options.config) (not options.must_exist) ∷ map (λ f. stream (string_bytes f) false) options.fragments.items
 
--- A failure is counted only where there may be one: of an input where one of the streams may fail, and of the notes where the
--- maker may fail at them.
-pub record Fails (streams_fail notes_fail : Bool) (counts : List ℕ) (states : OutputStates) : Type 0 where
-  pub streams : (input : ℕ) → slice_index counts input ≢ 0 → streams_fail ≡ true
-  pub notes : states.notes.failures ≢ 0 → notes_fail ≡ true
+-- what a run leaves over these files and over what the opener holds under the names of the streams
+abbrev pub LeavesOver : Files → ReadDevice → Options → List ℕ → Status → Option MakerState → OutputStates → Type 0
+LeavesOver files opened options counts status state states = Leaves files options (map (contents opened.files) (names_of options))
+    (map (is_there opened.files) (streams_of options)) (map (may_fail opened) (streams_of options)) (map (λ _. 0) (names_of options)) counts status
+    (unused options state) states
 
--- A run over the folder's files and over what the opener holds under the names of the streams: it leaves their outcome, or a
--- part of it and a cause, and what it handed out reached the files.
+-- A run over the folder's files and over the streams: it leaves their outcome, or a part of it and a cause, and what it handed
+-- out reached the files. The notes fail only where the maker may.
 pub record Ran (folder opened : ReadDevice) (options : Options) (status : Status) (maker : MakerCall) : Type 0 where
   pub files : Files
   pub are_files : AreFilesOf folder.files (string_bytes options.root) files
   pub counts : List ℕ
   pub states : OutputStates
-  pub leaves : Leaves files options (map (contents opened.files) (names_of options)) (map (λ _. 0) (names_of options)) counts status (unused options maker.state) states
-  pub fails : Fails (one_may_fail opened (streams_of options)) maker.may_fail counts states
+  pub leaves : LeavesOver files opened options counts status maker.state states
+  pub notes_fail : states.notes.failures ≢ 0 → maker.may_fail ≡ true
   pub reached : Tells maker.state_after (Reached states)
 
 -- the text was written to standard error, and nothing else was written or made

@@ -1,5 +1,5 @@
 -- Trusted: What a run leaves whose files take their places at the end.
-use Rattle.std.specs.Prelude.{◌≡◌, ℕ, Bool, true, false, List, [], ◌∷◌, ◌++◌, Option, None, Some, map, option_map, string_bytes, Result, Ok, Err}
+use Rattle.std.specs.Prelude.{◌≡◌, ◌≢◌, ℕ, Bool, true, false, List, [], ◌∷◌, ◌++◌, Option, None, Some, map, option_map, string_bytes, Result, Ok, Err}
 use Rattle.std.specs.declared.string.String.{String}
 use Rattle.std.specs.declared.alloc.Global.{Global}
 use Rattle.kc_read.specs.Files.{Files}
@@ -8,17 +8,16 @@ use Rattle.kc_load.specs.Expanding.{AreFilesOf}
 use Rattle.kc_load.specs.Faults.{IsLoadFault}
 use Rattle.kc_load.specs.declared.fault.LoadFault.{LoadFault}
 use Rattle.kc_conf.specs.ErrorLines.{cannot_write_line, out_of_memory_line}
-use Rattle.kc_conf.specs.Outcome.{names_of, root_file}
+use Rattle.kc_conf.specs.Outcome.{root_file}
 use Rattle.kc_conf.specs.OutputStates.{OutputStates}
 use Rattle.kc_conf.specs.declared.options.Status.{Status}
 use Rattle.kc_conf.specs.declared.options.Status.TheVariants as ended
 use Rattle.kc_conf.specs.declared.outputs.Output.TheVariants.{Notes}
-use Rattle.kc_configure.specs.Configured.{Leaves}
 use Rattle.kc_disk.specs.Makers.{MakerCall, Tells, MakerState, none_made, since, until, with_made}
-use Rattle.kc_disk.specs.Openers.{ReadDevice, contents, one_may_fail}
+use Rattle.kc_disk.specs.Openers.{ReadDevice}
 use Rattle.kc_disk.specs.Movers.{IsStill, MoverCall, NamedText, replaced}
-use Rattle.kc_disk.specs.Program.{Ends, Fails, Reports, load_line, streams_of}
-use Rattle.kc_disk.specs.Reached.{Reached, unused}
+use Rattle.kc_disk.specs.Program.{Ends, LeavesOver, Reports, load_line}
+use Rattle.kc_disk.specs.Reached.{Reached}
 use Rattle.kc_disk.specs.ReplaceFaults.{IsReplaceFault}
 use Rattle.kc_disk.specs.declared.replace_files.ReplaceFault.{ReplaceFault}
 use Rattle.kc_disk.specs.declared.replace_files.ReplaceFault.TheVariants.{Memory, Write}
@@ -64,8 +63,8 @@ pub record RanReplacing (folder opened : ReadDevice) (options : Options) (result
   pub ran : Status
   pub states : OutputStates
   pub drafts : MakerState
-  pub leaves : Leaves files options (map (contents opened.files) (names_of options)) (map (λ _. 0) (names_of options)) counts ran (unused options maker.state) states
-  pub fails : Fails (one_may_fail opened (streams_of options)) maker.may_fail counts states
+  pub leaves : LeavesOver files opened options counts ran maker.state states
+  pub notes_fail : states.notes.failures ≢ 0 → maker.may_fail ≡ true
   pub reached : Tells maker.state_after (λ t. MadeNoFile t × Reached states (with_made drafts Notes t.notes))
   pub replaces : Replaces (texts_made options drafts) ran result mover
 

@@ -1,6 +1,6 @@
 //! Bytes on their way to a file.
-ghost use Rattle.std.specs.Prelude.{◌≡◌, ◌<◌, ◌≤◌, ◌-◌, ◌⊎◌, ◌++◌, List, ℕ, [], true, length, take, drop, option_map, vec_capacity, IfOk, OnOk, OnErr};
-ghost use Rattle.kc_disk.specs.Makers.{IsOpen, Tells, MakerState, appended};
+ghost use Rattle.std.specs.Prelude.{◌≡◌, ◌<◌, ◌≤◌, ◌-◌, ◌⊎◌, ◌++◌, List, ℕ, [], true, length, take, option_map, vec_capacity, IfOk, OnOk, OnErr};
+ghost use Rattle.kc_disk.specs.Makers.{IsOpen, Tells, appended};
 ghost use Rattle.kc_disk.specs.Flushed.{Flushes};
 
 use crate::maker::Maker;

@@ -1,6 +1,6 @@
 //! The files of a run, kept in memory until all of them are whole.
 ghost use Rattle.std.specs.Prelude.{◌≡◌, ◌<◌, ◌≤◌, [], ◌∷◌, ◌++◌, length, take, IfOk, OnOk, OnErr};
-ghost use Rattle.kc_disk.specs.Makers.{Tells, none_made};
+ghost use Rattle.kc_disk.specs.Makers.{Tells, no_file, none_made};
 ghost use Rattle.kc_disk.specs.Replacing.{MadeNoFile};
 
 use crate::maker::Maker;
@@ -18,10 +18,10 @@ pub(crate) struct Draft {
 }
 
 impl Draft {
-    ghost use Rattle.kc_disk.specs.Drafted.{longer, made_from, opened_as, shut, unmade};
+    ghost use Rattle.kc_disk.specs.Drafted.{longer, made_from, opened_as, shut};
 
     fn new(alloc: Global) -> Draft
-        ensures { made_from result ≡ unmade }
+        ensures { made_from result ≡ no_file }
     {
         Draft {
             name: String::new(alloc),
@@ -91,15 +91,15 @@ pub(crate) struct Drafts<M: Maker + Drop> {
 }
 
 impl<M: Maker + Drop> Drafts<M> {
-    ghost use Rattle.kc_disk.specs.Drafted.{made_from, unmade};
+    ghost use Rattle.kc_disk.specs.Drafted.{made_from};
 
     /// Nothing was made. The notes are those of this maker, which made nothing either.
     pub(crate) fn new(alloc: Global, notes: M) -> Drafts<M>
         requires { Tells (M.state notes) (λ t. t ≡ none_made) }
-        ensures config { made_from result.config ≡ unmade }
-        ensures header { made_from result.header ≡ unmade }
-        ensures minimal { made_from result.minimal ≡ unmade }
-        ensures depfile { made_from result.depfile ≡ unmade }
+        ensures config { made_from result.config ≡ no_file }
+        ensures header { made_from result.header ≡ no_file }
+        ensures minimal { made_from result.minimal ≡ no_file }
+        ensures depfile { made_from result.depfile ≡ no_file }
         ensures notes { result.notes ≡ notes }
         ensures made { result.made.items ≡ [] }
     {

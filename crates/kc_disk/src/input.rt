@@ -3,14 +3,12 @@ ghost use Rattle.std.specs.Prelude.{◌≡◌, ◌≢◌, ◌<◌, ◌-◌, ◌�
 ghost use Rattle.kc_dot.specs.Sink.{next_failure};
 ghost use Rattle.kc_conf.specs.InputBytes.{preceded, IsAtEnd};
 ghost use Rattle.kc_disk.specs.Devices.{most_reads};
-ghost use Rattle.kc_disk.specs.Openers.{IsThere, contents, may_fail, read_device, stream};
-ghost use Rattle.kc_disk.specs.Stages.{ReadsWithin, breaks_in, IsThereOnceOpened, left};
+ghost use Rattle.kc_disk.specs.Openers.{contents, is_there, may_fail, read_device, stream};
+ghost use Rattle.kc_disk.specs.Stages.{IsThere, IsThereOnceOpened, ReadsWithin, breaks_in, left};
 
-use crate::devices::Devices;
 use crate::opener::{OpenFault, Opener};
 use kc_conf::Input;
 use kc_dot::Fault;
-use std::marker::PhantomData;
 
 /// How many reads that give bytes there may be: a file that gives more has no end.
 const MOST_READS: u64 = 1 << 63;
@@ -28,19 +26,16 @@ pub(crate) enum Stage<F> {
 /// A read is a fault where the file cannot be opened, but for one that does not exist and need not, which is empty; where
 /// the opener's read fails; and after 2^63 reads that gave bytes.
 #[derive(Drop)]
-pub(crate) struct FileInput<'a, P: Opener, K: Devices> {
+pub(crate) struct FileInput<'a, P: Opener> {
     opener: &'a P,
     name: &'a str,
     may_be_missing: bool,
     stage: Stage<P::File>,
     reads: u64,
     failures: u64,
-    devices: PhantomData<K>,
-    ghost may_fail_known: { may_fail (read_device (P.files opener.now) (P.failing opener.now)) (stream name.now may_be_missing) ≡ true → K.streams_fail ≡ true },
     ghost there_once_opened: { IsThereOnceOpened (P.files opener.now) name.now may_be_missing stage },
     ghost breaks: { breaks_in P.breaks stage ≡ true → P.failing opener.now name.now ≡ true },
     ghost reads_within: { ReadsWithin (contents (P.files opener.now) name.now) (left P.rest (P.files opener.now) name.now stage) reads },
-    ghost fails: { failures ≢ 0 → K.streams_fail ≡ true },
 }
 
 // Opens the file before the first read. One that does not exist and need not is at its end.
@@ -112,10 +107,9 @@ fn fail(failures: &mut u64) -> Fault
     Fault
 }
 
-impl<'a, P: Opener, K: Devices> FileInput<'a, P, K> {
+impl<'a, P: Opener> FileInput<'a, P> {
     /// The file of this name, which nothing was read from. One that may be missing is empty where there is none.
-    pub(crate) fn new(opener: &'a P, name: &'a str, may_be_missing: bool) -> FileInput<'a, P, K>
-        requires { may_fail (read_device (P.files opener.now) (P.failing opener.now)) (stream name.now may_be_missing) ≡ true → K.streams_fail ≡ true }
+    pub(crate) fn new(opener: &'a P, name: &'a str, may_be_missing: bool) -> FileInput<'a, P>
         ensures opener { result.opener.now ≡ opener.now }
         ensures name { result.name.now ≡ name.now }
         ensures missing { result.may_be_missing ≡ may_be_missing }
@@ -129,13 +123,16 @@ impl<'a, P: Opener, K: Devices> FileInput<'a, P, K> {
             stage: Stage::Unopened,
             reads: 0,
             failures: 0,
-            devices: PhantomData,
         }
     }
 }
 
-impl<'a, P: Opener, K: Devices> Input for FileInput<'a, P, K> {
+impl<'a, P: Opener> Input for FileInput<'a, P> {
     ghost remaining = { λ s. left P.rest (P.files s.opener.now) s.name.now s.stage };
+
+    ghost is_there = { λ s. is_there (P.files s.opener.now) (stream s.name.now s.may_be_missing) };
+
+    ghost may_fail = { λ s. may_fail (read_device (P.files s.opener.now) (P.failing s.opener.now)) (stream s.name.now s.may_be_missing) };
 
     ghost failures = { λ s. s.failures };
 

@@ -19,6 +19,7 @@ mod replace;
 mod replace_files;
 mod report;
 mod run;
+mod same_text;
 mod system;
 mod system_mover;
 

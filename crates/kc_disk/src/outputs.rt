@@ -1,17 +1,18 @@
 //! The files of a run, and standard error for its notes.
-ghost use Rattle.std.specs.Prelude.{◌≡◌, [], ◌≢◌, ◌<◌, ◌≤◌, ◌++◌, length, take, IfOk, OnOk, OnErr, List, ℕ, Some, None, true, false};
+ghost use Rattle.std.specs.Prelude.{◌≡◌, [], ◌≢◌, ◌<◌, ◌≤◌, ◌-◌, length, take, IfOk, OnOk, OnErr, None, true};
 ghost use Rattle.kc_conf.specs.Faults.{name_of};
-ghost use Rattle.kc_conf.specs.OutputStates.{at, begun, ended, failed, grown, with_state};
-ghost use Rattle.kc_disk.specs.Lines.{ends_line};
+ghost use Rattle.kc_conf.specs.OutputStates.{with_text};
+ghost use Rattle.kc_disk.specs.Lines.{HoldsNoLineFeed};
 ghost use Rattle.kc_disk.specs.Makers.{Tells, none_made};
 ghost use Rattle.kc_disk.specs.Reached.{Reached, unused};
 ghost use Rattle.kc_conf.specs.declared.outputs.Output.TheVariants.{Notes};
-ghost use Rattle.kc_disk.specs.MakerOutputs.{AreConsistent, states_of, record_at, record_ended, with_record};
+ghost use Rattle.kc_disk.specs.MakerOutputs.{AreConsistent, record_at, record_ended, with_record};
 
 use crate::buffer::Buffer;
 use crate::devices::Devices;
 use crate::maker::Maker;
 use crate::records::OutputRecords;
+use bstr::ByteSlice;
 use kc_conf::{Options, Output, Outputs};
 use kc_dot::Fault;
 use std::marker::PhantomData;
@@ -35,10 +36,22 @@ pub(crate) struct FileOutputs<'a, M: Maker + Drop, K: Devices> {
     line: Buffer,
     records: OutputRecords,
     devices: PhantomData<K>,
-    ghost line_waits: { records.notes.failures ≡ 0 → ends_line line.bytes.items ≡ false },
+    ghost line_waits: { records.notes.failures ≡ 0 → HoldsNoLineFeed line.bytes.items },
     ghost consistent: { Tells (M.state maker) (AreConsistent options.now current records) },
     ghost failing: { M.failing maker Notes ≡ K.notes_fail },
     ghost notes_fail: { records.notes.failures ≢ 0 → K.notes_fail ≡ true },
+}
+
+// How many of the bytes stand up to the first line feed and with it, or all of them where there is none.
+fn line_length(bytes: &[u8]) -> usize
+    ensures within { result ≤ length bytes.now }
+    ensures some { 0 < length bytes.now → 0 < result }
+    ensures one_line { HoldsNoLineFeed (take (result - 1) bytes.now) }
+{
+    match bytes.find_byte(b'\n') {
+        Some(at) => at + 1,
+        None => bytes.len(),
+    }
 }
 
 // The name of an output, as the options have it.
@@ -64,6 +77,8 @@ fn name_of(options: &Options, output: Output) -> &str
 }
 
 impl<'a, M: Maker + Drop, K: Devices> FileOutputs<'a, M, K> {
+    ghost use Rattle.kc_disk.specs.FileStates.{begun_at, ended_at, failed_at, states_in, states_with};
+
     /// Outputs of which none was begun or has failed, over a maker that has made nothing. The caller owes two empty buffers.
     pub(crate) fn new(
         maker: M,
@@ -77,7 +92,7 @@ impl<'a, M: Maker + Drop, K: Devices> FileOutputs<'a, M, K> {
         requires line { line.bytes.items ≡ [] }
         ensures options { result.options.now ≡ options.now }
         ensures maker { M.state result.maker ≡ M.state maker }
-        ensures unused { states_of result.options.now (M.state result.maker) result.current result.buffer.bytes.items result.line.bytes.items result.records ≡ unused options.now (M.state maker) }
+        ensures unused { states_in result ≡ unused options.now (M.state maker) }
     {
         FileOutputs {
             maker,
@@ -97,8 +112,8 @@ impl<'a, M: Maker + Drop, K: Devices> FileOutputs<'a, M, K> {
         requires some { 0 < length bytes.now }
         ensures some { IfOk result (λ count. 0 < count) }
         ensures within { IfOk result (λ count. count ≤ length bytes.now) }
-        ensures ok { IfOk result (λ count. states_of self.new.options.now (M.state self.new.maker) self.new.current self.new.buffer.bytes.items self.new.line.bytes.items self.new.records ≡ with_state (states_of self.old.options.now (M.state self.old.maker) self.old.current self.old.buffer.bytes.items self.old.line.bytes.items self.old.records) output (grown (at (states_of self.old.options.now (M.state self.old.maker) self.old.current self.old.buffer.bytes.items self.old.line.bytes.items self.old.records) output) (take count bytes.now))) }
-        ensures err { OnErr result (states_of self.new.options.now (M.state self.new.maker) self.new.current self.new.buffer.bytes.items self.new.line.bytes.items self.new.records ≡ states_of self.old.options.now (M.state self.old.maker) self.old.current self.old.buffer.bytes.items self.old.line.bytes.items self.old.records) }
+        ensures ok { IfOk result (λ count. states_in self.new ≡ with_text output (take count bytes.now) (states_in self.old)) }
+        ensures err { OnErr result (states_in self.new ≡ states_in self.old) }
     {
         let current = self.current;
         match current {
@@ -117,10 +132,10 @@ impl<'a, M: Maker + Drop, K: Devices> FileOutputs<'a, M, K> {
     // Writes what waits for the file that is open, and closes it. After a fault it takes no more.
     fn close(&mut self, output: Output) -> Result<(), Fault>
         requires { output ≢ Output.Notes }
-        ensures ok { OnOk result (states_of self.new.options.now (M.state self.new.maker) self.new.current self.new.buffer.bytes.items self.new.line.bytes.items (with_record self.new.records output (record_ended (record_at self.new.records output))) ≡ with_state (states_of self.old.options.now (M.state self.old.maker) self.old.current self.old.buffer.bytes.items self.old.line.bytes.items self.old.records) output (ended (at (states_of self.old.options.now (M.state self.old.maker) self.old.current self.old.buffer.bytes.items self.old.line.bytes.items self.old.records) output))) }
+        ensures ok { OnOk result (states_with self.new (with_record self.new.records output (record_ended (record_at self.new.records output))) ≡ ended_at output (states_in self.old)) }
         ensures none { OnOk result (self.new.current ≡ None) }
         ensures records { self.new.records ≡ self.old.records }
-        ensures err { OnErr result (states_of self.new.options.now (M.state self.new.maker) self.new.current self.new.buffer.bytes.items self.new.line.bytes.items self.new.records ≡ states_of self.old.options.now (M.state self.old.maker) self.old.current self.old.buffer.bytes.items self.old.line.bytes.items self.old.records) }
+        ensures err { OnErr result (states_in self.new ≡ states_in self.old) }
     {
         let current = self.current;
         match current {
@@ -139,14 +154,26 @@ impl<'a, M: Maker + Drop, K: Devices> FileOutputs<'a, M, K> {
         Ok(())
     }
 
-    // Takes a beginning of the bytes for the notes, and writes what waits of them where that ends a line. Of bytes that were
-    // refused those are taken that standard error took.
+    // Takes a beginning of the bytes for the notes, of their first line alone.
     fn note(&mut self, bytes: &[u8]) -> Result<usize, Fault>
         requires { 0 < length bytes.now }
         ensures some { IfOk result (λ count. 0 < count) }
         ensures within { IfOk result (λ count. count ≤ length bytes.now) }
-        ensures ok { IfOk result (λ count. states_of self.new.options.now (M.state self.new.maker) self.new.current self.new.buffer.bytes.items self.new.line.bytes.items self.new.records ≡ with_state (states_of self.old.options.now (M.state self.old.maker) self.old.current self.old.buffer.bytes.items self.old.line.bytes.items self.old.records) Output.Notes (grown (at (states_of self.old.options.now (M.state self.old.maker) self.old.current self.old.buffer.bytes.items self.old.line.bytes.items self.old.records) Output.Notes) (take count bytes.now))) }
-        ensures err { OnErr result (states_of self.new.options.now (M.state self.new.maker) self.new.current self.new.buffer.bytes.items self.new.line.bytes.items self.new.records ≡ with_state (states_of self.old.options.now (M.state self.old.maker) self.old.current self.old.buffer.bytes.items self.old.line.bytes.items self.old.records) Output.Notes (failed (at (states_of self.old.options.now (M.state self.old.maker) self.old.current self.old.buffer.bytes.items self.old.line.bytes.items self.old.records) Output.Notes))) }
+        ensures ok { IfOk result (λ count. states_in self.new ≡ with_text Output.Notes (take count bytes.now) (states_in self.old)) }
+        ensures err { OnErr result (states_in self.new ≡ failed_at Output.Notes (states_in self.old)) }
+    {
+        self.note_line(&bytes[..line_length(bytes)])
+    }
+
+    // Takes a beginning of the bytes for the notes, and writes what waits of them where that ends a line. Of bytes that were
+    // refused those are taken that standard error took. The caller owes bytes of which only the last may be a line feed.
+    fn note_line(&mut self, bytes: &[u8]) -> Result<usize, Fault>
+        requires some { 0 < length bytes.now }
+        requires one_line { HoldsNoLineFeed (take (length bytes.now - 1) bytes.now) }
+        ensures some { IfOk result (λ count. 0 < count) }
+        ensures within { IfOk result (λ count. count ≤ length bytes.now) }
+        ensures ok { IfOk result (λ count. states_in self.new ≡ with_text Output.Notes (take count bytes.now) (states_in self.old)) }
+        ensures err { OnErr result (states_in self.new ≡ failed_at Output.Notes (states_in self.old)) }
     {
         let Ok(count) = self.line.take(bytes, Output::Notes, &mut self.maker) else {
             return Err(self.records.fail(Output::Notes));
@@ -165,8 +192,8 @@ impl<'a, M: Maker + Drop, K: Devices> FileOutputs<'a, M, K> {
 
     // Makes standard error empty, where the maker can.
     fn begin_notes(&mut self) -> Result<(), Fault>
-        ensures ok { OnOk result (states_of self.new.options.now (M.state self.new.maker) self.new.current self.new.buffer.bytes.items self.new.line.bytes.items self.new.records ≡ with_state (states_of self.old.options.now (M.state self.old.maker) self.old.current self.old.buffer.bytes.items self.old.line.bytes.items self.old.records) Output.Notes (begun (at (states_of self.old.options.now (M.state self.old.maker) self.old.current self.old.buffer.bytes.items self.old.line.bytes.items self.old.records) Output.Notes))) }
-        ensures err { OnErr result (states_of self.new.options.now (M.state self.new.maker) self.new.current self.new.buffer.bytes.items self.new.line.bytes.items self.new.records ≡ with_state (states_of self.old.options.now (M.state self.old.maker) self.old.current self.old.buffer.bytes.items self.old.line.bytes.items self.old.records) Output.Notes (failed (at (states_of self.old.options.now (M.state self.old.maker) self.old.current self.old.buffer.bytes.items self.old.line.bytes.items self.old.records) Output.Notes))) }
+        ensures ok { OnOk result (states_in self.new ≡ begun_at Output.Notes (states_in self.old)) }
+        ensures err { OnErr result (states_in self.new ≡ failed_at Output.Notes (states_in self.old)) }
     {
         match self
             .maker
@@ -183,8 +210,8 @@ impl<'a, M: Maker + Drop, K: Devices> FileOutputs<'a, M, K> {
 
     // Writes what waits of the notes.
     fn end_notes(&mut self) -> Result<(), Fault>
-        ensures ok { OnOk result (states_of self.new.options.now (M.state self.new.maker) self.new.current self.new.buffer.bytes.items self.new.line.bytes.items self.new.records ≡ with_state (states_of self.old.options.now (M.state self.old.maker) self.old.current self.old.buffer.bytes.items self.old.line.bytes.items self.old.records) Output.Notes (ended (at (states_of self.old.options.now (M.state self.old.maker) self.old.current self.old.buffer.bytes.items self.old.line.bytes.items self.old.records) Output.Notes))) }
-        ensures err { OnErr result (states_of self.new.options.now (M.state self.new.maker) self.new.current self.new.buffer.bytes.items self.new.line.bytes.items self.new.records ≡ with_state (states_of self.old.options.now (M.state self.old.maker) self.old.current self.old.buffer.bytes.items self.old.line.bytes.items self.old.records) Output.Notes (failed (at (states_of self.old.options.now (M.state self.old.maker) self.old.current self.old.buffer.bytes.items self.old.line.bytes.items self.old.records) Output.Notes))) }
+        ensures ok { OnOk result (states_in self.new ≡ ended_at Output.Notes (states_in self.old)) }
+        ensures err { OnErr result (states_in self.new ≡ failed_at Output.Notes (states_in self.old)) }
     {
         if self.line.flush(Output::Notes, &mut self.maker).is_err() {
             return Err(self.records.fail(Output::Notes));
@@ -198,14 +225,16 @@ impl<'a, M: Maker + Drop, K: Devices> FileOutputs<'a, M, K> {
         ensures same { M.state result ≡ M.state self.entry.maker }
         ensures failing { M.failing result Notes ≡ K.notes_fail }
         ensures notes_fail { self.entry.records.notes.failures ≢ 0 → K.notes_fail ≡ true }
-        ensures reached { Tells (M.state result) (Reached (states_of self.entry.options.now (M.state self.entry.maker) self.entry.current self.entry.buffer.bytes.items self.entry.line.bytes.items self.entry.records)) }
+        ensures reached { Tells (M.state result) (Reached (states_in self.entry)) }
     {
         self.maker
     }
 }
 
 impl<'a, M: Maker + Drop, K: Devices> Outputs for FileOutputs<'a, M, K> {
-    ghost states = { λ s. states_of s.options.now (M.state s.maker) s.current s.buffer.bytes.items s.line.bytes.items s.records };
+    ghost use Rattle.kc_disk.specs.FileStates.{states_in};
+
+    ghost states = { λ s. states_in s };
 
     fn begin(&mut self, output: Output) -> Result<(), Fault> {
         if output == Output::Notes {

@@ -1,9 +1,9 @@
 //! The work of the program.
-ghost use Rattle.std.specs.Prelude.{◌≡◌, true, None};
+ghost use Rattle.std.specs.Prelude.{◌≡◌};
 ghost use Rattle.kc_conf.specs.declared.outputs.Output.TheVariants.{Notes};
 ghost use Rattle.kc_disk.specs.Devices.{exit_status};
-ghost use Rattle.kc_disk.specs.Answering.{KconfEnds};
-ghost use Rattle.kc_disk.specs.Openers.{read_device, unknown_device};
+ghost use Rattle.kc_disk.specs.Answering.{KconfEnds, KconfEndsOnDisk, ProcessEnds};
+ghost use Rattle.kc_disk.specs.Openers.{read_device};
 ghost use Rattle.kc_disk.specs.Makers.{IsOpen, Tells, maker_call, none_made};
 ghost use Rattle.kc_disk.specs.Movers.{IsClear, Shows, mover_call};
 ghost use Rattle.kc_disk.specs.Program.{ReportsUsage, usage_status};
@@ -117,7 +117,7 @@ pub fn kconf_over<F: Folder, P: Opener, M: Maker + Drop, V: Mover>(
 /// It is made for a program that ends afterwards: the memory of the tree and of its files is left to the end of the
 /// process, so each call of a process that goes on keeps that much.
 pub fn kconf_of(rt: &HostRuntime, arguments: &[String]) -> Status
-    ensures { KconfEnds unknown_device unknown_device arguments.now result (maker_call None None true) (mover_call None None true) }
+    ensures { KconfEndsOnDisk arguments.now result }
 {
     let mut system = SystemMaker::new(rt);
     let Ok(mut disk) = SystemFolder::new(rt) else {
@@ -145,7 +145,9 @@ pub fn kconf_of(rt: &HostRuntime, arguments: &[String]) -> Status
 }
 
 /// Runs `kconf` with the arguments that the process was started with. One that is not UTF-8 is a bad command line.
-pub fn kconf(rt: &HostRuntime) -> Status {
+pub fn kconf(rt: &HostRuntime) -> Status
+    ensures { ProcessEnds result }
+{
     match arguments(rt) {
         Ok(arguments) => kconf_of(rt, &arguments),
         Err(usage) => print_usage(rt, &mut SystemMaker::new(rt), &usage),

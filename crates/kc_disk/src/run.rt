@@ -3,9 +3,9 @@ ghost use Rattle.std.specs.Prelude.{◌≡◌, [], string_bytes, IfErr, IfOk, On
 ghost use Rattle.kc_load.specs.Faults.{IsLoadFault};
 ghost use Rattle.kc_conf.specs.Outcome.{root_file};
 ghost use Rattle.kc_conf.specs.declared.outputs.Output.TheVariants.{Notes};
-ghost use Rattle.kc_disk.specs.Openers.{one_may_fail, read_device};
+ghost use Rattle.kc_disk.specs.Openers.{read_device};
 ghost use Rattle.kc_disk.specs.Makers.{Tells, maker_call, none_made};
-ghost use Rattle.kc_disk.specs.Program.{Ends, Ran, streams_of};
+ghost use Rattle.kc_disk.specs.Program.{Ends, Ran};
 
 use crate::buffer::Buffer;
 use crate::devices::Devices;
@@ -27,7 +27,7 @@ fn buffers(alloc: Global) -> Result<(Buffer, Buffer), AllocError>
     Ok((Buffer::new(alloc)?, Buffer::new(alloc)?))
 }
 
-// `configure_over` over devices that may fail where `K` says.
+// `configure_over` over a maker that may fail at the notes where `K` says.
 fn over_devices<F: Folder, P: Opener, M: Maker + Drop, K: Devices>(
     alloc: Global,
     folder: &mut F,
@@ -38,7 +38,6 @@ fn over_devices<F: Folder, P: Opener, M: Maker + Drop, K: Devices>(
     kept: &mut Option<AcceptedTree>,
 ) -> (Result<Status, LoadFault>, M)
     requires maker { Tells (M.state maker) (λ t. t ≡ none_made) }
-    requires streams { K.streams_fail ≡ one_may_fail (read_device (P.files opener.now) (P.failing opener.now)) (streams_of options.now) }
     requires notes { K.notes_fail ≡ M.failing maker Notes }
     ensures ran { IfOk result.0 (λ status. Ran (read_device (F.files folder.old) (F.failing folder.old)) (read_device (P.files opener.now) (P.failing opener.now)) options.now status (maker_call (M.state maker) (M.state result.1) (M.failing maker Notes))) }
     ensures fault { IfErr result.0 (IsLoadFault (F.files folder.old) (F.failing folder.old) (string_bytes options.now.root) (root_file options.now)) }
@@ -48,7 +47,7 @@ fn over_devices<F: Folder, P: Opener, M: Maker + Drop, K: Devices>(
     let Ok((buffer, line)) = buffers(alloc) else {
         return (Err(LoadFault::Memory), maker);
     };
-    let Ok(mut inputs) = inputs_of::<P, K>(alloc, opener, options) else {
+    let Ok(mut inputs) = inputs_of(alloc, opener, options) else {
         return (Err(LoadFault::Memory), maker);
     };
     let mut outputs = FileOutputs::<M, K>::new(maker, options, buffer, line);
@@ -75,8 +74,8 @@ fn over_devices<F: Folder, P: Opener, M: Maker + Drop, K: Devices>(
 /// the order `.config`, header, minimal file, rule for make, and no other. Where the run ended a file, all that it handed out
 /// for it is in the file of that output's name; a file that it did not end holds a beginning of it. A beginning of the notes
 /// is out, and all of them where they end with a line feed and none of them failed. A fault of a byte that waited is one of
-/// its own file, and `Done` is answered only where each file is whole. A failure of an input is counted only where one of the
-/// streams may fail, and one of the notes only where the maker may fail at them.
+/// its own file, and `Done` is answered only where each file is whole and each stream whose turn came is there. An input fails
+/// only where its stream may fail or is missing, and the notes only where the maker may fail at them.
 ///
 /// An error is a fault of loading, or E20 where there is no memory for the inputs and the buffers. No file was made then, and
 /// nothing was written.

@@ -2,10 +2,12 @@
 ghost use Rattle.std.specs.Prelude.{true, None};
 
 use crate::mover::Mover;
+use crate::same_text::holds_text;
+use crate::system::SystemOpener;
 use kc_dot::Fault;
 use std::fs;
 use std::fs::{File, Permissions};
-use std::io::{self, ErrorKind, Read, Write};
+use std::io::{self, ErrorKind, Write};
 use std::path::{Path, PathBuf};
 
 // A link that leads on over more links than these has no end.
@@ -13,9 +15,6 @@ const MOST_LINKS: usize = 40;
 
 // How many names beside one destination are tried.
 const MOST_NAMES: usize = 1_000;
-
-// How many bytes are compared at once.
-const BUFFER_SIZE: usize = 4_096;
 
 // Where a text goes.
 #[derive(Drop)]
@@ -121,25 +120,12 @@ fn start(rt: &HostRuntime, name: &str) -> io::Result<(File, Option<TemporaryFile
     Ok((file, Some(TemporaryFile { path, destination })))
 }
 
-// Whether the file of this name is a regular one of these bytes.
-fn is_same(rt: &HostRuntime, name: &str, bytes: &[u8]) -> io::Result<bool> {
-    let Destination::File(destination, Some(_)) = destination_of(rt, name)? else {
-        return Ok(false);
-    };
-    let mut file = File::open(rt, destination.as_path())?;
-    let mut buffer = [0u8; BUFFER_SIZE];
-    let mut rest = bytes;
-    for _ in 0..u64::MAX {
-        let count = file.read(&mut buffer)?;
-        if count == 0 {
-            return Ok(rest.is_empty());
-        }
-        match rest.strip_prefix(&buffer[..count]) {
-            Some(after) => rest = after,
-            None => return Ok(false),
-        }
+// Where the text of this name lies, if that is a regular file.
+fn place_of(rt: &HostRuntime, name: &str) -> io::Result<Option<PathBuf>> {
+    match destination_of(rt, name)? {
+        Destination::File(place, Some(_)) => Ok(Some(place)),
+        Destination::File(_, None) | Destination::Other => Ok(None),
     }
-    Ok(false)
 }
 
 // Removes a temporary file. A fault in it changes nothing.
@@ -155,7 +141,14 @@ impl<'a> Mover for SystemMover<'a> {
     ghost failing = { λ _. true };
 
     fn holds(&self, name: &str, bytes: &[u8]) -> bool {
-        matches!(is_same(self.rt, name, bytes), Ok(true))
+        let Ok(Some(place)) = place_of(self.rt, name) else {
+            return false;
+        };
+        let opener = SystemOpener::new(self.rt);
+        matches!(
+            holds_text(&opener, place.as_path().as_str(), bytes),
+            Ok(true)
+        )
     }
 
     fn start(&mut self, name: &str) -> Result<(), Fault> {

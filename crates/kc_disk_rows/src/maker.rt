@@ -1,5 +1,5 @@
 //! A maker of files in memory, of which a call of choice fails.
-ghost use Rattle.std.specs.Prelude.{◌≡◌, ◌<◌, ◌≤◌, ◌++◌, [], true, false, length, take, string_bytes, Some, IfOk, OnOk, OnErr};
+ghost use Rattle.std.specs.Prelude.{◌≡◌, ◌<◌, ◌≤◌, ◌++◌, [], true, length, take, string_bytes, Some, IfOk, OnOk, OnErr};
 
 use kc_conf::Output;
 use kc_disk::Maker;

@@ -1,6 +1,6 @@
 //! Places in memory, and files that are moved there.
-ghost use Rattle.std.specs.Prelude.{◌≡◌, [], true, None, Some, map, option_map, string_bytes, IfOk, OnOk, OnErr};
-ghost use Rattle.kc_disk.specs.Movers.{IsClear, put_all};
+ghost use Rattle.std.specs.Prelude.{◌≡◌, true, Some, option_map, string_bytes, IfOk};
+ghost use Rattle.kc_disk.specs.Movers.{IsClear};
 
 use kc_disk::Mover;
 use kc_dot::Fault;
@@ -42,7 +42,7 @@ fn made(alloc: Global, name: &str, bytes: &[u8]) -> Result<HeldFile, AllocError>
 }
 
 impl MemoryMover {
-    ghost use Rattle.kc_disk_rows.specs.Memory.{nothing_held, places_by, text_by};
+    ghost use Rattle.kc_disk_rows.specs.Memory.{places_by};
 
     /// Places that hold these files, beside which nothing stands.
     pub(crate) fn new(

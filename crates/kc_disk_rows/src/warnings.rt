@@ -135,6 +135,16 @@ const OF_VALUES: &[Row] = &[
         ..REFUSED
     },
     Row {
+        name: "E21 behind two warnings of a stream, each in a write of its own",
+        arguments: "--strict Kconfig x.cfg",
+        streams: &[
+            (".config", b"CONFIG_Q=y\n"),
+            ("x.cfg", b"\nCONFIG_OLD_DRIVER=y\n"),
+        ],
+        notes: b".config:1: warning K7: unknown symbol Q\nx.cfg:2: warning K7: unknown symbol OLD_DRIVER\nerror E21: warnings are refused\n",
+        ..REFUSED
+    },
+    Row {
         name: "nothing is refused without a warning",
         arguments: "--strict Kconfig",
         ..DONE

@@ -19,7 +19,7 @@ Exit status:
   0  done: every file is whole
   1  the tree was refused, a .config line is too long, or --strict refused a warning: no file was begun
   2  the command line is wrong
-  3  a device failed or there was no memory: what was begun holds a beginning
+  3  a device failed or there was no memory: what was begun holds a beginning or, with --replace, is as it was
 
 Read on: man kconf; docs/formats.md has each message, its cause and what to do";
 
@@ -65,11 +65,13 @@ const PREFIX: OptionTexts = OptionTexts {
     help: "What stands before each symbol's name [default: CONFIG_]",
 };
 
-const MUST_EXIST: &str = "Refuse to run where the file of --config does not exist";
+const MUST_EXIST: &str =
+    "Fail with E18, once the tree is accepted, where the file of --config does not exist";
 
 const STRICT: &str = "Refuse to write where any warning was told";
 
-const WARN_LOST: &str = "Warn of each value read that is not the symbol's value";
+const WARN_LOST: &str =
+    "Warn of each value read of a symbol with a prompt that is not the symbol's value";
 
 const REPLACE: &str = "Replace each file in one step, at the end and only where its text changes";
 

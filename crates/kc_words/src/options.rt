@@ -1,6 +1,6 @@
 //! What is asked of a run, by the words of its command line.
 
-ghost use Rattle.std.specs.Prelude.{◌≡◌, [], IfOk, IfErr, map, option_map, string_bytes, unwrap_or, codes, true};
+ghost use Rattle.std.specs.Prelude.{◌≡◌, [], IfOk, IfErr, map, option_map, string_bytes, unwrap_or, true};
 ghost use Rattle.clap.specs.Words.{takes, rows_of, found_of, kind_of, first_of, all_of, fault_of};
 ghost use Rattle.kc_dot.specs.Prefixes.{is_prefix};
 ghost use Rattle.kc_words.specs.Fields.{AreOptionsOf, is_given, asked_prefix};

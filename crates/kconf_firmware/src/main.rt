@@ -29,6 +29,9 @@ const REPLACES: [&str; 5] = [
     "--replace --config start.config --out kept.config Kconfig none.cfg",
 ];
 
+// Words that ask for no run.
+const ANSWERS: [&str; 2] = ["--help", "--version"];
+
 // Which file lies in a place, and when it was written.
 #[derive(Clone, Copy, PartialEq)]
 struct Placed {
@@ -89,6 +92,25 @@ fn replace(rt: &HostRuntime) -> io::Result<()> {
     println!(rt; "kept.config is plain.config: {is_plain}")
 }
 
+// Runs with --replace on a place that holds half of its text, and then on one that holds its text and a byte more: each time
+// another file takes it.
+fn replace_other_texts(rt: &HostRuntime) -> io::Result<()> {
+    let whole = fs::read(rt, "full.config")?;
+    let half = whole.len() / 2;
+    let longer = format!(in rt.alloc(); "{}\n", fs::read_to_string(rt, "full.config")?)?;
+    for text in [&whole[..half], longer.as_bytes()] {
+        fs::write(rt, "kept.config", text)?;
+        let before = file_in(rt, "kept.config")?;
+        run(rt, REPLACES[0])?;
+        let is_same = file_in(rt, "kept.config")? == before;
+        let is_whole = fs::read(rt, "kept.config")? == whole;
+        println!(rt;
+            "kept.config is the file that it was: {is_same}, and full.config: {is_whole}"
+        )?;
+    }
+    Ok(())
+}
+
 fn main(rt: HostRuntime) -> io::Result<()> {
     run(
         &rt,
@@ -131,9 +153,14 @@ fn main(rt: HostRuntime) -> io::Result<()> {
         "--root rows --config rows/lost.config --out bad.config --strict --warn-lost Kconfig",
     )?;
     replace(&rt)?;
+    replace_other_texts(&rt)?;
     for line in WITHOUT_FILES {
         run(&rt, line)?;
     }
     let is_there = fs::exists(&rt, "bad.config")?;
-    println!(rt; "bad.config is there: {is_there}")
+    println!(rt; "bad.config is there: {is_there}")?;
+    for line in ANSWERS {
+        run(&rt, line)?;
+    }
+    Ok(())
 }

@@ -4,10 +4,10 @@ use Rattle.std.proofs.lemmas.List.{length-take-le}
 use Rattle.kc_disk.proofs.StreamLemmas.{reads_within-more, endless-of, or-right}
 use Rattle.kc_disk.proofs.input.FileInputInput.read.Goals as goal
 
-pub invariant_of-self-clause-fails : goal.invariant_of-self-clause-fails
-invariant_of-self-clause-fails g c = λ some.
+pub returns-then-self-ge-MOST_READS-clause-fault : goal.returns-then-self-ge-MOST_READS-clause-fault
+returns-then-self-ge-MOST_READS-clause-fault g c =
     let s = c.args.self.now in
-    s.may_fail_known (or-right _ _ (endless-of g.P.Opener.rest (g.P.Opener.files s.opener.now) s.name.now s.stage s.reads c.if-self-ge-MOST_READS.true s.reads_within))
+    or-right _ _ (endless-of g.P.Opener.rest (g.P.Opener.files s.opener.now) s.name.now s.stage s.reads c.if-self-ge-MOST_READS.true s.reads_within)
 
 pub invariant_of-self-then-count-gt0-clause-reads_within : goal.invariant_of-self-then-count-gt0-clause-reads_within
 invariant_of-self-then-count-gt0-clause-reads_within g c =

@@ -1,19 +1,15 @@
 -- What is taken of the notes waits until its line ends.
-use Rattle.std.proofs.Common.{◌≡◌, ◌<◌, false, length, rules, take, sym, ◌∙◌}
-use Rattle.std.proofs.lemmas.List.{length-take-le}
-use Rattle.kc_disk.specs.Lines.{ends_line}
+use Rattle.std.proofs.Common.{rules, sym, ◌∙◌}
 use Rattle.kc_disk.proofs.KeptLemmas.{kept-told}
-use Rattle.kc_disk.proofs.LineLemmas.{ends-chunk, noted-none, noted-states, noted-some}
-use Rattle.kc_disk.proofs.outputs.FileOutputs.note.Goals as goal
+use Rattle.kc_disk.proofs.LineLemmas.{noted-none, noted-states, noted-some, waits-on}
+use Rattle.kc_disk.proofs.outputs.FileOutputs.note_line.Goals as goal
 
 pub invariant_of-self-then-not-ends_with-clause-line_waits : goal.invariant_of-self-then-not-ends_with-clause-line_waits
 invariant_of-self-then-not-ends_with-clause-line_waits g c = λ none.
-    let count = c.in-Ok.count in
-    let text = c.args.bytes.now in
-    let counted = length-take-le count text c.in-Ok.ensures.within in
-    let some : 0 < length (take count text) = rw counted c.in-Ok.ensures.some in
-    let not : ends_line (take count text) ≡ false = sym c.ends_with.ensures.value ∙ c.if-not-ends_with.true in
-    rw c.in-Ok.ensures.ok.2 (ends-chunk c.in-Ok.ensures.ok.0 (take count text) some not)
+    let s = c.args.self.now in
+    let took = c.in-Ok.ensures.ok in
+    waits-on s.line.bytes.items took.1.0 took.0 c.args.bytes.now _ c.in-Ok.count (s.line_waits none) took.1.1 took.2 c.in-Ok.ensures.within c.requires.one_line
+    (sym c.ends_with.ensures.value ∙ c.if-not-ends_with.true)
 
 pub returns-in-0-clause-err : goal.returns-in-0-clause-err
 returns-in-0-clause-err g c =

@@ -1,0 +1,7 @@
+-- The words so far.
+use Rattle.std.proofs.Common.{◌≡◌, ◌++◌}
+use Rattle.std.specs.Vec.Iter.{into_iter_items}
+use Rattle.kc_disk.proofs.arguments.after_name.Given as goal
+
+abbrev pub invariant-loop-word : goal.invariant-loop-word
+invariant-loop-word l = l.arguments.items ++ into_iter_items l.word-iterator ≡ into_iter_items l.initial.word-iterator
