@@ -1,6 +1,5 @@
 //! Orders and loops, worked by hand.
 
-
 use kc_order::{
     Graph, NoOrder, Order, accepted_have_one_solution, computing_solves, cycles_are_unordered,
     minimal_has_nothing_to_spare, minimal_restores, named_loop_goes_round, named_loop_is_within,
