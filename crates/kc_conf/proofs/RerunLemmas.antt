@@ -1,5 +1,5 @@
 -- What a run's texts give when they are read again.
-use Rattle.std.proofs.Common.{◌≡◌, ℕ, ◌<◌, Bool, true, false, List, [], ◌∷◌, ◌++◌, length, Option, Some, None, refl, ap, sym, ◌∙◌, subst, slice_get, map}
+use Rattle.std.proofs.Common.{◌≡◌, ℕ, ◌<◌, ◌↔◌, Bool, true, false, List, [], ◌∷◌, ◌++◌, length, Option, Some, None, refl, ap, sym, ◌∙◌, subst, slice_get, map}
 use Rattle.std.specs.Prelude.{string_bytes, slice_index_or}
 use Rattle.kc_expr.specs.Value.{SymbolValue, TextValue}
 use Rattle.kc_expr.specs.declared.expression.Kind.TheVariants.{Undefined}
@@ -10,9 +10,11 @@ use Rattle.kc_build.specs.Trees.{TreesAreWellFormed}
 use Rattle.kc_user.specs.GivenValue.{GivenValue, UserPlace}
 use Rattle.kc_user.specs.Places.{ArePlaces, Places, no_places, place_at}
 use Rattle.kc_order.specs.Solution.{Solves}
+use Rattle.kc_values.specs.Differs.{changes_on_reread}
 use Rattle.kc_values.specs.Solution.{equations, symbol_count}
 use Rattle.kc_solve.specs.Solved.{Solution, value_of}
 use Rattle.kc_dot.specs.Laws.{ConfigIsIdempotent, HasShortLines, IsSolutionOf, MinimalHasNothingToSpare, MinimalRestores, WrittenTextsAreShort}
+use Rattle.kc_dot.specs.Plain.{HasPlainTitles}
 use Rattle.kc_dot.specs.Reading.{ReadResult, reading_of}
 use Rattle.kc_dot.specs.Reread.{IsOneSolution, read_alone, valuation_view}
 use Rattle.kc_dot.specs.SolvedView.{solution_view}
@@ -24,7 +26,7 @@ use Rattle.kc_conf.specs.declared.options.Options.{Options}
 use Rattle.kc_conf.specs.Outcome.{IsAcceptedTree, IsLenientOutcome, IsOutcomeOfReading, IsRefusedTree, IsSolutionFor, OneAnswer, Outcome, accepted_tree, lines_text, long_line, names_of, noted, outcome_of, read_of, refused_tree, root_file, streams, strictly, text_if, whole, with_rule}
 use Rattle.kc_conf.proofs.OutcomeLemmas.{strictly-config, strictly-minimal, strictly-off}
 use Rattle.kc_conf.proofs.RuleLemmas.{rule-config, rule-minimal}
-use Rattle.kc_conf.specs.Reruns.{AreAlone, ConfigIsReadAgain, RefusesNothing, MinimalIsReadAgain, MinimalIsRunAgain, TextsHaveShortLines, WrittenAreWhole}
+use Rattle.kc_conf.specs.Reruns.{AreAlone, ConfigIsReadAgain, OutcomesAreReadAgain, RefusesNothing, MinimalIsReadAgain, MinimalIsRunAgain, TextsHaveShortLines, WrittenAreWhole}
 
 -- ---- what is written is of a whole run
 
@@ -57,6 +59,13 @@ written_whole files options all outcome text (lenient, opened, is_lenient, are, 
 
 -- ---- the texts read again
 
+some_is : (text found : List ℕ) → Some text ≡ Some found → text ≡ found
+some_is text found e = cc
+
+text_if_is : {T : Type 0} → (o : Option T) (text found : List ℕ) → text_if o text ≡ Some found → text ≡ found
+text_if_is None text found e = cc
+text_if_is (Some x) text found e = cc
+
 module _ (formed : TreesAreWellFormed) (leaves : StreamsLeavePlaces) (files : Files) (options : Options) (all : List (List ℕ)) (tree : TreeFacts)
     (solution : Solution) (is : RefusesNothing files options all tree solution) where
   abbrev read_places : Places
@@ -83,6 +92,34 @@ texts_short formed leaves short files options all tree solution is_pre is =
     subst (λ (f : TreeFacts). let t = valuation_view f (place_at solution.places) (value_of solution) in HasShortLines (config_text tree options.prefix t)
     × HasShortLines (minimal_text tree options.prefix t))
     (sym is.solution_is.tree_is) (short tree options.prefix solution.places (value_of solution) is_pre (whole_solution formed leaves files options all tree solution is))
+
+-- the same of an outcome's texts
+pub outcomes_read_again : WrittenAreWhole → MinimalIsReadAgain → ConfigIsReadAgain → TextsHaveShortLines → OutcomesAreReadAgain
+outcomes_read_again written minimals configs shorts files options all outcome config is_pre is_outcome there =
+    let (tree, solution, is, (opened, are, from)) = written files options all outcome config is_outcome there in
+    let part : Outcome = noted (lines_text tree.warnings) (noted (read_of options tree all).warned (outcome_of options tree solution)) in
+    let view : valuation_view tree (place_at solution.places) (value_of solution) ≡ solution_view solution =
+    ap (λ (f : TreeFacts). valuation_view f (place_at solution.places) (value_of solution)) (sym is.solution_is.tree_is) in
+    let short = shorts files options all tree solution is_pre is in
+    let config_is : config_text tree options.prefix (solution_view solution) ≡ config =
+    some_is _ config (sym (ap (λ (o : Outcome). o.config) from ∙ rule-config options opened part) ∙ there) in (
+      tree,
+      solution,
+      is,
+      subst (λ t. HasShortLines t) config_is short.0,
+      λ minimal wanted.
+          let minimal_is : minimal_text tree options.prefix (solution_view solution) ≡ minimal =
+          text_if_is options.minimal _ minimal (sym (ap (λ (o : Outcome). o.minimal) from ∙ rule-minimal options opened part) ∙ wanted) in (
+            subst (λ t. HasShortLines t) minimal_is short.1,
+            λ name. subst (λ t. let r = read_alone tree options.prefix name t in (r.stopped ≡ None) × IsOneSolution tree r.places (value_of solution))
+                (ap (minimal_text tree options.prefix) view ∙ minimal_is) ((minimals files options all tree solution is_pre is).0 name),
+          ),
+      λ plain titles name.
+          subst (λ t. let r = read_alone tree options.prefix name t in (r.stopped ≡ None)
+          × (IsOneSolution tree r.places (value_of solution) ↔ ((i : ℕ) → i < symbol_count tree → changes_on_reread tree (value_of solution) i ≡ false)))
+          (ap (config_text tree options.prefix) view ∙ config_is)
+          (configs files options all tree solution is_pre is plain (subst (HasPlainTitles tree options.prefix) (sym view) titles) name),
+    )
 
 -- ---- a run on the minimal file alone
 
@@ -128,10 +165,6 @@ config_same tree prefix s t a b values =
     ∙ text_same tree prefix (place_at s.places) (place_at t.places) (value_of s)
     ∙ ap (λ vs. config_text tree prefix (valuation_view tree (place_at t.places) (valued vs))) values
     ∙ ap (λ (f : TreeFacts). config_text tree prefix (valuation_view f (place_at t.places) (value_of t))) (sym b)
-
-text_if_is : {T : Type 0} → (o : Option T) (text found : List ℕ) → text_if o text ≡ Some found → text ≡ found
-text_if_is None text found e = cc
-text_if_is (Some x) text found e = cc
 
 minimal_whole : (files : Files) (options : Options) (all : List (List ℕ)) (outcome : Outcome) (text : List ℕ) → IsLenientOutcome files options all outcome →
     outcome.minimal ≡ Some text → Values files options all outcome

@@ -1,11 +1,15 @@
 -- Trusted: What the texts that a run writes give when they are read again.
-use Rattle.std.specs.Prelude.{◌≡◌, ℕ, List, [], ◌∷◌, Some, None, true, false}
+use Rattle.std.specs.Prelude.{◌≡◌, ℕ, ◌<◌, ◌↔◌, List, [], ◌∷◌, Some, None, true, false}
 use Rattle.kc_make.specs.Opened.{AreOpened}
 use Rattle.kc_read.specs.Files.{Files}
 use Rattle.kc_tree.specs.TreeFacts.{TreeFacts}
+use Rattle.kc_values.specs.Differs.{changes_on_reread}
+use Rattle.kc_values.specs.Solution.{symbol_count}
 use Rattle.kc_solve.specs.Solved.{Solution, value_of}
 use Rattle.kc_dot.specs.Laws.{ConfigGivesBack, HasShortLines, MinimalGivesBack, MinimalNeedsEach}
+use Rattle.kc_dot.specs.Plain.{HasPlainNumbers, HasPlainTitles}
 use Rattle.kc_dot.specs.Prefixes.{is_prefix}
+use Rattle.kc_dot.specs.Reread.{IsOneSolution, read_alone}
 use Rattle.kc_dot.specs.SolvedView.{solution_view}
 use Rattle.kc_dot.specs.Texts.{config_text, minimal_text}
 use Rattle.kc_conf.specs.declared.options.Options.{Options}
@@ -45,6 +49,22 @@ TextsHaveShortLines =
     (files : Files) (options : Options) (all : List (List ℕ)) (tree : TreeFacts) (solution : Solution) → is_prefix options.prefix ≡ true →
     RefusesNothing files options all tree solution → HasShortLines (config_text tree options.prefix (solution_view solution))
     × HasShortLines (minimal_text tree options.prefix (solution_view solution))
+
+-- The texts of an outcome, each read alone and from empty places: no line of them is too long, the minimal file gives the
+-- values back, and the .config does exactly where the rule says.
+abbrev pub OutcomesAreReadAgain : Type 0
+OutcomesAreReadAgain =
+    (files : Files) (options : Options) (all : List (List ℕ)) (outcome : Outcome) (config : List ℕ) → is_prefix options.prefix ≡ true →
+    IsOutcome files options all outcome → outcome.config ≡ Some config →
+    (tree : TreeFacts) × (solution : Solution) × RefusesNothing files options all tree solution
+    × HasShortLines config
+    × ((minimal : List ℕ) → outcome.minimal ≡ Some minimal → HasShortLines minimal × ((name : List ℕ) →
+    let read = read_alone tree options.prefix name minimal in
+    (read.stopped ≡ None) × IsOneSolution tree read.places (value_of solution)))
+    × (HasPlainNumbers tree (value_of solution) → HasPlainTitles tree options.prefix (solution_view solution) → (name : List ℕ) →
+    let read = read_alone tree options.prefix name config in
+    (read.stopped ≡ None)
+    × (IsOneSolution tree read.places (value_of solution) ↔ ((i : ℕ) → i < symbol_count tree → changes_on_reread tree (value_of solution) i ≡ false)))
 
 -- options with the same root file and prefix, and without fragments
 pub record AreAlone (options alone : Options) : Type 0 where

@@ -1,7 +1,7 @@
 //! What holds of the outcomes of runs, stated as the contracts of functions that do nothing.
 ghost use Rattle.kc_conf.specs.Existence.{AcceptedHaveAnOutcome, AnswerExists, ExactlyOneOutcome, OutcomeExists, SolutionExists};
 ghost use Rattle.kc_conf.specs.Accounted.{NothingIsLost};
-ghost use Rattle.kc_conf.specs.Reruns.{ConfigIsReadAgain, MinimalIsReadAgain, MinimalIsRunAgain, TextsHaveShortLines, WrittenAreWhole};
+ghost use Rattle.kc_conf.specs.Reruns.{ConfigIsReadAgain, MinimalIsReadAgain, MinimalIsRunAgain, OutcomesAreReadAgain, TextsHaveShortLines, WrittenAreWhole};
 
 use crate::runs::{one_answer, one_outcome};
 use kc_build::laws::trees_are_well_formed;
@@ -44,6 +44,16 @@ pub fn texts_are_read_again()
     minimal_gives_back();
     config_is_idempotent();
     written_texts_are_short();
+}
+
+/// The same of the texts of an outcome, each read again alone and from empty places: no line of them is too long; the minimal
+/// file gives the values of the outcome back; and the `.config` does exactly where the rule above says, under its premises.
+/// (Our own.)
+pub fn outcomes_are_read_again()
+    ensures { OutcomesAreReadAgain }
+{
+    written_are_whole();
+    texts_are_read_again();
 }
 
 /// A run on the minimal file alone, with the same files, root file and prefix, which lets warnings pass, writes the

@@ -96,7 +96,7 @@ fn accepted_trees_give_their_texts(rt: HostRuntime) -> Result<(), Fail> {
     for rows in tables() {
         count = count.saturating_add(give_their_texts(&rt, rt.alloc(), rows)?);
     }
-    assert_eq!(rt; count, 43);
+    assert_eq!(rt; count, 45);
     Ok(())
 }
 

@@ -61,6 +61,37 @@ const ROWS: &[Accepted] = &[
         ..ACCEPTED
     },
     Accepted {
+        name: "a title that reads as an unset line unsets nothing where it is hidden",
+        kconfig: b"config B\n\
+            \tbool \"b\"\n\
+            \tdefault y\n\
+            config D\n\
+            \tbool \"d\"\n\
+            comment \"CONFIG_B is not set\"\n\
+            \tdepends on D\n",
+        config: b"CONFIG_B=y\n\
+            # CONFIG_D is not set\n",
+        header: Some(b"#define CONFIG_B 1\n"),
+        minimal: Some(b""),
+        ..ACCEPTED
+    },
+    Accepted {
+        name: "where it is shown, a run on the text unsets the symbol",
+        kconfig: b"config B\n\
+            \tbool \"b\"\n\
+            \tdefault y\n\
+            comment \"CONFIG_B is not set\"\n",
+        config: b"CONFIG_B=y\n\
+            \n\
+            #\n\
+            # CONFIG_B is not set\n\
+            #\n",
+        header: Some(b"#define CONFIG_B 1\n"),
+        minimal: Some(b""),
+        is_idempotent: false,
+        ..ACCEPTED
+    },
+    Accepted {
         name: "a file that is sourced twice",
         kconfig: b"config X\n\
             \tbool \"x\"\n\
