@@ -102,7 +102,8 @@ pub(crate) fn call_feed(alloc: Global) -> Result<CallEnd, AllocError> {
             let ends = reader.finish(&mut user, &mut notes);
             let is_kept = again == Err(DotFault::Memory) && ends == Err(DotFault::Memory);
             let stands = before.is_some() && before == lines_read(&user, &notes);
-            Ok(refused(fault == DotFault::Memory && is_kept && stands))
+            let is_memory = fault == DotFault::Memory && !notes.has_failed();
+            Ok(refused(is_memory && is_kept && stands))
         }
     }
 }
@@ -152,11 +153,14 @@ pub(crate) fn call_solve(alloc: Global) -> Result<CallEnd, AllocError> {
     }
 }
 
-// How a writer ended: with its whole text, or with a beginning of it.
+// How a writer ended: with its whole text, or with a beginning of it. The sink did not fail.
 fn end_of(answer: Result<(), WriteFault>, sink: &MemorySink, text: &[u8]) -> CallEnd {
     match answer {
-        Ok(()) => done(sink.text() == text),
-        Err(fault) => refused(fault == WriteFault::Memory && text.starts_with(sink.text())),
+        Ok(()) => done(!sink.has_failed() && sink.text() == text),
+        Err(fault) => {
+            let is_front = text.starts_with(sink.text());
+            refused(fault == WriteFault::Memory && !sink.has_failed() && is_front)
+        }
     }
 }
 

@@ -97,10 +97,12 @@ pub(crate) fn call_parse(alloc: Global) -> Result<CallEnd, AllocError> {
             let is_whole = part_count(&expression) == 5 && after == tokens.len();
             Ok(done(is_whole && names.count() == 6 && are_numbered(&names, 6)))
         }
-        // Further names may have been added, and none has another number.
-        Err(fault) => Ok(refused(
-            fault == ExprFault::Memory && names.count() >= 2 && are_numbered(&names, 2),
-        )),
+        // Further names of the expression may have been added, each with the next number, and none has another.
+        Err(fault) => {
+            let count = names.count();
+            let is_some_of_six = count >= 2 && count <= 6 && are_numbered(&names, count);
+            Ok(refused(fault == ExprFault::Memory && is_some_of_six))
+        }
     }
 }
 

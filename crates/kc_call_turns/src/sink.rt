@@ -23,6 +23,11 @@ impl MemorySink {
         })
     }
 
+    /// Whether a write failed.
+    pub(crate) fn has_failed(&self) -> bool {
+        self.failures > 0
+    }
+
     /// Its text.
     pub(crate) fn text(&self) -> &[u8] {
         &self.bytes
