@@ -7,7 +7,7 @@ use std::alloc::{AllocError, Global};
 use std::marker::Model;
 
 /// The most bytes of a prefix.
-const LONGEST: usize = 64;
+const LONGEST_PREFIX: usize = 64;
 
 /// What stands before each name, as `CONFIG_`: 0 to 64 of the bytes `A` to `Z`, `a` to `z`, `0` to `9` and `_`, of
 /// which the first is no digit. (Our own rule; the kernel's tools and kconfiglib take any text.)
@@ -62,5 +62,5 @@ fn begins_with_digit(text: &[u8]) -> bool
 fn is_prefix(text: &[u8]) -> bool
     ensures { result ≡ spec.is_prefix text.now }
 {
-    !begins_with_digit(text) && text.len() <= LONGEST && are_name_bytes(text)
+    !begins_with_digit(text) && text.len() <= LONGEST_PREFIX && are_name_bytes(text)
 }
