@@ -1,8 +1,7 @@
 //! What is asked of a run, how it ends, and the names that its error lines tell.
 
-ghost use Rattle.std.specs.Prelude.{◌≡◌, ◌<◌, ◌+◌, length, slice_get, Some};
+ghost use Rattle.std.specs.Prelude.{◌≡◌, ◌<◌, Some};
 ghost use Rattle.kc_conf.specs.Faults.{name_of, stream_name};
-ghost use Rattle.kc_conf.specs.Outcome.{names_of};
 
 use crate::outputs::Output;
 use kc_dot::prefix::Prefix;

@@ -1,6 +1,5 @@
 //! Where the files and the diagnostics go.
-ghost use Rattle.std.specs.Prelude.{◌≡◌, ◌<◌, ◌≤◌, List, ℕ, Option, length, take, IfOk, OnOk, OnErr, flat_map};
-ghost use Rattle.kc_dot.specs.Sink.{extended, next_failure};
+ghost use Rattle.std.specs.Prelude.{◌≡◌, ◌<◌, ◌≤◌, length, take, IfOk, OnOk, OnErr, flat_map};
 ghost use Rattle.kc_conf.specs.OutputStates.{OutputStates, at, with_state, begun, ended, failed, grown, ChangesOnly, BreaksOutput};
 ghost use Rattle.kc_conf.specs.ChangeLemmas.{ChangesOnly-same, ChangesOnly-only};
 ghost use Rattle.std.proofs.Common.{refl, ◌∙◌};

@@ -1,8 +1,8 @@
 //! Reads the streams, in whatever pieces they come.
-ghost use Rattle.std.specs.Prelude.{◌≡◌, ◌<◌, ◌+◌, ◌∷◌, [], true, length, map, None, IfOk, OnOk, IfErr, OnErr};
+ghost use Rattle.std.specs.Prelude.{◌≡◌, ◌<◌, ◌+◌, true, length, map, None, IfOk, OnOk, IfErr, OnErr};
 ghost use Rattle.std.specs.Option.{option_map};
 ghost use Rattle.kc_user.specs.Places.{ArePlacesOf};
-ghost use Rattle.kc_dot.specs.Feeding.{Feeds, Refuses, Finishes, FailsToEnd, fed, stream_start, failures_after};
+ghost use Rattle.kc_dot.specs.Feeding.{Feeds, Refuses, Finishes, FailsToEnd, stream_start, failures_after};
 ghost use Rattle.kc_conf.specs.Faults.{CountsInputs, StrikesNotes};
 ghost use Rattle.kc_conf.specs.Outcome.{names_of};
 ghost use Rattle.kc_conf.specs.Presence.{MayStrike};

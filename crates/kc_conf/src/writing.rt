@@ -1,10 +1,9 @@
 //! The files of a solution.
-ghost use Rattle.std.specs.Prelude.{◌≡◌, List, ℕ, Some, map, string_bytes, OnOk, IfErr, IfOk};
+ghost use Rattle.std.specs.Prelude.{◌≡◌, List, ℕ, Some, OnOk, IfErr, IfOk};
 ghost use Rattle.kc_dot.specs.SolvedView.{solution_view};
 ghost use Rattle.kc_dot.specs.Texts.{config_text, header_text, minimal_text};
 ghost use Rattle.kc_make.specs.Opened.{AreOpened};
 ghost use Rattle.kc_read.specs.Files.{bytes_in};
-ghost use Rattle.kc_solve.specs.Solved.{Solution};
 ghost use Rattle.kc_conf.specs.Faults.{files_made, BreaksFile, BreaksFiles, IsNoInputFault, after_fault, write_fault};
 ghost use Rattle.kc_conf.specs.Outcome.{depfile_text, outcome_of, root_file, text_if};
 ghost use Rattle.kc_conf.specs.OutputStates.{at, ended, made_if, with_state};
