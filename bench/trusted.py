@@ -15,7 +15,7 @@ import sys
 
 TOP = os.path.dirname(os.path.dirname(os.path.abspath(__file__)))
 # The calls that a user of the program rests on: the run, the laws over runs (all of that room), the program.
-RUN = {("kc_conf", "runs"): {"run"}, ("kc_conf", "laws"): None, ("kc_disk", "program"): {"kconf_over", "kconf_of", "exit_status"}}
+RUN = {("kc_conf", "runs"): {"run"}, ("kc_conf", "laws"): None, ("kc_disk", "program"): {"kconf", "kconf_of", "kconf_over", "exit_status"}}
 HEADS = {"-- Trusted: ": True, "-- For proofs: ": False}
 WORD = re.compile(r"[A-Za-z_][\w'«»-]*(?:\.[A-Za-z_0-9][\w'-]*)*")
 
