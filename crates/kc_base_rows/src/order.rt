@@ -2,8 +2,8 @@
 
 use kc_order::{
     Graph, NoOrder, Order, accepted_have_one_solution, computing_solves, cycles_are_unordered,
-    minimal_has_nothing_to_spare, minimal_restores, named_loop_goes_round, named_loop_is_within,
-    one_named_loop, order_of, ordered_are_accepted, rounds_solve, solutions_agree,
+    minimal_has_nothing_to_spare, minimal_restores, named_loop_is_closed, named_loop_is_within,
+    one_named_loop, order_of, ordered_are_accepted, iterations_solve, solutions_agree,
 };
 use std::alloc::{AllocError, Global};
 use std::test::Fail;
@@ -176,13 +176,13 @@ fn many_members_share_a_long_row(rt: HostRuntime) -> Result<(), Fail> {
 fn laws_hold_of_bytes(_rt: HostRuntime) -> Result<(), Fail> {
     ordered_are_accepted();
     cycles_are_unordered();
-    named_loop_goes_round();
+    named_loop_is_closed();
     named_loop_is_within();
     one_named_loop();
     accepted_have_one_solution::<u8>();
     solutions_agree::<u8>();
     computing_solves::<u8>();
-    rounds_solve::<u8>();
+    iterations_solve::<u8>();
     minimal_restores::<u8, usize, u8>();
     minimal_has_nothing_to_spare::<u8, usize, u8>();
     Ok(())

@@ -33,7 +33,7 @@ use Rattle.kc_build.specs.WalkResult.{IsEntryThere, IsTitleThere}
 use Rattle.kc_build.specs.Stacks.{AreTitlesWithin, block_facts_at, block_view}
 use Rattle.kc_build.specs.Walks.{Enters, place_after}
 use Rattle.kc_build.specs.declared.blocks.BlockScope.{BlockScope}
-use Rattle.kc_build.specs.declared.entries.Walk.{Walk}
+use Rattle.kc_build.specs.declared.entries.EntryWalk.{EntryWalk}
 use Rattle.kc_build.proofs.CloserLemmas.{extends_equal, no_fewer}
 use Rattle.kc_build.proofs.DefineLemmas.{by_asked, prompt_by_line, line_prompt, prompt_visible}
 use Rattle.kc_build.proofs.GrownLemmas.{AreKept, Extends, carries_grown, choice_extends, further, get_front, get_pushed_if, grown_push, kept_by, kept_carries, map_alike, open_extends, plain_carries, plain_extends, pushed}
@@ -240,7 +240,7 @@ module _ (symbols : List Symbol) (k : ℕ) (c : Condition) where
   defaults_rows (d ∷ ds) = rw (defaults_rows ds) refl
 
 -- A choice.
-pub record IsRest (old new : Walk) : Type 0 where
+pub record IsRest (old new : EntryWalk) : Type 0 where
   pub definitions : new.tables.definitions ≡ old.tables.definitions
   pub defaults : new.tables.defaults ≡ old.tables.defaults
   pub ranges : new.tables.ranges ≡ old.tables.ranges
@@ -249,7 +249,7 @@ pub record IsRest (old new : Walk) : Type 0 where
   pub entries : new.tables.entries ≡ old.tables.entries
   pub main_menu : new.main_menu ≡ old.main_menu
 
-module _ (symbols : List Symbol) (own : List Numbered) (old new : Walk) (rest : IsRest old new) (middle : List Condition) (c : Choice) (b : BlockScope) (number id : ℕ) where
+module _ (symbols : List Symbol) (own : List Numbered) (old new : EntryWalk) (rest : IsRest old new) (middle : List Condition) (c : Choice) (b : BlockScope) (number id : ℕ) where
   abbrev block_outside : BlockScope
   block_outside = old.blocks.innermost
 
@@ -342,7 +342,7 @@ module _ (symbols : List Symbol) (own : List Numbered) (old new : Walk) (rest : 
       refl
 
 -- The tables with the row of a choice that was made in the innermost block.
-pub kept_row : (w : Walk) (b : BlockScope) (middle : List Condition) (n : ℕ) (r : Bool) (row : Choice) (new : List Choice) (fs : List Form) (x : Option (InputPrompt Form)) →
+pub kept_row : (w : EntryWalk) (b : BlockScope) (middle : List Condition) (n : ℕ) (r : Bool) (row : Choice) (new : List Choice) (fs : List Form) (x : Option (InputPrompt Form)) →
     b ≡ w.blocks.innermost → IsGrown w.tables.contexts middle (condition_in w.tables.contexts b.within.0).mode n →
     Stands middle row.within.0 (with_parts (condition_in w.tables.contexts b.within.0) fs) → IsPlain w.tables.contexts w.blocks.innermost.within.0 →
     option_map prompt_line row.prompt ≡ option_map (λ (p : InputPrompt Form). (b.visible.0, p.when)) x → new ≡ pushed r w.tables.choices.items row →

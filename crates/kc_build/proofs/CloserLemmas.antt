@@ -17,7 +17,7 @@ use Rattle.kc_build.specs.WalkResult.{IsEntryThere, IsTitleThere}
 use Rattle.kc_build.specs.Stacks.{AreOpen, IsClosed}
 use Rattle.kc_build.specs.Walks.{Enters}
 use Rattle.kc_build.specs.WalkSteps.{ends_of}
-use Rattle.kc_build.specs.declared.entries.Walk.{Walk}
+use Rattle.kc_build.specs.declared.entries.EntryWalk.{EntryWalk}
 use Rattle.kc_build.proofs.BlockLemmas.{last_is_nested}
 use Rattle.kc_build.proofs.GrownLemmas.{Extends, carries_same, extends}
 use Rattle.kc_build.proofs.ListLemmas.{count_next}
@@ -45,7 +45,7 @@ no_fewer p k n h =
     subst (λ (m : ℕ). count_by p (numbers k) ≤ count_by p (numbers m)) z (counted_more p k (n - k))
 
 -- The end of an `if` or of a choice.
-pub closer_enters : (head : Numbered) (old new : Walk) → bracket head ≡ Closes → symbol_of (Some head) ≡ None → title_of head ≡ None →
+pub closer_enters : (head : Numbered) (old new : EntryWalk) → bracket head ≡ Closes → symbol_of (Some head) ≡ None → title_of head ≡ None →
     ((ss : List Numbered) (i : ℕ) → entry_at ss i (Some head) ≡ None) → AreSame old new → new.tables.contexts ≡ old.tables.contexts → new.main_menu ≡ old.main_menu →
     IsClosed old.blocks new.blocks → (symbols : List Symbol) (own : List Numbered) → Enters symbols head own old new
 closer_enters head old new b none untitled no_entry same contexts menu closed symbols own ss i a h w =
@@ -58,7 +58,7 @@ closer_enters head old new b none untitled no_entry same contexts menu closed sy
 
 -- The end of a menu.
 module _ (ss : List Numbered) where
-  shown_end : (w : Walk) (o : Option ℕ) → map (shown_of w.tables) (ends_of (option_map (entry_number ss) o)) ≡ cons_option (option_map (λ j. EndShown (entry_number ss j)) o) []
+  shown_end : (w : EntryWalk) (o : Option ℕ) → map (shown_of w.tables) (ends_of (option_map (entry_number ss) o)) ≡ cons_option (option_map (λ j. EndShown (entry_number ss j)) o) []
   shown_end w None = refl
   shown_end w (Some k) = refl
 
@@ -74,7 +74,7 @@ module _ (ss : List Numbered) where
       let fewer = no_fewer (λ j. is_entry ss j (slice_get ss j)) k i (omega arith) in
       All-cons (IsEntryThere m n) (entry.End (entry_number ss k)) [] (omega arith) (All-nil (IsEntryThere m n))
 
-pub end_enters : (old new : Walk) → AreRest old new → new.tables.contexts ≡ old.tables.contexts → new.tables.titles ≡ old.tables.titles →
+pub end_enters : (old new : EntryWalk) → AreRest old new → new.tables.contexts ≡ old.tables.contexts → new.tables.titles ≡ old.tables.titles →
     new.tables.entries.items ≡ old.tables.entries.items ++ ends_of old.blocks.innermost.entry → IsClosed old.blocks new.blocks → (symbols : List Symbol) (own : List Numbered) →
     Enters symbols EndMenuLine own old new
 end_enters old new r contexts titles entries closed symbols own ss i a h w =

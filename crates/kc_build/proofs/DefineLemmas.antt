@@ -27,7 +27,7 @@ use Rattle.kc_tree.specs.Layouts.{definition_facts, prompt_view, default_view, r
 use Rattle.kc_tree.specs.Spans.{slice_of}
 use Rattle.kc_tree.specs.TreeFacts.{Condition}
 use Rattle.kc_build.specs.declared.blocks.BlockScope.{BlockScope}
-use Rattle.kc_build.specs.declared.entries.Walk.{Walk}
+use Rattle.kc_build.specs.declared.entries.EntryWalk.{EntryWalk}
 use Rattle.kc_build.specs.EntryLines.{default_line, default_row, prompt_line, range_line, range_row}
 use Rattle.kc_build.specs.Facts.{prompt_of, depends_form}
 use Rattle.kc_build.specs.Growth.{IsGrown, Stands}
@@ -93,7 +93,7 @@ fewer {A} {B} f (x ∷ xs) = by (f x) (fewer f xs)
     by (Some y) h = omega arith
 
 -- What the walk keeps with one definition more.
-module _ (w : Walk) (new : List Condition) (g : Carries w.tables.contexts new) (d : Definition) (l : d.within.0 < length new)
+module _ (w : EntryWalk) (new : List Condition) (g : Carries w.tables.contexts new) (d : Definition) (l : d.within.0 < length new)
     (q : (p : EntryPrompt) → d.prompt ≡ Some p → p.visible.0 ≡ w.blocks.innermost.visible.0) where
   kept : AreKept new w.tables.definitions.items w.tables.choices.items w.tables.titles.items
   kept = kept_carries w.tables.contexts new g w.tables.definitions.items w.tables.choices.items w.tables.titles.items w.titles (kept_by w.tables)
@@ -140,7 +140,7 @@ module _ (w : Walk) (new : List Condition) (g : Carries w.tables.contexts new) (
   )
 
 -- A row of a definition, as its parts were made.
-pub record IsMade (symbol : SymId) (own : List Numbered) (old new : Walk) (d : Definition) : Type 0 where
+pub record IsMade (symbol : SymId) (own : List Numbered) (old new : EntryWalk) (d : Definition) : Type 0 where
   pub contexts : IsGrown old.tables.contexts new.tables.contexts (condition_in old.tables.contexts old.blocks.innermost.within.0).mode (length own)
   pub pushed_is : new.tables.definitions.items ≡ old.tables.definitions.items ++ d ∷ []
   pub symbol_is : d.symbol ≡ symbol
@@ -160,11 +160,11 @@ pub record IsMade (symbol : SymId) (own : List Numbered) (old new : Walk) (d : D
   pub main_menu : new.main_menu ≡ old.main_menu
 
 -- contexts that an entry adds
-pub entry_carries : (w : Walk) (new : List Condition) (n : ℕ) → IsGrown w.tables.contexts new (condition_in w.tables.contexts w.blocks.innermost.within.0).mode n → Carries w.tables.contexts new
+pub entry_carries : (w : EntryWalk) (new : List Condition) (n : ℕ) → IsGrown w.tables.contexts new (condition_in w.tables.contexts w.blocks.innermost.within.0).mode n → Carries w.tables.contexts new
 entry_carries w new n h =
     carries_grown w.tables.contexts new (condition_in w.tables.contexts w.blocks.innermost.within.0).mode n w.blocks.innermost.within.0 (w.within 0 w.blocks.innermost refl) refl h
 
-module _ (symbol : SymId) (own : List Numbered) (old new : Walk) (d : Definition) (m : IsMade symbol own old new d) where
+module _ (symbol : SymId) (own : List Numbered) (old new : EntryWalk) (d : Definition) (m : IsMade symbol own old new d) where
   abbrev innermost_facts : stacks.BlockFacts
   innermost_facts = block_view old.tables.contexts old.blocks.innermost
 
@@ -285,16 +285,16 @@ module _ (symbol : SymId) (own : List Numbered) (old new : Walk) (d : Definition
   }
 
 -- by a copy of the innermost block
-pub outer_grown : (w : Walk) (outer : BlockScope) (new : List Condition) (n : ℕ) → outer ≡ w.blocks.innermost →
+pub outer_grown : (w : EntryWalk) (outer : BlockScope) (new : List Condition) (n : ℕ) → outer ≡ w.blocks.innermost →
     IsGrown w.tables.contexts new (condition_in w.tables.contexts outer.within.0).mode n →
     IsGrown w.tables.contexts new (condition_in w.tables.contexts w.blocks.innermost.within.0).mode n
 outer_grown w outer new n e h = subst (λ (b : BlockScope). IsGrown w.tables.contexts new (condition_in w.tables.contexts b.within.0).mode n) e h
 
-pub outer_stands : (w : Walk) (outer : BlockScope) (new : List Condition) (i : ℕ) (fs : List Form) → outer ≡ w.blocks.innermost →
+pub outer_stands : (w : EntryWalk) (outer : BlockScope) (new : List Condition) (i : ℕ) (fs : List Form) → outer ≡ w.blocks.innermost →
     Stands new i (with_parts (condition_in w.tables.contexts outer.within.0) fs) → Stands new i (with_parts (condition_in w.tables.contexts w.blocks.innermost.within.0) fs)
 outer_stands w outer new i fs e h = subst (λ (b : BlockScope). Stands new i (with_parts (condition_in w.tables.contexts b.within.0) fs)) e h
 
-pub outer_prompt : (w : Walk) (outer : BlockScope) (o : Option EntryPrompt) (x : Option (InputPrompt Form)) → outer ≡ w.blocks.innermost →
+pub outer_prompt : (w : EntryWalk) (outer : BlockScope) (o : Option EntryPrompt) (x : Option (InputPrompt Form)) → outer ≡ w.blocks.innermost →
     option_map prompt_line o ≡ option_map (λ (p : InputPrompt Form). (outer.visible.0, p.when)) x →
     option_map prompt_line o ≡ option_map (λ (p : InputPrompt Form). (w.blocks.innermost.visible.0, p.when)) x
 outer_prompt w outer o x e h = subst (λ (b : BlockScope). option_map prompt_line o ≡ option_map (λ (p : InputPrompt Form). (b.visible.0, p.when)) x) e h
@@ -317,7 +317,7 @@ same_rows cs k x y h at v p j z e =
       | inr made ↦ (y, made.0, sym v ∙ ap (λ (c : Choice). c.within) made.1, sym p ∙ ap (λ (c : Choice). c.prompt) made.1)
     ]
 
-pub keeping_member : (w : Walk) (k : ℕ) (x y : Choice) → k < length w.tables.choices.items → y ≡ get_or w.tables.choices.items k y → x.within ≡ y.within → x.prompt ≡ y.prompt →
+pub keeping_member : (w : EntryWalk) (k : ℕ) (x y : Choice) → k < length w.tables.choices.items → y ≡ get_or w.tables.choices.items k y → x.within ≡ y.within → x.prompt ≡ y.prompt →
     Keeping w.tables.contexts w.tables.definitions.items (slice_set w.tables.choices.items k x) w.tables.titles.items × Holding w.tables.contexts w.tables.titles.items w.blocks
 keeping_member w k x y h is v p =
     let cs = w.tables.choices.items in

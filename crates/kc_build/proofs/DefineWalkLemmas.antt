@@ -25,7 +25,7 @@ use Rattle.kc_tree.specs.Contexts.{condition_in}
 use Rattle.kc_tree.specs.Layouts.{DefinitionFacts, choice_default_view, choice_facts as choice_in, default_view, definition_facts, impliers_at, prompt_view, range_view, selectors_at, shown_of, with_when}
 use Rattle.kc_tree.specs.Spans.{slice_of}
 use Rattle.kc_tree.specs.TreeFacts.{ChoiceFacts, Condition, Guarded, SymbolShown}
-use Rattle.kc_build.specs.declared.entries.Walk.{Walk}
+use Rattle.kc_build.specs.declared.entries.EntryWalk.{EntryWalk}
 use Rattle.kc_build.specs.declared.lines.ReverseKind.TheVariants as reverse_kind
 use Rattle.kc_build.specs.Before.{choices_before, definition_at, definitions_before, entries_before, impliers_before, selectors_before}
 use Rattle.kc_build.specs.EntryLines.{default_line, range_line}
@@ -102,7 +102,7 @@ same_choices : (t u : Tables) → u.contexts ≡ t.contexts → u.choices ≡ t.
 same_choices t u c d = λ i. map (choice_by_contexts (c i)) ((d i).items)
 
 -- What such an entry does to the walk, step by step.
-pub record Defines (symbols : List Symbol) (symbol : SymId) (own : List Numbered) (source : DefinitionId) (old made last new : Walk) : Type 0 where
+pub record Defines (symbols : List Symbol) (symbol : SymId) (own : List Numbered) (source : DefinitionId) (old made last new : EntryWalk) : Type 0 where
   pub number : source.0 ≡ length old.tables.definitions.items
   pub added : AddsDefinition symbol own old made
   pub reverses : AreAdded symbols source made.tables.reverses own last.tables.reverses
@@ -120,7 +120,7 @@ pub record Defines (symbols : List Symbol) (symbol : SymId) (own : List Numbered
       (map (choice_in last.tables) last.tables.choices.items)
   pub others : KeepsAllButChoices last new
 
-module _ (ss : List Numbered) (symbols : List Symbol) (i : ℕ) (s : SymId) (own : List Numbered) (source : DefinitionId) (old made last new : Walk)
+module _ (ss : List Numbered) (symbols : List Symbol) (i : ℕ) (s : SymId) (own : List Numbered) (source : DefinitionId) (old made last new : EntryWalk)
     (whole : IsWhole ss symbols) (h : IsHead ss i (ConfigLine s) own) (w : IsWalk ss symbols i old) (m : Defines symbols s own source old made last new) where
   abbrev after : ℕ
   after = place_after i own

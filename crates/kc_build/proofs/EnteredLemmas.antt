@@ -11,7 +11,7 @@ use Rattle.kc_read.specs.Blocks.{Closes, NoBracket, bracket, last_of}
 use Rattle.kc_tree.specs.declared.rows.Symbol.{Symbol}
 use Rattle.kc_build.specs.Facts.{entry_at, symbol_of, title_of}
 use Rattle.kc_build.specs.Walks.{Enters}
-use Rattle.kc_build.specs.declared.entries.Walk.{Walk}
+use Rattle.kc_build.specs.declared.entries.EntryWalk.{EntryWalk}
 use Rattle.kc_build.proofs.CloserLemmas.{extends_equal}
 use Rattle.kc_build.proofs.EnterLemmas.{titles_passed}
 use Rattle.kc_build.proofs.OpenLemmas.{open_passes}
@@ -52,7 +52,7 @@ idle_is made.EndChoice a b c d e f g h i = absurd (h refl)
 idle_is (made.MainMenu x) a b c d e f g h i = absurd (i x refl)
 idle_is _ a b c d e f g h i = record { passes = refl; symbol = refl; title = refl; entry = λ ss i. refl }
 
-pub idle_enters : (head : Numbered) (w : Walk) → IsIdle head → (symbols : List Symbol) (own : List Numbered) → Enters symbols head own w w
+pub idle_enters : (head : Numbered) (w : EntryWalk) → IsIdle head → (symbols : List Symbol) (own : List Numbered) → Enters symbols head own w w
 idle_enters head w q symbols own ss i a h k =
     quiet_passes ss symbols i head own h w w k
     (record { definitions = refl; defaults = refl; ranges = refl; reverses = refl; choices = refl; titles = refl; entries = refl })
@@ -67,7 +67,7 @@ last_snoc [] x = refl
 last_snoc (y ∷ []) x = refl
 last_snoc (y ∷ z ∷ xs) x = last_snoc (z ∷ xs) x
 
-pub main_menu_enters : (text : List ℕ) (old new : Walk) → AreSame old new → new.tables.contexts ≡ old.tables.contexts → new.blocks ≡ old.blocks → new.main_menu.items ≡ text →
+pub main_menu_enters : (text : List ℕ) (old new : EntryWalk) → AreSame old new → new.tables.contexts ≡ old.tables.contexts → new.blocks ≡ old.blocks → new.main_menu.items ≡ text →
     (symbols : List Symbol) (own : List Numbered) → Enters symbols (MainMenuLine text) own old new
 main_menu_enters text old new same contexts blocks says symbols own ss i a h k =
     quiet_passes ss symbols i (MainMenuLine text) own h old new k same

@@ -19,7 +19,7 @@ use Rattle.kc_read.specs.Lines.{LineContext, Cause, placement_cause, closing_cau
 use Rattle.kc_read.specs.Blocks.{Bracket, Opens, Closes, NoBracket, bracket, open_blocks, last_of}
 use Rattle.kc_read.specs.Expansion.{FileContext, Log, Refused, Rest, Expands, lexemes, bytes_cause, root_context, nothing_read, with_file, refused, is_choice, context_of, with_line, logged, at_end, unclosed, too_long, no_tokens, blank, bad_line, over_limit, statement, bad_source, refused_inside, source}
 use Rattle.kc_read.specs.Progress.{located_blocks, open_blocks_after}
-use Rattle.kc_read.proofs.BlockLemmas.{blocks_of_openers, openers_push}
+use Rattle.kc_read.proofs.BlockLemmas.{blocks_of_located, located_blocks_push}
 use Rattle.kc_read.proofs.ListLemmas.{last_of-append, but_last, but_last-take, but_last-append, map-push}
 
 -- What a line asks of its enclosing blocks: that none is a choice; that the innermost is of this kind.
@@ -205,9 +205,9 @@ blocks_after_one NoBracket n os = refl
 
 blocks_push : (ls : List (Located Named)) (l : Located Named) → open_blocks (statements (ls ++ l ∷ [])) ≡ blocks_after (bracket l.statement) (open_blocks (statements ls))
 blocks_push ls l =
-    sym (blocks_of_openers (ls ++ l ∷ [])) ∙ ap (map block_of) (openers_push ls l)
+    sym (blocks_of_located (ls ++ l ∷ [])) ∙ ap (map block_of) (located_blocks_push ls l)
     ∙ blocks_after_one (bracket l.statement) l.line (located_blocks ls)
-    ∙ ap (blocks_after (bracket l.statement)) (blocks_of_openers ls)
+    ∙ ap (blocks_after (bracket l.statement)) (blocks_of_located ls)
 
 last_there : (bs : List Block) (b : Block) → last_of bs ≡ Some b → (c : Block) × (cs : List Block) × (bs ≡ c ∷ cs)
 last_there [] b e = absurd cc

@@ -36,7 +36,7 @@ use Rattle.kc_build.specs.WalkResult.{AreRowsThere, IsEntryThere, IsSpanBelow, I
 use Rattle.kc_build.specs.Stacks.{AreBlocksPlain, AreBlocksVisible, AreBlocksWithin, AreOpen, AreTitlesWithin, AsksNothing, block_view}
 use Rattle.kc_build.specs.declared.blocks.BlockScope.{BlockScope}
 use Rattle.kc_build.specs.declared.blocks.Blocks.{Blocks}
-use Rattle.kc_build.specs.declared.entries.Walk.{Walk}
+use Rattle.kc_build.specs.declared.entries.EntryWalk.{EntryWalk}
 use Rattle.std.proofs.lemmas.Bool.{cases_lt}
 
 -- Lists.
@@ -436,7 +436,7 @@ pub record AreHeld (conditions : List Condition) (blocks : Blocks) (ts : List Ti
   pub plain : AreBlocksPlain conditions blocks
   pub titles : AreTitlesWithin conditions ts
 
-pub held_by : (w : Walk) → AreHeld w.tables.contexts w.blocks w.tables.titles.items
+pub held_by : (w : EntryWalk) → AreHeld w.tables.contexts w.blocks w.tables.titles.items
 held_by w = record { asks_nothing = w.asks_nothing; top_plain = w.top_plain; within = w.within; visible = w.visible; plain = w.plain; titles = w.titles }
 
 pub held_extends : (old new : List Condition) (blocks : Blocks) (ts : List Title) → Extends old new → AreHeld old blocks ts → AreHeld new blocks ts
@@ -485,7 +485,7 @@ holding conditions ts blocks h =
     (h.asks_nothing, (h.top_plain, (h.within, (h.visible, (h.plain, (h.titles, tt))))))
 
 -- The same with more contexts.
-pub keeping_carries : (w : Walk) (new : List Condition) → Carries w.tables.contexts new → Keeping new w.tables.definitions.items w.tables.choices.items w.tables.titles.items
+pub keeping_carries : (w : EntryWalk) (new : List Condition) → Carries w.tables.contexts new → Keeping new w.tables.definitions.items w.tables.choices.items w.tables.titles.items
 keeping_carries w new g =
     keeping new w.tables.definitions.items w.tables.choices.items w.tables.titles.items
     (kept_carries w.tables.contexts new g w.tables.definitions.items w.tables.choices.items w.tables.titles.items w.titles (kept_by w.tables))
@@ -503,7 +503,7 @@ get_pushed_if {X} true xs new y i x e h = by_end (get_pushed xs y i x (sym (ap (
 get_pushed_if {X} false xs new y i x e h = inl (sym (ap (λ (l : List X). slice_get l i) e) ∙ h)
 
 -- a title more, which is shown under a context that is there and in which no mode counts
-pub keeping_title : (w : Walk) (b : Bool) (t : Title) (new : List Title) → new ≡ pushed b w.tables.titles.items t → t.visible.0 < length w.tables.contexts →
+pub keeping_title : (w : EntryWalk) (b : Bool) (t : Title) (new : List Title) → new ≡ pushed b w.tables.titles.items t → t.visible.0 < length w.tables.contexts →
     IsPlain w.tables.contexts t.visible.0 → Keeping w.tables.contexts w.tables.definitions.items w.tables.choices.items new × Holding w.tables.contexts new w.blocks
 keeping_title w b t new e v p =
     let k = kept_by w.tables in

@@ -14,7 +14,7 @@ use Rattle.kc_build.specs.Growth.{IsGrown, Stands}
 use Rattle.kc_build.specs.Stacks.{AreBlocksPlain, AreBlocksVisible, AreBlocksWithin, AreTitlesWithin, AsksNothing, IsClosed, open_blocks}
 use Rattle.kc_build.specs.declared.blocks.BlockScope.{BlockScope}
 use Rattle.kc_build.specs.declared.blocks.Blocks.{Blocks}
-use Rattle.kc_build.specs.declared.entries.Walk.{Walk}
+use Rattle.kc_build.specs.declared.entries.EntryWalk.{EntryWalk}
 use Rattle.kc_build.proofs.GrownLemmas.{AreHeld, Carries, Holding, Keeping, carries_grown, carries_push, carries_same, further, get_front, get_last, get_pushed, held_by, held_carries, holding, keeping_carries, plain_carries}
 use Rattle.kc_build.proofs.OpenLemmas.{ends}
 use Rattle.kc_tree.specs.Layouts.{with_parts}
@@ -95,20 +95,20 @@ module _ (conditions : List Condition) (old new : Blocks) (ts : List Title) (h :
   }
 
 -- The contexts of an entry in the innermost block; those of what is visible in it.
-pub carries_entry : (w : Walk) (b : BlockScope) (new : List Condition) (n : ℕ) → b ≡ w.blocks.innermost →
+pub carries_entry : (w : EntryWalk) (b : BlockScope) (new : List Condition) (n : ℕ) → b ≡ w.blocks.innermost →
     IsGrown w.tables.contexts new (condition_in w.tables.contexts b.within.0).mode n → Carries w.tables.contexts new
 carries_entry w b new n e g =
     let there : b.within.0 < length w.tables.contexts = rw e (w.within 0 w.blocks.innermost refl) in
     carries_grown w.tables.contexts new (condition_in w.tables.contexts b.within.0).mode n b.within.0 there refl g
 
-pub carries_visible : (w : Walk) (b : BlockScope) (middle new : List Condition) (n : ℕ) → b ≡ w.blocks.innermost → Carries w.tables.contexts middle →
+pub carries_visible : (w : EntryWalk) (b : BlockScope) (middle new : List Condition) (n : ℕ) → b ≡ w.blocks.innermost → Carries w.tables.contexts middle →
     IsGrown middle new (condition_in middle b.visible.0).mode n → Carries middle new
 carries_visible w b middle new n e f g =
     let there : b.visible.0 < length middle = rw e (further w.tables.contexts middle f w.blocks.innermost.visible.0 (w.visible 0 w.blocks.innermost refl)) in
     carries_grown middle new (condition_in middle b.visible.0).mode n b.visible.0 there refl g
 
 -- What is asked of what is visible in an entry stays plain.
-pub plain_visible : (w : Walk) (b : BlockScope) (middle new : List Condition) (id n : ℕ) (fs : List Form) → b ≡ w.blocks.innermost → Carries w.tables.contexts middle →
+pub plain_visible : (w : EntryWalk) (b : BlockScope) (middle new : List Condition) (id n : ℕ) (fs : List Form) → b ≡ w.blocks.innermost → Carries w.tables.contexts middle →
     Stands new id (with_parts (condition_in middle b.visible.0) fs) → IsPlain new id
 plain_visible w b middle new id n fs e f s =
     ap (λ (c : Condition). is_some c.mode) s.is
@@ -116,10 +116,10 @@ plain_visible w b middle new id n fs e f s =
     ∙ plain_carries w.tables.contexts middle f w.blocks.innermost.visible.0 (w.visible 0 w.blocks.innermost refl) (w.plain 0 w.blocks.innermost refl)
 
 -- A walk with more contexts.
-pub held_walk : (w : Walk) (new : List Condition) → Carries w.tables.contexts new → AreHeld new w.blocks w.tables.titles.items
+pub held_walk : (w : EntryWalk) (new : List Condition) → Carries w.tables.contexts new → AreHeld new w.blocks w.tables.titles.items
 held_walk w new g = held_carries w.tables.contexts new w.blocks w.tables.titles.items g (held_by w)
 
-pub keeping_both : (w : Walk) (new : List Condition) → Carries w.tables.contexts new →
+pub keeping_both : (w : EntryWalk) (new : List Condition) → Carries w.tables.contexts new →
     Keeping new w.tables.definitions.items w.tables.choices.items w.tables.titles.items × Holding new w.tables.titles.items w.blocks
 keeping_both w new g = (keeping_carries w new g, holding new w.tables.titles.items w.blocks (held_walk w new g))
 

@@ -19,7 +19,7 @@ use Rattle.kc_tree.specs.Layouts.{choice_facts as choice_in, definition_facts, i
 use Rattle.kc_tree.specs.TreeFacts.{Condition}
 use Rattle.kc_build.specs.declared.diagnostics.Diagnostics.{Diagnostics}
 use Rattle.kc_build.specs.declared.diagnostics.EntrySummary.{EntrySummary}
-use Rattle.kc_build.specs.declared.entries.Walk.{Walk}
+use Rattle.kc_build.specs.declared.entries.EntryWalk.{EntryWalk}
 use Rattle.kc_build.specs.Diagnosed.{AreLinesDiagnosed}
 use Rattle.kc_build.specs.Facts.{can_be_target}
 use Rattle.kc_build.specs.SymbolRows.{AreChoicesApart, IsEntrySummary, IsWhole}
@@ -39,7 +39,7 @@ no_chain : (o : Option ReverseId) → chain_of [] o ≡ []
 no_chain None = refl
 no_chain (Some id) = refl
 
-module _ (ss : List Numbered) (symbols : List Symbol) (w : Walk) (empty : AreEmpty w.tables) where
+module _ (ss : List Numbered) (symbols : List Symbol) (w : EntryWalk) (empty : AreEmpty w.tables) where
   none_from : (o : Option ReverseId) → reverses_from w.tables o ≡ []
   none_from o =
       ap (λ (l : List Reverse). filter_map (reverse_at w.tables) (chain_of (chains_of l) o)) empty.lines ∙ ap (filter_map (reverse_at w.tables)) (no_chain o)
@@ -96,7 +96,7 @@ plain_by : (s : Numbered) (mode : Option ℕ) → (s ≡ ChoiceLine → mode ≡
 plain_by ChoiceLine mode h = h refl
 plain_by _ mode h = tt
 
-pub plain-head : (ss : List Numbered) (symbols : List Symbol) (i : ℕ) (s : Numbered) (w : Walk) → AreChoicesApart ss → slice_get ss i ≡ Some s → IsWalk ss symbols i w →
+pub plain-head : (ss : List Numbered) (symbols : List Symbol) (i : ℕ) (s : Numbered) (w : EntryWalk) → AreChoicesApart ss → slice_get ss i ≡ Some s → IsWalk ss symbols i w →
     IsPlainHead s (condition_in w.tables.contexts w.blocks.innermost.within.0).mode
 plain-head ss symbols i s w apart at walk =
     plain_by s (condition_in w.tables.contexts w.blocks.innermost.within.0).mode (λ e. ap (λ (a : BlockFacts). a.mode) walk.blocks.innermost ∙ apart i (at ∙ ap Some e))
@@ -132,7 +132,7 @@ module _ (lines : List Line) (symbols : List Symbol) (i end : ℕ) (head : Line)
       inl (begins_behind (statements_of lines) i s (ap (slice_get (statements_of lines)) there ∙ e))
 
   module _ (whole : IsWhole (statements_of lines) symbols) where
-    pub walk-next : (old new : Walk) → Enters symbols (statement_view head.statement) (statements_of own_lines) old new →
+    pub walk-next : (old new : EntryWalk) → Enters symbols (statement_view head.statement) (statements_of own_lines) old new →
         IsWalk (statements_of lines) symbols i old → IsWalk (statements_of lines) symbols end new
     walk-next old new enters walk =
         subst (λ k. IsWalk (statements_of lines) symbols k new) place-is (enters (statements_of lines) i whole head-is walk)

@@ -16,13 +16,13 @@ use Rattle.kc_build.specs.WalkResult.{IsEntryThere, IsTitleThere}
 use Rattle.kc_build.specs.Stacks.{AreOpen, block_facts_at, block_view}
 use Rattle.kc_build.specs.Walks.{Enters, IsHead, IsWalk, place_after}
 use Rattle.kc_build.specs.declared.blocks.BlockScope.{BlockScope}
-use Rattle.kc_build.specs.declared.entries.Walk.{Walk}
+use Rattle.kc_build.specs.declared.entries.EntryWalk.{EntryWalk}
 use Rattle.kc_build.proofs.GrownLemmas.{Extends, carries_push, extends, open_carries}
 use Rattle.kc_build.proofs.OpenLemmas.{asked_inside, open_opens}
 use Rattle.kc_build.proofs.WalkLemmas.{choices_say_same, entry_count, main_menu_stays, no_choice_passed, walk_passes}
 
 -- All rows but contexts are the same.
-pub record AreSame (old new : Walk) : Type 0 where
+pub record AreSame (old new : EntryWalk) : Type 0 where
   pub definitions : new.tables.definitions ≡ old.tables.definitions
   pub defaults : new.tables.defaults ≡ old.tables.defaults
   pub ranges : new.tables.ranges ≡ old.tables.ranges
@@ -37,7 +37,7 @@ pub record IsQuiet (ss : List Numbered) (i : ℕ) (head : Numbered) : Type 0 whe
   pub choice : of_block ss block.Choice i ≡ false
   pub entry : entry_at ss i (Some head) ≡ None
 
-module _ (ss : List Numbered) (symbols : List Symbol) (i : ℕ) (head : Numbered) (own : List Numbered) (h : IsHead ss i head own) (old new : Walk) (w : IsWalk ss symbols i old) where
+module _ (ss : List Numbered) (symbols : List Symbol) (i : ℕ) (head : Numbered) (own : List Numbered) (h : IsHead ss i head own) (old new : EntryWalk) (w : IsWalk ss symbols i old) where
   pub quiet_passes : AreSame old new → IsQuiet ss i head → Extends old.tables.contexts new.tables.contexts →
       length new.tables.contexts ≤ length old.tables.contexts + 2 * length own + 2 → AreOpen ss (suc i) new.tables.contexts new.blocks →
       new.main_menu.items ≡ main_menu_before ss (place_after i own) → IsWalk ss symbols (place_after i own) new
@@ -75,7 +75,7 @@ block_inside ss i conditions b p v m e =
     λ j. record { parts = p j; visible = v j; mode = m j; entry = e j }
 
 -- An `if`.
-module _ (e : Form) (entry : ℕ) (b : BlockScope) (old new : Walk) (same : AreSame old new) (menu : new.main_menu ≡ old.main_menu) (number : entry ≡ length old.tables.entries.items) where
+module _ (e : Form) (entry : ℕ) (b : BlockScope) (old new : EntryWalk) (same : AreSame old new) (menu : new.main_menu ≡ old.main_menu) (number : entry ≡ length old.tables.entries.items) where
   abbrev conditions : List Condition
   conditions = old.tables.contexts
 

@@ -23,7 +23,7 @@ use Rattle.kc_build.specs.WalkResult.{IsEntryThere, IsTitleThere}
 use Rattle.kc_build.specs.Stacks.{AreOpen, block_facts_at, block_view}
 use Rattle.kc_build.specs.Walks.{Enters, IsHead, IsWalk, place_after}
 use Rattle.kc_build.specs.declared.blocks.BlockScope.{BlockScope}
-use Rattle.kc_build.specs.declared.entries.Walk.{Walk}
+use Rattle.kc_build.specs.declared.entries.EntryWalk.{EntryWalk}
 use Rattle.kc_build.proofs.GrownLemmas.{Extends, carries_both, carries_grown, extends, get_last, open_carries}
 use Rattle.kc_build.proofs.OpenLemmas.{open_opens, open_passes}
 use Rattle.kc_build.proofs.OpenerLemmas.{block_inside}
@@ -43,7 +43,7 @@ module _ (ss : List Numbered) (i : ℕ) (own : List Numbered) (conditions : List
       λ j. (outside j).visible ++ lines j
 
 -- What a title says that was added last.
-module _ (w : Walk) (before : List Title) (t : Title) (id : TitleId) (added : w.tables.titles.items ≡ before ++ t ∷ []) (number : id.0 ≡ length before) where
+module _ (w : EntryWalk) (before : List Title) (t : Title) (id : TitleId) (added : w.tables.titles.items ≡ before ++ t ∷ []) (number : id.0 ≡ length before) where
   title_found : slice_get w.tables.titles.items id.0 ≡ Some t
   title_found =
       ap (slice_get w.tables.titles.items) number ∙ ap (λ (l : List Title). slice_get l (length before)) added ∙ get_last before t
@@ -57,7 +57,7 @@ module _ (w : Walk) (before : List Title) (t : Title) (id : TitleId) (added : w.
       ap (λ (o : Option Title). MenuShown (title_text o) (shown_in w.tables o)) title_found
 
 -- All rows but contexts, titles and entries are the same.
-pub record AreRest (old new : Walk) : Type 0 where
+pub record AreRest (old new : EntryWalk) : Type 0 where
   pub definitions : new.tables.definitions ≡ old.tables.definitions
   pub defaults : new.tables.defaults ≡ old.tables.defaults
   pub ranges : new.tables.ranges ≡ old.tables.ranges
@@ -72,7 +72,7 @@ pub record IsTitled (ss : List Numbered) (i : ℕ) (head : Numbered) : Type 0 wh
   pub title : title_of head ≡ None
 
 -- One title and one entry more.
-module _ (ss : List Numbered) (symbols : List Symbol) (i : ℕ) (head : Numbered) (own : List Numbered) (h : IsHead ss i head own) (old new : Walk) (w : IsWalk ss symbols i old) where
+module _ (ss : List Numbered) (symbols : List Symbol) (i : ℕ) (head : Numbered) (own : List Numbered) (h : IsHead ss i head own) (old new : EntryWalk) (w : IsWalk ss symbols i old) where
   pub titled_passes : (t : Title) (e : ShownEntry) (s : Shown) → AreRest old new → IsTitled ss i head → Extends old.tables.contexts new.tables.contexts →
       length new.tables.contexts ≤ length old.tables.contexts + 2 * length own + 2 → AreOpen ss (suc i) new.tables.contexts new.blocks →
       new.tables.titles.items ≡ old.tables.titles.items ++ t ∷ [] → IsTitleThere new.tables.contexts t → new.tables.entries.items ≡ old.tables.entries.items ++ e ∷ [] →
@@ -105,7 +105,7 @@ module _ (ss : List Numbered) (symbols : List Symbol) (i : ℕ) (head : Numbered
       q.symbol
 
 -- A comment.
-module _ (text : List ℕ) (own : List Numbered) (old new : Walk) (rest : AreRest old new) (within : ContextId) (t : Title) (id : TitleId) where
+module _ (text : List ℕ) (own : List Numbered) (old new : EntryWalk) (rest : AreRest old new) (within : ContextId) (t : Title) (id : TitleId) where
   pub comment_enters : IsGrown old.tables.contexts new.tables.contexts (condition_in old.tables.contexts old.blocks.innermost.within.0).mode (length own) →
       Stands new.tables.contexts within.0 (with_parts (condition_in old.tables.contexts old.blocks.innermost.within.0) (filter_map depends_form own)) → new.blocks ≡ old.blocks →
       new.tables.titles.items ≡ old.tables.titles.items ++ t ∷ [] → t.text.items ≡ text → t.within ≡ within → t.visible ≡ record { 0 = 0 } → id.0 ≡ length old.tables.titles.items →
@@ -141,7 +141,7 @@ module _ (text : List ℕ) (own : List Numbered) (old new : Walk) (rest : AreRes
       refl
 
 -- A menu.
-module _ (text : List ℕ) (own : List Numbered) (old new : Walk) (rest : AreRest old new) (middle : List Condition) (within visible : ContextId) (t : Title) (id : TitleId)
+module _ (text : List ℕ) (own : List Numbered) (old new : EntryWalk) (rest : AreRest old new) (middle : List Condition) (within visible : ContextId) (t : Title) (id : TitleId)
     (number : ℕ) (b : BlockScope) where
   pub menu_enters : IsGrown old.tables.contexts middle (condition_in old.tables.contexts old.blocks.innermost.within.0).mode (length own) →
       Stands middle within.0 (with_parts (condition_in old.tables.contexts old.blocks.innermost.within.0) (filter_map depends_form own)) →

@@ -26,7 +26,7 @@ use Rattle.kc_build.specs.ReverseRows.{HaveSources}
 use Rattle.kc_build.specs.WalkResult.{AreRowsThere, IsEntryThere, IsSmall, IsSpanBelow, IsTitleThere}
 use Rattle.kc_build.specs.Stacks.{AreOpen}
 use Rattle.kc_build.specs.Walks.{IsHead, IsWalk, place_after}
-use Rattle.kc_build.specs.declared.entries.Walk.{Walk}
+use Rattle.kc_build.specs.declared.entries.EntryWalk.{EntryWalk}
 use Rattle.kc_build.proofs.EnterLemmas.{blocks_passed, definitions_passed, enclosing_passed, entries_passed, member_line, members_passed, names_passed, titles_passed}
 use Rattle.kc_build.proofs.GrownLemmas.{Extends, choice_extends, definition_extends_same, entries_stay, impliers_same, map_alike, selectors_same, shown_extends, titles_stay}
 use Rattle.kc_build.proofs.ListLemmas.{count_next}
@@ -74,7 +74,7 @@ module _ (ss : List Numbered) (ends : AreMenusOpened ss) where
       let all = count_next (λ j. is_entry ss j (slice_get ss j)) n in
       omega arith
 
-module _ (ss : List Numbered) (symbols : List Symbol) (i : ℕ) (w : Walk) (h : IsWalk ss symbols i w) where
+module _ (ss : List Numbered) (symbols : List Symbol) (i : ℕ) (w : EntryWalk) (h : IsWalk ss symbols i w) where
   pub choice_count : length w.tables.choices.items ≡ choice_number ss i
   choice_count =
       sym (length-map w.tables.choices.items (choice_in w.tables)) ∙ ap length h.choices
@@ -141,7 +141,7 @@ module _ (ss : List Numbered) (i : ℕ) (head : Numbered) (own : List Numbered) 
       (titles_passed ss i head own h ∙ ap (λ (o : Option (List ℕ)). filter_map title_of (take i ss) ++ cons_option o []) none ∙ append-nil (filter_map title_of (take i ss)))
 
   -- What such an entry does to the walk.
-  module _ (symbols : List Symbol) (old new : Walk) where
+  module _ (symbols : List Symbol) (old new : EntryWalk) where
     pub record Passes : Type 0 where
       pub contexts : Extends old.tables.contexts new.tables.contexts
       pub few_contexts : length new.tables.contexts ≤ length old.tables.contexts + 2 * length own + 2

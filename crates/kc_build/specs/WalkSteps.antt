@@ -6,7 +6,7 @@ use Rattle.kc_expr.specs.declared.expression.SymId.{SymId}
 use Rattle.kc_expr.specs.Form.{Form, Leaf}
 use Rattle.kc_read.specs.Blocks.{last_of}
 use Rattle.kc_read.specs.Statements.{InputPrompt, Numbered}
-use Rattle.kc_build.specs.declared.entries.Walk.{Walk}
+use Rattle.kc_build.specs.declared.entries.EntryWalk.{EntryWalk}
 use Rattle.kc_tree.specs.declared.rows.ContextId.{ContextId}
 use Rattle.kc_tree.specs.declared.rows.ShownEntry.{ShownEntry}
 use Rattle.kc_tree.specs.declared.rows.ShownEntry.TheVariants as entry
@@ -48,7 +48,7 @@ made_definition a s own = record {
 }
 
 -- one definition more, with the contexts, defaults and ranges that it leads to, and nothing else
-pub record AddsDefinition (symbol : SymId) (own : List Numbered) (old new : Walk) : Type 0 where
+pub record AddsDefinition (symbol : SymId) (own : List Numbered) (old new : EntryWalk) : Type 0 where
   pub contexts : IsGrown old.tables.contexts new.tables.contexts (condition_in old.tables.contexts old.blocks.innermost.within.0).mode (length own)
   pub definitions : AreRowsThere old.tables → map (definition_facts new.tables) new.tables.definitions.items ≡ map (definition_facts old.tables)
       old.tables.definitions.items ++ made_definition (block_view old.tables.contexts old.blocks.innermost) symbol own ∷ []
@@ -63,7 +63,7 @@ pub record AddsDefinition (symbol : SymId) (own : List Numbered) (old new : Walk
   pub main_menu : new.main_menu ≡ old.main_menu
 
 -- nothing changes but the choices
-pub record KeepsAllButChoices (old new : Walk) : Type 0 where
+pub record KeepsAllButChoices (old new : EntryWalk) : Type 0 where
   pub contexts : new.tables.contexts ≡ old.tables.contexts
   pub definitions : new.tables.definitions ≡ old.tables.definitions
   pub defaults : new.tables.defaults ≡ old.tables.defaults
@@ -75,7 +75,7 @@ pub record KeepsAllButChoices (old new : Walk) : Type 0 where
   pub main_menu : new.main_menu ≡ old.main_menu
 
 -- one title more, and nothing else
-pub record AddsTitle (text : List ℕ) (within visible : ContextId) (old new : Walk) : Type 0 where
+pub record AddsTitle (text : List ℕ) (within visible : ContextId) (old new : EntryWalk) : Type 0 where
   pub title : Title
   pub added : new.tables.titles.items ≡ old.tables.titles.items ++ title ∷ []
   pub text_is : title.text.items ≡ text
@@ -97,7 +97,7 @@ ends_of None = []
 ends_of (Some menu) = entry.End menu ∷ []
 
 -- the end of what opened the innermost block, where one is open, and nothing else
-pub record AddsEnd (old new : Walk) : Type 0 where
+pub record AddsEnd (old new : EntryWalk) : Type 0 where
   pub added : new.tables.entries.items ≡ old.tables.entries.items ++ ends_of old.blocks.innermost.entry
   pub contexts : new.tables.contexts ≡ old.tables.contexts
   pub definitions : new.tables.definitions ≡ old.tables.definitions

@@ -3,7 +3,7 @@ use Rattle.std.specs.Prelude.{◌≡◌, ◌⊎◌, ◌<◌, ◌+◌, ℕ, List,
 use Rattle.kc_expr.specs.Names.{symbol}
 use Rattle.kc_read.specs.Blocks.{attributes, is_attribute}
 use Rattle.kc_read.specs.Statements.{Numbered}
-use Rattle.kc_build.specs.declared.entries.Walk.{Walk}
+use Rattle.kc_build.specs.declared.entries.EntryWalk.{EntryWalk}
 use Rattle.kc_tree.specs.declared.rows.Symbol.{Symbol}
 use Rattle.kc_build.specs.Before.{choices_before, definitions_before, entries_before, impliers_before, main_menu_before, selectors_before}
 use Rattle.kc_build.specs.SymbolRows.{IsWhole}
@@ -12,7 +12,7 @@ use Rattle.kc_build.specs.WalkResult.{AreRowsThere, HasHeads, IsSmall}
 use Rattle.kc_build.specs.Stacks.{AreOpen}
 
 -- the walk at the start of the entry at a place, or behind the last line
-pub record IsWalk (ss : List Numbered) (symbols : List Symbol) (i : ℕ) (w : Walk) : Type 0 where
+pub record IsWalk (ss : List Numbered) (symbols : List Symbol) (i : ℕ) (w : EntryWalk) : Type 0 where
   pub blocks : AreOpen ss i w.tables.contexts w.blocks
   pub definitions : map (definition_facts w.tables) w.tables.definitions.items ≡ definitions_before ss i
   pub selectors : (s : ℕ) → s < length symbols → selectors_at w.tables s ≡ selectors_before ss i (symbol s)
@@ -35,6 +35,6 @@ abbrev pub place_after : ℕ → List Numbered → ℕ
 place_after i own = i + 1 + length own
 
 -- the walk goes on behind the entry
-abbrev pub Enters : List Symbol → Numbered → List Numbered → Walk → Walk → Type 0
+abbrev pub Enters : List Symbol → Numbered → List Numbered → EntryWalk → EntryWalk → Type 0
 Enters symbols head own old new =
     (ss : List Numbered) (i : ℕ) → IsWhole ss symbols → IsHead ss i head own → IsWalk ss symbols i old → IsWalk ss symbols (place_after i own) new

@@ -1,11 +1,12 @@
 //! The tree of a root file.
 
-ghost use Rattle.std.specs.Prelude.{◌≡◌, ◌≢◌, ◌<◌, ◌≤◌, ◌+◌, ◌*◌, ◌^◌, length, map, nat_lt, if◌then◌else◌, IfOk, IfErr, Ok, Err, Some, None};
+ghost use Rattle.std.specs.Prelude.{◌≡◌, ◌≢◌, ◌<◌, ◌≤◌, ◌+◌, ◌*◌, ◌^◌, ℕ, List, length, map, nat_lt, if◌then◌else◌, IfOk, IfErr, Ok, Err, Some, None};
 ghost use Rattle.kc_expr.specs.Limits.{most_symbols};
-ghost use Rattle.kc_read.specs.Files.{bytes_in};
+ghost use Rattle.kc_read.specs.Files.{Files, bytes_in};
 ghost use Rattle.kc_read.specs.RefusalView.{IsMemory, refusal_view};
 ghost use Rattle.kc_read.specs.StatementViews.{line_view};
 ghost use Rattle.kc_read.specs.declared.refusal.Code.TheVariants.{Memory};
+ghost use Rattle.kc_build.specs.Numberings.{IsListingOf};
 ghost use Rattle.kc_build.specs.PartsView.{parts_view};
 ghost use Rattle.kc_build.specs.Passes.{statements_of};
 ghost use Rattle.kc_build.specs.SymbolRows.{AreBelow, AreChoicesApart, AreMenusOpened, AreTypesDefined};
@@ -65,22 +66,20 @@ fn build_parts(
     }
 }
 
-/// The tree of a root file: what the statements of the file and of those that it sources say, or the first
-/// refusal, which leaves nothing.
+/// The tree that the lines of a root file say, or the first refusal that the whole list shows, which leaves nothing. The
+/// files that the lines were read from are not looked at.
 ///
-/// The refusals of reading come first, E1 to E12 and E16, each at the first line with a fault, as `expand` of
-/// kc_read answers them. Where every line is read, E13 comes at the first `config` line, in order, that defines a
-/// choice's member and is not the first to define it, or that stands in a choice while its symbol is no bool. So of
-/// a symbol that is first defined outside its choice the line is the one in the choice. Without such a line E14
-/// comes at the first default line of a string, int or hex symbol that is no single operand, or of a choice that is
-/// no single name, parentheses aside. Both name the symbol, or `choice`. E20, which has no location and no detail,
-/// is being out of memory.
+/// E13 comes at the first `config` line, in order, that defines a choice's member and is not the first to define it, or that
+/// stands in a choice while its symbol is no bool. So of a symbol that is first defined outside its choice the line is the
+/// one in the choice. Without such a line E14 comes at the first default line of a string, int or hex symbol that is no
+/// single operand, or of a choice that is no single name, parentheses aside. Both name the symbol, or `choice`. E20, which
+/// has no location and no detail, is being out of memory.
 ///
-/// The meaning of the statements is that of the kernel's kconfig-language document and of kconfiglib's
-/// documentation; the limits, the order of checks and the warnings are our own.
-pub fn build_tree(alloc: Global, map: &FileMap, root: &[u8]) -> Result<Tree, Refusal>
-    ensures built { IfOk result (λ t. IsTreeOf (bytes_in map.now) root.now (Ok t)) }
-    ensures refused { IfErr result (λ r. r.code ≢ Memory → IsTreeOf (bytes_in map.now) root.now (Err (refusal_view r))) }
+/// The caller owes lines as [`read_listing`] gives them.
+pub fn tree_of(alloc: Global, listing: Listing) -> Result<Tree, Refusal>
+    requires { (files : Files) × (root : List ℕ) × IsListingOf files root listing }
+    ensures built { IfOk result (λ t. (files : Files) (root : List ℕ) → IsListingOf files root listing → IsTreeOf files root (Ok t)) }
+    ensures refused { IfErr result (λ r. r.code ≢ Memory → (files : Files) (root : List ℕ) → IsListingOf files root listing → IsTreeOf files root (Err (refusal_view r))) }
     ensures memory { IfErr result IsMemory }
 {
     let Listing {
@@ -88,7 +87,7 @@ pub fn build_tree(alloc: Global, map: &FileMap, root: &[u8]) -> Result<Tree, Ref
         count,
         modules,
         lines,
-    } = read_listing(alloc, map, root)?;
+    } = listing;
     let outcome = match build_parts(alloc, &names, &lines, count, modules) {
         Ok(outcome) => outcome,
         Err(_) => return Err(Refusal::out_of_memory(alloc)),
@@ -100,4 +99,20 @@ pub fn build_tree(alloc: Global, map: &FileMap, root: &[u8]) -> Result<Tree, Ref
             Ok(Tree::of(names, parts))
         }
     }
+}
+
+/// The tree of a root file: what the statements of the file and of those that it sources say, or the first
+/// refusal, which leaves nothing.
+///
+/// The refusals of reading come first, those of [`read_listing`]; where every line is read, those of [`tree_of`].
+///
+/// The meaning of the statements is that of the kernel's kconfig-language document and of kconfiglib's
+/// documentation; the limits, the order of checks and the warnings are our own.
+pub fn build_tree(alloc: Global, map: &FileMap, root: &[u8]) -> Result<Tree, Refusal>
+    ensures built { IfOk result (λ t. IsTreeOf (bytes_in map.now) root.now (Ok t)) }
+    ensures refused { IfErr result (λ r. r.code ≢ Memory → IsTreeOf (bytes_in map.now) root.now (Err (refusal_view r))) }
+    ensures memory { IfErr result IsMemory }
+{
+    let listing = read_listing(alloc, map, root)?;
+    tree_of(alloc, listing)
 }

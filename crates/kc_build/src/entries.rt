@@ -31,7 +31,7 @@ use std::rc::Rc;
 
 // The walk so far: the tables, the open blocks, and the title of the main menu.
 #[derive(Drop)]
-struct Walk {
+struct EntryWalk {
     tables: Tables,
     blocks: Blocks,
     main_menu: Vec<u8>,
@@ -43,7 +43,7 @@ struct Walk {
     ghost titles: { AreTitlesWithin tables.contexts tables.titles.items },
 }
 
-impl Walk {
+impl EntryWalk {
     ghost use Rattle.kc_build.specs.Walks.{Enters, IsHead, IsWalk};
     ghost use Rattle.kc_build.specs.WalkSteps.{AddsDefinition, AddsEnd, AddsTitle, KeepsAllButChoices, with_member};
 
@@ -326,7 +326,7 @@ pub fn walk_entries(
     ensures small { IfOk result (λ s. IsSmall (length lines.now) s.tables) }
     ensures diagnosed { IfOk result (λ s. IsDiagnosed names.now (map line_view lines.now) (length lines.now) s.diagnostics) }
 {
-    let mut walk = Walk {
+    let mut walk = EntryWalk {
         tables: Tables::empty(alloc, symbols.len())?,
         blocks: Blocks::new(alloc),
         main_menu: Vec::from_slice(alloc, b"Main menu")?,
@@ -342,7 +342,7 @@ pub fn walk_entries(
         walk.enter(alloc, symbols, &head.statement, own)?;
         place = end;
     }
-    let Walk {
+    let EntryWalk {
         tables,
         main_menu,
         ..

@@ -15,4 +15,5 @@ mod reverse_lines;
 mod symbols;
 mod warning;
 
-pub use build::build_tree;
+pub use build::{build_tree, tree_of};
+pub use numbering::{Listing, read_listing};

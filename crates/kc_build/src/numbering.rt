@@ -8,7 +8,7 @@ ghost use Rattle.kc_read.specs.Expanded.{AreNumbers, IsExpansion, IsNamed};
 ghost use Rattle.kc_read.specs.Limits.{most_lines};
 ghost use Rattle.kc_read.specs.RefusalView.{IsMemory, refusal_view};
 ghost use Rattle.kc_read.specs.declared.refusal.Code.TheVariants.{Memory};
-ghost use Rattle.kc_build.specs.Numberings.{IsListing};
+ghost use Rattle.kc_build.specs.Numberings.{IsListing, IsListingOf};
 
 use crate::renaming::rename_lines;
 use kc_expr::expression::SymId;
@@ -89,13 +89,13 @@ fn number_lines(
     })
 }
 
-/// The lines of a root file with their names numbered, or its first refusal. The file is read once: the names get
-/// their numbers afterwards, since the defined symbols are the first.
+/// The lines of a root file with their names numbered, or its first refusal: E1 to E12 and E16, each at the first line with
+/// a fault, as `expand` of kc_read answers them. The files are not looked at again afterwards. E20, which has no location and
+/// no detail, is being out of memory.
 pub fn read_listing(alloc: Global, map: &FileMap, root: &[u8]) -> Result<Listing, Refusal>
-    ensures listed { IfOk result (λ l. (log : Log) × Expands (bytes_in map.now) root.now (Ok log) × IsListing log l) }
+    ensures listed { IfOk result (IsListingOf (bytes_in map.now) root.now) }
     ensures refused { IfErr result (λ r. r.code ≢ Memory → Expands (bytes_in map.now) root.now (Err (refusal_view r))) }
     ensures memory { IfErr result IsMemory }
-    ensures few { IfOk result (λ l. length l.lines.items ≤ most_lines) }
 {
     let unknown = SymId(usize::MAX);
     let mut mentioned = Names::new(alloc);

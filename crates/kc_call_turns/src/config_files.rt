@@ -14,7 +14,7 @@ use kc_dot::prefix::Prefix;
 use kc_dot::reader::DotReader;
 use kc_expr::expression::{SymId, Tri};
 use kc_expr::values::Values;
-use kc_solve::order::Order;
+use kc_solve::order::EvaluationOrder;
 use kc_solve::solve::solve;
 use kc_solve::solved::Solved;
 use kc_tree::layout::Layout;
@@ -125,11 +125,11 @@ fn user_of(alloc: Global, tree: &Tree, prefix: &Prefix) -> Result<User, AllocErr
 }
 
 // The order of the tree's symbols.
-fn order_of(alloc: Global, tree: &Tree, layout: &Layout) -> Result<Order, AllocError>
+fn order_of(alloc: Global, tree: &Tree, layout: &Layout) -> Result<EvaluationOrder, AllocError>
     requires { IsLayoutOf tree.now layout.now }
     ensures { IfOk result (IsGraphOf tree.now layout.now) }
 {
-    match Order::of(alloc, tree, layout) {
+    match EvaluationOrder::of(alloc, tree, layout) {
         Ok(order) => Ok(order),
         Err(_) => Err(AllocError),
     }

@@ -34,10 +34,10 @@ fn main(rt: HostRuntime) -> io::Result<()> {
     tell(&rt, "insert", trees::call_insert(rt.alloc()))?;
     tell(&rt, "sources_of", trees::call_sources_of(rt.alloc()))?;
     tell(&rt, "build", trees::call_build(rt.alloc()))?;
-    tell(&rt, "Order::of", trees::call_order_of(rt.alloc()))?;
+    tell(&rt, "EvaluationOrder::of", trees::call_order_of(rt.alloc()))?;
     tell(
         &rt,
-        "Order::of a loop",
+        "EvaluationOrder::of a loop",
         trees::call_order_of_loop(rt.alloc()),
     )?;
     tell(&rt, "solve", config_files::call_solve(rt.alloc()))?;

@@ -6,7 +6,7 @@ use kc_expr::expression::SymId;
 use kc_read::file_map::FileMap;
 use kc_read::refusal::{Code, Refusal};
 use kc_read::sources_of;
-use kc_solve::order::Order;
+use kc_solve::order::EvaluationOrder;
 use kc_tree::tree::Tree;
 use std::alloc::{AllocError, Global};
 
@@ -143,19 +143,19 @@ fn is_order(nodes: &[u32]) -> bool {
         && nodes.contains(&3)
 }
 
-/// `Order::of`, of the tree of the calls.
+/// `EvaluationOrder::of`, of the tree of the calls.
 pub(crate) fn call_order_of(alloc: Global) -> Result<CallEnd, AllocError> {
     let tree = tree_of(alloc)?;
-    match Order::of(alloc, &tree, tree.layout()) {
+    match EvaluationOrder::of(alloc, &tree, tree.layout()) {
         Ok(order) => Ok(done(is_order(order.nodes()))),
         Err(refusal) => Ok(refused(is_memory(&refusal))),
     }
 }
 
-/// `Order::of`, of a tree whose loop is named.
+/// `EvaluationOrder::of`, of a tree whose loop is named.
 pub(crate) fn call_order_of_loop(alloc: Global) -> Result<CallEnd, AllocError> {
     let tree = tree_with(alloc, LOOP)?;
-    match Order::of(alloc, &tree, tree.layout()) {
+    match EvaluationOrder::of(alloc, &tree, tree.layout()) {
         Ok(_) => Ok(CallEnd::Wrong),
         Err(refusal) => {
             if refusal.code == Code::Memory {

@@ -12,4 +12,6 @@ pub mod RuleLemmas
 pub mod RunLemmas
 pub mod StreamLemmas
 pub mod TellingLemmas
+pub mod TreeFileLemmas
+pub mod StatusLemmas
 pub mod StopLemmas

@@ -2,6 +2,7 @@ pub mod ErrorLines
 pub mod Existence
 pub mod Faults
 pub mod InputBytes
+pub mod Leaves
 pub mod Accounted
 pub mod AcceptedTree
 pub mod ChangeLemmas
@@ -14,3 +15,4 @@ pub mod Reads
 pub mod Reruns
 pub mod Rules
 pub mod Stops
+pub mod TreeFiles

@@ -16,18 +16,18 @@ use Rattle.kc_values.specs.Solution.{symbol_count}
 use Rattle.kc_solve.specs.Solved.{Solution, known}
 
 -- a text as a .config writes it: a string in quotes, a number as it is
-abbrev pub written_text : Kind → List ℕ → List ℕ
-written_text Undefined text = text
-written_text IsBool text = text
-written_text Tristate text = text
-written_text Str text = codes "\"" ++ escape text ++ codes "\""
-written_text Int text = text
-written_text Hex text = text
+abbrev pub text_in_config : Kind → List ℕ → List ℕ
+text_in_config Undefined text = text
+text_in_config IsBool text = text
+text_in_config Tristate text = text
+text_in_config Str text = codes "\"" ++ escape text ++ codes "\""
+text_in_config Int text = text
+text_in_config Hex text = text
 
 -- a value as a .config writes it
 abbrev pub value_text : Kind → GivenValue → List ℕ
 value_text kind (GivenTruth t) = tri_text t
-value_text kind (GivenText text) = written_text kind text
+value_text kind (GivenText text) = text_in_config kind text
 value_text kind (Member m) = []
 
 -- `NAME was given VALUE and is VALUE`

@@ -12,6 +12,7 @@ mod reading;
 mod run_fault;
 mod runs;
 mod stream_warnings;
+mod tree_files;
 mod writing;
 
 pub use input::Input;

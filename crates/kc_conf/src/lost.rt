@@ -28,7 +28,7 @@ use std::alloc::{AllocError, Global};
 
 // Adds a text as a `.config` writes it.
 fn add_text(kind: Kind, text: &[u8], line: &mut Vec<u8>) -> Result<(), AllocError>
-    ensures { OnOk result (line.new.items ≡ line.old.items ++ spec.written_text kind text.now) }
+    ensures { OnOk result (line.new.items ≡ line.old.items ++ spec.text_in_config kind text.now) }
 {
     match kind {
         Kind::Str => {

@@ -1,12 +1,13 @@
 //! The run over devices.
-ghost use Rattle.std.specs.Prelude.{◌≡◌, ◌≢◌, ◌+◌, ◌||◌, ◌⊎◌, List, ℕ, length, map, OnOk, IfErr, IfOk};
+ghost use Rattle.std.specs.Prelude.{◌≡◌, ◌≢◌, ◌+◌, ◌||◌, ◌⊎◌, List, ℕ, length, map, Ok, Err, OnOk, IfErr, IfOk};
 ghost use Rattle.kc_read.specs.Expansion.{Refused};
-ghost use Rattle.kc_read.specs.Files.{bytes_in};
+ghost use Rattle.kc_read.specs.Files.{Files, bytes_in};
 ghost use Rattle.kc_read.specs.RefusalView.{refusal_view};
 ghost use Rattle.kc_read.specs.declared.refusal.Code.TheVariants.{Memory};
 ghost use Rattle.kc_make.specs.Opened.{AreOpened};
 ghost use Rattle.kc_user.specs.Places.{ArePlacesOf};
 ghost use Rattle.kc_tree.specs.TreeFacts.{TreeFacts};
+ghost use Rattle.kc_build.specs.Trees.{IsTreeOf};
 ghost use Rattle.kc_solve.specs.Graphs.{IsGraphOf};
 ghost use Rattle.kc_solve.specs.Solved.{Solution};
 ghost use Rattle.kc_tree.specs.Layouts.{IsLayoutOf};
@@ -19,6 +20,8 @@ ghost use Rattle.kc_conf.specs.OutputStates.{ChangesOnly};
 ghost use Rattle.kc_conf.specs.Presence.{MayStrike, StreamsAreThere};
 ghost use Rattle.kc_conf.specs.Rules.{BreaksInRule, EndsWithRule};
 ghost use Rattle.kc_conf.specs.Stops.{IsOutOfMemory};
+ghost use Rattle.kc_conf.specs.Leaves.{Keeps, Leaves};
+ghost use Rattle.kc_conf.specs.TreeFiles.{AreAtHand, files_in};
 ghost use Rattle.kc_conf.specs.Reads.{AreRead, behind_warnings, without_notes, stop_of, strictly_after};
 ghost use Rattle.kc_conf.specs.declared.run_fault.RunFault.{RunFault};
 
@@ -31,15 +34,16 @@ use crate::outputs::{Output, Outputs};
 use crate::reading::LongLine;
 use crate::run_fault::RunFault;
 use crate::stream_warnings::tell_streams;
+use crate::tree_files::{TreeFiles, kept_if};
 use crate::writing::{make_depfile, make_files};
-use kc_build::build_tree;
 use kc_build::laws::one_tree;
+use kc_build::{read_listing, tree_of};
 use kc_dot::Fault;
 use kc_make::laws::opened_are_one_list;
 use kc_order::one_named_loop;
 use kc_read::file_map::FileMap;
 use kc_read::refusal::{Code, Refusal};
-use kc_solve::order::Order;
+use kc_solve::order::EvaluationOrder;
 use kc_solve::solve::solve;
 use kc_solve::solved::Solved;
 use kc_tree::layout::Layout;
@@ -53,7 +57,7 @@ pub struct AcceptedTree {
     /// The tree.
     pub tree: Tree,
     /// An order of its symbols, in which each comes after those that it needs.
-    pub order: Order,
+    pub order: EvaluationOrder,
 }
 
 // Writes the refusal of a tree.
@@ -158,7 +162,7 @@ fn run_solved<O: Outputs>(
     options: &Options,
     tree: &Tree,
     layout: &Layout,
-    order: &Order,
+    order: &EvaluationOrder,
     user: &User,
     is_warned: bool,
     outputs: &mut O,
@@ -187,7 +191,7 @@ fn run_read<I: Input, O: Outputs>(
     options: &Options,
     tree: &Tree,
     layout: &Layout,
-    order: &Order,
+    order: &EvaluationOrder,
     is_warned: bool,
     inputs: &mut [I],
     outputs: &mut O,
@@ -227,7 +231,7 @@ fn run_tree<I: Input, O: Outputs>(
     options: &Options,
     tree: &Tree,
     layout: &Layout,
-    order: &Order,
+    order: &EvaluationOrder,
     inputs: &mut [I],
     outputs: &mut O,
 ) -> Result<Status, RunFault>
@@ -253,46 +257,55 @@ fn run_tree<I: Input, O: Outputs>(
     )
 }
 
-// Writes the rule for make behind the files, where the run wrote them.
+// Writes the rule for make behind the files, where the run wrote them and the rule is wanted.
 fn end_run<O: Outputs>(
     alloc: Global,
-    files: &FileMap,
+    files: Option<TreeFiles<'_>>,
     options: &Options,
     status: Status,
     outputs: &mut O,
 ) -> Result<Status, RunFault>
-    ensures ok { IfOk result (λ ended. (opened : List (List ℕ)) × AreOpened (bytes_in files.now) (root_file options.now) opened × EndsWithRule options.now opened status ended (O.states outputs.old) (O.states outputs.new)) }
-    ensures err { IfErr result (λ cause. (opened : List (List ℕ)) × AreOpened (bytes_in files.now) (root_file options.now) opened × BreaksInRule options.now opened status cause (O.states outputs.old) (O.states outputs.new)) }
+    ensures ok { IfOk result (λ ended. (tree_files : Files) → AreAtHand options.now.depfile tree_files files.entry
+        → (opened : List (List ℕ)) × AreOpened tree_files (root_file options.now) opened × EndsWithRule options.now opened status ended (O.states outputs.old) (O.states outputs.new)) }
+    ensures err { IfErr result (λ cause. (tree_files : Files) → AreAtHand options.now.depfile tree_files files.entry
+        → (opened : List (List ℕ)) × AreOpened tree_files (root_file options.now) opened × BreaksInRule options.now opened status cause (O.states outputs.old) (O.states outputs.new)) }
     ensures cause { IfErr result IsNoInputFault }
 {
     opened_are_one_list();
     if status != Status::Done {
         return Ok(status);
     }
-    make_depfile(alloc, files, options, outputs)?;
-    Ok(Status::Done)
+    let files = match files {
+        Some(files) => files,
+        None => return Ok(status),
+    };
+    match make_depfile(alloc, files.map(), options, outputs) {
+        Ok(()) => Ok(status),
+        Err(cause) => Err(cause),
+    }
 }
 
 // Runs over an accepted tree: its warnings, what follows from the streams, and the rule for make.
 fn run_accepted<I: Input, O: Outputs>(
     alloc: Global,
-    files: &FileMap,
+    files: Option<TreeFiles<'_>>,
     options: &Options,
     tree: &Tree,
     layout: &Layout,
-    order: &Order,
+    order: &EvaluationOrder,
     inputs: &mut [I],
     outputs: &mut O,
 ) -> Result<Status, RunFault>
     requires laid { IsLayoutOf tree.now layout.now }
     requires order { IsGraphOf tree.now layout.now order.now }
     requires inputs { length inputs.old ≡ length options.now.fragments.items + 1 }
-    requires accepted { IsAcceptedTree (bytes_in files.now) (root_file options.now) tree.now }
-    ensures ok { IfOk result (λ status. (all : List (List ℕ)) × AreRead (map I.remaining inputs.old) (map I.is_there inputs.old) all
-        × ((outcome : Outcome) × IsOutcome (bytes_in files.now) options.now all outcome
+    ensures ok { IfOk result (λ status. (tree_files : Files) → IsAcceptedTree tree_files (root_file options.now) tree.now → AreAtHand options.now.depfile tree_files files.entry
+        → (all : List (List ℕ)) × AreRead (map I.remaining inputs.old) (map I.is_there inputs.old) all
+        × ((outcome : Outcome) × IsOutcome tree_files options.now all outcome
         × Finishes outcome status (O.states outputs.old) (O.states outputs.new))) }
-    ensures err { IfErr result (λ cause. (all : List (List ℕ)) × AreAllToCome (map I.remaining inputs.old) all
-        × ((outcome : Outcome) → IsOutcome (bytes_in files.now) options.now all outcome
+    ensures err { IfErr result (λ cause. (tree_files : Files) → IsAcceptedTree tree_files (root_file options.now) tree.now → AreAtHand options.now.depfile tree_files files.entry
+        → (all : List (List ℕ)) × AreAllToCome (map I.remaining inputs.old) all
+        × ((outcome : Outcome) → IsOutcome tree_files options.now all outcome
         → BreaksRun outcome cause (O.states outputs.old) (O.states outputs.new))) }
     ensures may { IfErr result (MayStrike (map I.may_fail inputs.old)) }
     ensures quiet_inputs { OnOk result (map I.failures inputs.new ≡ map I.failures inputs.old) }
@@ -303,6 +316,27 @@ fn run_accepted<I: Input, O: Outputs>(
     match run_tree(alloc, options, tree, layout, order, inputs, outputs) {
         Ok(status) => end_run(alloc, files, options, status, outputs),
         Err(cause) => Err(cause),
+    }
+}
+
+// The tree, and the files again where a rule for make is wanted: else they are let go before the tree is built.
+fn read_tree<'f>(
+    alloc: Global,
+    files: TreeFiles<'f>,
+    options: &Options,
+) -> Result<(Tree, Option<TreeFiles<'f>>), Refusal>
+    ensures built { IfOk result (λ r. IsTreeOf (files_in files.entry) (root_file options.now) (Ok r.0)) }
+    ensures at_hand { IfOk result (λ r. AreAtHand options.now.depfile (files_in files.entry) r.1) }
+    ensures refused { IfErr result (λ r. r.code ≢ Memory → IsTreeOf (files_in files.entry) (root_file options.now) (Err (refusal_view r))) }
+{
+    let listing = match read_listing(alloc, files.map(), options.kconfig.as_bytes()) {
+        Ok(listing) => listing,
+        Err(refusal) => return Err(refusal),
+    };
+    let files = kept_if(&options.depfile, files);
+    match tree_of(alloc, listing) {
+        Ok(tree) => Ok((tree, files)),
+        Err(refusal) => Err(refusal),
     }
 }
 
@@ -323,7 +357,7 @@ fn refuse<O: Outputs>(outputs: &mut O, refusal: &Refusal) -> Result<Status, RunF
 // From the tree to the files.
 fn run_through<I: Input, O: Outputs>(
     alloc: Global,
-    files: &FileMap,
+    files: TreeFiles<'_>,
     options: &Options,
     inputs: &mut [I],
     outputs: &mut O,
@@ -331,29 +365,29 @@ fn run_through<I: Input, O: Outputs>(
 ) -> Result<Status, RunFault>
     requires { length inputs.old ≡ length options.now.fragments.items + 1 }
     ensures ok { IfOk result (λ status. (all : List (List ℕ)) × AreAllToCome (map I.remaining inputs.old) all
-        × ((tree : TreeFacts) → IsAcceptedTree (bytes_in files.now) (root_file options.now) tree → StreamsAreThere all (map I.is_there inputs.old))
-        × ((outcome : Outcome) × IsOutcome (bytes_in files.now) options.now all outcome
+        × ((tree : TreeFacts) → IsAcceptedTree (files_in files.entry) (root_file options.now) tree → StreamsAreThere all (map I.is_there inputs.old))
+        × ((outcome : Outcome) × IsOutcome (files_in files.entry) options.now all outcome
         × Finishes outcome status (O.states outputs.old) (O.states outputs.new))) }
     ensures err { IfErr result (λ cause. (all : List (List ℕ)) × AreAllToCome (map I.remaining inputs.old) all
-        × ((outcome : Outcome) → IsOutcome (bytes_in files.now) options.now all outcome
+        × ((outcome : Outcome) → IsOutcome (files_in files.entry) options.now all outcome
         → BreaksRun outcome cause (O.states outputs.old) (O.states outputs.new))) }
     ensures may { IfErr result (MayStrike (map I.may_fail inputs.old)) }
     ensures quiet_inputs { OnOk result (map I.failures inputs.new ≡ map I.failures inputs.old) }
     ensures counted_inputs { IfErr result (λ cause. CountsInputs cause (map I.failures inputs.old) (map I.failures inputs.new)) }
-    ensures refused_inputs { (r : Refused) → IsRefusedTree (bytes_in files.now) (root_file options.now) r → inputs.new ≡ inputs.old }
-    ensures refused_outputs { (r : Refused) → IsRefusedTree (bytes_in files.now) (root_file options.now) r → ChangesOnly Output.Notes (O.states outputs.old) (O.states outputs.new) }
-    ensures kept { OnOk result ((tree : TreeFacts) → IsAcceptedTree (bytes_in files.now) (root_file options.now) tree → HoldsTree tree kept.new) }
-    ensures refused_kept { (r : Refused) → IsRefusedTree (bytes_in files.now) (root_file options.now) r → kept.new ≡ kept.old }
-    ensures either_kept { (tree : TreeFacts) → IsAcceptedTree (bytes_in files.now) (root_file options.now) tree → (kept.new ≡ kept.old) ⊎ HoldsTree tree kept.new }
+    ensures refused_inputs { (r : Refused) → IsRefusedTree (files_in files.entry) (root_file options.now) r → inputs.new ≡ inputs.old }
+    ensures refused_outputs { (r : Refused) → IsRefusedTree (files_in files.entry) (root_file options.now) r → ChangesOnly Output.Notes (O.states outputs.old) (O.states outputs.new) }
+    ensures kept { OnOk result ((tree : TreeFacts) → IsAcceptedTree (files_in files.entry) (root_file options.now) tree → HoldsTree tree kept.new) }
+    ensures refused_kept { (r : Refused) → IsRefusedTree (files_in files.entry) (root_file options.now) r → kept.new ≡ kept.old }
+    ensures either_kept { (tree : TreeFacts) → IsAcceptedTree (files_in files.entry) (root_file options.now) tree → (kept.new ≡ kept.old) ⊎ HoldsTree tree kept.new }
 {
     one_answer();
     opened_are_one_list();
-    let tree = match build_tree(alloc, files, options.kconfig.as_bytes()) {
-        Ok(tree) => tree,
+    let (tree, files) = match read_tree(alloc, files, options) {
+        Ok(read) => read,
         Err(refusal) => return refuse(outputs, &refusal),
     };
     let layout = tree.layout();
-    match Order::of(alloc, &tree, layout) {
+    match EvaluationOrder::of(alloc, &tree, layout) {
         Ok(order) => {
             let ended = run_accepted(
                 alloc, files, options, &tree, layout, &order, inputs, outputs,
@@ -361,7 +395,35 @@ fn run_through<I: Input, O: Outputs>(
             *kept = Some(AcceptedTree { tree, order });
             ended
         }
-        Err(refusal) => refuse(outputs, &refusal),
+        Err(refusal) => {
+            drop(files);
+            refuse(outputs, &refusal)
+        }
+    }
+}
+
+// The run over files that are lent to it or its own. A fault is reported after the run broke off.
+fn run_over<I: Input, O: Outputs>(
+    alloc: Global,
+    files: TreeFiles<'_>,
+    options: &Options,
+    inputs: &mut [I],
+    outputs: &mut O,
+    kept: &mut Option<AcceptedTree>,
+) -> Status
+    requires { length inputs.old ≡ length options.now.fragments.items + 1 }
+    ensures leaves { Leaves (files_in files.entry) options.now (map I.remaining inputs.old) (map I.is_there inputs.old) (map I.may_fail inputs.old)
+        (map I.failures inputs.old) (map I.failures inputs.new) result (O.states outputs.old) (O.states outputs.new) }
+    ensures refused_inputs { (r : Refused) → IsRefusedTree (files_in files.entry) (root_file options.now) r → inputs.new ≡ inputs.old }
+    ensures keeps { Keeps (files_in files.entry) options.now result kept.old kept.new }
+{
+    exactly_one_outcome();
+    match run_through(alloc, files, options, inputs, outputs, kept) {
+        Ok(status) => status,
+        Err(cause) => {
+            report(options, cause, outputs);
+            Status::Faulted
+        }
     }
 }
 
@@ -402,51 +464,40 @@ pub fn run<I: Input, O: Outputs>(
     ensures refused_outputs { (r : Refused) → IsRefusedTree (bytes_in files.now) (root_file options.now) r → ChangesOnly Output.Notes (O.states outputs.old) (O.states outputs.new) }
 {
     let mut kept = None;
-    run_keeping(alloc, files, options, inputs, outputs, &mut kept)
+    run_over(
+        alloc,
+        TreeFiles::Lent(files),
+        options,
+        inputs,
+        outputs,
+        &mut kept,
+    )
 }
 
-/// [`run`], word for word, but that the tree which it made is put into `kept`, in place of what that held, where it
-/// accepted one. A refused tree leaves `kept` as it was; after a fault it holds what it held, or the tree. To give back
-/// the memory of a large tree takes a while: a program that ends anyway may forget `kept`.
+/// [`run`] over files of its own: what it leaves is what [`run`] leaves of the same files, and the same holds of it. It lets
+/// the files go when they are read, unless a rule for make is wanted, so it takes less memory at once.
+///
+/// The tree that it made is put into `kept`, in place of what that held, where it accepted one. A refused tree leaves `kept`
+/// as it was; after a fault it holds what it held, or the tree. To give back the memory of a large tree takes a while: a
+/// program that ends anyway may forget `kept`.
 pub fn run_keeping<I: Input, O: Outputs>(
     alloc: Global,
-    files: &FileMap,
+    files: FileMap,
     options: &Options,
     inputs: &mut [I],
     outputs: &mut O,
     kept: &mut Option<AcceptedTree>,
 ) -> Status
     requires { length inputs.old ≡ length options.now.fragments.items + 1 }
-    // Without a fault the outputs and the status are the outcome's, and no count rose; and each stream whose turn came is there.
-    ensures exactly { result ≢ Status.Faulted → (all : List (List ℕ)) × AreAllToCome (map I.remaining inputs.old) all
-        × ((tree : TreeFacts) → IsAcceptedTree (bytes_in files.now) (root_file options.now) tree → StreamsAreThere all (map I.is_there inputs.old))
-        × ((outcome : Outcome) × IsOutcome (bytes_in files.now) options.now all outcome
-        × Finishes outcome result (O.states outputs.old) (O.states outputs.new)) }
-    ensures quiet_inputs { result ≢ Status.Faulted → map I.failures inputs.new ≡ map I.failures inputs.old }
-    // After a fault there is its cause, whose count rose by one, and of the outcome all before it is whole. No other count
-    // rose but the notes', where they fail while the error line is written. An input that failed is one that may.
-    ensures fault { result ≡ Status.Faulted → (cause : RunFault) × (all : List (List ℕ)) × AreAllToCome (map I.remaining inputs.old) all
-        × CountsInputs cause (map I.failures inputs.old) (map I.failures inputs.new)
-        × MayStrike (map I.may_fail inputs.old) cause
-        × ((outcome : Outcome) × IsOutcome (bytes_in files.now) options.now all outcome
-        × Faults options.now outcome cause (O.states outputs.old) (O.states outputs.new)) }
-    // A refused tree leaves the inputs untouched, and begins nothing.
-    ensures refused_inputs { (r : Refused) → IsRefusedTree (bytes_in files.now) (root_file options.now) r → inputs.new ≡ inputs.old }
-    ensures refused_outputs { (r : Refused) → IsRefusedTree (bytes_in files.now) (root_file options.now) r → ChangesOnly Output.Notes (O.states outputs.old) (O.states outputs.new) }
+    // The outcome whole, or a part of it and a cause.
+    ensures leaves { Leaves (bytes_in files) options.now (map I.remaining inputs.old) (map I.is_there inputs.old) (map I.may_fail inputs.old)
+        (map I.failures inputs.old) (map I.failures inputs.new) result (O.states outputs.old) (O.states outputs.new) }
+    // A refused tree leaves the inputs untouched.
+    ensures refused_inputs { (r : Refused) → IsRefusedTree (bytes_in files) (root_file options.now) r → inputs.new ≡ inputs.old }
     // Without a fault an accepted tree is kept; a refused one leaves what was there.
-    ensures kept { result ≢ Status.Faulted → (tree : TreeFacts) → IsAcceptedTree (bytes_in files.now) (root_file options.now) tree → HoldsTree tree kept.new }
-    ensures refused_kept { (r : Refused) → IsRefusedTree (bytes_in files.now) (root_file options.now) r → kept.new ≡ kept.old }
-    // Whatever comes, it is what was there or the accepted tree.
-    ensures either_kept { (tree : TreeFacts) → IsAcceptedTree (bytes_in files.now) (root_file options.now) tree → (kept.new ≡ kept.old) ⊎ HoldsTree tree kept.new }
+    ensures keeps { Keeps (bytes_in files) options.now result kept.old kept.new }
 {
-    exactly_one_outcome();
-    match run_through(alloc, files, options, inputs, outputs, kept) {
-        Ok(status) => status,
-        Err(cause) => {
-            report(options, cause, outputs);
-            Status::Faulted
-        }
-    }
+    run_over(alloc, TreeFiles::Own(files), options, inputs, outputs, kept)
 }
 
 // No tree is both accepted and refused, and none is refused in two ways.

@@ -1,5 +1,5 @@
 -- Over files that expand alike, trees, refusals and outcomes are the same.
-use Rattle.std.proofs.Common.{◌≡◌, ◌≢◌, ℕ, Bool, List, [], ◌∷◌, Option, Result, refl, sym, ap, ◌∙◌}
+use Rattle.std.proofs.Common.{ℕ, Bool, List, [], ◌∷◌, Option, Result, ap, ◌∙◌}
 use Rattle.kc_read.specs.Expansion.{Refused}
 use Rattle.kc_read.specs.Files.{Files}
 use Rattle.kc_tree.specs.TreeFacts.{TreeFacts}
@@ -8,16 +8,11 @@ use Rattle.kc_load.specs.Expanding.{ExpandsAlike, OpensAlike}
 use Rattle.kc_make.specs.Opened.{AreOpened}
 use Rattle.kc_expr.specs.Names.{all_mentioned}
 use Rattle.kc_conf.specs.declared.options.Options.{Options}
-use Rattle.kc_conf.specs.Faults.{CountsInputs, Faults, Finishes}
-use Rattle.kc_conf.specs.InputBytes.{AreAllToCome}
 use Rattle.kc_conf.specs.Outcome.{IsAcceptedTree, IsLenientOutcome, IsOutcome, IsRefusedTree, Outcome, accepted_tree, looped, no_tree, refused_tree, root_file}
-use Rattle.kc_conf.specs.OutputStates.{ChangesOnly, OutputStates}
-use Rattle.kc_conf.specs.Presence.{MayStrike, StreamsAreThere}
-use Rattle.kc_conf.specs.declared.run_fault.RunFault.{RunFault}
+use Rattle.kc_conf.specs.OutputStates.{OutputStates}
 use Rattle.kc_conf.specs.declared.options.Status.{Status}
-use Rattle.kc_conf.specs.declared.options.Status.TheVariants.{Done, Refused as IsRefused, Usage, Faulted}
-use Rattle.kc_conf.specs.declared.outputs.Output.TheVariants.{Notes}
-use Rattle.kc_configure.specs.Configured.{Leaves}
+use Rattle.kc_conf.specs.Leaves.{Keeps, Leaves}
+use Rattle.kc_conf.specs.declared.runs.AcceptedTree.{AcceptedTree}
 
 pub flipped : (root : List ℕ) (files others : Files) → ExpandsAlike root files others → ExpandsAlike root others files
 flipped root files others alike r = ((alike r).1, (alike r).0)
@@ -49,46 +44,27 @@ pub outcome_over : (files others : Files) (options : Options) → ExpandsAlike (
 outcome_over files others options alike opens all outcome (lenient, opened, is, are, same) =
     (lenient, opened, lenient_over others files options (flipped (root_file options) files others alike) all lenient is, opened_over (root_file options) files others opens opened are, same)
 
--- what a run over the loaded files says, said of the folder's
+-- what a run over the loaded files leaves, said of the folder's
 pub leaves_over : (files loaded : Files) (options : Options) (given : List (Option (List ℕ))) (there may_fail : List Bool) (counts counts_after : List ℕ) (status : Status)
     (old new : OutputStates) → ExpandsAlike (root_file options) files loaded → OpensAlike (root_file options) files loaded →
-    (status ≢ Faulted → (all : List (List ℕ)) × AreAllToCome given all
-    × ((tree : TreeFacts) → IsAcceptedTree loaded (root_file options) tree → StreamsAreThere all there) × ((outcome : Outcome) × IsOutcome loaded options all outcome × Finishes outcome status old new)) →
-    (status ≢ Faulted → counts_after ≡ counts) →
-    (status ≡ Faulted → (cause : RunFault) × (all : List (List ℕ)) × AreAllToCome given all × CountsInputs cause counts counts_after × MayStrike may_fail cause
-    × ((outcome : Outcome) × IsOutcome loaded options all outcome × Faults options outcome cause old new)) →
-    ((r : Refused) → IsRefusedTree loaded (root_file options) r → ChangesOnly Notes old new) →
-    Leaves files options given there may_fail counts counts_after status old new
-leaves_over files loaded options given there may_fail counts counts_after status old new alike opens exactly quiet fault refused = by status refl
-  where
-    whole : status ≢ Faulted → Leaves files options given there may_fail counts counts_after status old new
-    whole un =
-        let x = exactly un in
-        record {
-          all = x.0;
-          to_come = x.1;
-          outcome = x.3.0;
-          is_outcome = outcome_over files loaded options alike opens x.0 x.3.0 x.3.1;
-          finished = λ _. (x.3.2, quiet un, λ tree h. x.2 tree (accepted_over (root_file options) files loaded alike tree h));
-          broken = λ e. absurd (un e);
-          refused = λ r h. refused r (refused_over (root_file options) files loaded alike r h);
-        }
+    Leaves loaded options given there may_fail counts counts_after status old new → Leaves files options given there may_fail counts counts_after status old new
+leaves_over files loaded options given there may_fail counts counts_after status old new alike opens left = record {
+  all = left.all;
+  to_come = left.to_come;
+  outcome = left.outcome;
+  is_outcome = outcome_over files loaded options alike opens left.all left.outcome left.is_outcome;
+  finished = λ un.
+      let x = left.finished un in
+      (x.0, x.1, λ tree h. x.2 tree (accepted_over (root_file options) files loaded alike tree h));
+  broken = left.broken;
+  refused = λ r h. left.refused r (refused_over (root_file options) files loaded alike r h);
+}
 
-    struck : status ≡ Faulted → Leaves files options given there may_fail counts counts_after status old new
-    struck is =
-        let x = fault is in
-        record {
-          all = x.1;
-          to_come = x.2;
-          outcome = x.5.0;
-          is_outcome = outcome_over files loaded options alike opens x.1 x.5.0 x.5.1;
-          finished = λ un. absurd (un is);
-          broken = λ _. (x.0, x.3, x.4, x.5.2);
-          refused = λ r h. refused r (refused_over (root_file options) files loaded alike r h);
-        }
-
-    by : (s : Status) → status ≡ s → Leaves files options given there may_fail counts counts_after status old new
-    by Done e = whole (λ is. let clash : Done ≡ Faulted = sym e ∙ is in absurd cc)
-    by IsRefused e = whole (λ is. let clash : IsRefused ≡ Faulted = sym e ∙ is in absurd cc)
-    by Usage e = whole (λ is. let clash : Usage ≡ Faulted = sym e ∙ is in absurd cc)
-    by Faulted e = struck e
+-- and what it keeps
+pub keeps_over : (files loaded : Files) (options : Options) (status : Status) (old new : Option AcceptedTree) → ExpandsAlike (root_file options) files loaded →
+    Keeps loaded options status old new → Keeps files options status old new
+keeps_over files loaded options status old new alike keeps = record {
+  kept = λ un tree h. keeps.kept un tree (accepted_over (root_file options) files loaded alike tree h);
+  refused = λ r h. keeps.refused r (refused_over (root_file options) files loaded alike r h);
+  either = λ tree h. keeps.either tree (accepted_over (root_file options) files loaded alike tree h);
+}

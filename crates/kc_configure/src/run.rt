@@ -1,14 +1,13 @@
 //! Loading and running in one call.
 ghost use Rattle.std.specs.Prelude.{◌≡◌, ◌+◌, length, map, string_bytes, IfErr, IfOk, OnErr, OnOk};
 ghost use Rattle.kc_read.specs.Expansion.{Refused};
-ghost use Rattle.kc_read.specs.Files.{Files, bytes_in};
+ghost use Rattle.kc_read.specs.Files.{Files};
 ghost use Rattle.kc_load.specs.Expanding.{AreFilesOf};
 ghost use Rattle.kc_load.specs.Faults.{IsLoadFault, load_failures_after};
-ghost use Rattle.kc_load.specs.Loaded.{Loads};
 ghost use Rattle.kc_conf.specs.Outcome.{IsRefusedTree, root_file};
-ghost use Rattle.kc_configure.specs.Configured.{Keeps, Leaves};
+ghost use Rattle.kc_conf.specs.Leaves.{Keeps, Leaves};
 
-use kc_conf::{AcceptedTree, FileMap, Input, Options, Outputs, Status, run_keeping};
+use kc_conf::{AcceptedTree, Input, Options, Outputs, Status, run_keeping};
 use kc_load::{Folder, LoadFault, load};
 use std::alloc::Global;
 
@@ -25,16 +24,15 @@ use std::alloc::Global;
 /// `run_keeping` of kc_conf answers it.
 ///
 /// An error is a fault of loading: E18 where the folder's device failed at a file whose turn it was and at whose path it may
-/// fail, E20 where memory was refused. Nothing was read from an input then, no output was begun or written, and `files` and
-/// `kept` are as they were. Else `files` is what was read of the folder, and `kept` what `run_keeping` keeps. A program that
-/// ends anyway may forget both.
+/// fail, E20 where memory was refused. Nothing was read from an input then, no output was begun or written, and `kept` is as
+/// it was. Else `kept` is what `run_keeping` keeps; a program that ends anyway may forget it. What was read of the folder is
+/// let go when the tree's lines are known, unless a rule for make is wanted.
 pub fn configure<F: Folder, I: Input, O: Outputs>(
     alloc: Global,
     folder: &mut F,
     options: &Options,
     inputs: &mut [I],
     outputs: &mut O,
-    files: &mut FileMap,
     kept: &mut Option<AcceptedTree>,
 ) -> Result<Status, LoadFault>
     requires { length inputs.old ≡ length options.now.fragments.items + 1 }
@@ -44,14 +42,11 @@ pub fn configure<F: Folder, I: Input, O: Outputs>(
         × Leaves tree_files options.now (map I.remaining inputs.old) (map I.is_there inputs.old) (map I.may_fail inputs.old) (map I.failures inputs.old) (map I.failures inputs.new) status (O.states outputs.old) (O.states outputs.new)
         × ((r : Refused) → IsRefusedTree tree_files (root_file options.now) r → inputs.new ≡ inputs.old)
         × Keeps tree_files options.now status kept.old kept.new) }
-    // What was read of the folder is handed out.
-    ensures loaded { OnOk result (Loads (F.files folder.old) (string_bytes options.now.root) (root_file options.now) (bytes_in files.new)) }
     // A file that could not be read is one whose turn it was, and at whose path the folder may fail.
     ensures fault { IfErr result (IsLoadFault (F.files folder.old) (F.failing folder.old) (string_bytes options.now.root) (root_file options.now)) }
     // After a fault of loading all is as it was.
     ensures untouched_inputs { OnErr result (inputs.new ≡ inputs.old) }
     ensures untouched_outputs { OnErr result (outputs.new ≡ outputs.old) }
-    ensures untouched_files { OnErr result (files.new ≡ files.old) }
     ensures untouched_kept { OnErr result (kept.new ≡ kept.old) }
     // The folder's files stay, and the paths at which it may fail; a failure of it is counted only where it ended the loading.
     ensures stays { F.files folder.new ≡ F.files folder.old }
@@ -59,7 +54,7 @@ pub fn configure<F: Folder, I: Input, O: Outputs>(
     ensures quiet { OnOk result (F.failures folder.new ≡ F.failures folder.old) }
     ensures counted { IfErr result (λ fault. F.failures folder.new ≡ load_failures_after fault (F.failures folder.old)) }
 {
-    *files = load(
+    let files = load(
         alloc,
         folder,
         options.root.as_str(),

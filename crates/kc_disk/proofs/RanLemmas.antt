@@ -10,7 +10,7 @@ use Rattle.kc_conf.specs.Outcome.{names_of, root_file}
 use Rattle.kc_conf.specs.OutputStates.{OutputStates}
 use Rattle.kc_conf.specs.declared.options.Status.{Status}
 use Rattle.kc_conf.specs.declared.options.Status.TheVariants.{Faulted}
-use Rattle.kc_configure.specs.Configured.{Leaves}
+use Rattle.kc_conf.specs.Leaves.{Leaves}
 use Rattle.kc_disk.specs.Makers.{Tells, MakerState, maker_call}
 use Rattle.kc_disk.specs.Openers.{ReadDevice, contents, is_there, may_fail}
 use Rattle.kc_disk.specs.Program.{Ends, Ran, Reports, load_line, streams_of, unloaded}

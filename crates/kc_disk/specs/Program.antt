@@ -16,7 +16,7 @@ use Rattle.kc_conf.specs.OutputStates.{OutputStates}
 use Rattle.kc_conf.specs.declared.options.Status.{Status}
 use Rattle.kc_conf.specs.declared.options.Status.TheVariants as ended
 use Rattle.kc_conf.specs.declared.outputs.Output.TheVariants.{Notes}
-use Rattle.kc_configure.specs.Configured.{Leaves}
+use Rattle.kc_conf.specs.Leaves.{Leaves}
 use Rattle.kc_disk.specs.Makers.{MakerCall, MakerState, Tells, appended}
 use Rattle.kc_disk.specs.Openers.{ReadDevice, Stream, contents, is_there, may_fail, stream}
 use Rattle.kc_disk.specs.Reached.{Reached, unused}

@@ -19,7 +19,7 @@ use crate::report::report_line;
 use crate::run::run_over;
 use crate::system::{SystemMaker, SystemOpener};
 use crate::system_mover::SystemMover;
-use kc_conf::{AcceptedTree, FileMap, Options, Status};
+use kc_conf::{AcceptedTree, Options, Status};
 use kc_load::Folder;
 use kc_words::{UsageError, options_of};
 use std::alloc::Global;
@@ -56,7 +56,6 @@ fn run_by<F: Folder, P: Opener, M: Maker + Drop, V: Mover>(
     options: &Options,
     maker: M,
     mover: &mut V,
-    files: &mut FileMap,
     kept: &mut Option<AcceptedTree>,
 ) -> (Status, M)
     requires maker { Tells (M.state maker) (λ t. t ≡ none_made) }
@@ -64,9 +63,9 @@ fn run_by<F: Folder, P: Opener, M: Maker + Drop, V: Mover>(
     ensures { EndsBy options.now.replace (read_device (F.files folder.old) (F.failing folder.old)) (read_device (P.files opener.now) (P.failing opener.now)) options.now result.0 (maker_call (M.state maker) (M.state result.1) (M.failing maker Notes)) (mover_call (V.state mover.old) (V.state mover.new) (V.failing mover.old)) }
 {
     if options.replace {
-        run_replacing(alloc, folder, opener, options, maker, mover, files, kept)
+        run_replacing(alloc, folder, opener, options, maker, mover, kept)
     } else {
-        run_over(alloc, folder, opener, options, maker, files, kept)
+        run_over(alloc, folder, opener, options, maker, kept)
     }
 }
 
@@ -84,7 +83,6 @@ pub fn kconf_over<F: Folder, P: Opener, M: Maker + Drop, V: Mover>(
     opener: &P,
     mut maker: M,
     mover: &mut V,
-    files: &mut FileMap,
     kept: &mut Option<AcceptedTree>,
 ) -> (Status, M)
     requires maker { Tells (M.state maker) (λ t. t ≡ none_made) }
@@ -92,16 +90,7 @@ pub fn kconf_over<F: Folder, P: Opener, M: Maker + Drop, V: Mover>(
     ensures { KconfEnds (read_device (F.files folder.old) (F.failing folder.old)) (read_device (P.files opener.now) (P.failing opener.now)) arguments.now result.0 (maker_call (M.state maker) (M.state result.1) (M.failing maker Notes)) (mover_call (V.state mover.old) (V.state mover.new) (V.failing mover.old)) }
 {
     match options_of(rt.alloc(), arguments) {
-        Ok(options) => run_by(
-            rt.alloc(),
-            folder,
-            opener,
-            &options,
-            maker,
-            mover,
-            files,
-            kept,
-        ),
+        Ok(options) => run_by(rt.alloc(), folder, opener, &options, maker, mover, kept),
         Err(usage) => {
             let status = print_usage(rt, &mut maker, &usage);
             (status, maker)
@@ -114,8 +103,8 @@ pub fn kconf_over<F: Folder, P: Opener, M: Maker + Drop, V: Mover>(
 ///
 /// It is `kconf_over` over the disk, which tells nothing and may fail anywhere, and the same holds of it.
 ///
-/// It is made for a program that ends afterwards: the memory of the tree and of its files is left to the end of the
-/// process, so each call of a process that goes on keeps that much.
+/// It is made for a program that ends afterwards: the memory of the tree is left to the end of the process, so each call of
+/// a process that goes on keeps that much.
 pub fn kconf_of(rt: &HostRuntime, arguments: &[String]) -> Status
     ensures { KconfEndsOnDisk arguments.now result }
 {
@@ -125,7 +114,6 @@ pub fn kconf_of(rt: &HostRuntime, arguments: &[String]) -> Status
     };
     let opener = SystemOpener::new(rt);
     let mut system_mover = SystemMover::new(rt);
-    let mut files = FileMap::new(rt.alloc());
     let mut kept = None;
     let (status, _system) = kconf_over(
         rt,
@@ -134,12 +122,10 @@ pub fn kconf_of(rt: &HostRuntime, arguments: &[String]) -> Status
         &opener,
         system,
         &mut system_mover,
-        &mut files,
         &mut kept,
     );
-    // A program ends after this, and the system takes the memory of the files and of the tree back at once, which costs
-    // less than to give back each piece.
-    mem::forget(files);
+    // A program ends after this, and the system takes the memory of the tree back at once, which costs less than to give
+    // back each piece.
     mem::forget(kept);
     status
 }

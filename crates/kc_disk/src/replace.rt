@@ -16,7 +16,7 @@ use crate::opener::Opener;
 use crate::replace_files::{NamedText, ReplaceFault, replace_files};
 use crate::report::{report_load_fault, report_replace_fault};
 use crate::run::configure_over;
-use kc_conf::{AcceptedTree, FileMap, Options, Status};
+use kc_conf::{AcceptedTree, Options, Status};
 use kc_load::{Folder, LoadFault};
 use std::alloc::{AllocError, Global};
 
@@ -100,7 +100,6 @@ pub fn replace_over<'n, F: Folder, P: Opener, N: Maker + Drop, M: Mover>(
     options: &'n Options,
     notes: N,
     mover: &mut M,
-    files: &mut FileMap,
     kept: &mut Option<AcceptedTree>,
 ) -> (Result<Result<Status, ReplaceFault<'n>>, LoadFault>, N)
     requires notes { Tells (N.state notes) (λ t. t ≡ none_made) }
@@ -116,7 +115,7 @@ pub fn replace_over<'n, F: Folder, P: Opener, N: Maker + Drop, M: Mover>(
     ensures failing_stays { N.failing result.1 Notes ≡ N.failing notes Notes }
 {
     let drafts = Drafts::new(alloc, notes);
-    let (ran, drafts) = configure_over(alloc, folder, opener, options, drafts, files, kept);
+    let (ran, drafts) = configure_over(alloc, folder, opener, options, drafts, kept);
     match ran {
         Ok(ran) => {
             let ended = replace_drafts(alloc, options, ran, &drafts, mover);
@@ -135,16 +134,13 @@ pub fn run_replacing<F: Folder, P: Opener, N: Maker + Drop, M: Mover>(
     options: &Options,
     notes: N,
     mover: &mut M,
-    files: &mut FileMap,
     kept: &mut Option<AcceptedTree>,
 ) -> (Status, N)
     requires notes { Tells (N.state notes) (λ t. t ≡ none_made) }
     requires clear { Shows (M.state mover.old) IsClear }
     ensures { EndsReplacing (read_device (F.files folder.old) (F.failing folder.old)) (read_device (P.files opener.now) (P.failing opener.now)) options.now result.0 (maker_call (N.state notes) (N.state result.1) (N.failing notes Notes)) (mover_call (M.state mover.old) (M.state mover.new) (M.failing mover.old)) }
 {
-    let (ended, mut notes) = replace_over(
-        alloc, folder, opener, options, notes, mover, files, kept,
-    );
+    let (ended, mut notes) = replace_over(alloc, folder, opener, options, notes, mover, kept);
     match ended {
         Ok(placed) => match placed {
             Ok(status) => (status, notes),

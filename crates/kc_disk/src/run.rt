@@ -14,7 +14,7 @@ use crate::maker::Maker;
 use crate::opener::Opener;
 use crate::outputs::FileOutputs;
 use crate::report::report_load_fault;
-use kc_conf::{AcceptedTree, FileMap, Options, Status};
+use kc_conf::{AcceptedTree, Options, Status};
 use kc_configure::configure;
 use kc_load::{Folder, LoadFault};
 use std::alloc::{AllocError, Global};
@@ -34,7 +34,6 @@ fn over_devices<F: Folder, P: Opener, M: Maker + Drop, K: Devices>(
     opener: &P,
     options: &Options,
     maker: M,
-    files: &mut FileMap,
     kept: &mut Option<AcceptedTree>,
 ) -> (Result<Status, LoadFault>, M)
     requires maker { Tells (M.state maker) (λ t. t ≡ none_made) }
@@ -51,15 +50,7 @@ fn over_devices<F: Folder, P: Opener, M: Maker + Drop, K: Devices>(
         return (Err(LoadFault::Memory), maker);
     };
     let mut outputs = FileOutputs::<M, K>::new(maker, options, buffer, line);
-    match configure(
-        alloc,
-        folder,
-        options,
-        &mut inputs,
-        &mut outputs,
-        files,
-        kept,
-    ) {
+    match configure(alloc, folder, options, &mut inputs, &mut outputs, kept) {
         Ok(status) => (Ok(status), outputs.into_maker()),
         Err(fault) => (Err(fault), outputs.into_maker()),
     }
@@ -85,7 +76,6 @@ pub fn configure_over<F: Folder, P: Opener, M: Maker + Drop>(
     opener: &P,
     options: &Options,
     maker: M,
-    files: &mut FileMap,
     kept: &mut Option<AcceptedTree>,
 ) -> (Result<Status, LoadFault>, M)
     requires { Tells (M.state maker) (λ t. t ≡ none_made) }
@@ -98,7 +88,7 @@ pub fn configure_over<F: Folder, P: Opener, M: Maker + Drop>(
     ensures untouched { OnErr result.0 (M.state result.1 ≡ M.state maker) }
     ensures failing_stays { M.failing result.1 Notes ≡ M.failing maker Notes }
 {
-    over_devices::<F, P, M, Brand>(alloc, folder, opener, options, maker, files, kept)
+    over_devices::<F, P, M, Brand>(alloc, folder, opener, options, maker, kept)
 }
 
 /// The same, and a fault of loading is told on standard error: E18 with the name of the file, or E20. The status is then
@@ -109,13 +99,12 @@ pub fn run_over<F: Folder, P: Opener, M: Maker + Drop>(
     opener: &P,
     options: &Options,
     maker: M,
-    files: &mut FileMap,
     kept: &mut Option<AcceptedTree>,
 ) -> (Status, M)
     requires { Tells (M.state maker) (λ t. t ≡ none_made) }
     ensures { Ends (read_device (F.files folder.old) (F.failing folder.old)) (read_device (P.files opener.now) (P.failing opener.now)) options.now result.0 (maker_call (M.state maker) (M.state result.1) (M.failing maker Notes)) }
 {
-    let (ended, mut maker) = configure_over(alloc, folder, opener, options, maker, files, kept);
+    let (ended, mut maker) = configure_over(alloc, folder, opener, options, maker, kept);
     match ended {
         Ok(status) => (status, maker),
         Err(fault) => {

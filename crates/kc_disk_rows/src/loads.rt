@@ -1,6 +1,6 @@
 //! Loading and running in one call, over devices in memory.
 use crate::files::{MemoryFolder, files_of};
-use kc_conf::{AcceptedTree, FileMap, Options, Status};
+use kc_conf::{AcceptedTree, Options, Status};
 use kc_configure::configure;
 use kc_load::LoadFault;
 use kc_memory::{MemoryInput, MemoryOutputs};
@@ -22,7 +22,6 @@ fn configured(
     alloc: Global,
     folder: &mut MemoryFolder<'_>,
     outputs: &mut MemoryOutputs,
-    files: &mut FileMap,
     kept: &mut Option<AcceptedTree>,
 ) -> Result<Result<Status, LoadFault>, Fail> {
     let options = plain(alloc)?;
@@ -30,16 +29,15 @@ fn configured(
     if inputs.len() != options.fragments.len() + 1 {
         return Err(Fail::from("not one input for each stream"));
     }
-    Ok(configure(alloc, folder, &options, &mut inputs, outputs, files, kept))
+    Ok(configure(alloc, folder, &options, &mut inputs, outputs, kept))
 }
 
-// The run over this tree, of which the file at one path may not be read: its answer, whether a tree was kept, whether the
-// root file was handed out.
+// The run over this tree, of which the file at one path may not be read: its answer, and whether a tree was kept.
 fn left_by(
     alloc: Global,
     failing: &str,
     outputs: &mut MemoryOutputs,
-) -> Result<(Option<Status>, bool, bool), Fail> {
+) -> Result<(Option<Status>, bool), Fail> {
     let tree = files_of(alloc, &[("./Kconfig", b"config A\n\tbool \"a\"\n")])?;
     let mut folder = MemoryFolder {
         files: &tree,
@@ -47,10 +45,9 @@ fn left_by(
         failures: 0,
         alloc,
     };
-    let mut files = FileMap::new(alloc);
     let mut kept = None;
-    let ended = configured(alloc, &mut folder, outputs, &mut files, &mut kept)?;
-    Ok((ended.ok(), kept.is_some(), files.get(b"Kconfig").is_some()))
+    let ended = configured(alloc, &mut folder, outputs, &mut kept)?;
+    Ok((ended.ok(), kept.is_some()))
 }
 
 #[test]
@@ -59,7 +56,7 @@ fn a_tree_is_loaded_and_run(rt: HostRuntime) -> Result<(), Fail> {
     let left = left_by(rt.alloc(), "-", &mut outputs)?;
     let is_whole = outputs.config.bytes.ends_with(b"\nCONFIG_A=y\n") && outputs.config.is_ended;
     drop(outputs);
-    assert!(rt; is_whole && left == (Some(Status::Done), true, true));
+    assert!(rt; is_whole && left == (Some(Status::Done), true));
     Ok(())
 }
 
@@ -69,6 +66,6 @@ fn a_fault_of_loading_leaves_all_as_it_was(rt: HostRuntime) -> Result<(), Fail> 
     let left = left_by(rt.alloc(), "./Kconfig", &mut outputs)?;
     let is_begun = outputs.config.is_begun || outputs.notes.calls > 0;
     drop(outputs);
-    assert!(rt; !is_begun && left == (None, false, false));
+    assert!(rt; !is_begun && left == (None, false));
     Ok(())
 }

@@ -45,19 +45,9 @@ fn run_over_files(
         broken: row.broken,
         piece: 7,
     };
-    let mut files = FileMap::new(alloc);
     let mut kept = None;
     let maker = MemoryMaker::new(alloc, fail_at);
-    kconf_over(
-        rt,
-        arguments,
-        &mut folder,
-        &opener,
-        maker,
-        mover,
-        &mut files,
-        &mut kept,
-    )
+    kconf_over(rt, arguments, &mut folder, &opener, maker, mover, &mut kept)
 }
 
 // The run of the row over this tree and these streams. The maker's call of this number fails, counted from 1; 0 for none.

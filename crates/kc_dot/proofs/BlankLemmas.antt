@@ -35,22 +35,22 @@ found_at text at before here =
     let high : at < length text = before.high in
     position_or_len_is is_equals text at 0 (omega arith) (λ k lt. false_from_ne_true _ (before.before k (omega arith) lt)) (λ _. here)
 
-pub sides_at : (text : List ℕ) (at : ℕ) → at ≢ 0 → NoneBefore (Passes (is_byte 61) text) 0 (length text) at → Passes (is_byte 61) text at →
+pub split_found : (text : List ℕ) (at : ℕ) → at ≢ 0 → NoneBefore (Passes (is_byte 61) text) 0 (length text) at → Passes (is_byte 61) text at →
     Some (take at text, take (length text - (at + 1)) (drop (at + 1) text)) ≡ split_at_equals text
-sides_at text at some before here =
+split_found text at some before here =
     let high : at < length text = before.high in
     let low : 0 < at = omega arith in
     rw (found_at text at before here, lt-ltb 0 at low, lt-ltb at (length text) high, take_rest) refl
 
-pub sides_front : (text : List ℕ) (at : ℕ) → at ≡ 0 → NoneBefore (Passes (is_byte 61) text) 0 (length text) at → Passes (is_byte 61) text at → None ≡ split_at_equals text
-sides_front text at none before here = rw (found_at text at before here, le-ltb 0 at (omega arith)) refl
+pub split_at_front : (text : List ℕ) (at : ℕ) → at ≡ 0 → NoneBefore (Passes (is_byte 61) text) 0 (length text) at → Passes (is_byte 61) text at → None ≡ split_at_equals text
+split_at_front text at none before here = rw (found_at text at before here, le-ltb 0 at (omega arith)) refl
 
 no_side : {A : Type 0} (b : Bool) (x : Option A) → None ≡ cond (b && false) x None
 no_side true x = refl
 no_side false x = refl
 
-pub sides_none : (text : List ℕ) → Nowhere (Passes (is_byte 61) text) 0 (length text) → None ≡ split_at_equals text
-sides_none text none =
+pub split_nowhere : (text : List ℕ) → Nowhere (Passes (is_byte 61) text) 0 (length text) → None ≡ split_at_equals text
+split_nowhere text none =
     let at : position_or_len is_equals text ≡ length text =
     position_or_len_is is_equals text (length text) 0 (omega arith) (λ k lt. false_from_ne_true _ (none k (omega arith) lt)) (λ (h : length text < length text). absurd (omega arith)) in
     rw (at, le-ltb (length text) (length text) (omega arith)) (no_side (ltb 0 (length text)) _)

@@ -28,13 +28,13 @@ use Rattle.kc_dot.specs.Reading.{Assignment, is_yes, places_given}
 use Rattle.kc_dot.specs.Plain.{HasPlainTitles}
 use Rattle.kc_dot.specs.Reread.{valuation_view, read_alone}
 use Rattle.kc_dot.specs.HasNames.{HasNames}
-use Rattle.kc_dot.specs.SymbolLines.{config_line}
+use Rattle.kc_dot.specs.SymbolLines.{dot_line}
 use Rattle.kc_dot.specs.Texts.{config_text, symbol_config}
 use Rattle.kc_dot.proofs.ConfigTextLemmas.{config_gives, entry_given}
 use Rattle.kc_dot.proofs.FilledLemmas.{Holds, IsCandidate, filled_symbol, filled_member, filled_none, in_flat_map, to_flat_map, contains_here, contains_cases, no_element}
 use Rattle.kc_dot.proofs.GivesLemmas.{Gives, gives_whole}
 use Rattle.kc_dot.proofs.MinimalLaws.{read_alone_is}
-use Rattle.kc_dot.proofs.MinimalTextLemmas.{there, choice_by_slot, choice_there, yes_selected}
+use Rattle.kc_dot.proofs.MinimalTextLemmas.{there, choice_by_place, choice_there, yes_selected}
 use Rattle.kc_dot.proofs.ShapeLemmas.{value_shape}
 use Rattle.kc_dot.proofs.SymbolLineLemmas.{IsOf, FitsLine, symbol_gives}
 
@@ -101,7 +101,7 @@ module _ (tree : TreeFacts) (user : UserPlace → Option GivenValue) (V : ℕ �
         | inr of ↦ rw (solves s.0 lt) of
       ] in
       let line = symbol_gives tree prefix stream is_pre formed named_all s f at lt (V s.0) shape (fits s lt w) in
-      subst (λ k. Gives tree prefix stream (config_line (prefix ++ name_of tree s) k) (given_to s)) (sym value_is) line
+      subst (λ k. Gives tree prefix stream (dot_line (prefix ++ name_of tree s) k) (given_to s)) (sym value_is) line
     where
       slice_there : (n : ℕ) (entry : Shown) → n < length tree.entries → get_or tree.entries n entry ≡ entry → slice_get tree.entries n ≡ Some entry
       slice_there n entry lt e = slice_get-get_or tree.entries n entry lt ∙ ap Some e
@@ -173,7 +173,7 @@ module _ (tree : TreeFacts) (user : UserPlace → Option GivenValue) (V : ℕ �
       let (w, is_y) = and_parts (ls.written tree K m) (value.is_yes (V m.0)) wrote in
       let bool : g.kind ≡ kind.Bool = bools m g c found_g choice in
       let ok : allowed tree m (given_of (V m.0)) ≡ true = ap (λ o. allowed_for o (given_of (V m.0))) found_g ∙ ap (λ k. allowed_by k (given_of (V m.0))) bool ∙ yes_allowed (V m.0) is_y in
-      (lt, and_from (ls.written tree K m) (allowed tree m (given_of (V m.0))) w ok, choice_by_slot tree m c (place_of_member tree m g c found_g choice), yes_known (V m.0) ∙ is_y)
+      (lt, and_from (ls.written tree K m) (allowed tree m (given_of (V m.0))) w ok, choice_by_place tree m c (place_of_member tree m g c found_g choice), yes_known (V m.0) ∙ is_y)
 
   -- a candidate is a member that is written and y
   candidate_found : (c : ℕ) (x : SymId) → IsCandidate tree value_to has_line config_given config_holds c x → (f : ChoiceFacts) × (choice_at tree c ≡ Some f) × Contains f.members x × (Wrote x ≡ true)
@@ -203,7 +203,7 @@ module _ (tree : TreeFacts) (user : UserPlace → Option GivenValue) (V : ℕ �
   pub reread_at : (i : ℕ) → i < symbol_count tree → place_at Reread (user_place tree i) ≡ reread_places tree V (user_place tree i)
   reread_at i lt = elim (place_cases tree i) [
     | inl at ↦ rw at (reread_own i lt)
-    | inr (c, at) ↦ rw at (reread_found c (choice_at tree c) (find Wrote (members_of (choice_at tree c))) (choice_there tree (symbol i) c formed lt (choice_by_slot tree (symbol i) c at)) refl refl)
+    | inr (c, at) ↦ rw at (reread_found c (choice_at tree c) (find Wrote (members_of (choice_at tree c))) (choice_there tree (symbol i) c formed lt (choice_by_place tree (symbol i) c at)) refl refl)
   ]
 
   pub config_read : (name : List ℕ) → (warned : List ℕ) ×

@@ -29,7 +29,7 @@ use Rattle.kc_dot.specs.Reading.{Assignment, choice_of, is_yes, places_given}
 use Rattle.kc_dot.specs.Reread.{valuation_view, kept_lines}
 use Rattle.kc_dot.specs.HasNames.{HasNames}
 use Rattle.kc_dot.specs.Texts.{symbols_of, symbol_config}
-use Rattle.kc_dot.specs.SymbolLines.{config_line}
+use Rattle.kc_dot.specs.SymbolLines.{dot_line}
 use Rattle.kc_dot.proofs.FilledLemmas.{Holds, IsCandidate, filled_symbol, filled_member, filled_none, in_flat_map, to_flat_map, contains_here, contains_cases, no_element}
 use Rattle.kc_dot.proofs.GivesLemmas.{Gives, gives_all, gives_nothing}
 use Rattle.kc_dot.proofs.ShapeLemmas.{value_shape, allowed_fits, untyped_not}
@@ -52,12 +52,12 @@ symbols_all tree s lt =
     (s.0, omega (arith, lt, length-map-range_with_len symbol 0 (length tree.symbols)), get_or-map-range_with_len symbol 0 (length tree.symbols) s.0 s.0 s lt (omega arith))
 
 -- A symbol's choice and its place.
-slot_choice : (i c : ℕ) (o : Option SymbolFacts) → option_and_then (λ (f : SymbolFacts). f.choice) o ≡ Some c → sol.user_place_of i o ≡ ChoicePlace c
-slot_choice i c None e = cc
-slot_choice i c (Some f) e = ap (sol.user_place_by i) e
+place_by_facts : (i c : ℕ) (o : Option SymbolFacts) → option_and_then (λ (f : SymbolFacts). f.choice) o ≡ Some c → sol.user_place_of i o ≡ ChoicePlace c
+place_by_facts i c None e = cc
+place_by_facts i c (Some f) e = ap (sol.user_place_by i) e
 
-pub slot_by_choice : (tree : TreeFacts) (x : SymId) (c : ℕ) → choice_of tree x ≡ Some c → user_place tree x.0 ≡ ChoicePlace c
-slot_by_choice tree x c e = slot_choice x.0 c (facts tree x) e
+pub place_by_choice : (tree : TreeFacts) (x : SymId) (c : ℕ) → choice_of tree x ≡ Some c → user_place tree x.0 ≡ ChoicePlace c
+place_by_choice tree x c e = place_by_facts x.0 c (facts tree x) e
 
 choice_by : (i c : ℕ) (o : Option ℕ) → sol.user_place_by i o ≡ ChoicePlace c → o ≡ Some c
 choice_by i c None e = cc
@@ -67,8 +67,8 @@ choice_facts : (i c : ℕ) (o : Option SymbolFacts) → sol.user_place_of i o �
 choice_facts i c None e = cc
 choice_facts i c (Some f) e = choice_by i c f.choice e
 
-pub choice_by_slot : (tree : TreeFacts) (x : SymId) (c : ℕ) → user_place tree x.0 ≡ ChoicePlace c → choice_of tree x ≡ Some c
-choice_by_slot tree x c e = choice_facts x.0 c (facts tree x) e
+pub choice_by_place : (tree : TreeFacts) (x : SymId) (c : ℕ) → user_place tree x.0 ≡ ChoicePlace c → choice_of tree x ≡ Some c
+choice_by_place tree x c e = choice_facts x.0 c (facts tree x) e
 
 pub choice_there : (tree : TreeFacts) (x : SymId) (c : ℕ) → IsWellFormed tree → x.0 < length tree.symbols → choice_of tree x ≡ Some c → c < length tree.choices
 choice_there tree x c formed lt is =
@@ -89,7 +89,7 @@ module _ (tree : TreeFacts) (user : UserPlace → Option GivenValue) (V : ℕ �
   -- a member is y where it is selected
   pub yes_selected : (x : SymId) (c : ℕ) → x.0 < length tree.symbols → choice_of tree x ≡ Some c → is_yes (given_of (V x.0)) ≡ true → Selected c ≡ Some x
   yes_selected x c lt is yes_now =
-      let now = member_now tree user V solves x.0 c lt (slot_by_choice tree x c is) in
+      let now = member_now tree user V solves x.0 c lt (place_by_choice tree x c is) in
       named (Selected c) x (yes_if (is_symbol_of x (Selected c)) (sym (ap (λ k. is_yes (given_of k)) now) ∙ yes_now))
 
   pub selected_yes : (x : SymId) (c : ℕ) → Selected c ≡ Some x → (x.0 < length tree.symbols) × (user_place tree x.0 ≡ ChoicePlace c) × (is_yes (given_of (V x.0)) ≡ true)
@@ -116,8 +116,8 @@ module _ (tree : TreeFacts) (user : UserPlace → Option GivenValue) (V : ℕ �
   kept_own : (i : ℕ) → user_place tree i ≡ SymbolPlace i → i < symbol_count tree → keeps_differing (SymbolPlace i) ≡ differs tree user V i
   kept_own i at lt = rw (lt-ltb i (symbol_count tree) lt, at) refl
 
-  own_slot : (i : ℕ) → is_own (user_place tree i) ≡ true → user_place tree i ≡ SymbolPlace i
-  own_slot i e = elim (place_cases tree i) [
+  own_place_is : (i : ℕ) → is_own (user_place tree i) ≡ true → user_place tree i ≡ SymbolPlace i
+  own_place_is i e = elim (place_cases tree i) [
     | inl at ↦ at
     | inr (c, at) ↦ let never : false ≡ true = sym (ap is_own at) ∙ e in cc
   ]
@@ -138,7 +138,7 @@ module _ (tree : TreeFacts) (user : UserPlace → Option GivenValue) (V : ℕ �
       telling (SymbolPlace i) e =
           let (below, rest) = and_parts (nat_lt i (symbol_count tree)) (is_own (user_place tree i) && differs tree user V i) e in
           let (its_own, other) = and_parts (is_own (user_place tree i)) (differs tree user V i) rest in
-          (i, ltb-true i (symbol_count tree) below, own_slot i its_own, other)
+          (i, ltb-true i (symbol_count tree) below, own_place_is i its_own, other)
       telling (ChoicePlace c) e = tell_member c (Selected c) refl e
 
       told_each : (i : ℕ) → i < symbol_count tree → differs tree user V i ≡ true → keeps_differing (user_place tree i) ≡ true
@@ -173,8 +173,8 @@ module _ (tree : TreeFacts) (user : UserPlace → Option GivenValue) (V : ℕ �
       ] in
       let own_is : own tree prefix stream is_pre formed named_all s f at lt (V s.0) ≡ Some (assignment_to s) = rw ok refl in
       let line = symbol_gives tree prefix stream is_pre formed named_all s f at lt (V s.0) shape (allowed_fits f.kind (V s.0) shape ok_kind) in
-      subst (λ k. Gives tree prefix stream (config_line (prefix ++ name_of tree s) k) (assignment_to s ∷ [])) (sym value_is)
-      (subst (λ o. Gives tree prefix stream (config_line (prefix ++ name_of tree s) (V s.0)) (cons_option o [])) own_is line)
+      subst (λ k. Gives tree prefix stream (dot_line (prefix ++ name_of tree s) k) (assignment_to s ∷ [])) (sym value_is)
+      (subst (λ o. Gives tree prefix stream (dot_line (prefix ++ name_of tree s) (V s.0)) (cons_option o [])) own_is line)
     where
       told_value : SymId → SymbolValue
       told_value = known_from tree V
@@ -262,7 +262,7 @@ module _ (tree : TreeFacts) (user : UserPlace → Option GivenValue) (V : ℕ �
     | inl pass ↦
         let (below, place, is_y) = selected_yes tree user V theirs solves m c sel in
         let (stay, other) = and_parts (keep m) (differs tree user V m.0) pass in
-        filled_member tree value_of_symbol passes all_given minimal_holds c m lt (below, pass, choice_by_slot tree m c place, is_y)
+        filled_member tree value_of_symbol passes all_given minimal_holds c m lt (below, pass, choice_by_place tree m c place, is_y)
         (λ x candidate. let e : Some m ≡ Some x = sym sel ∙ candidate_selected c x candidate in cc)
         ∙ rw (stay, other) refl
     | inr fails ↦
@@ -278,5 +278,5 @@ module _ (tree : TreeFacts) (user : UserPlace → Option GivenValue) (V : ℕ �
   pub left_at : (i : ℕ) → i < symbol_count tree → Left (user_place tree i) ≡ Lines (user_place tree i)
   left_at i lt = elim (place_cases tree i) [
     | inl at ↦ rw at (left_own i lt at)
-    | inr (c, at) ↦ rw at (left_member c (Sel tree user V solves c) (choice_there tree (symbol i) c formed lt (choice_by_slot tree (symbol i) c at)) refl)
+    | inr (c, at) ↦ rw at (left_member c (Sel tree user V solves c) (choice_there tree (symbol i) c formed lt (choice_by_place tree (symbol i) c at)) refl)
   ]

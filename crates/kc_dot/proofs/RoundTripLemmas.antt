@@ -14,7 +14,7 @@ use Rattle.std.proofs.lemmas.Slice.Eq.{bytes_eq-Decides}
 use Rattle.kc_expr.specs.Value.{SymbolValue, Truth, TextValue}
 use Rattle.kc_expr.specs.declared.expression.Tri.TheVariants.{N, M, Y}
 use Rattle.kc_expr.specs.declared.expression.Kind.TheVariants as kind
-use Rattle.kc_dot.specs.SymbolLines.{config_line}
+use Rattle.kc_dot.specs.SymbolLines.{dot_line}
 use Rattle.kc_text.specs.Escapes.{escape}
 use Rattle.kc_text.specs.Lexemes.{is_blank}
 use Rattle.kc_text.proofs.Unescaping.{unescape_law}
@@ -146,7 +146,7 @@ module _ (prefix name : List ℕ) (few : length prefix ≤ 64) (short : length n
   whole_name : length (prefix ++ name) ≤ 319
   whole_name = omega (arith, length-append prefix name)
 
-  pub written_short : (known : SymbolValue) → IsShortText known → length (config_line (prefix ++ name) known) ≤ 65323
+  pub written_short : (known : SymbolValue) → IsShortText known → length (dot_line (prefix ++ name) known) ≤ 65323
   written_short (Truth N) fits = omega (arith, length-append (codes "# ") (prefix ++ name), length-append (codes "# " ++ (prefix ++ name)) (codes " is not set\n"), whole_name)
   written_short (Truth M) fits = omega (arith, length-append (prefix ++ name) (codes "=m\n"), whole_name)
   written_short (Truth Y) fits = omega (arith, length-append (prefix ++ name) (codes "=y\n"), whole_name)

@@ -22,7 +22,7 @@ use Rattle.kc_dot.specs.Plain.{title_line}
 use Rattle.kc_dot.specs.Prefixes.{is_prefix}
 use Rattle.kc_dot.specs.Reading.{Line, line, is_within, next_number, lines_from}
 use Rattle.kc_dot.specs.Reread.{valuation_view}
-use Rattle.kc_dot.specs.SymbolLines.{config_line}
+use Rattle.kc_dot.specs.SymbolLines.{dot_line}
 use Rattle.kc_dot.specs.Texts.{config_heading, config_text, title_lines, end_line, end_if, gap, shown_title, ends_after, symbol_config, symbols_of, entry_text, entries_text, minimal_if, minimal_text}
 use Rattle.kc_dot.specs.SolutionView.{SolutionView, is_shown}
 use Rattle.kc_dot.proofs.FilledLemmas.{contains_here, contains_later}
@@ -89,19 +89,19 @@ module _ (stream : List ℕ) where
         short_line (front ++ text) (name ++ codes "=" ++ text ++ codes "\n") refl (All-append (λ b. is_line_feed b ≡ false) front text (behind (codes "=") (no_lf_check (codes "=") refl)) solid)
         (omega (arith, few, fits, longer, length-append name (codes "="), length-append front text))
 
-    known_short : (k : SymbolValue) → fits_known k ≡ true → Short (config_line name k)
+    known_short : (k : SymbolValue) → fits_known k ≡ true → Short (dot_line name k)
     known_short (Truth N) e =
         let front : List ℕ = codes "# " ++ name in
         let body : List ℕ = front ++ codes " is not set" in
         let front_none : HasNoLf front = All-append (λ b. is_line_feed b ≡ false) (codes "# ") name (no_lf_check (codes "# ") refl) none in
-        short_line body (config_line name (Truth N)) (sym (append_assoc front (codes " is not set") (10 ∷ [])))
+        short_line body (dot_line name (Truth N)) (sym (append_assoc front (codes " is not set") (10 ∷ [])))
         (All-append (λ b. is_line_feed b ≡ false) front (codes " is not set") front_none (no_lf_check (codes " is not set") refl))
         (omega (arith, few, length-append (codes "# ") name, length-append front (codes " is not set")))
     known_short (Truth M) e =
-        short_line (name ++ codes "=m") (config_line name (Truth M)) (sym (append_assoc name (codes "=m") (10 ∷ [])))
+        short_line (name ++ codes "=m") (dot_line name (Truth M)) (sym (append_assoc name (codes "=m") (10 ∷ [])))
         (behind (codes "=m") (no_lf_check (codes "=m") refl)) (omega (arith, few, length-append name (codes "=m")))
     known_short (Truth Y) e =
-        short_line (name ++ codes "=y") (config_line name (Truth Y)) (sym (append_assoc name (codes "=y") (10 ∷ [])))
+        short_line (name ++ codes "=y") (dot_line name (Truth Y)) (sym (append_assoc name (codes "=y") (10 ∷ [])))
         (behind (codes "=y") (no_lf_check (codes "=y") refl)) (omega (arith, few, length-append name (codes "=y")))
     known_short (TextValue kind.Undefined text) e = short_nothing
     known_short (TextValue kind.Bool text) e = short_nothing
@@ -111,7 +111,7 @@ module _ (stream : List ℕ) where
         let open_ : List ℕ = name ++ codes "=\"" in
         let front : List ℕ = open_ ++ escape text in
         let front_none : HasNoLf front = All-append (λ b. is_line_feed b ≡ false) open_ (escape text) (behind (codes "=\"") (no_lf_check (codes "=\"") refl)) (escape_no_lf text solid) in
-        short_line (front ++ codes "\"") (config_line name (TextValue kind.Str text)) (sym (append_assoc front (codes "\"") (10 ∷ [])))
+        short_line (front ++ codes "\"") (dot_line name (TextValue kind.Str text)) (sym (append_assoc front (codes "\"") (10 ∷ [])))
         (All-append (λ b. is_line_feed b ≡ false) front (codes "\"") front_none (no_lf_check (codes "\"") refl))
         (omega (arith, few, fits, length-append name (codes "=\""), length-append open_ (escape text), length-append front (codes "\"")))
     known_short (TextValue kind.Int text) e = number_short text (fits_parts text e).0 (fits_parts text e).1
@@ -217,7 +217,7 @@ module _ (tree : TreeFacts) (user : UserPlace → Option GivenValue) (V : ℕ �
       let known = named s lt in
       let value_is : known_from tree V s ≡ V s.0 = rw (lt-ltb s.0 (length tree.symbols) lt) refl in
       let most : length (prefix ++ name_of tree s) ≤ 319 = (let n = known.1 in omega (arith, n, few, length-append prefix (name_of tree s))) in
-      subst (λ k. Short stream (config_line (prefix ++ name_of tree s) k)) (sym value_is)
+      subst (λ k. Short stream (dot_line (prefix ++ name_of tree s) k)) (sym value_is)
       (known_short stream (prefix ++ name_of tree s) (full_no_lf tree prefix stream is_pre formed named s f at lt) most (V s.0) (fits s.0 lt))
 
   pub config_is_short : HasShortLines (config_text tree prefix (valuation_view tree user V))

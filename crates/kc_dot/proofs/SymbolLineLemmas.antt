@@ -35,7 +35,7 @@ use Rattle.kc_dot.specs.Reading.{Assignment, assignment_of}
 use Rattle.kc_dot.specs.Plain.{is_end_byte, EndsPlainly}
 use Rattle.kc_dot.specs.HasNames.{HasNames}
 use Rattle.kc_dot.specs.RoundTrip.{IsShortText}
-use Rattle.kc_dot.specs.SymbolLines.{config_line}
+use Rattle.kc_dot.specs.SymbolLines.{dot_line}
 use Rattle.kc_dot.proofs.GivesLemmas.{Gives, gives_line}
 use Rattle.kc_dot.proofs.LineLemmas.{HasNoLf}
 use Rattle.kc_dot.proofs.RoundTripLemmas.{trimmed-solid, prefix_bytes, unset_read_again, set_read_again, string_read_again, written_short}
@@ -189,25 +189,25 @@ module _ (tree : TreeFacts) (prefix stream : List ℕ) (is_pre : is_prefix prefi
       let (short, bytes) = and_parts (nat_le (length prefix) 64) _ rest in
       leb-true (length prefix) 64 short
 
-  short_line : (body : List ℕ) (known : SymbolValue) → IsShortText known → config_line full known ≡ body ++ 10 ∷ [] → length body ≤ 65535
+  short_line : (body : List ℕ) (known : SymbolValue) → IsShortText known → dot_line full known ≡ body ++ 10 ∷ [] → length body ≤ 65535
   short_line body known fits is =
       let n = named s defined in
-      let all : length (config_line full known) ≤ 65323 = written_short prefix (name_of tree s) short_prefix n.1 known fits in
-      let same : length (config_line full known) ≡ length (body ++ 10 ∷ []) = ap length is in
+      let all : length (dot_line full known) ≤ 65323 = written_short prefix (name_of tree s) short_prefix n.1 known fits in
+      let same : length (dot_line full known) ≡ length (body ++ 10 ∷ []) = ap length is in
       omega (arith, all, same, length-append body (10 ∷ []))
 
   -- a line that sets the symbol
-  gives_set : (known : SymbolValue) (value : List ℕ) → HasNoLf value → EndsPlainly value → IsShortText known → config_line full known ≡ (full ++ 61 ∷ value) ++ 10 ∷ [] →
-      assignment_of (set_by_kind (name_of tree s) s value f.kind) ≡ own known → Gives tree prefix stream (config_line full known) (cons_option (own known) [])
+  gives_set : (known : SymbolValue) (value : List ℕ) → HasNoLf value → EndsPlainly value → IsShortText known → dot_line full known ≡ (full ++ 61 ∷ value) ++ 10 ∷ [] →
+      assignment_of (set_by_kind (name_of tree s) s value f.kind) ≡ own known → Gives tree prefix stream (dot_line full known) (cons_option (own known) [])
   gives_set known value none plain fits is means =
       let body = full ++ 61 ∷ value in
       rw is (gives_line tree prefix stream body (own known) (set_no_lf value none) (short_line body known fits is) (ap assignment_of (set_says value plain) ∙ means))
 
   -- a line that unsets it
-  gives_unset : assignment_of (unset_by_kind (name_of tree s) s f.kind) ≡ own (Truth N) → Gives tree prefix stream (config_line full (Truth N)) (cons_option (own (Truth N)) [])
+  gives_unset : assignment_of (unset_by_kind (name_of tree s) s f.kind) ≡ own (Truth N) → Gives tree prefix stream (dot_line full (Truth N)) (cons_option (own (Truth N)) [])
   gives_unset means =
       let body : List ℕ = (codes "# " ++ full) ++ codes " is not set" in
-      let is : config_line full (Truth N) ≡ body ++ 10 ∷ [] = sym (append_assoc (codes "# " ++ full) (codes " is not set") (10 ∷ [])) in
+      let is : dot_line full (Truth N) ≡ body ++ 10 ∷ [] = sym (append_assoc (codes "# " ++ full) (codes " is not set") (10 ∷ [])) in
       subst (λ t. Gives tree prefix stream t (cons_option (own (Truth N)) [])) (sym is)
       (gives_line tree prefix stream body (own (Truth N)) unset_no_lf (short_line body (Truth N) tt is) (ap assignment_of unset_says ∙ means))
 
@@ -234,7 +234,7 @@ module _ (tree : TreeFacts) (prefix stream : List ℕ) (is_pre : is_prefix prefi
   any_truth kind.Int t of = absurd of
   any_truth kind.Hex t of = absurd of
 
-  truth_gives : (t : Tri) → IsOf f.kind (Truth t) → Gives tree prefix stream (config_line full (Truth t)) (cons_option (own (Truth t)) [])
+  truth_gives : (t : Tri) → IsOf f.kind (Truth t) → Gives tree prefix stream (dot_line full (Truth t)) (cons_option (own (Truth t)) [])
   truth_gives N of = let means = truth_means f.kind refl (any_truth f.kind N of) in gives_unset (rw allowed_is means.0)
   truth_gives M of =
       let means = truth_means f.kind refl (any_truth f.kind M of) in
@@ -258,10 +258,10 @@ module _ (tree : TreeFacts) (prefix stream : List ℕ) (is_pre : is_prefix prefi
   number_value_if false is_number text = refl
 
   str_gives : (kd : Kind) (text : List ℕ) → kd ≡ f.kind → kd ≡ kind.Str → FitsLine (TextValue kind.Str text) →
-      Gives tree prefix stream (config_line full (TextValue kind.Str text)) (cons_option (own (TextValue kind.Str text)) [])
+      Gives tree prefix stream (dot_line full (TextValue kind.Str text)) (cons_option (own (TextValue kind.Str text)) [])
   str_gives kd text is str (none, short) =
       let k : f.kind ≡ kind.Str = sym is ∙ str in
-      let line_is : config_line full (TextValue kind.Str text) ≡ (full ++ 61 ∷ (34 ∷ escape text ++ 34 ∷ [])) ++ 10 ∷ [] = simp append_assoc in
+      let line_is : dot_line full (TextValue kind.Str text) ≡ (full ++ 61 ∷ (34 ∷ escape text ++ 34 ∷ [])) ++ 10 ∷ [] = simp append_assoc in
       let no_lf : HasNoLf (34 ∷ escape text ++ 34 ∷ []) =
       All-append (λ b. is_line_feed b ≡ false) (34 ∷ escape text) (34 ∷ [])
       (All-cons (λ b. is_line_feed b ≡ false) 34 (escape text) refl (escape_no_lf text none)) (no_lf_check (34 ∷ []) refl) in
@@ -269,31 +269,31 @@ module _ (tree : TreeFacts) (prefix stream : List ℕ) (is_pre : is_prefix prefi
       (rw (allowed_is, k, quoted_value text none) (assigned_if (fits_quoted text) (TextValue kind.Str text)))
 
   int_gives : (text : List ℕ) → f.kind ≡ kind.Int → FitsLine (TextValue kind.Int text) →
-      Gives tree prefix stream (config_line full (TextValue kind.Int text)) (cons_option (own (TextValue kind.Int text)) [])
+      Gives tree prefix stream (dot_line full (TextValue kind.Int text)) (cons_option (own (TextValue kind.Int text)) [])
   int_gives text k (none, short, plain) =
       gives_set (TextValue kind.Int text) text none plain short (simp append_assoc)
       (rw (allowed_is, k, number_value_if (nat_le (length text) 65000) (is_some (int_of text)) text) (assigned_if (nat_le (length text) 65000 && is_some (int_of text)) (TextValue kind.Int text)))
 
   hex_gives : (text : List ℕ) → f.kind ≡ kind.Hex → FitsLine (TextValue kind.Hex text) →
-      Gives tree prefix stream (config_line full (TextValue kind.Hex text)) (cons_option (own (TextValue kind.Hex text)) [])
+      Gives tree prefix stream (dot_line full (TextValue kind.Hex text)) (cons_option (own (TextValue kind.Hex text)) [])
   hex_gives text k (none, short, plain) =
       gives_set (TextValue kind.Hex text) text none plain short (simp append_assoc)
       (rw (allowed_is, k, number_value_if (nat_le (length text) 65000) (is_some (hex_of text)) text) (assigned_if (nat_le (length text) 65000 && is_some (hex_of text)) (TextValue kind.Hex text)))
 
   written_gives : (kd l : Kind) (text : List ℕ) → kd ≡ f.kind → IsOf kd (TextValue l text) → FitsLine (TextValue l text) →
-      Gives tree prefix stream (config_line full (TextValue l text)) (cons_option (own (TextValue l text)) [])
+      Gives tree prefix stream (dot_line full (TextValue l text)) (cons_option (own (TextValue l text)) [])
   written_gives kind.Undefined l text is of fits = absurd of
   written_gives kind.Bool l text is of fits = absurd of
   written_gives kind.Tristate l text is of fits = absurd of
   written_gives kind.Str l text is of fits =
-      subst (λ x. FitsLine (TextValue x text) → Gives tree prefix stream (config_line full (TextValue x text)) (cons_option (own (TextValue x text)) []))
+      subst (λ x. FitsLine (TextValue x text) → Gives tree prefix stream (dot_line full (TextValue x text)) (cons_option (own (TextValue x text)) []))
       (sym of) (str_gives kind.Str text is refl) fits
   written_gives kind.Int l text is of fits =
-      subst (λ x. FitsLine (TextValue x text) → Gives tree prefix stream (config_line full (TextValue x text)) (cons_option (own (TextValue x text)) [])) (sym of) (int_gives text (sym is)) fits
+      subst (λ x. FitsLine (TextValue x text) → Gives tree prefix stream (dot_line full (TextValue x text)) (cons_option (own (TextValue x text)) [])) (sym of) (int_gives text (sym is)) fits
   written_gives kind.Hex l text is of fits =
-      subst (λ x. FitsLine (TextValue x text) → Gives tree prefix stream (config_line full (TextValue x text)) (cons_option (own (TextValue x text)) [])) (sym of) (hex_gives text (sym is)) fits
+      subst (λ x. FitsLine (TextValue x text) → Gives tree prefix stream (dot_line full (TextValue x text)) (cons_option (own (TextValue x text)) [])) (sym of) (hex_gives text (sym is)) fits
 
   -- the line of the symbol gives it its value where that is allowed, and nothing else
-  pub symbol_gives : (known : SymbolValue) → IsOf f.kind known → FitsLine known → Gives tree prefix stream (config_line full known) (cons_option (own known) [])
+  pub symbol_gives : (known : SymbolValue) → IsOf f.kind known → FitsLine known → Gives tree prefix stream (dot_line full known) (cons_option (own known) [])
   symbol_gives (Truth t) of fits = truth_gives t of
   symbol_gives (TextValue l text) of fits = written_gives f.kind l text refl of fits

@@ -16,7 +16,7 @@ use Rattle.kc_tree.specs.declared.layout.Tables.{Tables}
 use Rattle.kc_tree.specs.declared.rows.ShownEntry.{ShownEntry}
 use Rattle.kc_dot.specs.Named.{HasName}
 use Rattle.kc_dot.specs.Effects.{name_of}
-use Rattle.kc_dot.specs.SymbolLines.{config_line, header_line}
+use Rattle.kc_dot.specs.SymbolLines.{dot_line, header_line}
 use Rattle.kc_dot.specs.Texts.{symbols_of, header_if, minimal_if, gap, entry_text, ends_after, entries_text}
 use Rattle.kc_dot.specs.SolutionView.{SolutionView}
 
@@ -33,7 +33,7 @@ module _ (tree : TreeFacts) (prefix : List ℕ) (solution : SolutionView) (s : S
   header_if-not not_written = rw not_written refl
 
   pub minimal_if-differs : (name : List ℕ) (known : SymbolValue) → solution.differs s ≡ true → slice_get tree.names s.0 ≡ Some name → known ≡ solution.value s →
-      config_line (prefix ++ name) known ≡ minimal_if tree prefix solution s
+      dot_line (prefix ++ name) known ≡ minimal_if tree prefix solution s
   minimal_if-differs name known differs found value = rw (differs, name_is tree s name found, value) refl
 
   pub minimal_if-not : solution.differs s ≡ false → [] ≡ minimal_if tree prefix solution s
@@ -62,7 +62,7 @@ module _ (tree : TreeFacts) (f : SymId → List ℕ) where
 module _ (tree : TreeFacts) (prefix : List ℕ) (solution : SolutionView) where
   -- the line of a symbol that is written
   pub symbol-written : (after_end : Bool) (s : SymId) (name : List ℕ) (known : SymbolValue) → solution.written s ≡ true → slice_get tree.names s.0 ≡ Some name → known ≡ solution.value s →
-      gap after_end ++ config_line (prefix ++ name) known ≡ entry_text tree prefix solution after_end (SymbolShown s)
+      gap after_end ++ dot_line (prefix ++ name) known ≡ entry_text tree prefix solution after_end (SymbolShown s)
   symbol-written after_end s name known written found value = rw (written, name_is tree s name found, value) refl
 
   module _ (t : Tables) where

@@ -8,7 +8,7 @@ use Rattle.kc_expr.specs.Limits.{longest_name}
 use Rattle.kc_expr.specs.Names.{is_name_byte}
 use Rattle.kc_expr.specs.Value.{SymbolValue, Truth, TextValue}
 use Rattle.kc_expr.specs.declared.expression.Kind.TheVariants as kind
-use Rattle.kc_dot.specs.SymbolLines.{config_line}
+use Rattle.kc_dot.specs.SymbolLines.{dot_line}
 use Rattle.kc_dot.specs.DotLine.{Set, Unset, meaning_of, trimmed}
 use Rattle.kc_dot.specs.LineValue.{line_value}
 use Rattle.kc_dot.specs.Limits.{longest_prefix}
@@ -51,4 +51,4 @@ IsShortText (TextValue kind.Hex text) = length text ≤ longest_value
 abbrev pub WrittenLinesAreShort : Type 0
 WrittenLinesAreShort =
     (prefix name : List ℕ) (known : SymbolValue) → length prefix ≤ longest_prefix → length name ≤ longest_name → IsShortText known →
-    length (config_line (prefix ++ name) known) ≤ longest_prefix + longest_name + longest_value + 4
+    length (dot_line (prefix ++ name) known) ≤ longest_prefix + longest_name + longest_value + 4

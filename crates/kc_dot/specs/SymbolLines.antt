@@ -7,16 +7,16 @@ use Rattle.kc_expr.specs.declared.expression.Tri.TheVariants.{N, M, Y}
 use Rattle.kc_expr.specs.declared.expression.Kind.TheVariants as kind
 
 -- `CONFIG_NAME=value`, or `# CONFIG_NAME is not set`, with the line's LF; the prefix and the name stand in one
-abbrev pub config_line : List ℕ → SymbolValue → List ℕ
-config_line name (Truth N) = codes "# " ++ name ++ codes " is not set\n"
-config_line name (Truth M) = name ++ codes "=m\n"
-config_line name (Truth Y) = name ++ codes "=y\n"
-config_line name (TextValue kind.Undefined text) = []
-config_line name (TextValue kind.Bool text) = []
-config_line name (TextValue kind.Tristate text) = []
-config_line name (TextValue kind.Str text) = name ++ codes "=\"" ++ escape text ++ codes "\"\n"
-config_line name (TextValue kind.Int text) = name ++ codes "=" ++ text ++ codes "\n"
-config_line name (TextValue kind.Hex text) = name ++ codes "=" ++ text ++ codes "\n"
+abbrev pub dot_line : List ℕ → SymbolValue → List ℕ
+dot_line name (Truth N) = codes "# " ++ name ++ codes " is not set\n"
+dot_line name (Truth M) = name ++ codes "=m\n"
+dot_line name (Truth Y) = name ++ codes "=y\n"
+dot_line name (TextValue kind.Undefined text) = []
+dot_line name (TextValue kind.Bool text) = []
+dot_line name (TextValue kind.Tristate text) = []
+dot_line name (TextValue kind.Str text) = name ++ codes "=\"" ++ escape text ++ codes "\"\n"
+dot_line name (TextValue kind.Int text) = name ++ codes "=" ++ text ++ codes "\n"
+dot_line name (TextValue kind.Hex text) = name ++ codes "=" ++ text ++ codes "\n"
 
 -- a hex begins with `0x` in a header
 abbrev pub hex_text : List ℕ → List ℕ

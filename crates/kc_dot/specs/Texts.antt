@@ -5,7 +5,7 @@ use Rattle.kc_expr.specs.declared.expression.SymId.{SymId}
 use Rattle.kc_expr.specs.Names.{symbol}
 use Rattle.kc_tree.specs.TreeFacts.{TreeFacts, Shown, SymbolShown, MenuShown, EndShown, CommentShown}
 use Rattle.kc_dot.specs.Effects.{name_of}
-use Rattle.kc_dot.specs.SymbolLines.{config_line, header_line}
+use Rattle.kc_dot.specs.SymbolLines.{dot_line, header_line}
 use Rattle.kc_dot.specs.SolutionView.{SolutionView, is_shown}
 
 -- the symbols in order of their first definition
@@ -57,7 +57,7 @@ ends_after tree solution after_end (CommentShown text when) = if is_shown (solut
 
 module _ (tree : TreeFacts) (prefix : List ℕ) (solution : SolutionView) where
   abbrev pub symbol_config : SymId → List ℕ
-  symbol_config s = config_line (prefix ++ name_of tree s) (solution.value s)
+  symbol_config s = dot_line (prefix ++ name_of tree s) (solution.value s)
 
   abbrev pub symbol_header : SymId → List ℕ
   symbol_header s = header_line (prefix ++ name_of tree s) (solution.value s)

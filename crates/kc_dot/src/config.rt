@@ -17,7 +17,7 @@ use crate::laws::{config_is_idempotent, written_texts_are_short};
 use crate::page::{add_parts, new_page, put_full};
 use crate::prefix::Prefix;
 use crate::sink::{Sink, put};
-use crate::symbol_line::{add_config_line, symbol_value};
+use crate::symbol_line::{add_dot_line, symbol_value};
 use kc_expr::expression::{SymId, Tri};
 use kc_solve::solved::Solved;
 use kc_tree::layout::Layout;
@@ -111,7 +111,7 @@ fn add_symbol_if(
         return Ok(after_end);
     }
     add_gap(after_end, page)?;
-    add_config_line(prefix, tree.name(id), symbol_value(solved, id), page)?;
+    add_dot_line(prefix, tree.name(id), symbol_value(solved, id), page)?;
     Ok(false)
 }
 

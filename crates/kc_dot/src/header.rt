@@ -13,7 +13,7 @@ use crate::laws::{minimal_gives_back, written_texts_are_short};
 use crate::page::{add_parts, new_page, put_full};
 use crate::prefix::Prefix;
 use crate::sink::{Sink, put};
-use crate::symbol_line::{add_config_line, add_header_line, symbol_value};
+use crate::symbol_line::{add_dot_line, add_header_line, symbol_value};
 use kc_expr::expression::SymId;
 use kc_solve::solved::Solved;
 use kc_tree::tree::Tree;
@@ -51,7 +51,7 @@ fn add_minimal_if(
     if !solved.differs(id) {
         return Ok(());
     }
-    add_config_line(prefix, tree.name(id), symbol_value(solved, id), page)
+    add_dot_line(prefix, tree.name(id), symbol_value(solved, id), page)
 }
 
 // Hands out what waits on the page, and the header lines of the written symbols.

@@ -2,7 +2,7 @@
 ghost use Rattle.std.specs.Prelude.{◌≡◌, ◌++◌, OnOk, codes, flat_map};
 ghost use Rattle.kc_text.specs.Escapes.{escape};
 ghost use Rattle.kc_dot.specs.SolvedView.{solution_view};
-ghost use Rattle.kc_dot.specs.SymbolLines.{config_line, header_line, hex_text};
+ghost use Rattle.kc_dot.specs.SymbolLines.{dot_line, header_line, hex_text};
 ghost use Rattle.kc_dot.specs.KnownValue.{value_view};
 ghost use Rattle.kc_expr.specs.Value.{value_by_kind};
 
@@ -16,27 +16,27 @@ use std::alloc::AllocError;
 
 /// The value of a symbol: of a bool or tristate, or the text of another with its type.
 #[derive(Clone, Copy, Debug, PartialEq, Eq)]
-pub enum Value<'a> {
+pub enum WrittenValue<'a> {
     Truth(Tri),
     TextValue(Kind, &'a [u8]),
 }
 
 // The value of a symbol of this type.
-fn value_by<'a>(kind: Kind, tri: Tri, text: &'a [u8]) -> Value<'a>
+fn value_by<'a>(kind: Kind, tri: Tri, text: &'a [u8]) -> WrittenValue<'a>
     ensures { value_view result ≡ value_by_kind kind tri text.now }
 {
     match kind {
-        Kind::Bool => Value::Truth(tri),
-        Kind::Tristate => Value::Truth(tri),
-        Kind::Undefined => Value::TextValue(Kind::Undefined, text),
-        Kind::Str => Value::TextValue(Kind::Str, text),
-        Kind::Int => Value::TextValue(Kind::Int, text),
-        Kind::Hex => Value::TextValue(Kind::Hex, text),
+        Kind::Bool => WrittenValue::Truth(tri),
+        Kind::Tristate => WrittenValue::Truth(tri),
+        Kind::Undefined => WrittenValue::TextValue(Kind::Undefined, text),
+        Kind::Str => WrittenValue::TextValue(Kind::Str, text),
+        Kind::Int => WrittenValue::TextValue(Kind::Int, text),
+        Kind::Hex => WrittenValue::TextValue(Kind::Hex, text),
     }
 }
 
 /// The value that the solution gives to a symbol, and to a name that is not defined its own text.
-pub fn symbol_value<'a>(solved: &'a Solved<'_>, id: SymId) -> Value<'a>
+pub fn symbol_value<'a>(solved: &'a Solved<'_>, id: SymId) -> WrittenValue<'a>
     ensures { value_view result ≡ (solution_view solved.now).value id }
 {
     solved.tells_known();
@@ -60,23 +60,33 @@ fn before_hex<'a>(text: &'a [u8]) -> &'a [u8]
 }
 
 /// Adds the symbol's line of a `.config`. Its only error is to be out of memory.
-pub fn add_config_line<'a>(
+pub fn add_dot_line<'a>(
     prefix: &'a Prefix,
     name: &'a [u8],
-    value: Value<'a>,
+    value: WrittenValue<'a>,
     page: &mut Vec<u8>,
 ) -> Result<(), AllocError>
-    ensures { OnOk result (page.new.items ≡ page.old.items ++ config_line (prefix.now ++ name.now) (value_view value.entry)) }
+    ensures { OnOk result (page.new.items ≡ page.old.items ++ dot_line (prefix.now ++ name.now) (value_view value.entry)) }
 {
     let prefix = prefix.as_bytes();
     match value {
-        Value::Truth(Tri::N) => add_parts(&[b"# ", prefix, name, b" is not set\n"], page),
-        Value::Truth(Tri::M) => add_parts(&[prefix, name, b"=m\n"], page),
-        Value::Truth(Tri::Y) => add_parts(&[prefix, name, b"=y\n"], page),
-        Value::TextValue(Kind::Str, text) => add_string_line(&[prefix, name, b"=\""], text, page),
-        Value::TextValue(Kind::Int, text) => add_parts(&[prefix, name, b"=", text, b"\n"], page),
-        Value::TextValue(Kind::Hex, text) => add_parts(&[prefix, name, b"=", text, b"\n"], page),
-        Value::TextValue(Kind::Undefined | Kind::Bool | Kind::Tristate, _) => Ok(()),
+        WrittenValue::Truth(Tri::N) => add_parts(&[b"# ", prefix, name, b" is not set\n"], page),
+        WrittenValue::Truth(Tri::M) => add_parts(&[prefix, name, b"=m\n"], page),
+        WrittenValue::Truth(Tri::Y) => add_parts(&[prefix, name, b"=y\n"], page),
+        WrittenValue::TextValue(Kind::Str, text) => add_string_line(
+            &[prefix, name, b"=\""],
+            text,
+            page,
+        ),
+        WrittenValue::TextValue(Kind::Int, text) => add_parts(
+            &[prefix, name, b"=", text, b"\n"],
+            page,
+        ),
+        WrittenValue::TextValue(Kind::Hex, text) => add_parts(
+            &[prefix, name, b"=", text, b"\n"],
+            page,
+        ),
+        WrittenValue::TextValue(Kind::Undefined | Kind::Bool | Kind::Tristate, _) => Ok(()),
     }
 }
 
@@ -84,23 +94,26 @@ pub fn add_config_line<'a>(
 pub fn add_header_line<'a>(
     prefix: &'a Prefix,
     name: &'a [u8],
-    value: Value<'a>,
+    value: WrittenValue<'a>,
     page: &mut Vec<u8>,
 ) -> Result<(), AllocError>
     ensures { OnOk result (page.new.items ≡ page.old.items ++ header_line (prefix.now ++ name.now) (value_view value.entry)) }
 {
     let prefix = prefix.as_bytes();
     match value {
-        Value::Truth(Tri::N) => Ok(()),
-        Value::Truth(Tri::M) => add_parts(&[b"#define ", prefix, name, b"_MODULE 1\n"], page),
-        Value::Truth(Tri::Y) => add_parts(&[b"#define ", prefix, name, b" 1\n"], page),
-        Value::TextValue(Kind::Str, text) => {
+        WrittenValue::Truth(Tri::N) => Ok(()),
+        WrittenValue::Truth(Tri::M) => add_parts(
+            &[b"#define ", prefix, name, b"_MODULE 1\n"],
+            page,
+        ),
+        WrittenValue::Truth(Tri::Y) => add_parts(&[b"#define ", prefix, name, b" 1\n"], page),
+        WrittenValue::TextValue(Kind::Str, text) => {
             add_string_line(&[b"#define ", prefix, name, b" \""], text, page)
         }
-        Value::TextValue(Kind::Int, text) => {
+        WrittenValue::TextValue(Kind::Int, text) => {
             add_parts(&[b"#define ", prefix, name, b" ", text, b"\n"], page)
         }
-        Value::TextValue(Kind::Hex, text) => add_parts(
+        WrittenValue::TextValue(Kind::Hex, text) => add_parts(
             &[
                 b"#define ",
                 prefix,
@@ -112,6 +125,6 @@ pub fn add_header_line<'a>(
             ],
             page,
         ),
-        Value::TextValue(Kind::Undefined | Kind::Bool | Kind::Tristate, _) => Ok(()),
+        WrittenValue::TextValue(Kind::Undefined | Kind::Bool | Kind::Tristate, _) => Ok(()),
     }
 }

@@ -5,14 +5,14 @@ use Rattle.kc_text.specs.Lines.{unread_lines}
 use Rattle.kc_expr.specs.Names.{same_name, mention}
 use Rattle.kc_read.specs.Files.{Files}
 use Rattle.kc_read.specs.Sources.{SourceNames}
-use Rattle.kc_make.specs.declared.walk.Walk.{Walk}
+use Rattle.kc_make.specs.declared.walk.SourceWalk.{SourceWalk}
 
 -- which files were opened, and which names wait (the next one last)
 pub record State : Type 0 where
   pub opened : List (List ℕ)
   pub waiting : List (List ℕ)
 
-abbrev pub state_of : Walk → State
+abbrev pub state_of : SourceWalk → State
 state_of w = record { opened = w.opened; waiting = map (λ n. n.items) w.waiting.items }
 
 abbrev pub initial_state : List ℕ → State

@@ -4,7 +4,7 @@ ghost use Rattle.std.specs.Prelude.{IfOk};
 ghost use Rattle.kc_make.specs.Opened.{AreOpened};
 ghost use Rattle.kc_read.specs.Files.{bytes_in};
 
-use crate::walk::Walk;
+use crate::walk::SourceWalk;
 use kc_expr::names::Names;
 use kc_read::FileMap;
 use std::alloc::{AllocError, Global};
@@ -17,7 +17,7 @@ use std::alloc::{AllocError, Global};
 pub fn opened_files(alloc: Global, files: &FileMap, root: &[u8]) -> Result<Names, AllocError>
     ensures { IfOk result (AreOpened (bytes_in files.now) root.now) }
 {
-    let mut walk = Walk::new(alloc, root)?;
+    let mut walk = SourceWalk::new(alloc, root)?;
     while let Some(name) = walk.waiting.pop() {
         walk.visit(files, &name)?;
     }

@@ -10,7 +10,7 @@ use std::alloc::{AllocError, Global};
 
 /// How far the walk is.
 #[derive(Drop)]
-pub(crate) struct Walk {
+pub(crate) struct SourceWalk {
     alloc: Global,
     // The names of the files that were opened.
     pub(crate) opened: Names,
@@ -18,14 +18,14 @@ pub(crate) struct Walk {
     pub(crate) waiting: Vec<Vec<u8>>,
 }
 
-impl Walk {
+impl SourceWalk {
     /// The root waits.
-    pub(crate) fn new(alloc: Global, root: &[u8]) -> Result<Walk, AllocError>
+    pub(crate) fn new(alloc: Global, root: &[u8]) -> Result<SourceWalk, AllocError>
         ensures { IfOk result (λ walk. state_of walk ≡ initial_state root.now) }
     {
         let mut waiting = Vec::new(alloc);
         waiting.push(Vec::from_slice(alloc, root)?)?;
-        Ok(Walk {
+        Ok(SourceWalk {
             alloc,
             opened: Names::new(alloc),
             waiting,

@@ -27,7 +27,7 @@ unordered_onward needs other alike (suc k) s e =
 pub turned : (needs other : List (List ℕ)) → AreAlike needs other → AreAlike other needs
 turned needs other alike = record { count = sym alike.count; onward = alike.back; back = alike.onward }
 
--- the same symbols are unordered after each round
+-- the same symbols are unordered after each iteration
 pub unordered_same : (needs other : List (List ℕ)) → AreAlike needs other → (k s : ℕ) → unordered_after (needs_in needs) k s ≡ unordered_after (needs_in other) k s
 unordered_same needs other alike k s =
     elim (cases_Bool (unordered_after (needs_in needs) k s)) [

@@ -22,7 +22,7 @@ abbrev pub IsComputedTo : {A : Type 0} → List ℕ → (ℕ → (ℕ → A) →
 IsComputedTo order rhs i V = (j : ℕ) → j < i → j < length order → V (get_or order j 0) ≡ rhs (get_or order j 0) V
 
 module _ (n : ℕ) (needs : ℕ → List ℕ) (order : List ℕ) (is : IsOrderOf n needs order) where
-  -- the first k symbols of an order are free after k rounds
+  -- the first k symbols of an order are free after k iterations
   pub free_after : (k j : ℕ) → j < k → j < length order → unordered_after needs k (get_or order j 0) ≡ false
   free_after zero j l b = absurd (omega arith)
   free_after (suc k) j l b =

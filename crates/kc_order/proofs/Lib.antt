@@ -2,7 +2,7 @@ pub mod OneList
 pub mod Held
 pub mod Unique
 pub mod OneSolution
-pub mod OneRound
+pub mod OneIteration
 pub mod Stays
 pub mod Groups
 pub mod FirstLemmas

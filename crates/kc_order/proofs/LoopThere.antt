@@ -71,8 +71,8 @@ module _ (n : ℕ) (needs : ℕ → List ℕ) (below : NeedsBelow n needs) where
       (drop a.0 walk, comes_back n needs walk at a.0 h a.2 (get_or_default walk a.0 0 a.1 a.2 ∙ a.3 ∙ sym (eqb-true at a.1 a.4)))
 
   -- the walk comes back, as it has room for no more than the symbols
-  goes_round : (room : ℕ) (walk : List ℕ) (at : ℕ) → n ≤ length walk + room → IsOnTheWay n needs walk at → (loop : List ℕ) × IsNamedLoop n needs loop
-  goes_round zero walk at enough h =
+  reaches_loop : (room : ℕ) (walk : List ℕ) (at : ℕ) → n ≤ length walk + room → IsOnTheWay n needs walk at → (loop : List ℕ) × IsNamedLoop n needs loop
+  reaches_loop zero walk at enough h =
       elim (cases_Bool (list_any (eqb at) walk)) [
         | inl met ↦ returns_to walk at h met
         | inr new ↦
@@ -80,16 +80,16 @@ module _ (n : ℕ) (needs : ℕ → List ℕ) (below : NeedsBelow n needs) where
             let further = goes_further n needs walk at next below h (not_met walk at new) is in
             absurd (let most : length walk + 1 ≤ n = has_room n walk at further.all_below further.apart in omega arith)
       ]
-  goes_round (suc room) walk at enough h =
+  reaches_loop (suc room) walk at enough h =
       elim (cases_Bool (list_any (eqb at) walk)) [
         | inl met ↦ returns_to walk at h met
         | inr new ↦
             let (next, is) = next_there at h.below h.is_unordered in
             let further = goes_further n needs walk at next below h (not_met walk at new) is in
-            goes_round room (walk ++ at ∷ []) next (omega (arith, length_push walk at)) further
+            reaches_loop room (walk ++ at ∷ []) next (omega (arith, length_push walk at)) further
       ]
 
   pub loop_there : SomeUnordered n needs → (loop : List ℕ) × IsNamedLoop n needs loop
   loop_there unordered =
       let (first, is) = first_there n needs unordered in
-      goes_round n [] first (omega arith) (sets_out n needs first is)
+      reaches_loop n [] first (omega arith) (sets_out n needs first is)

@@ -1,16 +1,16 @@
--- A solution by rounds in which each equation reads the values of the round before.
+-- A solution by iterations in which each equation reads the values of the iteration before.
 use Rattle.std.proofs.Common.{◌≡◌, ℕ, ◌<◌, false, List, zero, suc, sym}
 use Rattle.std.proofs.lemmas.Bool.{true≢false}
 use Rattle.kc_order.specs.Needs.{NeedsBelow, unordered_after, NothingUnordered}
 use Rattle.kc_order.specs.Solution.{Solves, ReadsNeeds, HasOneSolution}
 use Rattle.kc_order.proofs.Unique.{only, fails_each}
 
--- the values after k rounds
+-- the values after k iterations
 values_after : {A : Type 0} → A → (ℕ → (ℕ → A) → A) → ℕ → ℕ → A
 values_after a rhs zero s = a
 values_after a rhs (suc k) s = rhs s (values_after a rhs k)
 
--- what is not unordered after k rounds keeps its value
+-- what is not unordered after k iterations keeps its value
 keeps_value : {A : Type 0} (a : A) (n : ℕ) (needs : ℕ → List ℕ) (rhs : ℕ → (ℕ → A) → A) → NeedsBelow n needs → ReadsNeeds needs rhs → (k s : ℕ) → s < n →
     unordered_after needs k s ≡ false → values_after a rhs (suc k) s ≡ values_after a rhs k s
 unfolding values_after

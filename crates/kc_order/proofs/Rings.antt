@@ -21,8 +21,8 @@ cycle_of n needs way l b goes back =
     ] in
     (get_or way 0 0, b, ring_unordered n needs way after n (get_or way 0 0) (Contains-get_or way 0 0 (omega arith)))
 
-pub goes_round : (n : ℕ) (needs : ℕ → List ℕ) (loop : List ℕ) → IsNamedLoop n needs loop → IsPath needs (loop ++ take 1 loop)
-goes_round n needs loop named k l =
+pub is_closed : (n : ℕ) (needs : ℕ → List ℕ) (loop : List ℕ) → IsNamedLoop n needs loop → IsPath needs (loop ++ take 1 loop)
+is_closed n needs loop named k l =
     let way = loop ++ take 1 loop in
     let split : named.lead ++ loop ++ take 1 loop ≡ named.lead ++ (loop ++ take 1 loop) = append_assoc named.lead loop (take 1 loop) in
     let whole = named.lead ++ way in

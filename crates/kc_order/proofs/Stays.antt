@@ -1,4 +1,4 @@
--- What is unordered after as many rounds as there are symbols stays unordered.
+-- What is unordered after as many iterations as there are symbols stays unordered.
 use Rattle.std.proofs.Common.{◌≡◌, ℕ, ◌<◌, ◌≤◌, ◌+◌, Bool, true, cond, List, [], ◌∷◌, get_or, zero, suc, sym, ◌∙◌, ap, refl, inl, inr, arith, All, ◌⊎◌, subst, zero-add}
 use Rattle.std.specs.List.{list_any, count_by, range_with_len}
 use Rattle.std.proofs.lemmas.Bool.{cases_Bool}
@@ -22,12 +22,12 @@ list_any_narrow p q h xs e =
     let a = Any-from_list_any q xs e in
     list_any_at p xs a.0 a.1 a.2 (h (get_or xs a.0 a.1) (rw a.3 a.4))
 
--- what is unordered after one more round was unordered before
+-- what is unordered after one more iteration was unordered before
 pub was_unordered : (needs : ℕ → List ℕ) (k s : ℕ) → unordered_after needs (suc k) s ≡ true → unordered_after needs k s ≡ true
 was_unordered needs zero s e = refl
 was_unordered needs (suc k) s e = list_any_narrow (unordered_after needs k) (unordered_after needs (suc k)) (was_unordered needs k) (needs s) e
 
--- no symbol is taken away in the round after k
+-- no symbol is taken away in the iteration after k
 abbrev IsFixpoint : ℕ → (ℕ → List ℕ) → ℕ → Type 0
 IsFixpoint n needs k = (s : ℕ) → s < n → unordered_after needs k s ≡ unordered_after needs (suc k) s
 
@@ -70,7 +70,7 @@ fewer p q h (x ∷ xs) =
       ]
     ]
 
--- either nothing more is taken away, or each round took one away
+-- either nothing more is taken away, or each iteration took one away
 fixpoint_or_fewer : (n : ℕ) (needs : ℕ → List ℕ) → NeedsBelow n needs → (k : ℕ) → IsFixpoint n needs k ⊎ (count_by (unordered_after needs k) (range_with_len 0 n) + k ≤ n)
 fixpoint_or_fewer n needs below zero = inr (omega (arith, count_by-le-length (unordered_after needs zero) (range_with_len 0 n), length-range_with_len 0 n))
 fixpoint_or_fewer n needs below (suc k) =

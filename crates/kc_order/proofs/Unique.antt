@@ -14,7 +14,7 @@ fails_each p xs x e c =
       | inr f ↦ f
     ]
 
--- two solutions agree at each symbol that is not unordered after k rounds
+-- two solutions agree at each symbol that is not unordered after k iterations
 pub agree_after : {A : Type 0} (n : ℕ) (needs : ℕ → List ℕ) (rhs : ℕ → (ℕ → A) → A) → NeedsBelow n needs → ReadsNeeds needs rhs → (V W : ℕ → A) → Solves n rhs V → Solves n rhs W →
     (k s : ℕ) → s < n → unordered_after needs k s ≡ false → V s ≡ W s
 agree_after n needs rhs below reads V W v w zero s h e = absurd (true≢false e)

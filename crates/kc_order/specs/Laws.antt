@@ -5,7 +5,7 @@ use Rattle.kc_order.specs.Graph.{Nodes, IsGraph, groups_of, needs_of, stands_for
 use Rattle.kc_order.specs.Needs.{needs_in, AreAlike, AreWithin, IsAccepted, SomeUnordered}
 use Rattle.kc_order.specs.Loop.{IsNamedLoop, IsPath}
 use Rattle.kc_order.specs.Order.{Orders}
-use Rattle.kc_order.specs.Solution.{Solves, IsOnlySolution, ReadsNeeds, HasOneSolution, IsUpdate, IsRound}
+use Rattle.kc_order.specs.Solution.{Solves, IsOnlySolution, ReadsNeeds, HasOneSolution, IsUpdate, IsIteration}
 use Rattle.kc_order.specs.Minimal.{equations, Restores, NothingCanGo, KeepsWhatDiffers}
 
 -- needs that have an order are accepted
@@ -19,8 +19,8 @@ CyclesAreUnordered =
     IsPath (needs_in needs) way → slice_index way (length way - 1) ≡ slice_index way 0 → SomeUnordered (length needs) (needs_in needs)
 
 -- each symbol of a loop that is named needs the next, and the last the first
-abbrev pub NamedLoopGoesRound : Type 0
-NamedLoopGoesRound =
+abbrev pub NamedLoopIsClosed : Type 0
+NamedLoopIsClosed =
     (needs : List (List ℕ)) (loop : List ℕ) → IsNamedLoop (length needs) (needs_in needs) loop → IsPath (needs_in needs) (loop ++ take 1 loop)
 
 -- and is a symbol
@@ -83,11 +83,11 @@ ComputingSolves A =
     ((i : ℕ) → i < length symbols → IsUpdate (values i) (values (i + 1)) (slice_index symbols i) (rhs (slice_index symbols i) (values i))) →
     Solves (length needs) rhs (values (length symbols))
 
--- as many rounds as there are symbols, whatever the values before: the equations hold
-abbrev pub RoundsSolve : Type 0 → Type 0
-RoundsSolve A =
+-- as many iterations as there are symbols, whatever the values before: the equations hold
+abbrev pub IterationsSolve : Type 0 → Type 0
+IterationsSolve A =
     (needs : List (List ℕ)) (rhs : ℕ → (ℕ → A) → A) → AreWithin needs → IsAccepted needs → ReadsNeeds (needs_in needs) rhs →
-    (values : ℕ → ℕ → A) → ((k : ℕ) → k < length needs → IsRound (length needs) rhs (values k) (values (k + 1))) →
+    (values : ℕ → ℕ → A) → ((k : ℕ) → k < length needs → IsIteration (length needs) rhs (values k) (values (k + 1))) →
     Solves (length needs) rhs (values (length needs))
 
 -- the kept lines of what differs restore

@@ -15,20 +15,20 @@ NeedsBelow n needs = (s t : ℕ) → s < n → Contains (needs s) t → t < n
 abbrev pub AreWithin : List (List ℕ) → Type 0
 AreWithin needs = NeedsBelow (length needs) (needs_in needs)
 
--- before the first round every symbol is unordered, and after one more round those that need a symbol unordered before
+-- before the first iteration every symbol is unordered, and after one more iteration those that need a symbol unordered before
 abbrev pub unordered_after : (ℕ → List ℕ) → ℕ → ℕ → Bool
 unordered_after needs zero s = true
 unordered_after needs (suc k) s = list_any (unordered_after needs k) (needs s)
 
--- none of the first n symbols is unordered after n rounds
+-- none of the first n symbols is unordered after n iterations
 abbrev pub NothingUnordered : ℕ → (ℕ → List ℕ) → Type 0
 NothingUnordered n needs = (s : ℕ) → s < n → unordered_after needs n s ≡ false
 
--- one of the first n symbols is unordered after n rounds
+-- one of the first n symbols is unordered after n iterations
 abbrev pub SomeUnordered : ℕ → (ℕ → List ℕ) → Type 0
 SomeUnordered n needs = (s : ℕ) × (s < n) × (unordered_after needs n s ≡ true)
 
--- after as many rounds as there are symbols no symbol is unordered
+-- after as many iterations as there are symbols no symbol is unordered
 abbrev pub IsAccepted : List (List ℕ) → Type 0
 IsAccepted needs = NothingUnordered (length needs) (needs_in needs)
 

@@ -8,7 +8,7 @@ use Rattle.kc_order.specs.Needs.{needs_in, unordered_after}
 use Rattle.kc_order.specs.Order.{NeedsFirst}
 
 -- the open symbols are a path along needs, the done ones are in order, what is given up is unordered after any number of
--- rounds, and of each symbol the needs past its first `left` are done
+-- iterations, and of each symbol the needs past its first `left` are done
 pub record IsSearch (n : ℕ) (needs : ℕ → List ℕ) (mark : ℕ → Mark) (left : ℕ → ℕ) (path order : List ℕ) : Type 0 where
   pub path_is : (s : ℕ) → Contains path s → (s < n) × (mark s ≡ Open)
   pub open_is : (s : ℕ) → s < n → mark s ≡ Open → Contains path s

@@ -25,7 +25,7 @@ pub record IsUpdate {A : Type 0} (V W : ℕ → A) (s : ℕ) (value : A) : Type 
   pub others : (t : ℕ) → t ≢ s → W t ≡ V t
 
 -- each of the first n equations computed anew, one after another, each from the values that the ones before it left
-pub record IsRound {A : Type 0} (n : ℕ) (rhs : ℕ → (ℕ → A) → A) (before after : ℕ → A) : Type 0 where
+pub record IsIteration {A : Type 0} (n : ℕ) (rhs : ℕ → (ℕ → A) → A) (before after : ℕ → A) : Type 0 where
   pub left : ℕ → ℕ → A
   pub begins : left 0 ≡ before
   pub ends : left n ≡ after

@@ -1,6 +1,6 @@
 //! What follows of needs, and of equations over them, whatever a value is.
 
-ghost use Rattle.kc_order.specs.Laws.{AlikeAreAccepted, AlikeHaveTheLoop, GraphNeedsAreWithin, SymbolsStandFirst, OrderedAreAccepted, CyclesAreUnordered, NamedLoopGoesRound, NamedLoopIsWithin, OneNamedLoop, UnorderedHaveALoop, AcceptedOrUnordered, AcceptedHaveOneSolution, SolutionsAgree, ComputingSolves, RoundsSolve, MinimalRestores, MinimalHasNothingToSpare};
+ghost use Rattle.kc_order.specs.Laws.{AlikeAreAccepted, AlikeHaveTheLoop, GraphNeedsAreWithin, SymbolsStandFirst, OrderedAreAccepted, CyclesAreUnordered, NamedLoopIsClosed, NamedLoopIsWithin, OneNamedLoop, UnorderedHaveALoop, AcceptedOrUnordered, AcceptedHaveOneSolution, SolutionsAgree, ComputingSolves, IterationsSolve, MinimalRestores, MinimalHasNothingToSpare};
 
 /// Needs that have an order are accepted.
 pub fn ordered_are_accepted()
@@ -13,8 +13,8 @@ pub fn cycles_are_unordered()
 {}
 
 /// Each symbol of a loop that is named needs the next, and the last the first.
-pub fn named_loop_goes_round()
-    ensures { NamedLoopGoesRound }
+pub fn named_loop_is_closed()
+    ensures { NamedLoopIsClosed }
 {}
 
 /// Each symbol of a loop that is named is one of the symbols.
@@ -61,9 +61,9 @@ pub fn computing_solves<A>()
     ensures { ComputingSolves A }
 {}
 
-/// As many rounds as there are symbols, each of which computes every equation anew, solve the equations.
-pub fn rounds_solve<A>()
-    ensures { RoundsSolve A }
+/// As many iterations as there are symbols, each of which computes every equation anew, solve the equations.
+pub fn iterations_solve<A>()
+    ensures { IterationsSolve A }
 {}
 
 /// The lines of what differs give the values again, and no others.

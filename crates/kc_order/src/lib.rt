@@ -12,8 +12,8 @@ mod search;
 pub use graph::Graph;
 pub use laws::{
     accepted_have_one_solution, alike_needs, computing_solves, cycles_are_unordered,
-    groups_stand_for_symbols, minimal_has_nothing_to_spare, minimal_restores,
-    named_loop_goes_round, named_loop_is_within, one_named_loop, ordered_are_accepted,
-    rounds_solve, solutions_agree, unordered_have_a_loop,
+    groups_stand_for_symbols, iterations_solve, minimal_has_nothing_to_spare, minimal_restores,
+    named_loop_is_closed, named_loop_is_within, one_named_loop, ordered_are_accepted,
+    solutions_agree, unordered_have_a_loop,
 };
 pub use order::{NoOrder, Order, order_of};

@@ -68,8 +68,8 @@ places_front s ss =
     ∙ head_first (is_open (s ∷ ss) zero) zero (map suc (open_places ss))
     ∙ ap (λ xs. xs ++ map suc (open_places ss)) (head_place (bracket s) ss)
 
-openers_front : (l : Located Named) (ls : List (Located Named)) → located_blocks (l ∷ ls) ≡ here (bracket l.statement) (opener l.line) (unmatched (statements ls)) ++ located_blocks ls
-openers_front l ls =
+located_blocks_front : (l : Located Named) (ls : List (Located Named)) → located_blocks (l ∷ ls) ≡ here (bracket l.statement) (opener l.line) (unmatched (statements ls)) ++ located_blocks ls
+located_blocks_front l ls =
     ap (filter_map (λ j. open_block_of (slice_get (l ∷ ls) j))) (places_front l.statement (statements ls))
     ∙ filter_map-append (λ j. open_block_of (slice_get (l ∷ ls) j)) (here (bracket l.statement) (λ b. zero) (unmatched (statements ls))) (map suc (open_places (statements ls)))
     ∙ ap (λ xs. filter_map (λ j. open_block_of (slice_get (l ∷ ls) j)) (here (bracket l.statement) (λ b. zero) (unmatched (statements ls))) ++ xs)
@@ -82,9 +82,9 @@ openers_front l ls =
     by Closes u e = refl
     by NoBracket u e = refl
 
-pub openers-opens : (ls : List (Located Named)) → located_blocks ls ≡ opens ls
-openers-opens [] = refl
-openers-opens (l ∷ ls) = openers_front l ls ∙ ap (λ xs. here (bracket l.statement) (opener l.line) (unmatched (statements ls)) ++ xs) (openers-opens ls)
+pub located_blocks-opens : (ls : List (Located Named)) → located_blocks ls ≡ opens ls
+located_blocks-opens [] = refl
+located_blocks-opens (l ∷ ls) = located_blocks_front l ls ∙ ap (λ xs. here (bracket l.statement) (opener l.line) (unmatched (statements ls)) ++ xs) (located_blocks-opens ls)
 
 -- One more line at the end.
 abbrev more_unmatched : List OpenBlock → ℕ → ℕ
@@ -150,11 +150,11 @@ after_same (Opens b) n os = refl
 after_same Closes n os = sym (but_last-take os)
 after_same NoBracket n os = refl
 
-pub openers_push : (ls : List (Located Named)) (l : Located Named) → located_blocks (ls ++ l ∷ []) ≡ open_blocks_after (bracket l.statement) l.line (located_blocks ls)
-openers_push ls l =
-    openers-opens (ls ++ l ∷ []) ∙ opens_push ls l
+pub located_blocks_push : (ls : List (Located Named)) (l : Located Named) → located_blocks (ls ++ l ∷ []) ≡ open_blocks_after (bracket l.statement) l.line (located_blocks ls)
+located_blocks_push ls l =
+    located_blocks-opens (ls ++ l ∷ []) ∙ opens_push ls l
     ∙ after_same (bracket l.statement) l.line (opens ls)
-    ∙ ap (open_blocks_after (bracket l.statement) l.line) (sym (openers-opens ls))
+    ∙ ap (open_blocks_after (bracket l.statement) l.line) (sym (located_blocks-opens ls))
 
 -- the open blocks are those of the openers
 same_bracket : (ls : List (Located Named)) (j : ℕ) → option_map (λ o. o.block) (open_block_of (slice_get ls j)) ≡ opened (bracket_at (statements ls) j)
@@ -166,8 +166,8 @@ same_bracket (l ∷ ls) zero = by (opened (bracket l.statement))
     by (Some b) = refl
 same_bracket (l ∷ ls) (suc j) = same_bracket ls j
 
-pub blocks_of_openers : (ls : List (Located Named)) → map (λ o. o.block) (located_blocks ls) ≡ open_blocks (statements ls)
-blocks_of_openers ls = map-filter_map (λ o. o.block) (λ j. open_block_of (slice_get ls j)) (λ j. opened (bracket_at (statements ls) j)) (same_bracket ls) (open_places (statements ls))
+pub blocks_of_located : (ls : List (Located Named)) → map (λ o. o.block) (located_blocks ls) ≡ open_blocks (statements ls)
+blocks_of_located ls = map-filter_map (λ o. o.block) (λ j. open_block_of (slice_get ls j)) (λ j. opened (bracket_at (statements ls) j)) (same_bracket ls) (open_places (statements ls))
 
 -- the innermost open block
 here_both : (b : Bracket) (n u : ℕ) → here b (opener n) u ≡ [] → here b (λ b. zero) u ≡ []
@@ -239,4 +239,4 @@ unclosed_at (l ∷ ls) o e = by (opens ls) refl (unclosed_at ls o)
         unclosed_later l ls o.line (later (ap last_of f ∙ h))
 
 pub unclosed : (ls : List (Located Named)) (o : OpenBlock) → last_of (located_blocks ls) ≡ Some o → IsUnclosed ls o.line
-unclosed ls o e = unclosed_at ls o (ap last_of (sym (openers-opens ls)) ∙ e)
+unclosed ls o e = unclosed_at ls o (ap last_of (sym (located_blocks-opens ls)) ∙ e)

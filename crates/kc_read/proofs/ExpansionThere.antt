@@ -77,7 +77,7 @@ module _ (files : Files) (a : FileContext) (deeper : (own : List (Located Named)
   module _ (l : UnreadLines) (own : List (Located Named)) (log : Log)
       (on : (m : UnreadLines) (own' : List (Located Named)) (log' : Log) → length m.lines < length l.lines → RestThere files a m own' log') where
     end_there : l.lines ≡ [] → (os : List OpenBlock) → located_blocks own ≡ os → RestThere files a l own log
-    end_there none [] e = (Ok log, at_end a l own log none (sym (blocks.blocks_of_openers own) ∙ ap (map (λ o. o.block)) e))
+    end_there none [] e = (Ok log, at_end a l own log none (sym (blocks.blocks_of_located own) ∙ ap (map (λ o. o.block)) e))
     end_there none (o ∷ os) e =
         let x = last_there o os in
         (Err (refused (cause code.Block) a.file x.0.line), unclosed a l own log x.0.line none (blocks.unclosed own x.0 (ap last_of e ∙ x.1)))

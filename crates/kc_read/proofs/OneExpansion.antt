@@ -11,7 +11,7 @@ use Rattle.kc_read.specs.Expansion.{FileContext, Log, Refused, Rest, IsUnclosed,
 use Rattle.kc_read.specs.Files.{Files}
 use Rattle.kc_read.specs.Lines.{Cause, cause, ReadsLine}
 use Rattle.kc_read.specs.Statements.{Located, Named, SourceLine, statements}
-use Rattle.kc_read.proofs.BlockLemmas.{blocks_of_openers, openers-opens, no_places, opens}
+use Rattle.kc_read.proofs.BlockLemmas.{blocks_of_located, located_blocks-opens, no_places, opens}
 use Rattle.kc_read.specs.Progress.{located_blocks}
 use Rattle.kc_read.proofs.OneLine.{one_line}
 
@@ -57,7 +57,7 @@ one_turn l (Line m ts out) (Line n us other) a b =
 -- where none is open, none is the innermost
 closed_or_not : (own : List (Located Named)) (line : ℕ) → open_blocks (statements own) ≡ [] → IsUnclosed own line → ⊥
 closed_or_not own line e u =
-    let none : opens own ≡ [] = sym (openers-opens own) ∙ nothing (λ o. o.block) (located_blocks own) (blocks_of_openers own ∙ e) in
+    let none : opens own ≡ [] = sym (located_blocks-opens own) ∙ nothing (λ o. o.block) (located_blocks own) (blocks_of_located own ∙ e) in
     let last : innermost own ≡ None = ap last_of (no_places own none) in
     let h : Some (length u.before) ≡ None = sym u.innermost_is ∙ last in
     absurd cc

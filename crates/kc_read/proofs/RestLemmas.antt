@@ -72,7 +72,7 @@ pub ended : (files : Files) (first : List (List ℕ)) (modules : Option SymId) (
     (own : List (Located Named)) (log : Log) (p : Progress) (f : Frame) → IsState first modules names a own log p f → l.lines ≡ [] → f.blocks.items ≡ [] →
     IsEnded files first modules names a l own log p
 ended files first modules names a l own log p f i e none = record {
-  rest = at_end a l own log e (sym (blocks.blocks_of_openers own) ∙ ap (map (λ o. o.block)) (sym i.frame.blocks ∙ none));
+  rest = at_end a l own log e (sym (blocks.blocks_of_located own) ∙ ap (map (λ o. o.block)) (sym i.frame.blocks ∙ none));
   progress = i.progress;
 }
 

@@ -25,7 +25,7 @@ use Rattle.kc_read.specs.Expanded.{IsNamed}
 use Rattle.kc_read.specs.StatementViews.{line_view, statement_view}
 use Rattle.kc_read.specs.LineReads.{IsMade}
 use Rattle.kc_read.specs.Statements.{Numbered, Located, Named, names_in_statement, statements}
-use Rattle.kc_read.proofs.BlockLemmas.{blocks_of_openers, openers_push}
+use Rattle.kc_read.proofs.BlockLemmas.{blocks_of_located, located_blocks_push}
 use Rattle.kc_read.proofs.ListLemmas.{last_of-map, last_of-push, list_any-map, map-push}
 use Rattle.kc_read.proofs.NameLemmas.{defining_same, match_same, named_if, named_later, named_or, numbers_after}
 use Rattle.kc_read.proofs.ShapeLemmas.{effect_by, made_name, made_shape, or_none, shape}
@@ -47,7 +47,7 @@ frame_push a own f g x n i e_file e_depth e_choice e_blocks e_entry = record {
   file = ap (λ r. r.value.items) e_file ∙ i.file;
   depth = e_depth ∙ i.depth;
   in_choice = e_choice ∙ i.in_choice;
-  blocks = e_blocks ∙ ap (open_blocks_after (bracket x) n) i.blocks ∙ sym (openers_push own (ranked a n x));
+  blocks = e_blocks ∙ ap (open_blocks_after (bracket x) n) i.blocks ∙ sym (located_blocks_push own (ranked a n x));
   entry =
       e_entry ∙ ap (λ z. entry_after z x) i.entry ∙ entry_push (statements own) x
       ∙ ap (λ l. entry_of (last_no_attribute l)) (sym (map-push (λ l. l.statement) own (ranked a n x)));
@@ -167,7 +167,7 @@ pub context_same : (first : List (List ℕ)) (modules : Option SymId) (names : L
     c.own ≡ option_map (λ o. o.block) (last_of f.blocks.items) → c.in_choice ≡ (f.in_choice || list_any (λ o. is_choice o.block) f.blocks.items) →
     c.modules ≡ ids_match p.modules p.config → c ≡ context_of a own log
 context_same first modules names a own log f p c i e_entry e_own e_choice e_modules =
-    let blocks : map (λ o. o.block) f.blocks.items ≡ open_blocks (statements own) = ap (map (λ o. o.block)) i.frame.blocks ∙ blocks_of_openers own in
+    let blocks : map (λ o. o.block) f.blocks.items ≡ open_blocks (statements own) = ap (map (λ o. o.block)) i.frame.blocks ∙ blocks_of_located own in
     let entry_is = e_entry ∙ i.frame.entry in
     let own_is = e_own ∙ sym (last_of-map (λ o. o.block) f.blocks.items) ∙ ap last_of blocks in
     let choice_is = e_choice ∙ ap (λ b. b || list_any (λ o. is_choice o.block) f.blocks.items) i.frame.in_choice
@@ -180,7 +180,7 @@ pub state_inside : (first : List (List ℕ)) (modules : Option SymId) (names : L
     (f g : Frame) (p q : Progress) (name bytes : List ℕ) (total_lines : ℕ) → IsState first modules names a own log p f → IsSourcedFrame f name g →
     IsEntered name total_lines p q → total_lines ≡ p.total_lines + lines_of bytes → IsState first modules names (inside a own name) [] (with_file log bytes) q g
 state_inside first modules names a own log f g p q name bytes total_lines i n t c =
-    let blocks : map (λ o. o.block) f.blocks.items ≡ open_blocks (statements own) = ap (map (λ o. o.block)) i.frame.blocks ∙ blocks_of_openers own in
+    let blocks : map (λ o. o.block) f.blocks.items ≡ open_blocks (statements own) = ap (map (λ o. o.block)) i.frame.blocks ∙ blocks_of_located own in
     let mapped : length (map (λ o. o.block) f.blocks.items) ≡ length f.blocks.items = simp length-map in
     let many : length f.blocks.items ≡ length (open_blocks (statements own)) = sym mapped ∙ ap length blocks in
     let fr = t.open_files.0 in
@@ -213,7 +213,7 @@ pub effect_same : (first : List (List ℕ)) (modules : Option SymId) (known name
     (f : Frame) (p : Progress) (s : Statement) (x : Named) → IsState first modules known a own log p f → IsMade modules known names s x →
     limit_view (statement_view s) f p ≡ limit_cause a own log x
 effect_same first modules known names a own log f p s x i m =
-    let blocks : map (λ o. o.block) f.blocks.items ≡ open_blocks (statements own) = ap (map (λ o. o.block)) i.frame.blocks ∙ blocks_of_openers own in
+    let blocks : map (λ o. o.block) f.blocks.items ≡ open_blocks (statements own) = ap (map (λ o. o.block)) i.frame.blocks ∙ blocks_of_located own in
     let mapped : length (map (λ o. o.block) f.blocks.items) ≡ length f.blocks.items = simp length-map in
     let many : length f.blocks.items ≡ length (open_blocks (statements own)) = sym mapped ∙ ap length blocks in
     let later_names : Extends known names = mentioned_extends known names (names_in_statement x) m.mentions in

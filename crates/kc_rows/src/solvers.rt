@@ -13,7 +13,7 @@ use kc_dot::{Fault, Sink};
 use kc_expr::expression::{Kind, SymId};
 use kc_expr::values::Values;
 use kc_memory::files;
-use kc_solve::order::Order;
+use kc_solve::order::EvaluationOrder;
 use kc_solve::solve::solve;
 use kc_solve::solved::Solved;
 use kc_solve_rows::slow::slow_table;
@@ -83,11 +83,11 @@ fn has_one_value<V: Values, W: Values>(
 }
 
 // The order of a tree without a loop.
-fn order_of(alloc: Global, tree: &Tree, layout: &Layout) -> Result<Order, Fail>
+fn order_of(alloc: Global, tree: &Tree, layout: &Layout) -> Result<EvaluationOrder, Fail>
     requires { IsLayoutOf tree.now layout.now }
     ensures { IfOk result (IsGraphOf tree.now layout.now) }
 {
-    match Order::of(alloc, tree, layout) {
+    match EvaluationOrder::of(alloc, tree, layout) {
         Ok(order) => Ok(order),
         Err(_refusal) => Err(Fail::from("a loop")),
     }
@@ -98,7 +98,7 @@ fn agrees(
     rt: &impl Abort,
     alloc: Global,
     layout: &Layout,
-    order: &Order,
+    order: &EvaluationOrder,
     user: &User,
     solved: &Solved<'_>,
     name: &str,

@@ -7,5 +7,5 @@ pub mod order;
 pub mod solve;
 pub mod solved;
 
-pub use order::Order;
+pub use order::EvaluationOrder;
 pub use solved::Solved;

@@ -28,11 +28,11 @@ use std::marker::Model;
 /// it shows is the graph of needs that it was made for (our own; the kernel's kconfig-language document asks of a tree that
 /// its dependencies don't recur).
 #[derive(Drop)]
-pub struct Order {
+pub struct EvaluationOrder {
     inner: kc_order::Order,
 }
 
-impl Model for Order {
+impl Model for EvaluationOrder {
     ghost use Rattle.kc_order.specs.Graph.{Nodes};
 
     ghost Value = { Nodes };
@@ -40,7 +40,7 @@ impl Model for Order {
     ghost view = { λ o. o.inner };
 }
 
-impl Order {
+impl EvaluationOrder {
     /// An order of the tree's symbols. The caller owes the layout of that tree.
     ///
     /// # Errors
@@ -49,7 +49,7 @@ impl Order {
     /// ever. It has no location, and its detail is the loop that is named: the names of its symbols and its first again,
     /// joined by ` -> `, where the walk goes from the first unordered symbol always on to the first unordered symbol that
     /// is needed (our own rule). `Memory` where no memory was to be had.
-    pub fn of(alloc: Global, tree: &Tree, layout: &Layout) -> Result<Order, Refusal>
+    pub fn of(alloc: Global, tree: &Tree, layout: &Layout) -> Result<EvaluationOrder, Refusal>
         requires { IsLayoutOf tree.now layout.now }
         ensures same { IfOk result (IsGraphOf tree.now layout.now) }
         ensures accepted { OnOk result (IsAccepted tree.now) }
@@ -58,7 +58,7 @@ impl Order {
         ensures memory { IfErr result IsMemory }
     {
         match tree_order(alloc, tree, layout) {
-            Ok(inner) => Ok(Order { inner }),
+            Ok(inner) => Ok(EvaluationOrder { inner }),
             Err(LoopFault::Loop(text)) => Err(loop_refusal(text)),
             Err(LoopFault::Memory) => Err(Refusal::out_of_memory(alloc)),
         }

@@ -13,7 +13,7 @@ ghost use Rattle.kc_values.specs.TableFacts.{AreSelected};
 
 use crate::compute::compute;
 use crate::flags::{ChoiceSelections, Flags, flags_of, selections};
-use crate::order::Order;
+use crate::order::EvaluationOrder;
 use crate::solved::Solved;
 use kc_order::{alike_needs, groups_stand_for_symbols, ordered_are_accepted};
 use kc_tree::layout::Layout;
@@ -28,7 +28,7 @@ fn full_table<'t>(
     alloc: Global,
     tree: &'t Tree,
     layout: &'t Layout,
-    order: &Order,
+    order: &EvaluationOrder,
     user: &User,
 ) -> Result<Table<'t>, AllocError>
     requires laid { IsLayoutOf tree.now layout.now }
@@ -59,7 +59,7 @@ pub fn solve<'a>(
     alloc: Global,
     tree: &'a Tree,
     layout: &'a Layout,
-    order: &Order,
+    order: &EvaluationOrder,
     user: &'a User,
 ) -> Result<Solved<'a>, AllocError>
     requires laid { IsLayoutOf tree.now layout.now }

@@ -7,7 +7,7 @@ use Rattle.kc_expr.specs.declared.expression.Tri.{Tri}
 use Rattle.kc_expr.proofs.AgreeLemmas.{depends_on_symbols}
 use Rattle.kc_order.specs.Needs.{needs_in, unordered_after, IsAccepted as AreAccepted}
 use Rattle.kc_order.specs.Solution.{IsUpdate, Solves}
-use Rattle.kc_order.proofs.OneRound.{HoldsUpTo, SolvesOrdered, one_more, all_hold}
+use Rattle.kc_order.proofs.OneIteration.{HoldsUpTo, SolvesOrdered, one_more, all_hold}
 use Rattle.kc_tree.specs.TreeFacts.{TreeFacts}
 use Rattle.kc_tree.specs.declared.layout.Layout.{Layout}
 use Rattle.kc_user.specs.declared.value.UserValue.{UserValue}

@@ -2,7 +2,7 @@
 
 use crate::trial::tree_of;
 use kc_read::refusal::{Code, Refusal};
-use kc_solve::order::Order;
+use kc_solve::order::EvaluationOrder;
 use kc_tree::tree::Tree;
 use std::alloc::Global;
 use std::process::Abort;
@@ -23,7 +23,7 @@ fn named(refusal: Refusal) -> Result<Vec<u8>, Fail> {
 
 // The loop that is named of a tree; nothing where there is an order.
 fn loop_in(alloc: Global, tree: &Tree) -> Result<Vec<u8>, Fail> {
-    match Order::of(alloc, tree, tree.layout()) {
+    match EvaluationOrder::of(alloc, tree, tree.layout()) {
         Ok(_order) => Ok(Vec::new(alloc)),
         Err(refusal) => named(refusal),
     }

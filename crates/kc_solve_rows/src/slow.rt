@@ -19,7 +19,7 @@ ghost use Rattle.kc_values.specs.Values.{by_choice, member_equation};
 
 use kc_expr::expression::{Kind, SymId, Tri};
 use kc_order::ordered_are_accepted;
-use kc_solve::order::Order;
+use kc_solve::order::EvaluationOrder;
 use kc_tree::layout::Layout;
 use kc_tree::rows::{ChoiceId, Symbol};
 use kc_tree::tree::Tree;
@@ -150,7 +150,7 @@ pub fn slow_table<'t>(
     alloc: Global,
     tree: &'t Tree,
     layout: &'t Layout,
-    order: &Order,
+    order: &EvaluationOrder,
     user: &User,
 ) -> Result<Table<'t>, AllocError>
     requires laid { IsLayoutOf tree.now layout.now }

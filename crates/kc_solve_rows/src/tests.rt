@@ -12,7 +12,7 @@ use crate::trial::{tree_of, user_of};
 use crate::{slow_lines, solved};
 use kc_expr::expression::{SymId, Tri};
 use kc_expr::values::Values;
-use kc_solve::order::Order;
+use kc_solve::order::EvaluationOrder;
 use kc_solve::solve::solve;
 use kc_solve::solved::Solved;
 use kc_tree::layout::Layout;
@@ -28,7 +28,7 @@ fn solver_tells(
     alloc: Global,
     tree: &Tree,
     layout: &Layout,
-    order: &Order,
+    order: &EvaluationOrder,
     user: &User,
     expected: &[u8],
 ) -> Result<(), Fail>
@@ -47,7 +47,7 @@ fn slow_tells(
     alloc: Global,
     tree: &Tree,
     layout: &Layout,
-    order: &Order,
+    order: &EvaluationOrder,
     user: &User,
     expected: &[u8],
 ) -> Result<(), Fail>
@@ -66,11 +66,11 @@ fn assert_lines(rt: &impl Abort, found: &[u8], expected: &[u8]) {
 }
 
 // The order of a tree without a loop.
-fn order_of(alloc: Global, tree: &Tree, layout: &Layout) -> Result<Order, Fail>
+fn order_of(alloc: Global, tree: &Tree, layout: &Layout) -> Result<EvaluationOrder, Fail>
     requires { IsLayoutOf tree.now layout.now }
     ensures { IfOk result (IsGraphOf tree.now layout.now) }
 {
-    match Order::of(alloc, tree, layout) {
+    match EvaluationOrder::of(alloc, tree, layout) {
         Ok(order) => Ok(order),
         Err(_refusal) => Err(Fail::from("a loop")),
     }

@@ -6,7 +6,7 @@ use Rattle.std.specs.List.{filter_map, flat_map, cons_option}
 use Rattle.std.proofs.lemmas.Grind.{flat_map-append}
 use Rattle.kc_expr.specs.declared.expression.SymId.{SymId}
 use Rattle.kc_tree.specs.Common.{listed}
-use Rattle.kc_values.specs.declared.needs.Row.{Row}
+use Rattle.kc_values.specs.declared.needs.NeedRow.{NeedRow}
 use Rattle.kc_values.specs.NeedRows.{Adds}
 
 cons_some : {Y : Type 0} (o : Option Y) → cons_option o [] ≡ listed o
@@ -61,20 +61,20 @@ no_prompt None e = refl
 no_prompt (Some x) e = cc
 
 -- one addition after another
-pub adds_both : (a b c : Row) (n o : List ℕ) (s t : List SymId) → Adds a b n s → Adds b c o t → Adds a c (n ++ o) (s ++ t)
+pub adds_both : (a b c : NeedRow) (n o : List ℕ) (s t : List SymId) → Adds a b n s → Adds b c o t → Adds a c (n ++ o) (s ++ t)
 adds_both a b c n o s t x y = record {
   nodes_are = joined a.nodes.items b.nodes.items c.nodes.items n o x.nodes_are y.nodes_are;
   names_are = joined a.names.items b.names.items c.names.items s t x.names_are y.names_are;
 }
 
 -- beside what is left
-pub adds_of_left : (a b : Row) (n o all : List ℕ) (s t every : List SymId) (nodes : List ℕ) (names : List SymId) → Adds a b n s → all ≡ n ++ o → every ≡ s ++ t →
+pub adds_of_left : (a b : NeedRow) (n o all : List ℕ) (s t every : List SymId) (nodes : List ℕ) (names : List SymId) → Adds a b n s → all ≡ n ++ o → every ≡ s ++ t →
     (a.nodes.items ++ all ≡ nodes) × (a.names.items ++ every ≡ names) → (b.nodes.items ++ o ≡ nodes) × (b.names.items ++ t ≡ names)
 adds_of_left a b n o all s t every nodes names x e f h =
     (handed a.nodes.items b.nodes.items n o all nodes x.nodes_are e h.0, handed a.names.items b.names.items s t every names x.names_are f h.1)
 
 -- behind what was added before
-pub adds_more : (start a b : Row) (n o all : List ℕ) (s t every : List SymId) → (a.nodes.items ≡ start.nodes.items ++ n) × (a.names.items ≡ start.names.items ++ s) →
+pub adds_more : (start a b : NeedRow) (n o all : List ℕ) (s t every : List SymId) → (a.nodes.items ≡ start.nodes.items ++ n) × (a.names.items ≡ start.names.items ++ s) →
     Adds a b o t → all ≡ n ++ o → every ≡ s ++ t → (b.nodes.items ≡ start.nodes.items ++ all) × (b.names.items ≡ start.names.items ++ every)
 adds_more start a b n o all s t every h x e f = (
   grown start.nodes.items a.nodes.items b.nodes.items n o all h.0 x.nodes_are e,
@@ -82,5 +82,5 @@ adds_more start a b n o all s t every h x e f = (
 )
 
 -- nothing was added
-pub adds_nothing : (a : Row) → Adds a a [] []
+pub adds_nothing : (a : NeedRow) → Adds a a [] []
 adds_nothing a = record { nodes_are = sym (append-nil a.nodes.items); names_are = sym (append-nil a.names.items) }

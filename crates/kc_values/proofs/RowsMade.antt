@@ -12,7 +12,7 @@ use Rattle.kc_tree.specs.declared.layout.Layout.{Layout}
 use Rattle.kc_tree.specs.declared.rows.Choice.{Choice}
 use Rattle.kc_tree.specs.declared.rows.Symbol.{Symbol}
 use Rattle.kc_tree.specs.TreeFacts.{TreeFacts}
-use Rattle.kc_values.specs.declared.needs.Row.{Row}
+use Rattle.kc_values.specs.declared.needs.NeedRow.{NeedRow}
 use Rattle.kc_values.specs.NeedRows as rows
 use Rattle.kc_values.specs.NeedRows.{IsRow, Adds, AreContextRows, AreNodeRows, IsContextRow, row_of}
 
@@ -20,7 +20,7 @@ abbrev numbers : ℕ → List SymId → List ℕ
 numbers n names = map (λ (s : SymId). s.0) (filter (λ (s : SymId). nat_lt s.0 n) names)
 
 -- a row that was empty and holds these
-pub closed : (l : Layout) (n : ℕ) (nodes : List ℕ) (names : List SymId) (old row : Row) → n ≡ length l.symbols.items → IsRow [] [] old → Adds old row nodes names →
+pub closed : (l : Layout) (n : ℕ) (nodes : List ℕ) (names : List SymId) (old row : NeedRow) → n ≡ length l.symbols.items → IsRow [] [] old → Adds old row nodes names →
     row_of n row ≡ nodes ++ rows.defined l names
 closed l n nodes names old row e empty adds =
     let a : row.nodes.items ≡ nodes = adds.nodes_are ∙ ap (λ x. x ++ nodes) empty.nodes_are in
@@ -28,7 +28,7 @@ closed l n nodes names old row e empty adds =
     ap (λ x. x ++ numbers n row.names.items) a ∙ ap (λ x. nodes ++ numbers n x) b ∙ ap (λ k. nodes ++ numbers k names) e
 
 -- and one that is still empty
-pub untouched : (n : ℕ) (row : Row) → IsRow [] [] row → row_of n row ≡ []
+pub untouched : (n : ℕ) (row : NeedRow) → IsRow [] [] row → row_of n row ≡ []
 untouched n row empty = ap (λ x. x ++ numbers n row.names.items) empty.nodes_are ∙ ap (numbers n) empty.names_are
 
 -- rows behind those that were added

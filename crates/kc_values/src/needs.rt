@@ -28,13 +28,13 @@ use std::rc::Rc;
 
 // The row of one node in the making: the nodes of contexts and choices, and the names. Its room serves all nodes.
 #[derive(Drop)]
-struct Row {
+struct NeedRow {
     nodes: Vec<u32>,
     names: Vec<SymId>,
 }
 
 // Adds the names in an `if`.
-fn if_names_into(when: &Option<Rc<Expr>>, out: &mut Row) -> Result<(), AllocError>
+fn if_names_into(when: &Option<Rc<Expr>>, out: &mut NeedRow) -> Result<(), AllocError>
     ensures { OnOk result (Adds out.old out.new [] (rows.when_names (when_view when.now))) }
 {
     match when {
@@ -44,7 +44,7 @@ fn if_names_into(when: &Option<Rc<Expr>>, out: &mut Row) -> Result<(), AllocErro
 }
 
 // Adds a context, but for the top, which names nothing.
-fn context_into(layout: &Layout, id: ContextId, out: &mut Row) -> Result<(), AllocError>
+fn context_into(layout: &Layout, id: ContextId, out: &mut NeedRow) -> Result<(), AllocError>
     requires there { id.0 < length layout.now.tables.contexts }
     ensures { OnOk result (Adds out.old out.new (rows.context_nodes layout.now id.0) []) }
 {
@@ -58,7 +58,7 @@ fn context_into(layout: &Layout, id: ContextId, out: &mut Row) -> Result<(), All
 fn prompt_into(
     layout: &Layout,
     prompt: &Option<EntryPrompt>,
-    out: &mut Row,
+    out: &mut NeedRow,
 ) -> Result<(), AllocError>
     requires there { IsPromptThere layout.now.tables.contexts prompt.now }
     ensures { OnOk result (Adds out.old out.new (rows.prompt_nodes layout.now prompt.now) (rows.prompt_names prompt.now)) }
@@ -73,7 +73,7 @@ fn prompt_into(
 }
 
 // Adds the prompt of a choice, where there is one.
-fn choice_prompt_into(layout: &Layout, choice: &Choice, out: &mut Row) -> Result<(), AllocError>
+fn choice_prompt_into(layout: &Layout, choice: &Choice, out: &mut NeedRow) -> Result<(), AllocError>
     requires there { IsChoiceThere layout.now.tables.contexts choice.now }
     ensures { OnOk result (Adds out.old out.new (rows.choice_prompt_nodes layout.now choice.now) (rows.prompt_names choice.now.prompt)) }
 {
@@ -84,7 +84,7 @@ fn choice_prompt_into(layout: &Layout, choice: &Choice, out: &mut Row) -> Result
 }
 
 // Adds what the mode of a choice names.
-fn mode_into(layout: &Layout, mode: Option<ChoiceId>, out: &mut Row) -> Result<(), AllocError>
+fn mode_into(layout: &Layout, mode: Option<ChoiceId>, out: &mut NeedRow) -> Result<(), AllocError>
     ensures { OnOk result (Adds out.old out.new (rows.mode_nodes layout.now mode) (rows.mode_names layout.now mode)) }
 {
     let Some(id) = mode else {
@@ -98,7 +98,7 @@ fn mode_into(layout: &Layout, mode: Option<ChoiceId>, out: &mut Row) -> Result<(
 
 // Adds what a context asks for besides the one outside it, and that one: a context that asks for nothing of its own is that of
 // a choice's members, which asks for its mode.
-fn context_row_into(layout: &Layout, context: &Context, out: &mut Row) -> Result<(), AllocError>
+fn context_row_into(layout: &Layout, context: &Context, out: &mut NeedRow) -> Result<(), AllocError>
     requires there { context.now.outer.0 < length layout.now.tables.contexts }
     ensures { OnOk result (Adds out.old out.new (rows.context_row_nodes layout.now context.now) (rows.context_row_names layout.now context.now)) }
 {
@@ -110,7 +110,7 @@ fn context_row_into(layout: &Layout, context: &Context, out: &mut Row) -> Result
 }
 
 // Adds the prompts of a symbol.
-fn prompts_into(layout: &Layout, symbol: &Symbol, out: &mut Row) -> Result<(), AllocError>
+fn prompts_into(layout: &Layout, symbol: &Symbol, out: &mut NeedRow) -> Result<(), AllocError>
     ensures { OnOk result (Adds out.old out.new (rows.prompts_nodes layout.now symbol.now) (rows.prompts_names layout.now symbol.now)) }
 {
     for i in 0..symbol.definition_count() {
@@ -125,7 +125,7 @@ fn prompts_into(layout: &Layout, symbol: &Symbol, out: &mut Row) -> Result<(), A
 }
 
 // Adds the defaults of a definition, but for what it depends on.
-fn defaults_into(defaults: &[SymbolDefault], out: &mut Row) -> Result<(), AllocError>
+fn defaults_into(defaults: &[SymbolDefault], out: &mut NeedRow) -> Result<(), AllocError>
     ensures { OnOk result (Adds out.old out.new [] (flat_map rows.default_names defaults.now)) }
 {
     for default in defaults {
@@ -136,7 +136,7 @@ fn defaults_into(defaults: &[SymbolDefault], out: &mut Row) -> Result<(), AllocE
 }
 
 // Adds the name in a bound of a range.
-fn bound_into(bound: &Operand, out: &mut Row) -> Result<(), AllocError>
+fn bound_into(bound: &Operand, out: &mut NeedRow) -> Result<(), AllocError>
     ensures { OnOk result (Adds out.old out.new [] (leaf_symbols (leaf_of bound.now))) }
 {
     match bound {
@@ -149,7 +149,7 @@ fn bound_into(bound: &Operand, out: &mut Row) -> Result<(), AllocError>
 }
 
 // Adds the names in a range.
-fn range_into(range: &SymbolRange, out: &mut Row) -> Result<(), AllocError>
+fn range_into(range: &SymbolRange, out: &mut NeedRow) -> Result<(), AllocError>
     ensures { OnOk result (Adds out.old out.new [] (rows.range_names range.now)) }
 {
     bound_into(&range.low, out)?;
@@ -158,7 +158,7 @@ fn range_into(range: &SymbolRange, out: &mut Row) -> Result<(), AllocError>
 }
 
 // Adds the ranges of a definition, but for what it depends on.
-fn ranges_into(ranges: &[SymbolRange], out: &mut Row) -> Result<(), AllocError>
+fn ranges_into(ranges: &[SymbolRange], out: &mut NeedRow) -> Result<(), AllocError>
     ensures { OnOk result (Adds out.old out.new [] (flat_map rows.range_names ranges.now)) }
 {
     for range in ranges {
@@ -190,7 +190,7 @@ fn definition_into(
     layout: &Layout,
     kind: Kind,
     definition: &Definition,
-    out: &mut Row,
+    out: &mut NeedRow,
 ) -> Result<(), AllocError>
     requires there { IsDefinitionThere layout.now.tables.contexts definition.now }
     ensures { OnOk result (Adds out.old out.new (rows.definition_nodes layout.now kind definition.now) (rows.definition_names layout.now kind definition.now)) }
@@ -207,7 +207,7 @@ fn definition_into(
 }
 
 // Adds the definitions of a symbol.
-fn definitions_into(layout: &Layout, symbol: &Symbol, out: &mut Row) -> Result<(), AllocError>
+fn definitions_into(layout: &Layout, symbol: &Symbol, out: &mut NeedRow) -> Result<(), AllocError>
     ensures { OnOk result (Adds out.old out.new (rows.definitions_nodes layout.now symbol.now) (rows.definitions_names layout.now symbol.now)) }
 {
     for i in 0..symbol.definition_count() {
@@ -219,7 +219,11 @@ fn definitions_into(layout: &Layout, symbol: &Symbol, out: &mut Row) -> Result<(
 }
 
 // Adds the symbols that select or imply, and what those lines depend on, from the last line on.
-fn reverses_into(layout: &Layout, last: Option<ReverseId>, out: &mut Row) -> Result<(), AllocError>
+fn reverses_into(
+    layout: &Layout,
+    last: Option<ReverseId>,
+    out: &mut NeedRow,
+) -> Result<(), AllocError>
     ensures { OnOk result (Adds out.old out.new (rows.reverses_nodes layout.now last) (rows.reverses_names layout.now last)) }
 {
     let mut at = last;
@@ -238,7 +242,7 @@ fn reverses_into(layout: &Layout, last: Option<ReverseId>, out: &mut Row) -> Res
 }
 
 // Adds the modules symbol, which a tristate names.
-fn modules_into(tree: &Tree, kind: Kind, out: &mut Row) -> Result<(), AllocError>
+fn modules_into(tree: &Tree, kind: Kind, out: &mut NeedRow) -> Result<(), AllocError>
     ensures { OnOk result (Adds out.old out.new [] (spec.kind_names tree.now kind)) }
 {
     if kind != Kind::Tristate {
@@ -259,7 +263,7 @@ fn truth_into(
     layout: &Layout,
     id: SymId,
     symbol: &Symbol,
-    out: &mut Row,
+    out: &mut NeedRow,
 ) -> Result<(), AllocError>
     ensures { OnOk result (Adds out.old out.new (rows.truth_nodes layout.now id.0 symbol.now) (rows.truth_names tree.now layout.now id.0 symbol.now)) }
 {
@@ -275,7 +279,7 @@ fn symbol_into(
     layout: &Layout,
     id: SymId,
     symbol: &Symbol,
-    out: &mut Row,
+    out: &mut NeedRow,
 ) -> Result<(), AllocError>
     requires choice { IfSome symbol.now.choice (λ c. c.0 < length layout.now.tables.choices.items) }
     ensures { OnOk result (Adds out.old out.new (rows.symbol_nodes layout.now id.0 symbol.now) (rows.symbol_names tree.now layout.now id.0 symbol.now)) }
@@ -295,7 +299,11 @@ fn symbol_into(
 }
 
 // Adds the conditions of the defaults of a choice.
-fn choice_defaults_into(layout: &Layout, choice: &Choice, out: &mut Row) -> Result<(), AllocError>
+fn choice_defaults_into(
+    layout: &Layout,
+    choice: &Choice,
+    out: &mut NeedRow,
+) -> Result<(), AllocError>
     requires there { IsChoiceThere layout.now.tables.contexts choice.now }
     ensures { OnOk result (Adds out.old out.new (rows.choice_defaults_nodes layout.now choice.now) (flat_map rows.choice_default_names choice.now.defaults.items)) }
 {
@@ -309,7 +317,7 @@ fn choice_defaults_into(layout: &Layout, choice: &Choice, out: &mut Row) -> Resu
 }
 
 // Adds what the selection of a choice names: the prompts of its members, its own, and its defaults.
-fn choice_into(layout: &Layout, choice: &Choice, out: &mut Row) -> Result<(), AllocError>
+fn choice_into(layout: &Layout, choice: &Choice, out: &mut NeedRow) -> Result<(), AllocError>
     requires there { IsChoiceThere layout.now.tables.contexts choice.now }
     ensures { OnOk result (Adds out.old out.new (rows.choice_nodes layout.now choice.now) (rows.choice_names layout.now choice.now)) }
 {
@@ -323,7 +331,7 @@ fn choice_into(layout: &Layout, choice: &Choice, out: &mut Row) -> Result<(), Al
 }
 
 // Adds the row as it stands to the graph, and makes it empty: the nodes, and of the names the symbols that are defined.
-fn close_row(defined: usize, row: &mut Row, graph: &mut Graph) -> Result<(), AllocError>
+fn close_row(defined: usize, row: &mut NeedRow, graph: &mut Graph) -> Result<(), AllocError>
     requires few { defined < 2 ^ 32 }
     ensures graph { OnOk result (graph.new ≡ record graph.old { rows = graph.old.rows ++ rows.row_of defined row.old ∷ [] }) }
     ensures empty { OnOk result (IsRow [] [] row.new) }
@@ -343,7 +351,7 @@ fn close_row(defined: usize, row: &mut Row, graph: &mut Graph) -> Result<(), All
 fn add_symbols(
     tree: &Tree,
     layout: &Layout,
-    row: &mut Row,
+    row: &mut NeedRow,
     graph: &mut Graph,
 ) -> Result<(), AllocError>
     requires choices { rows.AreChoicesThere layout.now }
@@ -360,7 +368,7 @@ fn add_symbols(
 }
 
 // Adds the nodes of the contexts, the top first.
-fn add_contexts(layout: &Layout, row: &mut Row, graph: &mut Graph) -> Result<(), AllocError>
+fn add_contexts(layout: &Layout, row: &mut NeedRow, graph: &mut Graph) -> Result<(), AllocError>
     requires row { IsRow [] [] row.old }
     ensures graph { OnOk result ((contexts : List (List ℕ)) × rows.AreContextRows layout.now contexts × (graph.new ≡ record graph.old { rows = graph.old.rows ++ contexts })) }
     ensures row { OnOk result (IsRow [] [] row.new) }
@@ -376,7 +384,7 @@ fn add_contexts(layout: &Layout, row: &mut Row, graph: &mut Graph) -> Result<(),
 }
 
 // Adds the nodes of the choices.
-fn add_choices(layout: &Layout, row: &mut Row, graph: &mut Graph) -> Result<(), AllocError>
+fn add_choices(layout: &Layout, row: &mut NeedRow, graph: &mut Graph) -> Result<(), AllocError>
     requires row { IsRow [] [] row.old }
     ensures graph { OnOk result (graph.new ≡ record graph.old { rows = graph.old.rows ++ rows.choice_rows layout.now }) }
     ensures row { OnOk result (IsRow [] [] row.new) }
@@ -402,7 +410,7 @@ pub fn tree_needs(alloc: Global, tree: &Tree, layout: &Layout) -> Result<Graph, 
     ensures nodes { IfOk result (rows.AreNodeRows tree.now layout.now) }
 {
     let mut graph = Graph::with_room(alloc, layout.symbols().len(), node_count(layout))?;
-    let mut row = Row {
+    let mut row = NeedRow {
         nodes: Vec::new(alloc),
         names: Vec::new(alloc),
     };

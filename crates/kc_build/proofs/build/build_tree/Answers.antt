@@ -1,66 +1,12 @@
-use Rattle.std.proofs.Common.{◌≡◌, Ok, Err, ap, ◌∙◌, map}
+-- The tree of the lines that were read.
+use Rattle.std.proofs.lemmas.Result.{IfErr-weaker, IfOk-weaker}
 use Rattle.kc_read.specs.Files.{bytes_in}
-use Rattle.kc_read.specs.StatementViews.{line_view}
-use Rattle.kc_tree.specs.Wholes.{tree_of}
-use Rattle.kc_build.specs.PartsView.{parts_view}
-use Rattle.kc_build.specs.Trees.{tree_with}
-use Rattle.kc_build.proofs.BuildLemmas.{parts-lines, count-few, refused-memory, lines-apart, lines-below, lines-formed, lines-opened, lines-typed}
 use Rattle.kc_build.proofs.build.build_tree.Goals as goal
 
-pub build_parts-requires-clause-below : goal.build_parts-requires-clause-below
-build_parts-requires-clause-below c =
-    let x = c.in_ok-names.ensures.listed in
-    lines-below x.0 c.in_ok-names.field-0 x.2 c.deref.result.now c.deref.ensures.value
+pub returns-clause-built : goal.returns-clause-built
+returns-clause-built c =
+    IfOk-weaker c.tree_of.result _ _ (λ t built. built (bytes_in c.args.map.now) c.args.root.now c.in_ok-listing.ensures.listed) c.tree_of.ensures.built
 
-pub build_parts-requires-clause-types : goal.build_parts-requires-clause-types
-build_parts-requires-clause-types c =
-    let x = c.in_ok-names.ensures.listed in
-    lines-typed x.0 c.in_ok-names.field-0 x.2 (bytes_in c.args.map.now) c.args.root.now x.1 c.deref.result.now c.deref.ensures.value
-
-pub build_parts-requires-clause-apart : goal.build_parts-requires-clause-apart
-build_parts-requires-clause-apart c =
-    let x = c.in_ok-names.ensures.listed in
-    lines-apart x.0 c.in_ok-names.field-0 x.2 (bytes_in c.args.map.now) c.args.root.now x.1 c.deref.result.now c.deref.ensures.value
-
-pub build_parts-requires-clause-ends : goal.build_parts-requires-clause-ends
-build_parts-requires-clause-ends c =
-    let x = c.in_ok-names.ensures.listed in
-    lines-opened x.0 c.in_ok-names.field-0 x.2 (bytes_in c.args.map.now) c.args.root.now x.1 c.deref.result.now c.deref.ensures.value
-
-pub build_parts-requires-clause-defined : goal.build_parts-requires-clause-defined
-build_parts-requires-clause-defined c =
-    let x = c.in_ok-names.ensures.listed in
-    count-few x.0 c.in_ok-names.field-0 x.2 (bytes_in c.args.map.now) c.args.root.now x.1
-
-pub of-requires : goal.of-requires
-of-requires c =
-    let x = c.in_ok-names.ensures.listed in
-    let l = c.in_ok-names.field-0 in
-    let parts = c.in-Ok-outcome.parts in
-    let says : parts_view l.names (Ok parts) ≡ tree_with l.names l.count l.modules (map line_view c.deref.result.now) = (rw c.in-Ok-outcome.is at c.in-Ok.ensures) in
-    lines-formed x.0 l x.2 (bytes_in c.args.map.now) c.args.root.now (tree_of l.names parts) x.1 c.are_distinct.ensures
-    (parts-lines x.0 l x.2 c.deref.result.now (Ok parts) c.deref.ensures.value says)
-
-pub returns-in-Ok-outcome-clause-built : goal.returns-in-Ok-outcome-clause-built
-returns-in-Ok-outcome-clause-built c =
-    let x = c.in_ok-names.ensures.listed in
-    let l = c.in_ok-names.field-0 in
-    let parts = c.in-Ok-outcome.parts in
-    let says : parts_view l.names (Ok parts) ≡ tree_with l.names l.count l.modules (map line_view c.deref.result.now) = (rw c.in-Ok-outcome.is at c.in-Ok.ensures) in
-    (Ok x.0, x.1, ap Ok c.of.ensures ∙ parts-lines x.0 l x.2 c.deref.result.now (Ok parts) c.deref.ensures.value says)
-
-pub returns-in-Err-outcome-clause-refused : goal.returns-in-Err-outcome-clause-refused
-returns-in-Err-outcome-clause-refused c = λ ne.
-    let x = c.in_ok-names.ensures.listed in
-    let l = c.in_ok-names.field-0 in
-    let r = c.in-Err-outcome.refusal in
-    let says : parts_view l.names (Err r) ≡ tree_with l.names l.count l.modules (map line_view c.deref.result.now) = (rw c.in-Err-outcome.is at c.in-Ok.ensures) in
-    (Ok x.0, x.1, parts-lines x.0 l x.2 c.deref.result.now (Err r) c.deref.ensures.value says)
-
-pub returns-in-Err-outcome-clause-memory : goal.returns-in-Err-outcome-clause-memory
-returns-in-Err-outcome-clause-memory c =
-    let x = c.in_ok-names.ensures.listed in
-    let l = c.in_ok-names.field-0 in
-    let r = c.in-Err-outcome.refusal in
-    let says : parts_view l.names (Err r) ≡ tree_with l.names l.count l.modules (map line_view c.deref.result.now) = (rw c.in-Err-outcome.is at c.in-Ok.ensures) in
-    refused-memory x.0.lines r (parts-lines x.0 l x.2 c.deref.result.now (Err r) c.deref.ensures.value says)
+pub returns-clause-refused : goal.returns-clause-refused
+returns-clause-refused c =
+    IfErr-weaker c.tree_of.result _ _ (λ r refused known. refused known (bytes_in c.args.map.now) c.args.root.now c.in_ok-listing.ensures.listed) c.tree_of.ensures.refused

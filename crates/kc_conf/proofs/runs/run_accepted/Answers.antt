@@ -2,7 +2,6 @@
 use Rattle.std.proofs.Common.{map, subst, sym}
 use Rattle.std.proofs.lemmas.Result.{IfOk-weaker, IfErr-weaker}
 use Rattle.std.proofs.Common.{List, ℕ}
-use Rattle.kc_read.specs.Files.{bytes_in}
 use Rattle.kc_conf.specs.Faults.{CountsInputs}
 use Rattle.kc_conf.proofs.RunLemmas.{BreaksRun-accepted, BreaksRun-accepted_rule, CountsInputs-outputs, Finishes-accepted, MayStrike-outputs}
 use Rattle.kc_conf.proofs.runs.run_accepted.Goals as goal
@@ -10,21 +9,21 @@ use Rattle.kc_conf.proofs.runs.run_accepted.Goals as goal
 pub returns-in-Ok-clause-ok : goal.returns-in-Ok-clause-ok
 returns-in-Ok-clause-ok g c =
     let (all, are, part) = c.in-Ok.ensures.ok in
-    IfOk-weaker c.end_run.result _ _ (λ ended ends. (
+    IfOk-weaker c.end_run.result _ _ (λ ended ends tree_files accepted at_hand. (
       all,
       are,
-      Finishes-accepted (bytes_in c.args.files.now) c.args.options.now c.args.tree.now all c.in-Ok.status ended
-          (g.O.Outputs.states c.args.outputs.now) (g.O.Outputs.states c.run_tree.new.outputs) (g.O.Outputs.states c.end_run.new.outputs) c.requires.accepted part ends,
+      Finishes-accepted tree_files c.args.options.now c.args.tree.now all c.in-Ok.status ended
+          (g.O.Outputs.states c.args.outputs.now) (g.O.Outputs.states c.run_tree.new.outputs) (g.O.Outputs.states c.end_run.new.outputs) accepted part (ends tree_files at_hand),
     )) c.end_run.ensures.ok
 
 pub returns-in-Ok-clause-err : goal.returns-in-Ok-clause-err
 returns-in-Ok-clause-err g c =
     let (all, are, part) = c.in-Ok.ensures.ok in
-    IfErr-weaker c.end_run.result _ _ (λ cause breaks. (
+    IfErr-weaker c.end_run.result _ _ (λ cause breaks tree_files accepted at_hand. (
       all,
       are.0,
-      BreaksRun-accepted_rule c.one_answer.ensures c.opened_are_one_list.ensures.one (bytes_in c.args.files.now) c.args.options.now c.args.tree.now all c.in-Ok.status cause
-          (g.O.Outputs.states c.args.outputs.now) (g.O.Outputs.states c.run_tree.new.outputs) (g.O.Outputs.states c.end_run.new.outputs) c.requires.accepted part breaks,
+      BreaksRun-accepted_rule c.one_answer.ensures c.opened_are_one_list.ensures.one tree_files c.args.options.now c.args.tree.now all c.in-Ok.status cause
+          (g.O.Outputs.states c.args.outputs.now) (g.O.Outputs.states c.run_tree.new.outputs) (g.O.Outputs.states c.end_run.new.outputs) accepted part (breaks tree_files at_hand),
     )) c.end_run.ensures.err
 
 pub returns-in-Ok-clause-counted_inputs : goal.returns-in-Ok-clause-counted_inputs
@@ -38,10 +37,10 @@ returns-in-Ok-clause-may g c =
     IfErr-weaker c.end_run.result _ _ (λ cause is. MayStrike-outputs cause (map g.I.Input.may_fail c.args.inputs.now) is) c.end_run.ensures.cause
 
 pub returns-in-Err-clause-err : goal.returns-in-Err-clause-err
-returns-in-Err-clause-err g c =
+returns-in-Err-clause-err g c = λ tree_files accepted at_hand.
     let (all, are, broken) = c.in-Err.ensures.err in (
       all,
       are,
-      BreaksRun-accepted c.one_answer.ensures (bytes_in c.args.files.now) c.args.options.now c.args.tree.now all c.in-Err.cause
-          (g.O.Outputs.states c.args.outputs.now) (g.O.Outputs.states c.run_tree.new.outputs) c.requires.accepted broken,
+      BreaksRun-accepted c.one_answer.ensures tree_files c.args.options.now c.args.tree.now all c.in-Err.cause
+          (g.O.Outputs.states c.args.outputs.now) (g.O.Outputs.states c.run_tree.new.outputs) accepted broken,
     )

@@ -1,11 +1,11 @@
 -- What a run leaves, from the tree on.
-use Rattle.std.proofs.Common.{inr, map}
+use Rattle.std.proofs.Common.{inr, map, refl}
 use Rattle.std.proofs.lemmas.Result.{IfOk-weaker, IfErr-weaker}
-use Rattle.kc_read.specs.Files.{bytes_in}
 use Rattle.kc_read.specs.RefusalView.{refusal_view}
 use Rattle.kc_conf.specs.Faults.{Finishes}
 use Rattle.kc_conf.specs.ErrorLines.{refusal_line}
 use Rattle.kc_conf.specs.Outcome.{refused, root_file}
+use Rattle.kc_conf.specs.TreeFiles.{files_in}
 use Rattle.kc_conf.proofs.RunLemmas.{MayStrike-outputs}
 use Rattle.kc_conf.proofs.StopLemmas.{accepted_as, looped_as, refused_as, BreaksRun-refusal, Finishes-refusal, HoldsTree-accepted, HoldsTree-ended, nothing_accepted}
 use Rattle.kc_conf.proofs.runs.run_through.Goals as goal
@@ -14,16 +14,16 @@ use Rattle.kc_conf.proofs.runs.run_through.Goals as goal
 
 pub returns-in-Err-clause-ok : goal.returns-in-Err-clause-ok
 returns-in-Err-clause-ok g c =
-    let files = bytes_in c.args.files.now in
-    let why = refused_as files c.as_bytes.result.now (root_file c.args.options.now) c.as_bytes.ensures.value c.in-Err.refusal c.in-Err.ensures.refused in
+    let files = files_in c.args.files in
+    let why = refused_as files (root_file c.args.options.now) (root_file c.args.options.now) refl c.in-Err.refusal c.in-Err.ensures.refused in
     IfOk-weaker c.refuse.result _ _
     (λ status. Finishes-refusal c.one_answer.ensures c.opened_are_one_list.ensures.there files c.args.options.now c.in-Err.refusal why (map g.I.Input.remaining c.args.inputs.now) (map g.I.Input.is_there c.args.inputs.now)
     status (g.O.Outputs.states c.args.outputs.now) (g.O.Outputs.states c.refuse.new.outputs)) c.refuse.ensures.ok
 
 pub returns-in-Err-clause-err : goal.returns-in-Err-clause-err
 returns-in-Err-clause-err g c =
-    let files = bytes_in c.args.files.now in
-    let why = refused_as files c.as_bytes.result.now (root_file c.args.options.now) c.as_bytes.ensures.value c.in-Err.refusal c.in-Err.ensures.refused in
+    let files = files_in c.args.files in
+    let why = refused_as files (root_file c.args.options.now) (root_file c.args.options.now) refl c.in-Err.refusal c.in-Err.ensures.refused in
     IfErr-weaker c.refuse.result _ _
     (λ cause. BreaksRun-refusal c.one_answer.ensures c.opened_are_one_list.ensures.there files c.args.options.now c.in-Err.refusal why (map g.I.Input.remaining c.args.inputs.now)
     cause (g.O.Outputs.states c.args.outputs.now) (g.O.Outputs.states c.refuse.new.outputs)) c.refuse.ensures.err
@@ -34,8 +34,8 @@ returns-in-Err-clause-may g c =
 
 pub returns-in-Err-clause-kept : goal.returns-in-Err-clause-kept
 returns-in-Err-clause-kept g c =
-    let files = bytes_in c.args.files.now in
-    let why = refused_as files c.as_bytes.result.now (root_file c.args.options.now) c.as_bytes.ensures.value c.in-Err.refusal c.in-Err.ensures.refused in
+    let files = files_in c.args.files in
+    let why = refused_as files (root_file c.args.options.now) (root_file c.args.options.now) refl c.in-Err.refusal c.in-Err.ensures.refused in
     nothing_accepted c.one_answer.ensures c.opened_are_one_list.ensures.there files c.args.options.now c.in-Err.refusal why c.args.kept.now
     (λ status. Finishes (refused (refusal_line (refusal_view c.in-Err.refusal))) status (g.O.Outputs.states c.args.outputs.now) (g.O.Outputs.states c.refuse.new.outputs))
     c.refuse.result c.refuse.ensures.ok
@@ -44,59 +44,68 @@ returns-in-Err-clause-kept g c =
 
 pub returns-in-Ok-of-clause-ok : goal.returns-in-Ok-of-clause-ok
 returns-in-Ok-of-clause-ok g c =
-    IfOk-weaker c.run_accepted-ended.result _ _ (λ status. λ (all, are, finishes). (all, are.0, λ tree accepted. are.1, finishes)) c.run_accepted-ended.ensures.ok
+    IfOk-weaker c.run_accepted-ended.result _ _ (λ status of_files.
+    let (all, are, finishes) = of_files (files_in c.args.files)
+    (accepted_as (files_in c.args.files) (root_file c.args.options.now) (root_file c.args.options.now) refl c.in-Ok.read.0 c.in-Ok.ensures.built c.in-Ok-of.ensures.accepted) c.in-Ok.ensures.at_hand in
+    (all, are.0, λ tree accepted. are.1, finishes)) c.run_accepted-ended.ensures.ok
+
+pub returns-in-Ok-of-clause-err : goal.returns-in-Ok-of-clause-err
+returns-in-Ok-of-clause-err g c =
+    IfErr-weaker c.run_accepted-ended.result _ _ (λ cause of_files. of_files (files_in c.args.files)
+    (accepted_as (files_in c.args.files) (root_file c.args.options.now) (root_file c.args.options.now) refl c.in-Ok.read.0 c.in-Ok.ensures.built c.in-Ok-of.ensures.accepted) c.in-Ok.ensures.at_hand)
+    c.run_accepted-ended.ensures.err
 
 pub returns-in-Ok-of-clause-refused_inputs : goal.returns-in-Ok-of-clause-refused_inputs
 returns-in-Ok-of-clause-refused_inputs g c = λ r refused.
-    let files = bytes_in c.args.files.now in
+    let files = files_in c.args.files in
     let root = root_file c.args.options.now in
-    let accepted = accepted_as files c.as_bytes.result.now root c.as_bytes.ensures.value c.in-Ok.tree c.in-Ok.ensures.built c.in-Ok-of.ensures.accepted in
-    absurd (c.one_answer.ensures.not_both files root r c.in-Ok.tree refused accepted)
+    let accepted = accepted_as files root root refl c.in-Ok.read.0 c.in-Ok.ensures.built c.in-Ok-of.ensures.accepted in
+    absurd (c.one_answer.ensures.not_both files root r c.in-Ok.read.0 refused accepted)
 
 pub returns-in-Ok-of-clause-refused_outputs : goal.returns-in-Ok-of-clause-refused_outputs
 returns-in-Ok-of-clause-refused_outputs g c = λ r refused.
-    let files = bytes_in c.args.files.now in
+    let files = files_in c.args.files in
     let root = root_file c.args.options.now in
-    let accepted = accepted_as files c.as_bytes.result.now root c.as_bytes.ensures.value c.in-Ok.tree c.in-Ok.ensures.built c.in-Ok-of.ensures.accepted in
-    absurd (c.one_answer.ensures.not_both files root r c.in-Ok.tree refused accepted)
+    let accepted = accepted_as files root root refl c.in-Ok.read.0 c.in-Ok.ensures.built c.in-Ok-of.ensures.accepted in
+    absurd (c.one_answer.ensures.not_both files root r c.in-Ok.read.0 refused accepted)
 
 pub returns-in-Ok-of-clause-kept : goal.returns-in-Ok-of-clause-kept
 returns-in-Ok-of-clause-kept g c =
-    let files = bytes_in c.args.files.now in
+    let files = files_in c.args.files in
     let root = root_file c.args.options.now in
-    let accepted = accepted_as files c.as_bytes.result.now root c.as_bytes.ensures.value c.in-Ok.tree c.in-Ok.ensures.built c.in-Ok-of.ensures.accepted in
-    HoldsTree-ended c.one_answer.ensures files root c.in-Ok.tree accepted c.layout-layout.result.now c.in-Ok-of.order c.layout-layout.ensures.laid c.in-Ok-of.ensures.same c.run_accepted-ended.result
+    let accepted = accepted_as files root root refl c.in-Ok.read.0 c.in-Ok.ensures.built c.in-Ok-of.ensures.accepted in
+    HoldsTree-ended c.one_answer.ensures files root c.in-Ok.read.0 accepted c.layout-layout.result.now c.in-Ok-of.order c.layout-layout.ensures.laid c.in-Ok-of.ensures.same c.run_accepted-ended.result
 
 pub returns-in-Ok-of-clause-refused_kept : goal.returns-in-Ok-of-clause-refused_kept
 returns-in-Ok-of-clause-refused_kept g c = λ r refused.
-    let files = bytes_in c.args.files.now in
+    let files = files_in c.args.files in
     let root = root_file c.args.options.now in
-    let accepted = accepted_as files c.as_bytes.result.now root c.as_bytes.ensures.value c.in-Ok.tree c.in-Ok.ensures.built c.in-Ok-of.ensures.accepted in
-    absurd (c.one_answer.ensures.not_both files root r c.in-Ok.tree refused accepted)
+    let accepted = accepted_as files root root refl c.in-Ok.read.0 c.in-Ok.ensures.built c.in-Ok-of.ensures.accepted in
+    absurd (c.one_answer.ensures.not_both files root r c.in-Ok.read.0 refused accepted)
 
 pub returns-in-Ok-of-clause-either_kept : goal.returns-in-Ok-of-clause-either_kept
 returns-in-Ok-of-clause-either_kept g c = λ tree is.
-    let files = bytes_in c.args.files.now in
+    let files = files_in c.args.files in
     let root = root_file c.args.options.now in
-    let accepted = accepted_as files c.as_bytes.result.now root c.as_bytes.ensures.value c.in-Ok.tree c.in-Ok.ensures.built c.in-Ok-of.ensures.accepted in
-    inr (HoldsTree-accepted c.one_answer.ensures files root c.in-Ok.tree accepted c.layout-layout.result.now c.in-Ok-of.order c.layout-layout.ensures.laid c.in-Ok-of.ensures.same tree is)
+    let accepted = accepted_as files root root refl c.in-Ok.read.0 c.in-Ok.ensures.built c.in-Ok-of.ensures.accepted in
+    inr (HoldsTree-accepted c.one_answer.ensures files root c.in-Ok.read.0 accepted c.layout-layout.result.now c.in-Ok-of.order c.layout-layout.ensures.laid c.in-Ok-of.ensures.same tree is)
 
 -- ---- a loop
 
 pub returns-in-Err-of-clause-ok : goal.returns-in-Err-of-clause-ok
 returns-in-Err-of-clause-ok g c =
-    let files = bytes_in c.args.files.now in
+    let files = files_in c.args.files in
     let r = c.in-Err-of.refusal in
-    let why = looped_as files c.as_bytes.result.now (root_file c.args.options.now) c.as_bytes.ensures.value c.in-Ok.tree r c.in-Ok.ensures.built c.in-Err-of.ensures.refused in
+    let why = looped_as files (root_file c.args.options.now) (root_file c.args.options.now) refl c.in-Ok.read.0 r c.in-Ok.ensures.built c.in-Err-of.ensures.refused in
     IfOk-weaker c.refuse-in-Err-of.result _ _
     (λ status. Finishes-refusal c.one_answer.ensures c.opened_are_one_list.ensures.there files c.args.options.now r why (map g.I.Input.remaining c.args.inputs.now) (map g.I.Input.is_there c.args.inputs.now)
     status (g.O.Outputs.states c.args.outputs.now) (g.O.Outputs.states c.refuse-in-Err-of.new.outputs)) c.refuse-in-Err-of.ensures.ok
 
 pub returns-in-Err-of-clause-err : goal.returns-in-Err-of-clause-err
 returns-in-Err-of-clause-err g c =
-    let files = bytes_in c.args.files.now in
+    let files = files_in c.args.files in
     let r = c.in-Err-of.refusal in
-    let why = looped_as files c.as_bytes.result.now (root_file c.args.options.now) c.as_bytes.ensures.value c.in-Ok.tree r c.in-Ok.ensures.built c.in-Err-of.ensures.refused in
+    let why = looped_as files (root_file c.args.options.now) (root_file c.args.options.now) refl c.in-Ok.read.0 r c.in-Ok.ensures.built c.in-Err-of.ensures.refused in
     IfErr-weaker c.refuse-in-Err-of.result _ _
     (λ cause. BreaksRun-refusal c.one_answer.ensures c.opened_are_one_list.ensures.there files c.args.options.now r why (map g.I.Input.remaining c.args.inputs.now)
     cause (g.O.Outputs.states c.args.outputs.now) (g.O.Outputs.states c.refuse-in-Err-of.new.outputs)) c.refuse-in-Err-of.ensures.err
@@ -107,9 +116,9 @@ returns-in-Err-of-clause-may g c =
 
 pub returns-in-Err-of-clause-kept : goal.returns-in-Err-of-clause-kept
 returns-in-Err-of-clause-kept g c =
-    let files = bytes_in c.args.files.now in
+    let files = files_in c.args.files in
     let r = c.in-Err-of.refusal in
-    let why = looped_as files c.as_bytes.result.now (root_file c.args.options.now) c.as_bytes.ensures.value c.in-Ok.tree r c.in-Ok.ensures.built c.in-Err-of.ensures.refused in
+    let why = looped_as files (root_file c.args.options.now) (root_file c.args.options.now) refl c.in-Ok.read.0 r c.in-Ok.ensures.built c.in-Err-of.ensures.refused in
     nothing_accepted c.one_answer.ensures c.opened_are_one_list.ensures.there files c.args.options.now r why c.args.kept.now
     (λ status. Finishes (refused (refusal_line (refusal_view r))) status (g.O.Outputs.states c.args.outputs.now) (g.O.Outputs.states c.refuse-in-Err-of.new.outputs))
     c.refuse-in-Err-of.result c.refuse-in-Err-of.ensures.ok

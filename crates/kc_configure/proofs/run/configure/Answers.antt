@@ -3,13 +3,13 @@ use Rattle.std.proofs.Common.{List, ℕ, string_bytes, subst₂}
 use Rattle.kc_load.specs.Expanding.{Suffices}
 use Rattle.kc_read.specs.Files.{bytes_in}
 use Rattle.kc_conf.specs.Outcome.{root_file}
-use Rattle.kc_configure.proofs.OverLemmas.{accepted_over, leaves_over, refused_over}
+use Rattle.kc_configure.proofs.OverLemmas.{keeps_over, leaves_over, refused_over}
 use Rattle.kc_configure.proofs.run.configure.Goals as goal
 
 pub returns-clause-ran : goal.returns-clause-ran
 returns-clause-ran g c =
     let root = root_file c.args.options.now in
-    let loaded = bytes_in c.in_ok-files.field-0 in
+    let loaded = bytes_in c.in_ok-files.files in
     let told = g.F.Folder.files c.args.folder.now in
     let e : Suffices told (string_bytes c.args.options.now.root) root loaded =
     subst₂ (λ (dir first : List ℕ). Suffices told dir first loaded) c.as_str.ensures.value c.as_str-2.ensures.value c.in_ok-files.ensures.enough
@@ -18,11 +18,7 @@ returns-clause-ran g c =
     let k = c.run_keeping.ensures in (
       files,
       e.1,
-      leaves_over files loaded c.args.options.now _ _ _ _ _ c.run_keeping.result _ _ e.2 e.3 k.exactly k.quiet_inputs k.fault k.refused_outputs,
+      leaves_over files loaded c.args.options.now _ _ _ _ _ c.run_keeping.result _ _ e.2 e.3 k.leaves,
       λ r h. k.refused_inputs r (refused_over root files loaded e.2 r h),
-      record {
-        kept = λ un tree h. k.kept un tree (accepted_over root files loaded e.2 tree h);
-        refused = λ r h. k.refused_kept r (refused_over root files loaded e.2 r h);
-        either = λ tree h. k.either_kept tree (accepted_over root files loaded e.2 tree h);
-      },
+      keeps_over files loaded c.args.options.now c.run_keeping.result _ _ e.2 k.keeps,
     )

@@ -1,5 +1,5 @@
 use Rattle.std.proofs.Common.{◌∙◌, ◌++◌, ap, sym, append_assoc}
-use Rattle.kc_dot.specs.SymbolLines.{config_line}
+use Rattle.kc_dot.specs.SymbolLines.{dot_line}
 use Rattle.kc_dot.specs.Texts.{gap}
 use Rattle.kc_dot.specs.KnownValue.{value_view}
 use Rattle.kc_dot.proofs.TextLemmas.{symbol-written}
@@ -8,8 +8,8 @@ use Rattle.kc_dot.proofs.config.add_symbol_if.Goals as goal
 
 pub returns-clause-text : goal.returns-clause-text
 returns-clause-text c =
-    let line = config_line (c.args.prefix.now ++ c.name.result.now) (value_view c.symbol_value.result) in
-    c.in_ok-add_config_line.ensures
+    let line = dot_line (c.args.prefix.now ++ c.name.result.now) (value_view c.symbol_value.result) in
+    c.in_ok-add_dot_line.ensures
     ∙ ap (λ t. t ++ line) c.in_ok-add_gap.ensures
     ∙ append_assoc c.args.page.now.items (gap c.args.after_end) line
     ∙ ap (λ t. c.args.page.now.items ++ t)

@@ -11,7 +11,7 @@ returns-then-not-differs c =
 
 pub returns : goal.returns
 returns c =
-    let P : List ℕ → Type 0 = λ text. OnOk c.add_config_line.result (c.add_config_line.new.page.items ≡ c.args.page.now.items ++ text) in
+    let P : List ℕ → Type 0 = λ text. OnOk c.add_dot_line.result (c.add_dot_line.new.page.items ≡ c.args.page.now.items ++ text) in
     subst P (minimal_if-differs c.args.tree.now c.args.prefix.now (solution_view c.args.solved.now) c.args.id c.name.result.now
     (value_view c.symbol_value.result) (sym c.if-not-differs.ensures) c.name.ensures c.symbol_value.ensures)
-    c.add_config_line.ensures
+    c.add_dot_line.ensures

@@ -2,7 +2,7 @@ use Rattle.std.proofs.Common.{◌++◌, [], ◌∷◌, ap, ◌∙◌, sym, appen
 use Rattle.kc_expr.specs.When.{when_view}
 use Rattle.kc_values.specs.NeedRows as rows
 use Rattle.kc_values.specs.NeedRows.{Adds}
-use Rattle.kc_values.specs.declared.needs.Row.{Row}
+use Rattle.kc_values.specs.declared.needs.NeedRow.{NeedRow}
 use Rattle.kc_values.proofs.ReverseRows.{nodes_next, names_next, nodes_past, names_past}
 use Rattle.kc_values.proofs.RowSteps.{adds_both, adds_of_left, adds_nothing}
 use Rattle.kc_values.proofs.needs.reverses_into.Goals as goal
@@ -35,7 +35,7 @@ lines-preserved c =
       | in-Some-definition+in_ok-push+in_ok-context_into+in_ok-if_names_into w ↦
           let d = w.in-Some-definition.source.now in
           let found = sym w.in-Some-definition.ensures in
-          let pushed : Row = record now { names = w.push.new.self } in
+          let pushed : NeedRow = record now { names = w.push.new.self } in
           let push : Adds now pushed [] (d.symbol ∷ []) = record { nodes_are = sym (append-nil now.nodes.items); names_are = w.in_ok-push.ensures.items } in
           let two = adds_both now pushed w.context_into.new.out [] (rows.context_nodes l d.within.0) (d.symbol ∷ []) [] push w.in_ok-context_into.ensures in
           let three = adds_both now w.context_into.new.out w.if_names_into.new.out (rows.context_nodes l d.within.0) []

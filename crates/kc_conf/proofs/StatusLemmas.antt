@@ -1,0 +1,42 @@
+-- No outcome's status is that of a fault.
+use Rattle.std.proofs.Common.{◌≡◌, ◌++◌, ℕ, Bool, true, false, true≢false, List, refl, sym, ap, ◌∙◌}
+use Rattle.std.specs.Prelude.{if◌then◌else◌, ◌&&◌}
+use Rattle.kc_read.specs.Files.{Files}
+use Rattle.kc_tree.specs.TreeFacts.{TreeFacts}
+use Rattle.kc_dot.specs.Reading.{ReadResult}
+use Rattle.kc_conf.specs.declared.options.Options.{Options}
+use Rattle.kc_conf.specs.declared.options.Status.{Status}
+use Rattle.kc_conf.specs.declared.options.Status.TheVariants.{Done, Refused as IsRefused, Usage, Faulted}
+use Rattle.kc_conf.specs.ErrorLines.{strict_line}
+use Rattle.kc_conf.specs.Outcome.{IsLenientOutcome, IsOutcome, IsOutcomeOfReading, IsOutcomeOfTree, Outcome, accepted_tree, depfile_text, has_text, is_done, long_line, refused, refused_tree, strictly, text_if, whole, with_rule}
+
+abbrev is_faulted : Status → Bool
+is_faulted Done = false
+is_faulted IsRefused = false
+is_faulted Usage = false
+is_faulted Faulted = true
+
+of_reading : (options : Options) (tree : TreeFacts) (read : ReadResult) (outcome : Outcome) → IsOutcomeOfReading options tree read outcome → is_faulted outcome.status ≡ false
+of_reading options tree read outcome (long_line stop stopped is) = ap (λ o. is_faulted o.status) is
+of_reading options tree read outcome (whole solution none solves is) = ap (λ o. is_faulted o.status) is
+
+of_lenient : (files : Files) (options : Options) (all : List (List ℕ)) (outcome : Outcome) → IsLenientOutcome files options all outcome → is_faulted outcome.status ≡ false
+of_lenient files options all outcome (refused_tree r x is) = ap (λ o. is_faulted o.status) is
+of_lenient files options all outcome (accepted_tree tree x (rest, read, is)) = ap (λ o. is_faulted o.status) is ∙ of_reading options tree _ rest read
+
+if_strict : (strict : Bool) (text : List ℕ) (o : Outcome) → is_faulted o.status ≡ false → is_faulted (if strict then refused text else o).status ≡ false
+if_strict true text o e = refl
+if_strict false text o e = e
+
+if_ruled : (done : Bool) (options : Options) (opened : List (List ℕ)) (o : Outcome) →
+    is_faulted (if done then record o { depfile = text_if options.depfile (depfile_text options opened) } else o).status ≡ is_faulted o.status
+if_ruled true options opened o = refl
+if_ruled false options opened o = refl
+
+pub IsOutcome-not_faulted : (files : Files) (options : Options) (all : List (List ℕ)) (outcome : Outcome) → IsOutcome files options all outcome → outcome.status ≡ Faulted → ⊥
+IsOutcome-not_faulted files options all outcome (lenient, opened, x, are, is) faulted =
+    let strict = strictly options.strict lenient in
+    let e : is_faulted outcome.status ≡ false =
+    ap (λ o. is_faulted o.status) is ∙ if_ruled (is_done strict.status) options opened strict
+    ∙ if_strict (is_done lenient.status && (options.strict && has_text lenient.notes)) (lenient.notes ++ strict_line) lenient (of_lenient files options all lenient x) in
+    true≢false (sym (ap is_faulted faulted) ∙ e)

@@ -1,0 +1,7 @@
+use Rattle.std.proofs.Common.{length}
+use Rattle.kc_order.specs.Needs.{needs_in}
+use Rattle.kc_order.proofs.Rings.{is_closed}
+use Rattle.kc_order.proofs.laws.named_loop_is_closed.Goals as goal
+
+pub returns : goal.returns
+returns c = λ needs loop named. is_closed (length needs) (needs_in needs) loop named

@@ -1,7 +1,0 @@
-use Rattle.std.proofs.Common.{length}
-use Rattle.kc_order.specs.Needs.{needs_in}
-use Rattle.kc_order.proofs.OneRound.{rounds_solve}
-use Rattle.kc_order.proofs.laws.rounds_solve.Goals as goal
-
-pub returns : goal.returns
-returns g c = λ needs rhs below free reads values rounds. rounds_solve (length needs) (needs_in needs) rhs below reads free values rounds
