@@ -273,7 +273,8 @@ module _ (symbols : List Symbol) (own : List Numbered) (old new : EntryWalk) (re
       let innermost_is = w.blocks.innermost in
       let opens : of_block ss block.Choice i ≡ true = rw (h.at) refl in
       let counted : id ≡ choice_number ss i = id_is ∙ choice_count ss symbols i old w in
-      let depends : condition_in new.tables.contexts c.within.0 ≡ dependency ss i = k.keeps c.within.0 stands.there ∙ stands.is ∙ dependency_is ss i own o block_outside innermost_is h.attributes_are in
+      let depends : condition_in new.tables.contexts c.within.0 ≡ dependency ss i = k.keeps c.within.0 stands.there ∙ stands.is
+      ∙ dependency_is ss i own o block_outside innermost_is h.attributes_are in
       let shows : (condition_in new.tables.contexts block_outside.visible.0).parts ≡ enclosing_visible ss i =
       ap (λ (y : Condition). y.parts) (g.keeps block_outside.visible.0 seen)
       ∙ ap (λ y. y.visible) innermost_is in

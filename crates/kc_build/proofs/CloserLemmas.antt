@@ -12,7 +12,7 @@ use Rattle.kc_tree.specs.declared.rows.ShownEntry.TheVariants as entry
 use Rattle.kc_tree.specs.declared.rows.Symbol.{Symbol}
 use Rattle.kc_tree.specs.Layouts.{shown_of}
 use Rattle.kc_tree.specs.TreeFacts.{Condition, EndShown}
-use Rattle.kc_build.specs.Facts.{entry_at, entry_number, is_entry, of_block, enclosing_block, symbol_of, title_of}
+use Rattle.kc_build.specs.Facts.{entry_at, entry_number, shows_entry, of_block, enclosing_block, symbol_of, title_of}
 use Rattle.kc_build.specs.WalkResult.{IsEntryThere, IsTitleThere}
 use Rattle.kc_build.specs.Stacks.{AreOpen, IsClosed}
 use Rattle.kc_build.specs.Walks.{Enters}
@@ -71,7 +71,7 @@ module _ (ss : List Numbered) where
   end_there i m n None l e c = All-nil (IsEntryThere m n)
   end_there i m n (Some k) l e c =
       let before = (last_is_nested ss i k l e).before in
-      let fewer = no_fewer (λ j. is_entry ss j (slice_get ss j)) k i (omega arith) in
+      let fewer = no_fewer (λ j. shows_entry ss j (slice_get ss j)) k i (omega arith) in
       All-cons (IsEntryThere m n) (entry.End (entry_number ss k)) [] (omega arith) (All-nil (IsEntryThere m n))
 
 pub end_enters : (old new : EntryWalk) → AreRest old new → new.tables.contexts ≡ old.tables.contexts → new.tables.titles ≡ old.tables.titles →

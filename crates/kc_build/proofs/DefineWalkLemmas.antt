@@ -31,7 +31,7 @@ use Rattle.kc_build.specs.Before.{choices_before, definition_at, definitions_bef
 use Rattle.kc_build.specs.EntryLines.{default_line, range_line}
 use Rattle.kc_build.specs.Facts as facts
 use Rattle.kc_build.specs.Facts.{StatedDefault, enclosing_choice, defaults_at, dependency, stated_default, imply_of, is_first_definition, naming_at, guarded_range, select_of, symbol_at, symbol_of}
-use Rattle.kc_build.specs.SymbolRows.{IsWhole, can_be_target, definition_number, first_by}
+use Rattle.kc_build.specs.SymbolRows.{HasSymbols, can_be_target, definition_number, first_by}
 use Rattle.kc_build.specs.Passes.{change}
 use Rattle.kc_build.specs.ReverseRows.{AreAdded, HaveSources, KeepSources, added_lines, selects_of, implies_of}
 use Rattle.kc_build.specs.WalkResult.{AreRowsThere, HasHeads, IsEntryThere, IsSmall, IsSpanBelow, IsTitleThere}
@@ -121,7 +121,7 @@ pub record Defines (symbols : List Symbol) (symbol : SymId) (own : List Numbered
   pub others : KeepsAllButChoices last new
 
 module _ (ss : List Numbered) (symbols : List Symbol) (i : ℕ) (s : SymId) (own : List Numbered) (source : DefinitionId) (old made last new : EntryWalk)
-    (whole : IsWhole ss symbols) (h : IsHead ss i (ConfigLine s) own) (w : IsWalk ss symbols i old) (m : Defines symbols s own source old made last new) where
+    (whole : HasSymbols ss symbols) (h : IsHead ss i (ConfigLine s) own) (w : IsWalk ss symbols i old) (m : Defines symbols s own source old made last new) where
   abbrev after : ℕ
   after = place_after i own
 

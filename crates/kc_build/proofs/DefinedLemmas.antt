@@ -20,7 +20,7 @@ use Rattle.kc_read.specs.declared.statement.Keyword.TheVariants as key
 use Rattle.kc_read.specs.Blocks.{definitions, defined_name}
 use Rattle.kc_read.specs.Expansion.{FileContext, Log, Refused, Rest, Expands, bytes_cause, context_of, limit_cause, with_file, nothing_read, refused, root_context, symbol_cause, with_line, defined, lexemes, at_end, unclosed, too_long, no_tokens, blank, bad_line, over_limit, statement, bad_source, refused_inside, source}
 use Rattle.kc_read.specs.Files.{Files}
-use Rattle.kc_read.specs.Lines.{LineContext, After, Cause, ReadsTarget, ReadsType, begins_with, cause, left_out, syntax_cause, ReadsLine, ReadsPlaced, ReadsRest, attribute_words, block_words, left_out_words, type_words, ReadsWhole, ReadsCondition, ReadsValue, ReadsPrompt, choice_line, finish, good_name, in_place, is_good_name, keyword_in, keyword_of, keyword_words, known, operand_of, option_line, placement_cause, plain_text, target_of, text_of, word_of, expected}
+use Rattle.kc_read.specs.Lines.{LineContext, After, Cause, ReadsTarget, ReadsType, begins_with, cause, left_out, syntax_cause, ReadsLine, ReadsPlaced, ReadsRest, attribute_words, block_words, left_out_words, type_words, ReadsWhole, ReadsCondition, ReadsValue, ReadsPrompt, choice_line, finish, good_name, in_place, is_good_name, keyword_in, keyword_of, keyword_words, known, operand_of, option_line, placement_cause, plain_text, named_target, text_of, word_of, expected}
 use Rattle.kc_read.specs.Progress.{defined_after, naming_cause}
 use Rattle.kc_read.specs.Numbering.{located_numbered}
 use Rattle.kc_read.specs.Statements.{InputPrompt, Named, Located, numbered, ConfigLine, IfLine, EndIfLine, CommentLine, SourceLine, MenuLine, EndMenuLine, ChoiceLine, EndChoiceLine, MainMenuLine, TypeLine, PromptLine, DefaultLine, DefLine, DependsLine, VisibleLine, SelectLine, ImplyLine, RangeLine, HelpLine, ModulesLine, IgnoredLine, statements}
@@ -144,7 +144,7 @@ typed k ts s g (inr h) = asked (λ p. TypeLine k (Some p)) ts s (λ p. g) h.1
 
 target : (make : List ℕ → Option Disjunction → Named) (ts : List Lexeme) (s : Named) → ((t : List ℕ) (w : Option Disjunction) → IsAllowed (make t w)) → ReadsTarget make ts (Ok s) → IsAllowed s
 target make ts s a h =
-    after (target_of ts) (λ t. ReadsCondition (make t) (drop 1 ts)) s h (λ t e. condition (make t) (drop 1 ts) s (a t) e)
+    after (named_target ts) (λ t. ReadsCondition (make t) (drop 1 ts)) s h (λ t e. condition (make t) (drop 1 ts) s (a t) e)
 
 rest_of : (w : List ℕ) (k : Keyword) (ts : List Lexeme) (s : Named) → AllowsKey k → ReadsRest w k ts (Ok s) → IsAllowed s
 rest_of w key.Config ts s g h =

@@ -20,7 +20,7 @@ use Rattle.kc_build.specs.declared.diagnostics.MenuEntry.TheVariants as menu_ent
 use Rattle.kc_build.specs.declared.entries.EntryWalk.{EntryWalk}
 use Rattle.kc_build.specs.Facts.{choice_number, enclosing_choice, symbol_at, symbol_of}
 use Rattle.kc_build.specs.FirstDefinitions.{first_of_symbol, is_first_definition_at}
-use Rattle.kc_build.specs.SymbolRows.{IsWhole, definition_number, first_by}
+use Rattle.kc_build.specs.SymbolRows.{HasSymbols, definition_number, first_by}
 use Rattle.kc_build.specs.Walks.{IsHead, IsWalk}
 use Rattle.kc_build.specs.Warnings.{begun, menu_entry_at, menu_entry_before}
 use Rattle.kc_build.proofs.FirstNumberLemmas.{first_by_number}
@@ -35,7 +35,7 @@ other_begins n (made.Config t) a b = absurd (a t refl)
 other_begins n made.Choice a b = absurd (b refl)
 other_begins n _ a b = (refl, refl)
 
-module _ (ss : List Numbered) (symbols : List Symbol) (i : ℕ) (head : Numbered) (own : List Numbered) (whole : IsWhole ss symbols) (h : IsHead ss i head own) (w : EntryWalk)
+module _ (ss : List Numbered) (symbols : List Symbol) (i : ℕ) (head : Numbered) (own : List Numbered) (whole : HasSymbols ss symbols) (h : IsHead ss i head own) (w : EntryWalk)
     (k : IsWalk ss symbols i w) where
   attribute_begins : (n : ℕ) (s : Numbered) → is_attribute s ≡ true → begun n s ≡ menu_entry.Other
   attribute_begins n (ConfigLine s) e = absurd cc

@@ -15,7 +15,7 @@ use Rattle.kc_read.specs.declared.statement.Keyword.TheVariants as key
 use Rattle.kc_read.specs.declared.statement.OpenBlock.{OpenBlock}
 use Rattle.kc_read.specs.Files.{Files}
 use Rattle.kc_read.specs.Statements.{Statement, Named, Located, InputPrompt, ConfigLine, IfLine, EndIfLine, CommentLine, SourceLine, MenuLine, EndMenuLine, ChoiceLine, EndChoiceLine, MainMenuLine, TypeLine, PromptLine, DefaultLine, DefLine, DependsLine, VisibleLine, SelectLine, ImplyLine, RangeLine, HelpLine, ModulesLine, IgnoredLine, statements}
-use Rattle.kc_read.specs.Lines.{LineContext, Cause, placement_cause, closing_cause, unless_placed, After, finish, ReadsLine, ReadsPlaced, ReadsRest, ReadsWhole, ReadsCondition, ReadsTextLine, ReadsSource, ReadsConfig, ReadsPrompt, ReadsType, ReadsValue, ReadsDepends, ReadsVisible, ReadsTarget, ReadsRange, option_line, choice_line, good_name, is_good_name, begins_with, text_of, plain_text, word_of, target_of, operand_of, expected, keyword_of, known, in_place}
+use Rattle.kc_read.specs.Lines.{LineContext, Cause, placement_cause, closing_cause, unless_placed, After, finish, ReadsLine, ReadsPlaced, ReadsRest, ReadsWhole, ReadsCondition, ReadsTextLine, ReadsSource, ReadsConfig, ReadsPrompt, ReadsType, ReadsValue, ReadsDepends, ReadsVisible, ReadsTarget, ReadsRange, option_line, choice_line, good_name, is_good_name, begins_with, text_of, plain_text, word_of, named_target, operand_of, expected, keyword_of, known, in_place}
 use Rattle.kc_read.specs.Blocks.{Bracket, Opens, Closes, NoBracket, bracket, open_blocks, last_of}
 use Rattle.kc_read.specs.Expansion.{FileContext, Log, Refused, Rest, Expands, lexemes, bytes_cause, root_context, nothing_read, with_file, refused, is_choice, context_of, with_line, logged, at_end, unclosed, too_long, no_tokens, blank, bad_line, over_limit, statement, bad_source, refused_inside, source}
 use Rattle.kc_read.specs.Progress.{located_blocks, open_blocks_after}
@@ -87,7 +87,7 @@ value_stays make ts s h r = ap turn r.4 ∙ h (r.0.tree) r.1
 target_stays : (make : List ℕ → Option Disjunction → Named) (ts : List Lexeme) (s : Named) → ((n : List ℕ) (w : Option Disjunction) → turn (make n w) ≡ Stays) →
     ReadsTarget make ts (Ok s) → turn s ≡ Stays
 target_stays make ts s h r =
-    after (target_of ts) (λ t. ReadsCondition (make t) (drop 1 ts)) s (turn s ≡ Stays) r (λ t e q. condition_stays (make t) (drop 1 ts) s (h t) q)
+    after (named_target ts) (λ t. ReadsCondition (make t) (drop 1 ts)) s (turn s ≡ Stays) r (λ t e q. condition_stays (make t) (drop 1 ts) s (h t) q)
 
 range_stays : (ts : List Lexeme) (s : Named) → ReadsRange ts (Ok s) → turn s ≡ Stays
 range_stays ts s r =

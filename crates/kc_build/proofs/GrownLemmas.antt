@@ -28,7 +28,7 @@ use Rattle.kc_tree.specs.Chains.{chain_of, chains_of}
 use Rattle.kc_tree.specs.Contexts.{IsPlain, and_also, condition_in, top}
 use Rattle.kc_tree.specs.Layouts.{DefinitionFacts, with_when, prompt_view, default_view, range_view, choice_default_view, definition_facts, definition_at, reverse_facts, reverse_at, reverses_from, selectors_at, impliers_at, choice_facts, title_condition, title_text, shown_when, shown_of}
 use Rattle.kc_tree.specs.Spans.{slice_of}
-use Rattle.kc_tree.specs.Soundness.{AreChoicePromptsPlain, AreChoicePromptsWithin, AreChoicesPlain, AreChoicesWithin, AreModePromptsBehind, AreModesBehind, AreModesBelow, ArePromptsPlain, ArePromptsWithin, AreTitlesPlain, AreWithin}
+use Rattle.kc_tree.specs.Soundness.{AreChoicePromptsPlain, AreChoicePromptsWithin, AreChoicesPlain, AreChoicesWithin, AreModePromptsBehind, AreModesBehind, AreModesBelow, ArePromptsPlain, ArePromptsWithin, AreTitlesPlain, AreContextsThere}
 use Rattle.kc_tree.specs.TreeFacts.{Condition, Guarded, Bounds, MenuShown, CommentShown}
 use Rattle.kc_build.specs.EntryLines.{default_row, range_row}
 use Rattle.kc_build.specs.Growth.{IsGrown}
@@ -132,7 +132,7 @@ carries_push cs new j f h e =
 
 -- What tables keep of their rows and contexts.
 pub record AreKept (conditions : List Condition) (ds : List Definition) (cs : List Choice) (ts : List Title) : Type 0 where
-  pub within : AreWithin conditions ds
+  pub within : AreContextsThere conditions ds
   pub prompts_within : ArePromptsWithin conditions ds
   pub prompts_plain : ArePromptsPlain conditions ds
   pub choices_within : AreChoicesWithin conditions cs
@@ -457,7 +457,7 @@ held_carries old new blocks ts g = held_extends old new blocks ts (extends old n
 -- All of it as the ghost fields of the tables and of a walk ask for it.
 abbrev pub Keeping : List Condition → List Definition → List Choice → List Title → Type 0
 Keeping conditions ds cs ts =
-    AreWithin conditions ds × (ArePromptsWithin conditions ds ×
+    AreContextsThere conditions ds × (ArePromptsWithin conditions ds ×
     (ArePromptsPlain conditions ds × (AreChoicesWithin conditions cs ×
     (AreChoicesPlain conditions cs × (AreChoicePromptsWithin conditions cs ×
     (AreChoicePromptsPlain conditions cs × (AreTitlesPlain conditions ts ×

@@ -11,7 +11,7 @@ use Rattle.kc_tree.specs.declared.rows.Title.{Title}
 use Rattle.kc_tree.specs.Contexts.{IsPlain, and_also, condition_in}
 use Rattle.kc_tree.specs.TreeFacts.{Condition}
 use Rattle.kc_build.specs.Growth.{IsGrown, Stands}
-use Rattle.kc_build.specs.Stacks.{AreBlocksPlain, AreBlocksVisible, AreBlocksWithin, AreTitlesWithin, AsksNothing, IsClosed, open_blocks}
+use Rattle.kc_build.specs.Stacks.{AreBlocksPlain, AreBlocksVisible, AreBlocksWithin, AreTitlesWithin, AsksNothing, IsClosed, open_scopes}
 use Rattle.kc_build.specs.declared.blocks.BlockScope.{BlockScope}
 use Rattle.kc_build.specs.declared.blocks.Blocks.{Blocks}
 use Rattle.kc_build.specs.declared.entries.EntryWalk.{EntryWalk}
@@ -32,10 +32,10 @@ on_ok_both (Err x) A B P a b f = tt
 
 -- What holds of each open block.
 abbrev pub OfEach : (BlockScope → Type 0) → Blocks → Type 0
-OfEach P blocks = (j : ℕ) (b : BlockScope) → slice_get (open_blocks blocks) j ≡ Some b → P b
+OfEach P blocks = (j : ℕ) (b : BlockScope) → slice_get (open_scopes blocks) j ≡ Some b → P b
 
 module _ (P : BlockScope → Type 0) (old new : Blocks) (h : OfEach P old) where
-  each_same : open_blocks new ≡ open_blocks old → OfEach P new
+  each_same : open_scopes new ≡ open_scopes old → OfEach P new
   each_same e = λ j b at. h j b (sym (ap (λ (l : List BlockScope). slice_get l j) e) ∙ at)
 
   each_opened : (block : BlockScope) → new.innermost ≡ block → new.outside.items ≡ old.outside.items ++ old.innermost ∷ [] → P block → OfEach P new
@@ -45,12 +45,12 @@ module _ (P : BlockScope → Type 0) (old new : Blocks) (h : OfEach P old) where
       outside j b (inl e) = h (suc j) b e
       outside j b (inr e) = h 0 b (ap Some e.1)
 
-      at : (j : ℕ) (b : BlockScope) → slice_get (open_blocks new) j ≡ Some b → P b
+      at : (j : ℕ) (b : BlockScope) → slice_get (open_scopes new) j ≡ Some b → P b
       at zero b e = let same : block ≡ b = cc in subst P same p
       at (suc j) b e = outside j b (get_pushed old.outside.items old.innermost j b (sym (ap (λ (l : List BlockScope). slice_get l j) outer) ∙ e))
 
   pub each_opens : {T E : Type 0} (r : Result T E) (block : BlockScope) → OnOk r (new.innermost ≡ block) → OnOk r (new.outside.items ≡ old.outside.items ++ old.innermost ∷ []) →
-      OnErr r (open_blocks new ≡ open_blocks old) → P block → OfEach P new
+      OnErr r (open_scopes new ≡ open_scopes old) → P block → OfEach P new
   each_opens (Ok x) block inner outer e p = each_opened block inner outer p
   each_opens (Err x) block inner outer e p = each_same e
 
@@ -58,7 +58,7 @@ module _ (P : BlockScope → Type 0) (old new : Blocks) (h : OfEach P old) where
   each_closes c = by_end (ends old.outside.items)
     where
       left : (ys : List BlockScope) (y : BlockScope) → old.outside.items ≡ ys ++ y ∷ [] → new.innermost ≡ y → new.outside.items ≡ ys → (j : ℕ) (b : BlockScope) →
-          slice_get (open_blocks new) j ≡ Some b → P b
+          slice_get (open_scopes new) j ≡ Some b → P b
       left ys y e inner outer zero b at =
           let same : y ≡ b = cc in
           h (suc (length ys)) b (ap (λ (l : List BlockScope). slice_get l (length ys)) e ∙ get_last ys y ∙ ap Some same)
@@ -73,7 +73,7 @@ module _ (P : BlockScope → Type 0) (old new : Blocks) (h : OfEach P old) where
 
 module _ (conditions : List Condition) (old new : Blocks) (ts : List Title) (h : AreHeld conditions old ts) where
   pub held_opens : {T E : Type 0} (r : Result T E) (block : BlockScope) → OnOk r (new.innermost ≡ block) → OnOk r (new.outside.items ≡ old.outside.items ++ old.innermost ∷ []) →
-      OnErr r (open_blocks new ≡ open_blocks old) → block.within.0 < length conditions → block.visible.0 < length conditions →
+      OnErr r (open_scopes new ≡ open_scopes old) → block.within.0 < length conditions → block.visible.0 < length conditions →
       IsPlain conditions block.visible.0 → AreHeld conditions new ts
   held_opens r block inner outer e within visible plain = record {
     asks_nothing = h.asks_nothing;

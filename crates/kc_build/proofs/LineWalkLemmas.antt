@@ -22,7 +22,7 @@ use Rattle.kc_build.specs.declared.diagnostics.EntrySummary.{EntrySummary}
 use Rattle.kc_build.specs.declared.entries.EntryWalk.{EntryWalk}
 use Rattle.kc_build.specs.Diagnosed.{AreLinesDiagnosed}
 use Rattle.kc_build.specs.Facts.{can_be_target}
-use Rattle.kc_build.specs.SymbolRows.{AreChoicesApart, IsEntrySummary, IsWhole}
+use Rattle.kc_build.specs.SymbolRows.{AreChoicesApart, IsEntrySummary, HasSymbols}
 use Rattle.kc_build.specs.Passes.{statements_of}
 use Rattle.kc_build.specs.WalkResult.{IsDiagnosed, IsEntryThere, IsTitleThere}
 use Rattle.kc_build.specs.Stacks.{BlockFacts, IsPlainHead, block_view}
@@ -131,7 +131,7 @@ module _ (lines : List Line) (symbols : List Symbol) (i end : ℕ) (head : Line)
       let there : i + 1 + length (attributes (statements_of lines) i) ≡ end = ap (λ (l : List Numbered). i + 1 + length l) attributes-are ∙ place-is in
       inl (begins_behind (statements_of lines) i s (ap (slice_get (statements_of lines)) there ∙ e))
 
-  module _ (whole : IsWhole (statements_of lines) symbols) where
+  module _ (whole : HasSymbols (statements_of lines) symbols) where
     pub walk-next : (old new : EntryWalk) → Enters symbols (statement_view head.statement) (statements_of own_lines) old new →
         IsWalk (statements_of lines) symbols i old → IsWalk (statements_of lines) symbols end new
     walk-next old new enters walk =

@@ -16,7 +16,7 @@ use Rattle.kc_read.specs.Blocks.{numbers, attributes}
 use Rattle.kc_read.specs.Statements.{Numbered, Located}
 use Rattle.kc_tree.specs.TreeFacts.{Guarded, SymbolFacts, ChoiceFacts, TreeFacts, IsMemberOf, IsChoiceSound, IsListed}
 use Rattle.kc_tree.specs.Common.{listed}
-use Rattle.kc_build.specs.Facts.{StatedDefault, choice_facts, choice_number, choice_of, choice_places, enclosing_choice, choices, definitions_of, first_of, stated_default, is_member, is_member_place, kind_of, member_default, members_of, guarded_symbol, of_block, places, same_kind, single_symbol, symbol_at, symbol_facts, symbol_of}
+use Rattle.kc_build.specs.Facts.{StatedDefault, choice_facts, choice_number, choice_of, choice_lines, enclosing_choice, choices, definitions_of, first_of, stated_default, is_member, is_member_place, kind_of, member_default, members_of, guarded_symbol, of_block, places, same_kind, single_symbol, symbol_at, symbol_facts, symbol_of}
 use Rattle.kc_build.specs.FirstDefinitions.{is_first_definition_at}
 use Rattle.kc_build.specs.SymbolRows.{AreBelow}
 use Rattle.kc_build.specs.Warnings.{bad_members, is_bad_member}
@@ -115,12 +115,12 @@ module _ (ss : List Numbered) (none : bad_members ss ≡ []) where
     kept : IsKept (of_block ss block.Choice) (length ss) k place
     facts : choice_facts ss place ≡ c
 
-  choice_by : (k : ℕ) (c : ChoiceFacts) (o : Option ℕ) → slice_get (choice_places ss) k ≡ o → option_map (choice_facts ss) o ≡ Some c → IsChoicePlace k c
+  choice_by : (k : ℕ) (c : ChoiceFacts) (o : Option ℕ) → slice_get (choice_lines ss) k ≡ o → option_map (choice_facts ss) o ≡ Some c → IsChoicePlace k c
   choice_by k c None e h = absurd cc
   choice_by k c (Some p) e h = record { place = p; kept = kept_at (of_block ss block.Choice) (length ss) k p e; facts = (let same : choice_facts ss p ≡ c = cc in same) }
 
   choice_at : (k : ℕ) (c : ChoiceFacts) → slice_get (choices ss) k ≡ Some c → IsChoicePlace k c
-  choice_at k c h = choice_by k c (slice_get (choice_places ss) k) refl (sym (slice_get-map (choice_facts ss) (choice_places ss) k) ∙ h)
+  choice_at k c h = choice_by k c (slice_get (choice_lines ss) k) refl (sym (slice_get-map (choice_facts ss) (choice_lines ss) k) ∙ h)
 
   members_are : (k : ℕ) (c : ChoiceFacts) → slice_get (choices ss) k ≡ Some c → c.members ≡ members_of ss k
   members_are k c h =

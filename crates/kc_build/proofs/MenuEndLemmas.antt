@@ -7,7 +7,7 @@ use Rattle.kc_expr.specs.declared.expression.SymId.{SymId}
 use Rattle.kc_read.specs.Statements.{Numbered, ConfigLine, MenuLine, EndMenuLine}
 use Rattle.kc_read.specs.Blocks.{numbers}
 use Rattle.kc_tree.specs.TreeFacts.{Condition, Shown, SymbolShown, MenuShown, EndShown}
-use Rattle.kc_build.specs.Facts.{enclosing_block, is_first_definition, is_entry, entry_number, entry_at, entries, shown_when}
+use Rattle.kc_build.specs.Facts.{enclosing_block, is_first_definition, shows_entry, entry_number, entry_at, entries, shown_when}
 use Rattle.kc_build.proofs.BlockLemmas.{there, last_is_nested}
 use Rattle.kc_build.proofs.ChoiceLemmas.{fewer_before}
 use Rattle.kc_build.proofs.ExpansionLemmas.{AreNested}
@@ -93,13 +93,13 @@ module _ (ss : List Numbered) (nested : AreNested ss) where
   line_entry j = entry_at ss j (slice_get ss j)
 
   abbrev is_line_entry : ℕ → Bool
-  is_line_entry j = is_entry ss j (slice_get ss j)
+  is_line_entry j = shows_entry ss j (slice_get ss j)
 
   first_tells : (b : Bool) (s : SymId) → b ≡ is_some (if b then Some (SymbolShown s) else None)
   first_tells true s = refl
   first_tells false s = refl
 
-  tells_by : (j : ℕ) (s : Numbered) → slice_get ss j ≡ Some s → is_entry ss j (Some s) ≡ is_some (entry_at ss j (Some s))
+  tells_by : (j : ℕ) (s : Numbered) → slice_get ss j ≡ Some s → shows_entry ss j (Some s) ≡ is_some (entry_at ss j (Some s))
   tells_by j (ConfigLine s) e = first_tells (is_first_definition ss j s) s
   tells_by j EndMenuLine e =
       let k = menu_closed ss nested j e in
@@ -119,7 +119,7 @@ module _ (ss : List Numbered) (nested : AreNested ss) where
   menu_before i l e =
       let k = menu_closed ss nested i e in
       let before = (last_is_nested ss i k.0 (omega arith) k.1).before in
-      let opens : is_line_entry k.0 ≡ true = ap (is_entry ss k.0) k.2.1 in
+      let opens : is_line_entry k.0 ≡ true = ap (shows_entry ss k.0) k.2.1 in
       let shown : line_entry k.0 ≡ Some (MenuShown k.2.0 (shown_when ss k.0)) = ap (entry_at ss k.0) k.2.1 in (
         k.0,
         k.1,

@@ -78,7 +78,8 @@ module _ (t : Tables) where
   from_rows last =
       let chain = chain_of (chains_of t.reverses.lines.items) last in
       let row = λ (i : ℕ). option_map reverse_row (slice_get t.reverses.lines.items i) in
-      ap reverse (filter_map_alike (reverse_at t) (λ i. option_and_then (named_in defined) (row i)) chain (λ i. by_row (slice_get t.reverses.lines.items i)) ∙ and_then-filter row (named_in defined) chain)
+      ap reverse (filter_map_alike (reverse_at t) (λ i. option_and_then (named_in defined) (row i)) chain (λ i. by_row (slice_get t.reverses.lines.items i))
+      ∙ and_then-filter row (named_in defined) chain)
       ∙ sym (filter_map-reverse (named_in defined) (filter_map row chain))
 
   pub selectors_by_rows : (s : ℕ) → selectors_at t s ≡ filter_map (named_in defined) (selects_of t.reverses s)

@@ -12,7 +12,7 @@ use Rattle.kc_read.specs.Blocks.{Opens, Closes, NoBracket, bracket, enclosing, l
 use Rattle.kc_tree.specs.TreeFacts.{Condition}
 use Rattle.kc_build.specs.Facts.{block_parts, choice_number, entry_number, of_block, own_visible}
 use Rattle.kc_build.specs.Scopes.{block_visible}
-use Rattle.kc_build.specs.Stacks.{AreOpen, BlockFacts, IsClosed, block_facts_at, block_view, open_blocks}
+use Rattle.kc_build.specs.Stacks.{AreOpen, BlockFacts, IsClosed, block_facts_at, block_view, open_scopes}
 use Rattle.kc_build.specs.declared.blocks.BlockScope.{BlockScope}
 use Rattle.kc_build.specs.declared.blocks.Blocks.{Blocks}
 use Rattle.kc_build.proofs.BlockLemmas.{front, enclosing-opens, enclosing-closes, enclosing-no, enclosing-last}
@@ -50,7 +50,7 @@ module _ (ss : List Numbered) where
   asked_snoc : (places : List ℕ) (k : ℕ) → asked_in (places ++ k ∷ []) ≡ asked_inside k (asked_in places)
   asked_snoc places k =
       let r = scope_snoc ss places k in
-      λ j. record { parts = (r j).parts; visible = (r j).visible; mode = (r j).mode; entry = option_map (entry_number ss) ((r j).opener) }
+      λ j. record { parts = (r j).parts; visible = (r j).visible; mode = (r j).mode; entry = option_map (entry_number ss) ((r j).opened_at) }
 
   module _ (i : ℕ) (s : Numbered) (at : slice_get ss i ≡ Some s) where
     pub asked_opened : (b : opener.Block) → bracket s ≡ Opens b → block_facts_at ss (suc i) ≡ asked_inside i (block_facts_at ss i)
@@ -83,7 +83,7 @@ module _ (ss : List Numbered) where
         after : enclosing ss (suc i) ≡ front (enclosing ss i)
         after = enclosing-closes ss i s at o
 
-        none_open : (ks : List ℕ) → enclosing ss i ≡ ks → [] ≡ map (block_facts_at ss) ks → open_blocks new ≡ open_blocks old → AreOpen ss (suc i) conditions new
+        none_open : (ks : List ℕ) → enclosing ss i ≡ ks → [] ≡ map (block_facts_at ss) ks → open_scopes new ≡ open_scopes old → AreOpen ss (suc i) conditions new
         none_open [] e q same =
             let shorter : enclosing ss (suc i) ≡ enclosing ss i = after ∙ ap front e ∙ sym e in
             let inner : new.innermost ≡ old.innermost = cc in

@@ -21,7 +21,7 @@ use Rattle.kc_tree.specs.Wholes.{tree_of}
 use Rattle.kc_tree.specs.Common.{listed}
 use Rattle.kc_build.specs.declared.diagnostics.Diagnostics.{Diagnostics}
 use Rattle.kc_build.specs.Before.{choices_before, main_menu_before}
-use Rattle.kc_build.specs.Facts.{StatedDefault, choice_number, choice_places, choices, entries, stated_default, is_member, members_of, guarded_symbol, prompt_at, single_symbol, symbol_facts, title_of}
+use Rattle.kc_build.specs.Facts.{StatedDefault, choice_number, choice_lines, choices, entries, stated_default, is_member, members_of, guarded_symbol, prompt_at, single_symbol, symbol_facts, title_of}
 use Rattle.kc_build.specs.SymbolRows.{AreBelow, AreSymbols, member_by}
 use Rattle.kc_build.specs.Passes.{statements_of}
 use Rattle.kc_build.specs.WalkResult.{IsWalkResult, IsDiagnosed}
@@ -44,7 +44,7 @@ module _ (ss : List Numbered) where
             (λ (g : StatedDefault). option_and_then (λ s. if members (choice_number ss j) s then Some (guarded_symbol ss j s g.when) else None) (single_symbol g.value))
             (filter_map stated_default (attributes ss j));
         members = members_of ss (choice_number ss j);
-      }) (choice_places ss)
+      }) (choice_lines ss)
 
   module _ (symbols : List Symbol) (below : AreBelow (length symbols) ss) (are : AreSymbols ss symbols) (none : bad_members ss ≡ []) where
     members-known : member_by symbols ≡ is_member ss

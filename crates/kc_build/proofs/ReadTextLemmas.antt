@@ -16,7 +16,7 @@ use Rattle.kc_read.specs.declared.statement.Keyword.{Keyword}
 use Rattle.kc_read.specs.declared.statement.Keyword.TheVariants as key
 use Rattle.kc_read.specs.Expansion.{FileContext, Log, Refused, Rest, Expands, NextLine, bytes_cause, context_of, with_file, nothing_read, refused, root_context, with_line, is_help, lexemes, without_help, at_end, unclosed, too_long, no_tokens, blank, bad_line, over_limit, statement, bad_source, refused_inside, source}
 use Rattle.kc_read.specs.Files.{Files}
-use Rattle.kc_read.specs.Lines.{LineContext, After, Cause, Front, IsCondition, IsWhole, ReadsTarget, ReadsType, ReadsLine, ReadsPlaced, ReadsRest, ReadsWhole, ReadsCondition, ReadsTextLine, ReadsValue, ReadsPrompt, StartsExpression, begins_with, choice_line, expected, finish, front, good_name, in_place, is_good_name, keyword_of, known, left_out, operand_of, option_line, placement_cause, plain_text, syntax_cause, target_of, text_of, word_of}
+use Rattle.kc_read.specs.Lines.{LineContext, After, Cause, Front, IsCondition, IsWhole, ReadsTarget, ReadsType, ReadsLine, ReadsPlaced, ReadsRest, ReadsWhole, ReadsCondition, ReadsTextLine, ReadsValue, ReadsPrompt, StartsExpression, begins_with, choice_line, expected, finish, front, good_name, in_place, is_good_name, keyword_of, known, left_out, operand_of, option_line, placement_cause, plain_text, syntax_cause, named_target, text_of, word_of}
 use Rattle.kc_read.specs.Statements.{Statement, InputPrompt, Named, Located, ConfigLine, IfLine, EndIfLine, CommentLine, SourceLine, MenuLine, EndMenuLine, ChoiceLine, EndChoiceLine, MainMenuLine, TypeLine, PromptLine, DefaultLine, DefLine, DependsLine, VisibleLine, SelectLine, ImplyLine, RangeLine, HelpLine, ModulesLine, IgnoredLine, names_in_condition, names_in_statement, value_form, statements}
 use Rattle.kc_tree.specs.TreeFacts.{IsLineText, IsLineForm}
 use Rattle.kc_build.proofs.LineTextLemmas.{AreOneLine, IsLineAtom, IsLineLexeme, IsLineTerminal, all_front, atom_lines, cut_line, file_lines, helped, taken_line, terminal_lines, value_line, word_lines}
@@ -65,7 +65,7 @@ word_line (AWord v ∷ ts) w h e = let same : v ≡ w = cc in subst IsLineText s
 word_line (AQuoted q ∷ ts) w h e = absurd cc
 word_line (AnOp o ∷ ts) w h e = absurd cc
 
-target_line : (ts : List Lexeme) (w : List ℕ) → AreInLine ts → target_of ts ≡ Ok w → IsLineText w
+target_line : (ts : List Lexeme) (w : List ℕ) → AreInLine ts → named_target ts ≡ Ok w → IsLineText w
 target_line [] w h e = absurd cc
 target_line (AWord v ∷ ts) w h e = unless_word v w (same_name v if_word || is_tristate_constant v) (All-head IsLineLexeme (AWord v) ts h) e
 target_line (AQuoted q ∷ ts) w h e = absurd cc
@@ -175,7 +175,7 @@ option ts s h = by (begins_with (codes "modules") ts) (begins_with (codes "allno
 target : (make : List ℕ → Option Disjunction → Named) (ts : List Lexeme) (s : Named) → AreInLine ts →
     ((t : List ℕ) (w : Option Disjunction) → All IsLineText (t ∷ names_in_condition w) → IsInLines (make t w)) → ReadsTarget make ts (Ok s) → IsInLines s
 target make ts s l k h =
-    after (target_of ts) (λ t. ReadsCondition (make t) (drop 1 ts)) s (IsInLines s) h
+    after (named_target ts) (λ t. ReadsCondition (make t) (drop 1 ts)) s (IsInLines s) h
     (λ t e f. condition (make t) (drop 1 ts) s (All-drop IsLineLexeme 1 ts l) (λ w n. k t w (All-cons IsLineText t (names_in_condition w) (target_line ts t l e) n)) f)
 
 rest_of : (w : List ℕ) (k : Keyword) (ts : List Lexeme) (s : Named) → AreInLine ts → ReadsRest w k ts (Ok s) → IsInLines s

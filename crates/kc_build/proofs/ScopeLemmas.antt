@@ -10,7 +10,7 @@ use Rattle.kc_read.specs.declared.statement.Block.TheVariants as block
 use Rattle.kc_read.specs.Statements.{Numbered, ChoiceLine}
 use Rattle.kc_read.specs.Blocks.{last_of, bracket, opened}
 use Rattle.kc_build.specs.Facts.{of_block, block_parts, own_visible, choice_number, is_block}
-use Rattle.kc_build.specs.Scopes.{Scope, next_count, block_visible, inside_from}
+use Rattle.kc_build.specs.Scopes.{Scope, next_count, block_visible, scope_of_block}
 use Rattle.kc_build.proofs.BlockLemmas.{last-snoc}
 use Rattle.kc_build.proofs.ListLemmas.{count_next}
 use Rattle.kc_build.proofs.PlaceLemmas.{numbers-next}
@@ -21,7 +21,7 @@ module _ (ss : List Numbered) where
     parts = flat_map (block_parts ss) places;
     visible = flat_map (own_visible ss) (filter (of_block ss block.Menu) places);
     mode = option_map (choice_number ss) (last_of (filter (of_block ss block.Choice) places));
-    opener = last_of places;
+    opened_at = last_of places;
   }
 
   parts-snoc : (f : ℕ → List Form) (places : List ℕ) (k : ℕ) → flat_map f (places ++ k ∷ []) ≡ flat_map f places ++ f k
@@ -35,7 +35,7 @@ module _ (ss : List Numbered) where
   chosen true f places k = ap (option_map f) (last-snoc places k)
   chosen false f places k = rw (append-nil places) refl
 
-  pub scope_snoc : (places : List ℕ) (k : ℕ) → scope_by (places ++ k ∷ []) ≡ inside_from ss k (scope_by places) (choice_number ss k)
+  pub scope_snoc : (places : List ℕ) (k : ℕ) → scope_by (places ++ k ∷ []) ≡ scope_of_block ss k (scope_by places) (choice_number ss k)
   scope_snoc places k =
       let p = parts-snoc (block_parts ss) places k in
       let v : flat_map (own_visible ss) (filter (of_block ss block.Menu) (places ++ k ∷ [])) ≡
@@ -44,7 +44,7 @@ module _ (ss : List Numbered) where
       ∙ kept (of_block ss block.Menu k) (own_visible ss) (filter (of_block ss block.Menu) places) k in
       let m = ap (λ l. option_map (choice_number ss) (last_of l)) (filter-append (of_block ss block.Choice) places (k ∷ []))
       ∙ chosen (of_block ss block.Choice k) (choice_number ss) (filter (of_block ss block.Choice) places) k in
-      λ i. record { parts = p i; visible = v i; mode = m i; opener = last-snoc places k i }
+      λ i. record { parts = p i; visible = v i; mode = m i; opened_at = last-snoc places k i }
 
   by_line : (s : Numbered) (n : ℕ) → next_count s n ≡ n + cond (is_block block.Choice (opened (bracket s))) 1 0
   by_line ChoiceLine n = refl

@@ -20,7 +20,7 @@ use Rattle.kc_tree.specs.declared.reverses.Reverses.{Reverses}
 use Rattle.kc_tree.specs.Layouts.{choice_facts as choice_in, definition_facts, shown_of}
 use Rattle.kc_tree.specs.TreeFacts.{Guarded, Shown, SymbolShown, EndShown}
 use Rattle.kc_build.specs.Before.{choice_before, choices_before, definitions_before, entries_before, impliers_before, main_menu_before, members_before, selectors_before}
-use Rattle.kc_build.specs.Facts.{can_be_target, choice_number, entry_at, entry_number, imply_of, is_entry, is_first_definition, naming_at, of_block, enclosing_block, select_of, symbol_at, symbol_of, title_of}
+use Rattle.kc_build.specs.Facts.{can_be_target, choice_number, entry_at, entry_number, imply_of, shows_entry, is_first_definition, naming_at, of_block, enclosing_block, select_of, symbol_at, symbol_of, title_of}
 use Rattle.kc_build.specs.SymbolRows.{AreMenusOpened}
 use Rattle.kc_build.specs.ReverseRows.{HaveSources}
 use Rattle.kc_build.specs.WalkResult.{AreRowsThere, IsEntryThere, IsSmall, IsSpanBelow, IsTitleThere}
@@ -49,7 +49,7 @@ module _ (ss : List Numbered) (ends : AreMenusOpened ss) where
   end_some None e = absurd cc
   end_some (Some k) e = refl
 
-  tells : (j : ℕ) (o : Option Numbered) → slice_get ss j ≡ o → is_entry ss j o ≡ is_some (entry_at ss j o)
+  tells : (j : ℕ) (o : Option Numbered) → slice_get ss j ≡ o → shows_entry ss j o ≡ is_some (entry_at ss j o)
   tells j None e = refl
   tells j (Some (ConfigLine s)) e = if_some (is_first_definition ss j s) s
   tells j (Some EndMenuLine) e = end_some (enclosing_block ss j) (ends j e)
@@ -67,11 +67,11 @@ module _ (ss : List Numbered) (ends : AreMenusOpened ss) where
       let before = so_many_entries n in
       let whole : entries_before ss (suc n) ≡ entries_before ss n ++ cons_option (entry_at ss n (slice_get ss n)) [] =
       (rw add-one at (filter_map-next (λ j. entry_at ss j (slice_get ss j)) n)) in
-      let here : length (cons_option (entry_at ss n (slice_get ss n)) []) ≡ cond (is_entry ss n (slice_get ss n)) 1 0 = one_more (entry_at ss n (slice_get ss n))
+      let here : length (cons_option (entry_at ss n (slice_get ss n)) []) ≡ cond (shows_entry ss n (slice_get ss n)) 1 0 = one_more (entry_at ss n (slice_get ss n))
       ∙ ap (λ (b : Bool). cond b 1 0) (sym (tells n (slice_get ss n) refl)) in
       let size : length (entries_before ss (suc n)) ≡ length (entries_before ss n) + length (cons_option (entry_at ss n (slice_get ss n)) []) = ap length whole
       ∙ length-append (entries_before ss n) (cons_option (entry_at ss n (slice_get ss n)) []) in
-      let all = count_next (λ j. is_entry ss j (slice_get ss j)) n in
+      let all = count_next (λ j. shows_entry ss j (slice_get ss j)) n in
       omega arith
 
 module _ (ss : List Numbered) (symbols : List Symbol) (i : ℕ) (w : EntryWalk) (h : IsWalk ss symbols i w) where

@@ -134,8 +134,8 @@ module _ (ss : List Numbered) where
   block_parts i = if of_block block.Menu i then own_dependencies i else if_condition (slice_get ss i)
 
   -- the choices, in order; the number of the choice that begins at a place
-  abbrev pub choice_places : List ℕ
-  choice_places = filter (of_block block.Choice) places
+  abbrev pub choice_lines : List ℕ
+  choice_lines = filter (of_block block.Choice) places
 
   abbrev pub choice_number : ℕ → ℕ
   choice_number i = count_by (of_block block.Choice) (numbers i)
@@ -240,21 +240,21 @@ module _ (ss : List Numbered) where
   }
 
   abbrev pub choices : List ChoiceFacts
-  choices = map choice_facts choice_places
+  choices = map choice_facts choice_lines
 
   -- Entries.
   abbrev pub is_first_definition : ℕ → SymId → Bool
   is_first_definition i s = is_none (position (same_symbol s) (definitions (take i ss)))
 
-  abbrev pub is_entry : ℕ → Option Numbered → Bool
-  is_entry i (Some (ConfigLine s)) = is_first_definition i s
-  is_entry i (Some (MenuLine t)) = true
-  is_entry i (Some EndMenuLine) = true
-  is_entry i (Some (CommentLine t)) = true
-  is_entry i _ = false
+  abbrev pub shows_entry : ℕ → Option Numbered → Bool
+  shows_entry i (Some (ConfigLine s)) = is_first_definition i s
+  shows_entry i (Some (MenuLine t)) = true
+  shows_entry i (Some EndMenuLine) = true
+  shows_entry i (Some (CommentLine t)) = true
+  shows_entry i _ = false
 
   abbrev pub entry_number : ℕ → ℕ
-  entry_number i = count_by (λ j. is_entry j (slice_get ss j)) (numbers i)
+  entry_number i = count_by (λ j. shows_entry j (slice_get ss j)) (numbers i)
 
   abbrev pub entry_at : ℕ → Option Numbered → Option Shown
   entry_at i (Some (ConfigLine s)) = if is_first_definition i s then Some (SymbolShown s) else None

@@ -11,7 +11,7 @@ pub record Scope : Type 0 where
   pub parts : List Form
   pub visible : List Form
   pub mode : Option ℕ
-  pub opener : Option ℕ
+  pub opened_at : Option ℕ
 
 abbrev pub next_count : Numbered → ℕ → ℕ
 next_count ChoiceLine n = n + 1
@@ -23,14 +23,14 @@ module _ (ss : List Numbered) where
   block_visible i = if of_block ss block.Menu i then own_visible ss i else []
 
   -- the scope of the lines of the block that begins at a place, given the scope of its first line and the choices before
-  abbrev pub inside_from : ℕ → Scope → ℕ → Scope
-  inside_from i r choices = record {
+  abbrev pub scope_of_block : ℕ → Scope → ℕ → Scope
+  scope_of_block i r choices = record {
     parts = r.parts ++ block_parts ss i;
     visible = r.visible ++ block_visible i;
     mode = if of_block ss block.Choice i then Some choices else r.mode;
-    opener = Some i;
+    opened_at = Some i;
   }
 
   -- the scope of a place
   abbrev pub scope_at : ℕ → Scope
-  scope_at i = record { parts = flat_map (block_parts ss) (enclosing ss i); visible = enclosing_visible ss i; mode = enclosing_choice ss i; opener = enclosing_block ss i }
+  scope_at i = record { parts = flat_map (block_parts ss) (enclosing ss i); visible = enclosing_visible ss i; mode = enclosing_choice ss i; opened_at = enclosing_block ss i }

@@ -42,24 +42,24 @@ pub record AreOpen (ss : List Numbered) (i : ℕ) (conditions : List Condition) 
   pub outside : map (block_view conditions) blocks.outside.items ≡ map (block_facts_at ss) (enclosing ss i)
 
 -- the open blocks, the innermost first
-abbrev pub open_blocks : Blocks → List BlockScope
-open_blocks blocks = blocks.innermost ∷ blocks.outside.items
+abbrev pub open_scopes : Blocks → List BlockScope
+open_scopes blocks = blocks.innermost ∷ blocks.outside.items
 
 -- the innermost block is closed, where one is open
 abbrev pub IsClosed : Blocks → Blocks → Type 0
 IsClosed old new =
     ((outside : List BlockScope) (b : BlockScope) → old.outside.items ≡ outside ++ b ∷ [] → (new.innermost ≡ b) × (new.outside.items ≡ outside))
-    × (old.outside.items ≡ [] → open_blocks new ≡ open_blocks old)
+    × (old.outside.items ≡ [] → open_scopes new ≡ open_scopes old)
 
 -- they lead to contexts that are there, and no mode counts in what is asked of what is visible in them
 abbrev pub AreBlocksWithin : List Condition → Blocks → Type 0
-AreBlocksWithin conditions blocks = (j : ℕ) (b : BlockScope) → slice_get (open_blocks blocks) j ≡ Some b → b.within.0 < length conditions
+AreBlocksWithin conditions blocks = (j : ℕ) (b : BlockScope) → slice_get (open_scopes blocks) j ≡ Some b → b.within.0 < length conditions
 
 abbrev pub AreBlocksVisible : List Condition → Blocks → Type 0
-AreBlocksVisible conditions blocks = (j : ℕ) (b : BlockScope) → slice_get (open_blocks blocks) j ≡ Some b → b.visible.0 < length conditions
+AreBlocksVisible conditions blocks = (j : ℕ) (b : BlockScope) → slice_get (open_scopes blocks) j ≡ Some b → b.visible.0 < length conditions
 
 abbrev pub AreBlocksPlain : List Condition → Blocks → Type 0
-AreBlocksPlain conditions blocks = (j : ℕ) (b : BlockScope) → slice_get (open_blocks blocks) j ≡ Some b → IsPlain conditions b.visible.0
+AreBlocksPlain conditions blocks = (j : ℕ) (b : BlockScope) → slice_get (open_scopes blocks) j ≡ Some b → IsPlain conditions b.visible.0
 
 -- what the enclosing menus of a title ask of what is visible is there
 abbrev pub AreTitlesWithin : List Condition → List Title → Type 0

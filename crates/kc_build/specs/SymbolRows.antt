@@ -65,7 +65,7 @@ abbrev pub AreSymbols : List Numbered → List Symbol → Type 0
 AreSymbols ss symbols = map row_view symbols ≡ map (row_of ss) (numbers (length symbols))
 
 -- a list that is walked over whole, and the symbols that are known of it
-pub record IsWhole (ss : List Numbered) (symbols : List Symbol) : Type 0 where
+pub record HasSymbols (ss : List Numbered) (symbols : List Symbol) : Type 0 where
   pub symbols_are : AreSymbols ss symbols
   pub below : AreBelow (length symbols) ss
   pub ends : AreMenusOpened ss

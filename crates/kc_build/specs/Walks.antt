@@ -6,7 +6,7 @@ use Rattle.kc_read.specs.Statements.{Numbered}
 use Rattle.kc_build.specs.declared.entries.EntryWalk.{EntryWalk}
 use Rattle.kc_tree.specs.declared.rows.Symbol.{Symbol}
 use Rattle.kc_build.specs.Before.{choices_before, definitions_before, entries_before, impliers_before, main_menu_before, selectors_before}
-use Rattle.kc_build.specs.SymbolRows.{IsWhole}
+use Rattle.kc_build.specs.SymbolRows.{HasSymbols}
 use Rattle.kc_tree.specs.Layouts.{choice_facts as choice_in, definition_facts, impliers_at, selectors_at, shown_of}
 use Rattle.kc_build.specs.WalkResult.{AreRowsThere, HasHeads, IsSmall}
 use Rattle.kc_build.specs.Stacks.{AreOpen}
@@ -37,4 +37,4 @@ place_after i own = i + 1 + length own
 -- the walk goes on behind the entry
 abbrev pub Enters : List Symbol → Numbered → List Numbered → EntryWalk → EntryWalk → Type 0
 Enters symbols head own old new =
-    (ss : List Numbered) (i : ℕ) → IsWhole ss symbols → IsHead ss i head own → IsWalk ss symbols i old → IsWalk ss symbols (place_after i own) new
+    (ss : List Numbered) (i : ℕ) → HasSymbols ss symbols → IsHead ss i head own → IsWalk ss symbols i old → IsWalk ss symbols (place_after i own) new

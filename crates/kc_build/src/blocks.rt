@@ -3,7 +3,7 @@
 ghost use Rattle.std.specs.Prelude.{◌≡◌, ◌<◌, ◌++◌, ◌∷◌, [], ◌^◌, None, Some, length, IfOk, OnOk, OnErr};
 ghost use Rattle.kc_expr.specs.Form.{form_of};
 ghost use Rattle.kc_tree.specs.Contexts.{IsPlain, and_also, in_choice, condition_in};
-ghost use Rattle.kc_build.specs.Stacks.{IsClosed, open_blocks};
+ghost use Rattle.kc_build.specs.Stacks.{IsClosed, open_scopes};
 
 use kc_expr::expression::Expr;
 use kc_tree::contexts::Contexts;
@@ -54,7 +54,7 @@ impl Blocks {
     pub fn open(&mut self, block: BlockScope) -> Result<(), AllocError>
         ensures innermost { OnOk result (self.new.innermost ≡ block) }
         ensures outside { OnOk result (self.new.outside.items ≡ self.old.outside.items ++ self.old.innermost ∷ []) }
-        ensures unchanged { OnErr result (open_blocks self.new ≡ open_blocks self.old) }
+        ensures unchanged { OnErr result (open_scopes self.new ≡ open_scopes self.old) }
     {
         self.outside.push(self.innermost)?;
         self.innermost = block;

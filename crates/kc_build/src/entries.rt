@@ -5,7 +5,7 @@ ghost use Rattle.kc_expr.specs.Form.{form_of};
 ghost use Rattle.kc_read.specs.StatementViews.{line_view, statement_view};
 ghost use Rattle.kc_read.specs.Statements.{Numbered, ConfigLine, IfLine, MenuLine, CommentLine, ChoiceLine, EndMenuLine};
 ghost use Rattle.kc_tree.specs.declared.rows.Symbol.{Symbol};
-ghost use Rattle.kc_build.specs.SymbolRows.{AreBelow, AreChoicesApart, AreMenusOpened, AreSymbols, IsEntrySummary, IsWhole};
+ghost use Rattle.kc_build.specs.SymbolRows.{AreBelow, AreChoicesApart, AreMenusOpened, AreSymbols, IsEntrySummary, HasSymbols};
 ghost use Rattle.kc_build.specs.Passes.{statements_of};
 ghost use Rattle.kc_build.specs.WalkResult.{IsWalkResult, HasHeads, HasRoom, IsDiagnosed, IsSmall};
 ghost use Rattle.kc_build.specs.Stacks.{AreBlocksPlain, AreBlocksVisible, AreBlocksWithin, AreTitlesWithin, AsksNothing, IsPlainHead};
@@ -275,7 +275,7 @@ impl EntryWalk {
     // The summary of the entry that a statement begins, before the walk goes into it.
     fn summary_of(&self, symbols: &[Symbol], head: &Statement) -> EntrySummary
         requires { length self.now.tables.definitions.items < 2 ^ 32 }
-        ensures { (ss : List Numbered) (i : ℕ) (own : List Numbered) → IsWhole ss symbols.now → IsHead ss i (statement_view head.now) own
+        ensures { (ss : List Numbered) (i : ℕ) (own : List Numbered) → HasSymbols ss symbols.now → IsHead ss i (statement_view head.now) own
             → IsWalk ss symbols.now i self.now → IsEntrySummary ss i result }
     {
         let within_choice = self.tables.contexts.mode(self.blocks.innermost().within);

@@ -5,7 +5,6 @@ ghost use Rattle.kc_expr.specs.Names.{IsNumber, all_mentioned, mention, number_o
 ghost use Rattle.kc_read.specs.Expansion.{Log, Expands};
 ghost use Rattle.kc_read.specs.Files.{bytes_in};
 ghost use Rattle.kc_read.specs.Expanded.{AreNumbers, IsExpansion, IsNamed};
-ghost use Rattle.kc_read.specs.Limits.{most_lines};
 ghost use Rattle.kc_read.specs.RefusalView.{IsMemory, refusal_view};
 ghost use Rattle.kc_read.specs.declared.refusal.Code.TheVariants.{Memory};
 ghost use Rattle.kc_build.specs.Numberings.{IsListing, IsListingOf};

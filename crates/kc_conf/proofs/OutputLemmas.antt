@@ -50,11 +50,6 @@ pub ChangesOnly-text : (output : Output) (old new : OutputStates) (text : Option
     new ≡ with_state old output (let p : OutputState = record { is_begun = (at old output).is_begun; is_ended = (at old output).is_ended; text = text; failures = failures } in p)
 ChangesOnly-text output old new text failures only first second = rw (← first, ← second) only
 
--- the notes grew by this
-pub with_text-only : (old new : OutputStates) (text : List ℕ) → ChangesOnly Notes old new → new.notes.text ≡ extended old.notes.text text →
-    new.notes.failures ≡ old.notes.failures → new ≡ with_text Notes text old
-with_text-only old new text only grew quiet = ChangesOnly-text Notes old new (extended old.notes.text text) old.notes.failures only grew quiet
-
 -- an error line changes the notes alone
 NotesLine-only : (line : List ℕ) (old new : OutputStates) → NotesLine line old new → ChangesOnly Notes old new
 NotesLine-only line old new (inl is) = rw is refl

@@ -312,5 +312,11 @@ module _ (tree : TreeFacts) (prefix : List ℕ) where
       BreaksStreams tree prefix names given before text text_after
   BreaksStreams-stream count names later name given others this before places text text_mid text_after (done, warned, counted, grew, goes) (bytes, front, are, grew', begins) =
       let left = map left_of others in
-      let (are_all, is) = goes (bytes ∷ left) (are, AreAllToCome-self others) in
-      (done ++ bytes ∷ left, warned ++ front, are_all, extended-three text text_mid text_after warned front grew grew', BeginsWith-with_warnings warned front _ _ is (begins (lines_of (streams later left))))
+      let (are_all, is) = goes (bytes ∷ left) (are, AreAllToCome-self others) in (
+        done ++ bytes ∷ left,
+        warned ++ front,
+        are_all,
+        extended-three text text_mid text_after warned front grew grew',
+        BeginsWith-with_warnings warned front _ _ is
+            (begins (lines_of (streams later left))),
+      )

@@ -111,6 +111,7 @@ outcomes_read_again written minimals configs shorts files options all outcome co
           let minimal_is : minimal_text tree options.prefix (solution_view solution) ≡ minimal =
           text_if_is options.minimal _ minimal (sym (ap (λ (o : Outcome). o.minimal) from ∙ rule-minimal options opened part) ∙ wanted) in (
             subst (λ t. HasShortLines t) minimal_is short.1,
+            (minimals files options all tree solution is_pre is).1,
             λ name. subst (λ t. let r = read_alone tree options.prefix name t in (r.stopped ≡ None) × IsOneSolution tree r.places (value_of solution))
                 (ap (minimal_text tree options.prefix) view ∙ minimal_is) ((minimals files options all tree solution is_pre is).0 name),
           ),

@@ -104,7 +104,8 @@ BreaksRun-solution_notes options tree before user s t lines old new solves solve
 
 -- ---- the streams
 
-module _ (options : Options) (tree : TreeFacts) (given : List (Option (List ℕ))) (there : List Bool) (user after : Places) (before later told : Bool) (old mid new : OutputStates) (empty : user ≡ no_places tree) where
+module _ (options : Options) (tree : TreeFacts) (given : List (Option (List ℕ))) (there : List Bool) (user after : Places) (before later told : Bool) (old mid new : OutputStates)
+    (empty : user ≡ no_places tree) where
   read_is : (stopped : Option StreamLocation) (all : List (List ℕ)) (warned : List ℕ) → reading tree options.prefix user (lines_of (streams (names_of options) all)) ≡ ended_with after warned stopped →
       read_of options tree all ≡ ended_with after warned stopped
   read_is stopped all warned is = ap (λ (p : Places). reading tree options.prefix p (lines_of (streams (names_of options) all))) (sym empty) ∙ is

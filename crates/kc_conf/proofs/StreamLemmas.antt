@@ -30,7 +30,8 @@ module _ {X : Type 0} (remaining : X → Option (List ℕ)) (tree : TreeFacts) (
       subst (λ ns. ReadSoFar tree prefix at names ns given (map remaining (drop at inputs)) before places text text_mid) (drop_more names at [] named) read in
       let second : ReadSoFar tree prefix at names (get_or names at [] ∷ drop (at + 1) names) given (remaining (get_or inputs at d) ∷ map remaining (drop (at + 1) inputs)) before places text text_mid =
       subst (λ xs. ReadSoFar tree prefix at names (get_or names at [] ∷ drop (at + 1) names) given (map remaining xs) before places text text_mid) (drop_more inputs at d there) first in
-      subst (λ n. ReadSoFar tree prefix at names (n ∷ drop (at + 1) names) given (remaining (get_or inputs at d) ∷ map remaining (drop (at + 1) inputs)) before places text text_mid) (sym name_is) second
+      subst (λ n. ReadSoFar tree prefix at names (n ∷ drop (at + 1) names) given (remaining (get_or inputs at d) ∷ map remaining (drop (at + 1) inputs)) before places text text_mid)
+      (sym name_is) second
 
   -- the stream was read to its end, and the inputs behind it are as they were
   pub ReadSoFar-next : (later : List X) (after : Places) (text_after : Option (List ℕ)) → drop (at + 1) later ≡ drop (at + 1) inputs →

@@ -19,7 +19,8 @@ use Rattle.kc_conf.specs.declared.runs.AcceptedTree.{AcceptedTree}
 -- A run over these files: there is an outcome of them, the options and the streams' bytes, and it is left whole, where each
 -- stream whose turn came is there; or a device failed or no memory was to be had, and all before that is whole. A stream that
 -- failed is one that may.
-pub record Leaves (files : Files) (options : Options) (given : List (Option (List ℕ))) (there may_fail : List Bool) (counts counts_after : List ℕ) (status : Status) (old new : OutputStates) : Type 0 where
+pub record Leaves (files : Files) (options : Options) (given : List (Option (List ℕ))) (there may_fail : List Bool) (counts counts_after : List ℕ) (status : Status)
+    (old new : OutputStates) : Type 0 where
   pub all : List (List ℕ)
   pub to_come : AreAllToCome given all
   pub outcome : Outcome

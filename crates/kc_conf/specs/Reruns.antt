@@ -51,14 +51,16 @@ TextsHaveShortLines =
     × HasShortLines (minimal_text tree options.prefix (solution_view solution))
 
 -- The texts of an outcome, each read alone and from empty places: no line of them is too long, the minimal file gives the
--- values back, and the .config does exactly where the rule says.
+-- values back and with any nonempty set of its lines left out others, and the .config gives them back exactly where the
+-- rule says.
 abbrev pub OutcomesAreReadAgain : Type 0
 OutcomesAreReadAgain =
     (files : Files) (options : Options) (all : List (List ℕ)) (outcome : Outcome) (config : List ℕ) → is_prefix options.prefix ≡ true →
     IsOutcome files options all outcome → outcome.config ≡ Some config →
     (tree : TreeFacts) × (solution : Solution) × RefusesNothing files options all tree solution
     × HasShortLines config
-    × ((minimal : List ℕ) → outcome.minimal ≡ Some minimal → HasShortLines minimal × ((name : List ℕ) →
+    × ((minimal : List ℕ) → outcome.minimal ≡ Some minimal → HasShortLines minimal × MinimalNeedsEach tree options.prefix solution.places (value_of solution)
+    × ((name : List ℕ) →
     let read = read_alone tree options.prefix name minimal in
     (read.stopped ≡ None) × IsOneSolution tree read.places (value_of solution)))
     × (HasPlainNumbers tree (value_of solution) → HasPlainTitles tree options.prefix (solution_view solution) → (name : List ℕ) →

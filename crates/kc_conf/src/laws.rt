@@ -5,8 +5,10 @@ ghost use Rattle.kc_conf.specs.Reruns.{ConfigIsReadAgain, MinimalIsReadAgain, Mi
 
 use crate::runs::{one_answer, one_outcome};
 use kc_build::laws::trees_are_well_formed;
-use kc_dot::laws::{config_is_idempotent, minimal_gives_back, written_texts_are_short};
-use kc_dot::place_laws::reading_leaves_allowed_places;
+use kc_dot::laws::{
+    config_is_idempotent, minimal_gives_back, reading_leaves_allowed_places,
+    written_texts_are_short,
+};
 use kc_make::laws::opened_are_one_list;
 use kc_order::unordered_have_a_loop;
 use kc_read::laws::has_one_expansion;
@@ -47,7 +49,8 @@ pub fn texts_are_read_again()
 }
 
 /// The same of the texts of an outcome, each read again alone and from empty places: no line of them is too long; the minimal
-/// file gives the values of the outcome back; and the `.config` does exactly where the rule above says, under its premises.
+/// file gives the values of the outcome back, and with any nonempty set of its lines left out others; and the `.config` gives
+/// them back exactly where the rule above says, under its premises.
 /// (Our own.)
 pub fn outcomes_are_read_again()
     ensures { OutcomesAreReadAgain }

@@ -8,7 +8,7 @@ use Rattle.kc_tree.specs.TreeFacts.{TreeFacts}
 use Rattle.kc_user.specs.Places.{Places}
 use Rattle.kc_dot.specs.declared.fault.DotFault.{DotFault}
 use Rattle.kc_dot.specs.declared.fault.DotFault.TheVariants.{ConfigLineTooLong, Sink, Memory}
-use Rattle.kc_dot.specs.Limits.{longest_config_line}
+use Rattle.kc_dot.specs.Limits.{longest_dot_line}
 use Rattle.kc_dot.specs.Reading.{Line, line, is_within, next_number, lines_from, reading, with_warnings, warning}
 use Rattle.kc_dot.specs.Sink.{extended, next_failure, BreaksOff, GoesBeyond}
 
@@ -24,7 +24,7 @@ stream_start = record { number = 1; pending = [] }
 -- the pending bytes are those of one line that is not too long
 pub record IsWithinLine (position : StreamPosition) : Type 0 where
   pub numbered : position.number ≤ last_count
-  pub within : length position.pending ≤ longest_config_line
+  pub within : length position.pending ≤ longest_dot_line
   pub one_line : All (λ b. is_line_feed b ≡ false) position.pending
 
 -- the line's number after these bytes: one more for each LF
@@ -81,13 +81,13 @@ module _ (tree : TreeFacts) (prefix name : List ℕ) where
     pub later : List ℕ
     pub ends : left ≡ text ++ byte "\n" ∷ later
     pub one_line : All (λ b. is_line_feed b ≡ false) (position.pending ++ text)
-    pub within : length (position.pending ++ text) ≤ longest_config_line
+    pub within : length (position.pending ++ text) ≤ longest_dot_line
     pub begun : GoesBeyond (warning tree prefix places (line name position.number (position.pending ++ text) true)) front
 
   -- why a reader stops before what is left, with a beginning of the next line's warning handed out
   abbrev pub StopsBecause : DotFault → List ℕ → StreamPosition → Places → List ℕ → Type 0
   StopsBecause (ConfigLineTooLong n) left position places front =
-      (front ≡ []) × (n ≡ position.number) × (length position.pending ≡ longest_config_line) × GoesOn left × Stops left position places
+      (front ≡ []) × (n ≡ position.number) × (length position.pending ≡ longest_dot_line) × GoesOn left × Stops left position places
   StopsBecause Sink left position places front = BreaksAt left position places front
   StopsBecause Memory left position places front = front ≡ []
 

@@ -2,8 +2,8 @@
 use Rattle.std.specs.Prelude.{ℕ}
 
 -- the most bytes before a line's LF
-abbrev pub longest_config_line : ℕ
-longest_config_line = 65535
+abbrev pub longest_dot_line : ℕ
+longest_dot_line = 65535
 
 -- the most bytes of a prefix
 abbrev pub longest_prefix : ℕ

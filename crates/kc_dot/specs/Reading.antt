@@ -11,7 +11,7 @@ use Rattle.kc_tree.specs.TreeFacts.{TreeFacts}
 use Rattle.kc_user.specs.GivenValue.{GivenValue, GivenTruth, GivenText, Member, SymbolPlace}
 use Rattle.kc_user.specs.Places.{Places, place_at}
 use Rattle.kc_dot.specs.DotLine.{meaning_of}
-use Rattle.kc_dot.specs.Limits.{longest_config_line}
+use Rattle.kc_dot.specs.Limits.{longest_dot_line}
 use Rattle.kc_dot.specs.Effects.{Effect, Silent, Warns, Assigns, LineWarning, SetAgain, effect_of, name_of, warning_line}
 
 -- A line of a stream: its bytes before the LF, and whether an LF ended it.
@@ -47,7 +47,7 @@ text_of l = if l.ended then strip_carriage_return l.bytes else l.bytes
 
 -- not too many bytes stand before the LF
 abbrev pub is_within : Line → Bool
-is_within l = nat_le (length l.bytes) longest_config_line
+is_within l = nat_le (length l.bytes) longest_dot_line
 
 -- a value for a symbol
 pub record Assignment : Type 0 where

@@ -1,7 +1,5 @@
 //! What a line does for a tree: nothing, a warning, or an assignment.
-ghost use Rattle.std.specs.Prelude.{◌≡◌, ◌++◌, OnOk, OnErr, IfOk, flat_map, slice_get, Some};
-ghost use Rattle.std.specs.Option.{option_map};
-ghost use Rattle.kc_user.specs.ValueView.{given_of_value};
+ghost use Rattle.std.specs.Prelude.{◌≡◌, ◌++◌, OnOk, OnErr, IfOk, Some};
 ghost use Rattle.kc_dot.specs.DotLine.{meaning_view};
 ghost use Rattle.kc_dot.specs.Effects as spec;
 ghost use Rattle.kc_dot.specs.EffectView.{AssignsDefined, warning_view, effect_view};

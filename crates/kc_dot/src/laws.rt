@@ -2,7 +2,7 @@
 ghost use Rattle.kc_dot.specs.Calls.{CallsJoin};
 ghost use Rattle.kc_dot.specs.Laws.{AllowedAreAssigned, AssignedAreAllowed, ConfigIsIdempotent, MinimalHasNothingToSpare, MinimalRestores, WrittenTextsAreShort};
 ghost use Rattle.kc_dot.specs.RoundTrip.{UnsetLineReadAgain, SetLineReadAgain, StringReadAgain, WrittenLinesAreShort};
-ghost use Rattle.kc_dot.specs.Streams.{ReadingKeepsPlaces, StreamsAreRead};
+ghost use Rattle.kc_dot.specs.Streams.{ReadingKeepsPlaces, RefusalsKeepPlaces, StreamsAreRead, StreamsLeavePlaces};
 
 use kc_user::laws::places_hold_what_is_allowed;
 use kc_values::laws::{
@@ -27,6 +27,15 @@ pub fn streams_are_read()
 /// reader, each answered Ok.
 pub fn reading_keeps_places()
     ensures { ReadingKeepsPlaces }
+{
+    places_hold_what_is_allowed();
+}
+
+/// What reading any streams leaves, from the empty places of a well-formed tree, holds what is allowed: also where a line is
+/// too long. So does what a refused `feed` leaves of places that did. It does nothing. (Our own.)
+pub fn reading_leaves_allowed_places()
+    ensures streams { StreamsLeavePlaces }
+    ensures refusals { RefusalsKeepPlaces }
 {
     places_hold_what_is_allowed();
 }

@@ -10,7 +10,6 @@ pub mod laws;
 pub mod line;
 mod line_buffer;
 mod page;
-pub mod place_laws;
 pub mod prefix;
 pub mod reader;
 pub mod sink;

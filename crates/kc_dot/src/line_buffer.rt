@@ -18,7 +18,7 @@ use kc_user::user::User;
 use std::alloc::Global;
 
 /// The most bytes of a line.
-pub const LONGEST_CONFIG_LINE: usize = 65535;
+pub const LONGEST_DOT_LINE: usize = 65535;
 
 /// The number of the line that is not yet ended, and its bytes so far.
 #[derive(Drop)]
@@ -90,7 +90,7 @@ fn take_byte<S: Sink>(
     if byte == b'\n' {
         return end_line(alloc, stream, line_buffer, true, user, sink);
     }
-    if line_buffer.pending.len() >= LONGEST_CONFIG_LINE {
+    if line_buffer.pending.len() >= LONGEST_DOT_LINE {
         return Err(DotFault::ConfigLineTooLong(line_buffer.number));
     }
     line_buffer.pending.push(byte)?;
@@ -135,7 +135,7 @@ fn take_front<S: Sink>(
     ensures opened { OnOk result (IsWithinLine (position_of line_buffer.new)) }
 {
     let count = bytes_before_lf(bytes);
-    if count > 0 && count <= LONGEST_CONFIG_LINE - line_buffer.pending.len() {
+    if count > 0 && count <= LONGEST_DOT_LINE - line_buffer.pending.len() {
         line_buffer.pending.extend_from_slice(&bytes[..count])?;
         return Ok(count);
     }

@@ -1,10 +1,9 @@
 //! The reader of `.config` text, fed in pieces of any size.
-ghost use Rattle.std.specs.Prelude.{◌≡◌, ◌≤◌, length, Some, None, Err, OnOk, OnErr, IfErr};
+ghost use Rattle.std.specs.Prelude.{◌≡◌, ◌≤◌, length, Some, None, Err, OnOk, IfErr};
 ghost use Rattle.kc_dot.specs.declared.fault.DotFault.{DotFault};
 ghost use Rattle.kc_user.specs.Places.{ArePlacesOf};
 ghost use Rattle.kc_dot.specs.Feeding.{IsWithinLine, Feeds, Refuses, Finishes, FailsToEnd, fed, ended, stream_start, failures_after};
-ghost use Rattle.kc_dot.specs.Limits.{longest_config_line};
-ghost use Rattle.kc_dot.specs.Sink.{extended};
+ghost use Rattle.kc_dot.specs.Limits.{longest_dot_line};
 
 use crate::fault::DotFault;
 use crate::line_buffer::{LineBuffer, end_stream, take_piece};
@@ -61,7 +60,7 @@ impl<'a> DotReader<'a> {
     /// How many bytes were fed since the last LF, `finish` or `next_stream`.
     pub fn pending(&self) -> usize
         ensures count { result ≡ length self.now.position.pending }
-        ensures few { result ≤ longest_config_line }
+        ensures few { result ≤ longest_dot_line }
     {
         self.line_buffer.pending.len()
     }

@@ -1,5 +1,5 @@
 //! The value that the text right of a line's `=` gives.
-ghost use Rattle.std.specs.Prelude.{◌≡◌, ◌≤◌, length, take, slice_index, IfOk, IfSome};
+ghost use Rattle.std.specs.Prelude.{◌≡◌, slice_index, IfOk};
 ghost use Rattle.std.specs.Option.{option_map};
 ghost use Rattle.kc_user.specs.GivenValue.{GivenTruth};
 ghost use Rattle.kc_user.specs.ValueView.{given_of_value};

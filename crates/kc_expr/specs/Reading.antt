@@ -77,7 +77,8 @@ module _ {T : Type 0} (spell : T → List Terminal) (levels : T → ℕ) where
     pub rest_of_tree : List Terminal
     pub begins : spell tree ≡ front ++ rest_of_tree
     pub within : levels tree ≤ k
-    pub cannot_go_on : (limit cur base : ℕ) (stack : List ℕ) → Starts cur base → cur + k ≤ limit → (s : State) × (run limit (want cur base stack) front ≡ Some s) × IsUnfinished s × Refuses limit s rest
+    pub cannot_go_on : (limit cur base : ℕ) (stack : List ℕ) → Starts cur base → cur + k ≤ limit →
+        (s : State) × (run limit (want cur base stack) front ≡ Some s) × IsUnfinished s × Refuses limit s rest
 
   -- one level too many is opened
   pub record Deep (Starts : ℕ → ℕ → Type 0) (k : ℕ) (ts : List Terminal) : Type 0 where

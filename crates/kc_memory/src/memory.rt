@@ -1,7 +1,6 @@
 //! Devices in memory, which give and take pieces, and fail at a call of choice.
-ghost use Rattle.std.specs.Prelude.{◌≡◌, ◌<◌, ◌≤◌, ◌+◌, ◌-◌, ◌++◌, length, drop, take, true, nat_lt, Some, OnOk, OnErr, IfOk, Option, List, [], ℕ};
+ghost use Rattle.std.specs.Prelude.{◌≡◌, ◌<◌, ◌≤◌, ◌-◌, length, take, true, nat_lt, Some, OnOk, OnErr, IfOk, [], ℕ};
 ghost use Rattle.kc_conf.specs.OutputStates.{at, grown, begun, ended, failed};
-ghost use Rattle.kc_dot.specs.Sink.{next_failure};
 
 use kc_conf::{Input, Output, Outputs};
 use kc_dot::Fault;

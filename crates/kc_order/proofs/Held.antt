@@ -5,7 +5,7 @@ use Rattle.std.proofs.lemmas.List.{get_or_default}
 use Rattle.std.proofs.lemmas.List.Elements.{All-contains, All-tail, Contains-get_or}
 use Rattle.kc_order.specs.Needs.{NeedsBelow, needs_in, AreWithin}
 use Rattle.kc_order.specs.Graph.{Nodes, IsGraph}
-use Rattle.kc_order.specs.Rows.{RowsBelow, GoDown}
+use Rattle.kc_order.specs.Rows.{RowsBelow, NeedSmaller}
 
 -- row r holds what row r holds
 pub row_is : (rows : List (List ℕ)) (r : ℕ) (d : List ℕ) → r < length rows → needs_in rows r ≡ get_or rows r d
@@ -27,12 +27,12 @@ rows_below rows within r d h k e j =
     within r (get_or (get_or rows r d) k e) h (subst (λ xs. Contains xs (get_or (get_or rows r d) k e)) (sym is) (Contains-get_or (get_or rows r d) k e j))
 
 -- a graph, by its rows
-pub is_graph : (g : Nodes) → g.symbols ≤ length g.rows → RowsBelow (length g.rows) g.rows → GoDown g.symbols g.rows → IsGraph g
+pub is_graph : (g : Nodes) → g.symbols ≤ length g.rows → RowsBelow (length g.rows) g.rows → NeedSmaller g.symbols g.rows → IsGraph g
 is_graph g there below down = record {
   symbols_there = there;
   within = needs_below g.rows below;
   goes_down = λ r t l b c. All-contains (λ t. t < r) (needs_in g.rows r) t (down r l b) c;
 }
 
-pub graph_down : (g : Nodes) → IsGraph g → GoDown g.symbols g.rows
+pub graph_down : (g : Nodes) → IsGraph g → NeedSmaller g.symbols g.rows
 graph_down g is r l b k d m = is.goes_down r (get_or (needs_in g.rows r) k d) l b (Contains-get_or (needs_in g.rows r) k d m)

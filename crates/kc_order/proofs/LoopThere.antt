@@ -66,15 +66,15 @@ module _ (n : ℕ) (needs : ℕ → List ℕ) (below : NeedsBelow n needs) where
   next_there s l unordered = least_there (filter (unordered_after needs n) (needs s)) (next_is_there n needs s below l unordered)
 
   returns_to : (walk : List ℕ) (at : ℕ) → IsOnTheWay n needs walk at → list_any (eqb at) walk ≡ true → (loop : List ℕ) × IsNamedLoop n needs loop
-  returns_to walk at h met =
-      let a = Any-from_list_any (eqb at) walk met in
+  returns_to walk at h visited =
+      let a = Any-from_list_any (eqb at) walk visited in
       (drop a.0 walk, comes_back n needs walk at a.0 h a.2 (get_or_default walk a.0 0 a.1 a.2 ∙ a.3 ∙ sym (eqb-true at a.1 a.4)))
 
   -- the walk comes back, as it has room for no more than the symbols
   reaches_loop : (room : ℕ) (walk : List ℕ) (at : ℕ) → n ≤ length walk + room → IsOnTheWay n needs walk at → (loop : List ℕ) × IsNamedLoop n needs loop
   reaches_loop zero walk at enough h =
       elim (cases_Bool (list_any (eqb at) walk)) [
-        | inl met ↦ returns_to walk at h met
+        | inl visited ↦ returns_to walk at h visited
         | inr new ↦
             let (next, is) = next_there at h.below h.is_unordered in
             let further = goes_further n needs walk at next below h (not_met walk at new) is in
@@ -82,7 +82,7 @@ module _ (n : ℕ) (needs : ℕ → List ℕ) (below : NeedsBelow n needs) where
       ]
   reaches_loop (suc room) walk at enough h =
       elim (cases_Bool (list_any (eqb at) walk)) [
-        | inl met ↦ returns_to walk at h met
+        | inl visited ↦ returns_to walk at h visited
         | inr new ↦
             let (next, is) = next_there at h.below h.is_unordered in
             let further = goes_further n needs walk at next below h (not_met walk at new) is in

@@ -3,10 +3,10 @@ use Rattle.std.proofs.Common.{◌≡◌, ℕ, ◌<◌, ◌≤◌, ◌+◌, ◌-�
 use Rattle.std.proofs.lemmas.List.{take_all, take-append-le, drop_at, drop-append-le, take-append-drop, drop-drop, drop_all, get_or_read}
 use Rattle.std.proofs.lemmas.List.Elements.{All-nil, All-cons, All-head, All-tail, All-take, All-drop, All-append}
 use Rattle.kc_order.specs.Needs.{needs_in}
-use Rattle.kc_order.specs.Rows.{rows_of, GoUp, begin, RowsBelow}
+use Rattle.kc_order.specs.Rows.{rows_of, AreIncreasing, begin, RowsBelow}
 
 -- no end is past the last
-up_within : (from to : ℕ) (ends : List ℕ) → GoUp from to ends → from ≤ to
+up_within : (from to : ℕ) (ends : List ℕ) → AreIncreasing from to ends → from ≤ to
 up_within from to [] up = omega arith
 up_within from to (end ∷ ends) up = omega (arith, up.0, up_within end to ends up.1)
 
@@ -15,7 +15,7 @@ pub record IsWithin (begins ends to : ℕ) : Type 0 where
   pub goes_up : begins ≤ ends
   pub within : ends ≤ to
 
-pub row_within : (from to : ℕ) (ends : List ℕ) (r : ℕ) → GoUp from to ends → r < length ends → IsWithin (begin from ends r) (get_or ends r 0) to
+pub row_within : (from to : ℕ) (ends : List ℕ) (r : ℕ) → AreIncreasing from to ends → r < length ends → IsWithin (begin from ends r) (get_or ends r 0) to
 row_within from to [] r up l = absurd (omega arith)
 row_within from to (end ∷ ends) zero up l = record { goes_up = up.0; within = up_within end to ends up.1 }
 row_within from to (end ∷ ends) (suc zero) up l = row_within end to ends zero up.1 (omega arith)
@@ -33,7 +33,7 @@ rows_len numbers from [] = refl
 rows_len numbers from (end ∷ ends) = ap suc (rows_len numbers end ends)
 
 -- one more row, behind the others
-pub rows_push : (numbers row : List ℕ) (from to : ℕ) (ends : List ℕ) → GoUp from (length numbers) ends → to ≡ length numbers + length row →
+pub rows_push : (numbers row : List ℕ) (from to : ℕ) (ends : List ℕ) → AreIncreasing from (length numbers) ends → to ≡ length numbers + length row →
     rows_of (numbers ++ row) from (ends ++ to ∷ []) ≡ rows_of numbers from ends ++ row ∷ []
 rows_push numbers row from to [] up e =
     let rest : drop from (numbers ++ row) ≡ row = drop_at numbers row from (sym up) in
@@ -50,7 +50,7 @@ rows_push numbers row from to (end ∷ ends) up e =
     ∙ ap (λ x. x ∷ rows_of (numbers ++ row) end (ends ++ to ∷ [])) same
     ∙ ap (λ x. take (end - from) (drop from numbers) ∷ x) rest
 
-pub up_push : (from last to : ℕ) (ends : List ℕ) → GoUp from last ends → last ≤ to → GoUp from to (ends ++ to ∷ [])
+pub up_push : (from last to : ℕ) (ends : List ℕ) → AreIncreasing from last ends → last ≤ to → AreIncreasing from to (ends ++ to ∷ [])
 up_push from last to [] up l = (omega arith, refl)
 up_push from last to (end ∷ ends) up l = (up.0, up_push end last to ends up.1 l)
 
@@ -62,7 +62,7 @@ below_rows n numbers from (end ∷ ends) all =
     (All-take (λ t. t < n) (end - from) (drop from numbers) (All-drop (λ t. t < n) from numbers all))
     (below_rows n numbers end ends all)
 
-below_from : (n : ℕ) (numbers : List ℕ) (from : ℕ) (ends : List ℕ) → GoUp from (length numbers) ends → RowsBelow n (rows_of numbers from ends) → All (λ t. t < n) (drop from numbers)
+below_from : (n : ℕ) (numbers : List ℕ) (from : ℕ) (ends : List ℕ) → AreIncreasing from (length numbers) ends → RowsBelow n (rows_of numbers from ends) → All (λ t. t < n) (drop from numbers)
 below_from n numbers from [] up below = rw (drop_all from numbers (omega arith)) (All-nil (λ t. t < n))
 below_from n numbers from (end ∷ ends) up below =
     let row = take (end - from) (drop from numbers) in
@@ -74,7 +74,7 @@ below_from n numbers from (end ∷ ends) up below =
     (All-append (λ t. t < n) row (drop (end - from) (drop from numbers)) here (subst (All (λ t. t < n)) (sym is) rest))
 
 -- and all numbers of the list are below what the rows are
-pub below_numbers : (n : ℕ) (numbers ends : List ℕ) → GoUp 0 (length numbers) ends → RowsBelow n (rows_of numbers 0 ends) → All (λ t. t < n) numbers
+pub below_numbers : (n : ℕ) (numbers ends : List ℕ) → AreIncreasing 0 (length numbers) ends → RowsBelow n (rows_of numbers 0 ends) → All (λ t. t < n) numbers
 below_numbers n numbers ends up below = below_from n numbers 0 ends up below
 
 -- a part of the list that is a row
@@ -83,7 +83,7 @@ pub record IsRow (numbers : List ℕ) (rows : List (List ℕ)) (r begins ends : 
   pub within : ends ≤ length numbers
   pub holds : take (ends - begins) (drop begins numbers) ≡ needs_in rows r
 
-pub is_row : (numbers ends : List ℕ) (rows : List (List ℕ)) (r b e : ℕ) → GoUp 0 (length numbers) ends → rows_of numbers 0 ends ≡ rows → r < length rows → b ≡ begin 0 ends r →
+pub is_row : (numbers ends : List ℕ) (rows : List (List ℕ)) (r b e : ℕ) → AreIncreasing 0 (length numbers) ends → rows_of numbers 0 ends ≡ rows → r < length rows → b ≡ begin 0 ends r →
     e ≡ get_or ends r e → IsRow numbers rows r b e
 is_row numbers ends rows r b e up view there begins_at ends_at =
     let l : r < length ends = omega (arith, there, ap length view, rows_len numbers 0 ends) in

@@ -9,8 +9,8 @@ use Rattle.std.proofs.lemmas.List.{get_or_append_left, get_or_push, length_push,
 use Rattle.std.proofs.lemmas.List.Elements.{Contains-push, Contains-push_cases, Contains-append_left, Contains-get_or}
 use Rattle.std.proofs.lemmas.List.Folds.{list_any_none, list_any_at, Any-from_list_any}
 use Rattle.std.proofs.lemmas.Map.Keys.{IsDistinct-push, apart_from_distinct, IsDistinct-from_apart}
-use Rattle.kc_order.specs.declared.search.Mark.{Mark}
-use Rattle.kc_order.specs.declared.search.Mark.TheVariants.{New, Open, Done, Unordered}
+use Rattle.kc_order.specs.declared.search.NodeState.{NodeState}
+use Rattle.kc_order.specs.declared.search.NodeState.TheVariants.{New, Open, Done, Unordered}
 use Rattle.std.proofs.Common.{All, map, sum, sum_by}
 use Rattle.std.proofs.lemmas.List.{length-set}
 use Rattle.std.proofs.lemmas.List.Sums.{sum_by-set}
@@ -18,7 +18,7 @@ use Rattle.kc_order.specs.Needs.{NeedsBelow, needs_in, unordered_after}
 use Rattle.kc_order.specs.Rows.{RowsBelow}
 use Rattle.kc_order.specs.Order.{IsOrderOf}
 use Rattle.kc_order.specs.declared.search.Search.{Search}
-use Rattle.kc_order.specs.Search.{IsSearch, IsSound, IsFinished, Opens, Closes, GivesUp, KeepsMet, weight, work, mark_of, is_unordered}
+use Rattle.kc_order.specs.Search.{IsSearch, IsSound, IsFinished, Opens, Closes, GivesUp, KeepsVisited, weight, work, mark_of, is_unordered}
 use Rattle.kc_order.proofs.Held.{needs_below}
 use Rattle.kc_order.proofs.Stays.{stays_unordered}
 use Rattle.kc_order.specs.Solution.{IsUpdate}
@@ -43,22 +43,22 @@ last_apart xs x apart c =
     (apart_from_distinct eqb (xs ++ x ∷ []) c.0 (length xs) x apart c.1 (omega (arith, length_push xs x)))
     (get_or_append_left xs (x ∷ []) x c.0 c.1 ∙ c.2 ∙ sym (get_or_push xs x x (length xs) refl))
 
-pub open≢new : (m : Mark) → m ≡ Open → m ≡ New → ⊥
+pub open≢new : (m : NodeState) → m ≡ Open → m ≡ New → ⊥
 open≢new m a b = cc
 
-done≢new : (m : Mark) → m ≡ Done → m ≡ New → ⊥
+done≢new : (m : NodeState) → m ≡ Done → m ≡ New → ⊥
 done≢new m a b = cc
 
-open≢done : (m : Mark) → m ≡ Open → m ≡ Done → ⊥
+open≢done : (m : NodeState) → m ≡ Open → m ≡ Done → ⊥
 open≢done m a b = cc
 
-unordered≢new : (m : Mark) → m ≡ Unordered → m ≡ New → ⊥
+unordered≢new : (m : NodeState) → m ≡ Unordered → m ≡ New → ⊥
 unordered≢new m a b = cc
 
-unordered≢open : (m : Mark) → m ≡ Unordered → m ≡ Open → ⊥
+unordered≢open : (m : NodeState) → m ≡ Unordered → m ≡ Open → ⊥
 unordered≢open m a b = cc
 
-unordered≢done : (m : Mark) → m ≡ Unordered → m ≡ Done → ⊥
+unordered≢done : (m : NodeState) → m ≡ Unordered → m ≡ Done → ⊥
 unordered≢done m a b = cc
 
 true≢false : (b : Bool) → b ≡ true → b ≡ false → ⊥
@@ -73,7 +73,7 @@ abbrev pub PassesTo : ℕ → (ℕ → List ℕ) → (ℕ → ℕ) → (ℕ → 
 PassesTo n needs left left' s j = (t : ℕ) → t < n → ((needs t ≡ needs s) × (left' t ≡ j)) ⊎ (left' t ≡ left t)
 
 module _ (n : ℕ) (needs : ℕ → List ℕ) where
-  pub opened : (mark mark' : ℕ → Mark) (left : ℕ → ℕ) (path order : List ℕ) (s : ℕ) → IsSearch n needs mark left path order → s < n → mark s ≡ New →
+  pub opened : (mark mark' : ℕ → NodeState) (left : ℕ → ℕ) (path order : List ℕ) (s : ℕ) → IsSearch n needs mark left path order → s < n → mark s ≡ New →
       ((k : ℕ) → k + 1 ≡ length path → Contains (needs (slice_index path k)) s) → IsUpdate mark mark' s Open → IsSearch n needs mark' left (path ++ s ∷ []) order
   opened mark mark' left path order s h l new needed u =
       let others : (t : ℕ) → mark t ≢ New → mark' t ≡ mark t = λ t ne. u.others t (λ e. ne (ap mark e ∙ new)) in
@@ -118,7 +118,8 @@ module _ (n : ℕ) (needs : ℕ → List ℕ) where
       }
 
   -- a symbol whose needs are all done is not unordered
-  free_when_passed : NeedsBelow n needs → (mark : ℕ → Mark) (left : ℕ → ℕ) (path order : List ℕ) (s : ℕ) → IsSearch n needs mark left path order → s < n → left s ≡ 0 → unordered_after needs n s ≡ false
+  free_when_passed : NeedsBelow n needs → (mark : ℕ → NodeState) (left : ℕ → ℕ) (path order : List ℕ) (s : ℕ) → IsSearch n needs mark left path order → s < n → left s ≡ 0 →
+      unordered_after needs n s ≡ false
   free_when_passed below mark left path order s h l none =
       elim (cases_Bool (unordered_after needs n s)) [
         | inl unordered ↦
@@ -131,7 +132,7 @@ module _ (n : ℕ) (needs : ℕ → List ℕ) where
         | inr free ↦ free
       ]
 
-  pub closed : NeedsBelow n needs → (mark mark' : ℕ → Mark) (left : ℕ → ℕ) (path order : List ℕ) (s : ℕ) → IsSearch n needs mark left (path ++ s ∷ []) order → left s ≡ 0 →
+  pub closed : NeedsBelow n needs → (mark mark' : ℕ → NodeState) (left : ℕ → ℕ) (path order : List ℕ) (s : ℕ) → IsSearch n needs mark left (path ++ s ∷ []) order → left s ≡ 0 →
       IsUpdate mark mark' s Done → IsSearch n needs mark' left path (order ++ s ∷ [])
   closed below mark mark' left path order s h none u =
       let there = h.path_is s (Contains-push path s) in
@@ -188,7 +189,7 @@ module _ (n : ℕ) (needs : ℕ → List ℕ) where
         passed = λ t v b c. done_stays v (h.passed t v b c);
       }
 
-  pub given_up : (mark mark' : ℕ → Mark) (left : ℕ → ℕ) (path order : List ℕ) (s : ℕ) → IsSearch n needs mark left (path ++ s ∷ []) order → ((k : ℕ) → unordered_after needs k s ≡ true) →
+  pub given_up : (mark mark' : ℕ → NodeState) (left : ℕ → ℕ) (path order : List ℕ) (s : ℕ) → IsSearch n needs mark left (path ++ s ∷ []) order → ((k : ℕ) → unordered_after needs k s ≡ true) →
       IsUpdate mark mark' s Unordered → IsSearch n needs mark' left path order
   given_up mark mark' left path order s h unordered u =
       let there = h.path_is s (Contains-push path s) in
@@ -231,7 +232,7 @@ module _ (n : ℕ) (needs : ℕ → List ℕ) where
         passed = λ t v b c. done_stays v (h.passed t v b c);
       }
 
-  pub passed_to : (mark : ℕ → Mark) (left left' : ℕ → ℕ) (path order : List ℕ) (s j : ℕ) → IsSearch n needs mark left path order → s < n → j ≤ left s →
+  pub passed_to : (mark : ℕ → NodeState) (left left' : ℕ → ℕ) (path order : List ℕ) (s j : ℕ) → IsSearch n needs mark left path order → s < n → j ≤ left s →
       ((k : ℕ) → j ≤ k → k < left s → mark (get_or (needs s) k 0) ≡ Done) → PassesTo n needs left left' s j → IsSearch n needs mark left' path order
   passed_to mark left left' path order s j h l e done u = record {
     path_is = h.path_is;
@@ -274,7 +275,7 @@ module _ (n : ℕ) (needs : ℕ → List ℕ) where
       list_any_at (unordered_after needs k) (needs s) g.1.0 g.0 g.1.1 (rw g.1.2 (ring_unordered ring goes k g.0 g.2))
 
   -- the last open symbol is unordered where it needs an open one
-  pub found : (mark : ℕ → Mark) (left : ℕ → ℕ) (path order : List ℕ) (s t : ℕ) → IsSearch n needs mark left (path ++ s ∷ []) order → Contains (needs s) t → t < n → mark t ≡ Open →
+  pub found : (mark : ℕ → NodeState) (left : ℕ → ℕ) (path order : List ℕ) (s t : ℕ) → IsSearch n needs mark left (path ++ s ∷ []) order → Contains (needs s) t → t < n → mark t ≡ Open →
       (k : ℕ) → unordered_after needs k s ≡ true
   found mark left path order s t h c b e =
       let ring = path ++ s ∷ [] in
@@ -290,7 +291,7 @@ module _ (n : ℕ) (needs : ℕ → List ℕ) where
       λ k. ring_unordered (path ++ s ∷ []) goes k s (Contains-push path s)
 
   -- and where it needs one that is given up
-  pub needs_unordered : (mark : ℕ → Mark) (left : ℕ → ℕ) (path order : List ℕ) (s t : ℕ) → IsSearch n needs mark left path order → Contains (needs s) t → t < n → mark t ≡ Unordered → (k : ℕ) →
+  pub needs_unordered : (mark : ℕ → NodeState) (left : ℕ → ℕ) (path order : List ℕ) (s t : ℕ) → IsSearch n needs mark left path order → Contains (needs s) t → t < n → mark t ≡ Unordered → (k : ℕ) →
       unordered_after needs k s ≡ true
   needs_unordered mark left path order s t h c b e zero = refl
   needs_unordered mark left path order s t h c b e (suc k) = list_any_at (unordered_after needs k) (needs s) c.0 t c.1 (ap (unordered_after needs k) c.2 ∙ h.unordered_is t k b e)
@@ -307,7 +308,7 @@ pub last_is : (xs : List ℕ) (x n k : ℕ) → xs ≡ take n xs ++ x ∷ [] →
 last_is xs x n k e l = ap (λ ys. get_or ys k 0) e ∙ get_or_push (take n xs) x 0 k (omega (arith, ap length e, length_push (take n xs) x))
 
 -- before the first step
-pub starts : (n : ℕ) (needs : ℕ → List ℕ) (mark : ℕ → Mark) (left : ℕ → ℕ) → ((s : ℕ) → s < n → mark s ≡ New) → ((s : ℕ) → s < n → left s ≡ length (needs s)) → IsSearch n needs mark left [] []
+pub starts : (n : ℕ) (needs : ℕ → List ℕ) (mark : ℕ → NodeState) (left : ℕ → ℕ) → ((s : ℕ) → s < n → mark s ≡ New) → ((s : ℕ) → s < n → left s ≡ length (needs s)) → IsSearch n needs mark left [] []
 unfolding IsDistinct
 starts n needs mark left new all = record {
   path_is = λ s c. absurd (omega (arith, c.1));
@@ -324,14 +325,14 @@ starts n needs mark left new all = record {
   passed = λ s t b c. absurd (omega (arith, c.1, length-drop (left s) (needs s), all s b));
 }
 
--- a symbol that was met and is not open is done where it is not unordered
-met_is_done : (m : Mark) → m ≢ New → m ≢ Open → is_unordered m ≡ false → m ≡ Done
+-- a symbol that was visited and is not open is done where it is not unordered
+met_is_done : (m : NodeState) → m ≢ New → m ≢ Open → is_unordered m ≡ false → m ≡ Done
 met_is_done New a b e = absurd (a refl)
 met_is_done Open a b e = absurd (b refl)
 met_is_done Done a b e = refl
 met_is_done Unordered a b e = cc
 
-is_given_up : (m : Mark) → is_unordered m ≡ true → m ≡ Unordered
+is_given_up : (m : NodeState) → is_unordered m ≡ true → m ≡ Unordered
 is_given_up New e = cc
 is_given_up Open e = cc
 is_given_up Done e = cc
@@ -346,7 +347,7 @@ module _ (rows : List (List ℕ)) (search : Search) (over : IsFinished rows sear
       let closed_now : mark_of search s ≢ Open = λ e. omega (arith, over.idle, (keeps.open_is s b e).1) in
       elim (cases_Bool (is_unordered (get_or search.marks.items s New))) [
         | inl given ↦ given ∙ sym (keeps.unordered_is s (length rows) b (is_given_up (get_or search.marks.items s New) given))
-        | inr free ↦ free ∙ sym (keeps.done_ordered s b (met_is_done (get_or search.marks.items s New) (over.met s b) closed_now free))
+        | inr free ↦ free ∙ sym (keeps.done_ordered s b (met_is_done (get_or search.marks.items s New) (over.visited s b) closed_now free))
       ]
 
   -- where none is unordered, all are in order
@@ -355,7 +356,7 @@ module _ (rows : List (List ℕ)) (search : Search) (over : IsFinished rows sear
       let keeps = over.sound.keeps in
       record {
         all_there = λ s b.
-            keeps.done_is s b (met_is_done (mark_of search s) (over.met s b) (λ e. omega (arith, over.idle, (keeps.open_is s b e).1)) (free s New (omega (arith, b, over.sound.marks_len))));
+            keeps.done_is s b (met_is_done (mark_of search s) (over.visited s b) (λ e. omega (arith, over.idle, (keeps.open_is s b e).1)) (free s New (omega (arith, b, over.sound.marks_len))));
         all_below = λ s c. (keeps.order_is s c).0;
         apart = keeps.order_apart;
         needs_first = keeps.needs_first;
@@ -395,13 +396,13 @@ module _ (rows : List (List ℕ)) (before after : Search) (s : ℕ) (sound : IsS
   pub opens_there : s < length rows → Opens before after s → get_or after.marks.items s New ≡ Open
   opens_there below o = ap (λ xs. get_or xs s New) o.marks ∙ get_or-set_same before.marks.items s Open New (omega (arith, sound.marks_len))
 
-  pub opens_met : s < length rows → Opens before after s → KeepsMet before after
-  opens_met below o t met new =
+  pub opens_met : s < length rows → Opens before after s → KeepsVisited before after
+  opens_met below o t visited new =
       let u = list_set New before.marks.items s Open (omega (arith, sound.marks_len)) in
       let is = sym (ap (λ xs. get_or xs t New) o.marks) ∙ new in
       elim (cases_eq t s) [
         | inl same ↦ open≢new (get_or (set before.marks.items s Open) s New) u.here (sym (ap (λ k. get_or (set before.marks.items s Open) k New) same) ∙ is)
-        | inr other ↦ met (sym (u.others t other) ∙ is)
+        | inr other ↦ visited (sym (u.others t other) ∙ is)
       ]
 
   -- the last open symbol, of which no need is left, is closed

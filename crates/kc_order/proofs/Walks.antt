@@ -113,17 +113,18 @@ any_push : {X : Type 0} (p : X → Bool) (xs : List X) (x : X) → p x ≡ false
 any_push p [] x e = ap (λ b. b || false) e
 any_push p (y ∷ xs) x e = ap (λ b. p y || b) (any_push p xs x e)
 
--- one more symbol is marked as met
-pub met_push : (n : ℕ) (walk : List ℕ) (met : List Bool) (at : ℕ) → AreMarks n (λ s. list_any (eqb s) walk) met → at < n → AreMarks n (λ s. list_any (eqb s) (walk ++ at ∷ [])) (set met at true)
-met_push n walk met at m l = record {
-  length_is = length-set met at true ∙ m.length_is;
+-- one more symbol is marked as visited
+pub met_push : (n : ℕ) (walk : List ℕ) (visited : List Bool) (at : ℕ) → AreMarks n (λ s. list_any (eqb s) walk) visited → at < n →
+    AreMarks n (λ s. list_any (eqb s) (walk ++ at ∷ [])) (set visited at true)
+met_push n walk visited at m l = record {
+  length_is = length-set visited at true ∙ m.length_is;
   each = λ s h.
       elim (cases_eq s at) [
         | inl same ↦
-            ap (λ k. get_or (set met at true) k false) same ∙ get_or-set_same met at true false (omega (arith, m.length_is))
+            ap (λ k. get_or (set visited at true) k false) same ∙ get_or-set_same visited at true false (omega (arith, m.length_is))
             ∙ sym (list_any-from_Contains nat_eq_equiv s (walk ++ at ∷ []) (subst (Contains (walk ++ at ∷ [])) (sym same) (Contains-push walk at)))
         | inr other ↦
-            get_or-set_other met at s true false other ∙ m.each s h
+            get_or-set_other visited at s true false other ∙ m.each s h
             ∙ sym (any_push (eqb s) walk at (ne_eqb s at other))
       ];
 }
@@ -139,8 +140,8 @@ is_met walk at e none =
     none a.0 a.1 a.2 (a.3 ∙ sym (eqb-true at a.1 a.4))
 
 -- at first none is
-pub none_met : (n : ℕ) (met : List Bool) → met ≡ replicate n false → AreMarks n (λ s. list_any (eqb s) []) met
-none_met n met e = record {
+pub none_met : (n : ℕ) (visited : List Bool) → visited ≡ replicate n false → AreMarks n (λ s. list_any (eqb s) []) visited
+none_met n visited e = record {
   length_is = ap length e ∙ length-replicate n false;
   each = λ s h. ap (λ xs. get_or xs s false) e ∙ get_or-replicate n s false false h;
 }

@@ -1,7 +1,7 @@
 -- For proofs: The first unordered symbol among several, and among those that groups need.
 use Rattle.std.specs.Prelude.{◌≡◌, ℕ, ◌<◌, Bool, if◌then◌else◌, List, [], ◌∷◌, map, length, Option, Some, None, nat_le, slice_index_or}
-use Rattle.kc_order.specs.declared.search.Mark.{Mark}
-use Rattle.kc_order.specs.declared.search.Mark.TheVariants.{New}
+use Rattle.kc_order.specs.declared.search.NodeState.{NodeState}
+use Rattle.kc_order.specs.declared.search.NodeState.TheVariants.{New}
 use Rattle.kc_order.specs.Needs.{needs_in, unordered_after}
 use Rattle.kc_order.specs.Search.{is_unordered}
 
@@ -17,14 +17,14 @@ least_in test [] = None
 least_in test (s ∷ ss) = lesser_of (if test s then Some s else None) (least_in test ss)
 
 -- a symbol is marked as unordered
-abbrev pub marked_unordered : List Mark → ℕ → Bool
+abbrev pub marked_unordered : List NodeState → ℕ → Bool
 marked_unordered marks s = is_unordered (slice_index_or marks s New)
 
 -- of each group the first unordered symbol that it needs
-abbrev pub AreFirstByGroup : List Mark → List (List ℕ) → List (Option ℕ) → Type 0
+abbrev pub AreFirstByGroup : List NodeState → List (List ℕ) → List (Option ℕ) → Type 0
 AreFirstByGroup marks groups first_by_group = first_by_group ≡ map (least_in (marked_unordered marks)) groups
 
 -- each node is marked as unordered exactly where it is
-pub record TellsUnordered (rows : List (List ℕ)) (marks : List Mark) : Type 0 where
+pub record TellsUnordered (rows : List (List ℕ)) (marks : List NodeState) : Type 0 where
   pub count : length marks ≡ length rows
   pub each : (s : ℕ) → s < length rows → marked_unordered marks s ≡ unordered_after (needs_in rows) (length rows) s

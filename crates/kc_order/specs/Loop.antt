@@ -23,7 +23,7 @@ pub record IsUnorderedWalk (n : ℕ) (needs : ℕ → List ℕ) (walk : List ℕ
   pub goes_on : (k : ℕ) → k + 1 < length walk → IsNext n needs (slice_index walk k) (slice_index walk (k + 1))
 
 -- that walk leads into the loop, goes round it once and stands at the loop's first symbol again;
--- no symbol is met twice before
+-- no symbol is visited twice before
 pub record IsNamedLoop (n : ℕ) (needs : ℕ → List ℕ) (loop : List ℕ) : Type 0 where
   pub lead : List ℕ
   pub some : 0 < length loop

@@ -13,17 +13,17 @@ begin from ends zero = from
 begin from ends (suc r) = slice_index ends r
 
 -- the ends go up from `from`, and the last is `to`
-abbrev pub GoUp : ℕ → ℕ → List ℕ → Type 0
-GoUp from to [] = from ≡ to
-GoUp from to (end ∷ ends) = (from ≤ end) × GoUp end to ends
+abbrev pub AreIncreasing : ℕ → ℕ → List ℕ → Type 0
+AreIncreasing from to [] = from ≡ to
+AreIncreasing from to (end ∷ ends) = (from ≤ end) × AreIncreasing end to ends
 
 -- each row holds numbers below n
 abbrev pub RowsBelow : ℕ → List (List ℕ) → Type 0
 RowsBelow n rows = All (λ row. All (λ t. t < n) row) rows
 
 -- each row from row n on holds numbers below its own
-abbrev pub GoDown : ℕ → List (List ℕ) → Type 0
-GoDown n rows = (r : ℕ) → n ≤ r → r < length rows → All (λ t. t < r) (needs_in rows r)
+abbrev pub NeedSmaller : ℕ → List (List ℕ) → Type 0
+NeedSmaller n rows = (r : ℕ) → n ≤ r → r < length rows → All (λ t. t < r) (needs_in rows r)
 
 -- mark s, for each s below n, is the test of s
 pub record AreMarks (n : ℕ) (test : ℕ → Bool) (marks : List Bool) : Type 0 where

@@ -1,15 +1,15 @@
 -- For proofs: What a depth-first search for an order keeps.
 use Rattle.std.specs.Prelude.{◌≡◌, ◌≢◌, ℕ, ◌<◌, ◌≤◌, ◌+◌, Bool, true, false, List, length, slice_index, slice_index_or, nat_eq, drop, sum, sum_by, slice_set, ◌++◌, ◌∷◌, []}
 use Rattle.std.specs.List.{Contains, IsDistinct}
-use Rattle.kc_order.specs.declared.search.Mark.{Mark}
-use Rattle.kc_order.specs.declared.search.Mark.TheVariants.{New, Open, Done, Unordered}
+use Rattle.kc_order.specs.declared.search.NodeState.{NodeState}
+use Rattle.kc_order.specs.declared.search.NodeState.TheVariants.{New, Open, Done, Unordered}
 use Rattle.kc_order.specs.declared.search.Search.{Search}
 use Rattle.kc_order.specs.Needs.{needs_in, unordered_after}
 use Rattle.kc_order.specs.Order.{NeedsFirst}
 
 -- the open symbols are a path along needs, the done ones are in order, what is given up is unordered after any number of
 -- iterations, and of each symbol the needs past its first `left` are done
-pub record IsSearch (n : ℕ) (needs : ℕ → List ℕ) (mark : ℕ → Mark) (left : ℕ → ℕ) (path order : List ℕ) : Type 0 where
+pub record IsSearch (n : ℕ) (needs : ℕ → List ℕ) (mark : ℕ → NodeState) (left : ℕ → ℕ) (path order : List ℕ) : Type 0 where
   pub path_is : (s : ℕ) → Contains path s → (s < n) × (mark s ≡ Open)
   pub open_is : (s : ℕ) → s < n → mark s ≡ Open → Contains path s
   pub path_apart : IsDistinct nat_eq path
@@ -24,7 +24,7 @@ pub record IsSearch (n : ℕ) (needs : ℕ → List ℕ) (mark : ℕ → Mark) (
   pub passed : (s t : ℕ) → s < n → Contains (drop (left s) (needs s)) t → mark t ≡ Done
 
 -- how far symbol s is
-abbrev pub mark_of : Search → ℕ → Mark
+abbrev pub mark_of : Search → ℕ → NodeState
 mark_of search s = slice_index_or search.marks.items s New
 
 -- a search over rows
@@ -56,7 +56,7 @@ pub record GivesUp (before after : Search) (s : ℕ) : Type 0 where
   pub order : after.order.items ≡ before.order.items
 
 -- what is still to be done for a symbol, beside its needs
-abbrev pub weight : Mark → ℕ
+abbrev pub weight : NodeState → ℕ
 weight New = 2
 weight Open = 1
 weight Done = 0
@@ -66,19 +66,19 @@ weight Unordered = 0
 abbrev pub work : Search → ℕ
 work search = sum_by weight search.marks.items + sum search.left.items
 
--- what was met stays met
-abbrev pub KeepsMet : Search → Search → Type 0
-KeepsMet before after = (s : ℕ) → (slice_index_or before.marks.items s New ≡ New → ⊥) → slice_index_or after.marks.items s New ≡ New → ⊥
+-- what was visited stays visited
+abbrev pub KeepsVisited : Search → Search → Type 0
+KeepsVisited before after = (s : ℕ) → (slice_index_or before.marks.items s New ≡ New → ⊥) → slice_index_or after.marks.items s New ≡ New → ⊥
 
 -- a symbol with this mark is unordered
-abbrev pub is_unordered : Mark → Bool
+abbrev pub is_unordered : NodeState → Bool
 is_unordered New = false
 is_unordered Open = false
 is_unordered Done = false
 is_unordered Unordered = true
 
--- a search that has met each symbol, and has none open
+-- a search that has visited each symbol, and has none open
 pub record IsFinished (rows : List (List ℕ)) (search : Search) : Type 0 where
   pub sound : IsSound rows search
   pub idle : length search.path.items ≡ 0
-  pub met : (s : ℕ) → s < length rows → mark_of search s ≢ New
+  pub visited : (s : ℕ) → s < length rows → mark_of search s ≢ New

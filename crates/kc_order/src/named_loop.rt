@@ -1,6 +1,6 @@
 //! The loop that is named where some symbol is unordered.
 
-ghost use Rattle.std.specs.Prelude.{◌≡◌, ℕ, List, ◌<◌, ◌≤◌, ◌+◌, ◌≢◌, length, replicate, slice_index, slice_index_or, All, IfOk, MatchOption, false, true};
+ghost use Rattle.std.specs.Prelude.{◌≡◌, ℕ, List, ◌<◌, ◌≤◌, ◌+◌, ◌≢◌, length, replicate, slice_index, All, IfOk, MatchOption, false, true};
 ghost use Rattle.std.specs.List.{flat_map};
 ghost use Rattle.kc_order.specs.FirstUnordered.{lesser_of, least_in, marked_unordered, AreFirstByGroup, TellsUnordered};
 ghost use Rattle.kc_order.specs.Graph.{IsGraph, stands_for, groups_of, needs_of};
@@ -8,7 +8,7 @@ ghost use Rattle.kc_order.specs.Loop.{IsFirstUnordered, IsNext, IsNamedLoop};
 ghost use Rattle.kc_order.specs.Needs.{needs_in, unordered_after};
 
 use crate::rows::Rows;
-use crate::search::{Mark, is_unordered};
+use crate::search::{NodeState, is_unordered};
 use std::alloc::{AllocError, Global};
 
 // The lesser of two symbols, if there are any.
@@ -26,7 +26,7 @@ fn lesser(a: Option<u32>, b: Option<u32>) -> Option<u32>
 fn unordered_at(
     node: u32,
     symbols: usize,
-    marks: &[Mark],
+    marks: &[NodeState],
     first_by_group: &[Option<u32>],
 ) -> Option<u32>
     requires there { node < symbols + length first_by_group.now }
@@ -45,7 +45,7 @@ fn unordered_at(
 fn first_in_row(
     row: &[u32],
     symbols: usize,
-    marks: &[Mark],
+    marks: &[NodeState],
     first_by_group: &[Option<u32>],
 ) -> Option<u32>
     requires there { All (λ t. t < symbols + length first_by_group.now) row.now }
@@ -64,7 +64,7 @@ fn find_first_by_group(
     alloc: Global,
     rows: &Rows,
     symbols: usize,
-    marks: &[Mark],
+    marks: &[NodeState],
 ) -> Result<Vec<Option<u32>>, AllocError>
     requires graph { IsGraph (record { symbols = symbols; rows = rows.now }) }
     requires marks { length marks.now ≡ length rows.now }
@@ -82,7 +82,7 @@ fn find_first_by_group(
 fn next_unordered(
     rows: &Rows,
     symbols: usize,
-    marks: &[Mark],
+    marks: &[NodeState],
     first_by_group: &[Option<u32>],
     symbol: u32,
 ) -> u32
@@ -105,7 +105,7 @@ fn next_unordered(
 fn place_of(walk: &[u32], symbol: u32) -> Option<usize>
     ensures { MatchOption result (All (λ s. s ≢ symbol) walk.now) (λ i. (i < length walk.now) × (slice_index walk.now i ≡ symbol)) }
 {
-    walk.iter().position(|met| *met == symbol)
+    walk.iter().position(|visited| *visited == symbol)
 }
 
 // Marks of symbols, none of them marked.
@@ -121,7 +121,7 @@ pub fn named_loop(
     alloc: Global,
     rows: &Rows,
     symbols: usize,
-    marks: &[Mark],
+    marks: &[NodeState],
     first: u32,
 ) -> Result<Vec<u32>, AllocError>
     requires graph { IsGraph (record { symbols = symbols; rows = rows.now }) }
@@ -130,11 +130,11 @@ pub fn named_loop(
     ensures { IfOk result (λ v. IsNamedLoop symbols (needs_in (needs_of (record { symbols = symbols; rows = rows.now }))) v.items) }
 {
     let first_by_group = find_first_by_group(alloc, rows, symbols, marks)?;
-    let mut met = no_marks(alloc, symbols)?;
+    let mut visited = no_marks(alloc, symbols)?;
     let mut walk = Vec::new(alloc);
     let mut at = first;
-    while !met[at as usize] {
-        met[at as usize] = true;
+    while !visited[at as usize] {
+        visited[at as usize] = true;
         walk.push(at)?;
         at = next_unordered(rows, symbols, marks, &first_by_group, at);
     }

@@ -2,7 +2,7 @@
 
 ghost use Rattle.std.specs.Prelude.{◌≡◌, ◌<◌, ◌≤◌, [], ◌∷◌, ◌++◌, ◌↔◌, ◌-◌, length, IfOk, OnOk, OnErr, IsTrue, All, take, drop};
 ghost use Rattle.kc_order.specs.Needs.{needs_in};
-ghost use Rattle.kc_order.specs.Rows.{RowsBelow, GoDown, begin};
+ghost use Rattle.kc_order.specs.Rows.{RowsBelow, NeedSmaller, begin};
 
 use std::alloc::{AllocError, Global};
 use std::marker::Model;
@@ -16,13 +16,13 @@ pub struct Rows {
 
 impl Model for Rows {
     ghost use Rattle.std.specs.Prelude.{ℕ, List, length};
-    ghost use Rattle.kc_order.specs.Rows.{rows_of, GoUp};
+    ghost use Rattle.kc_order.specs.Rows.{rows_of, AreIncreasing};
 
     ghost Value = { List (List ℕ) };
 
     ghost view = { λ r. rows_of r.numbers.items 0 r.ends.items };
 
-    ghost invariant = { λ r. GoUp 0 (length r.numbers.items) r.ends.items };
+    ghost invariant = { λ r. AreIncreasing 0 (length r.numbers.items) r.ends.items };
 }
 
 // Where a row begins: the first at 0, each further one where the one before it ends.
@@ -86,7 +86,7 @@ impl Rows {
 
     /// Whether each row from one on holds numbers below its own.
     pub fn go_down(&self, first: usize) -> bool
-        ensures { IsTrue result ↔ GoDown first self.now }
+        ensures { IsTrue result ↔ NeedSmaller first self.now }
     {
         let count = self.count();
         let mut row = first;

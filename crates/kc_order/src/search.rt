@@ -2,15 +2,15 @@
 
 ghost use Rattle.std.specs.Prelude.{◌≡◌, ℕ, ◌<◌, ◌≤◌, ◌↔◌, length, slice_index, IfOk, IsTrue, MatchOption, OnOk, All, slice_index_or, take, vec_len, replicate, map, ◌≢◌, ◌^◌, ◌++◌, ◌∷◌, [], ◌-◌, true, false};
 ghost use Rattle.kc_order.specs.Rows.{RowsBelow};
-ghost use Rattle.kc_order.specs.Search.{IsSound, IsFinished, KeepsMet, Opens, Closes, GivesUp, work, mark_of, is_unordered};
+ghost use Rattle.kc_order.specs.Search.{IsSound, IsFinished, KeepsVisited, Opens, Closes, GivesUp, work, mark_of, is_unordered};
 
 use crate::rows::Rows;
 use std::alloc::{AllocError, Global};
 
 /// How far a node is.
 #[derive(Clone, Copy, Debug, Drop)]
-pub enum Mark {
-    /// Not met yet.
+pub enum NodeState {
+    /// Not visited yet.
     New,
     /// Some of its needs are still to be looked at.
     Open,
@@ -24,7 +24,7 @@ pub enum Mark {
 #[derive(Drop)]
 pub struct Search {
     /// How far each node is.
-    pub marks: Vec<Mark>,
+    pub marks: Vec<NodeState>,
     // How many needs of each node are still to be looked at.
     left: Vec<usize>,
     // The open nodes, each needing the next.
@@ -34,10 +34,10 @@ pub struct Search {
 }
 
 // Whether a node is done.
-fn is_done(mark: Mark) -> bool
-    ensures { IsTrue result ↔ mark ≡ Mark.Done }
+fn is_done(mark: NodeState) -> bool
+    ensures { IsTrue result ↔ mark ≡ NodeState.Done }
 {
-    matches!(mark, Mark::Done)
+    matches!(mark, NodeState::Done)
 }
 
 // Opens a node.
@@ -45,7 +45,7 @@ fn open(search: &mut Search, node: u32) -> Result<(), AllocError>
     requires { node < length search.old.marks.items }
     ensures { OnOk result (Opens search.old search.new node) }
 {
-    search.marks[node as usize] = Mark::Open;
+    search.marks[node as usize] = NodeState::Open;
     search.path.push(node)?;
     Ok(())
 }
@@ -57,7 +57,7 @@ fn close(search: &mut Search, node: u32) -> Result<(), AllocError>
     ensures { OnOk result (Closes search.old search.new node) }
 {
     search.path.pop();
-    search.marks[node as usize] = Mark::Done;
+    search.marks[node as usize] = NodeState::Done;
     search.order.push(node)?;
     Ok(())
 }
@@ -69,15 +69,15 @@ fn give_up(search: &mut Search, node: u32)
     ensures { GivesUp search.old search.new node }
 {
     search.path.pop();
-    search.marks[node as usize] = Mark::Unordered;
+    search.marks[node as usize] = NodeState::Unordered;
 }
 
 // How many of the first needs of a row are left, once those at their end that are done are passed.
-fn pass_done(row: &[u32], marks: &[Mark], count: usize) -> usize
+fn pass_done(row: &[u32], marks: &[NodeState], count: usize) -> usize
     requires count { count ≤ length row.now }
     requires row { All (λ t. t < length marks.now) row.now }
     ensures fewer { result ≤ count }
-    ensures done { (k : ℕ) → result ≤ k → k < count → slice_index_or marks.now (slice_index row.now k) Mark.New ≡ Mark.Done }
+    ensures done { (k : ℕ) → result ≤ k → k < count → slice_index_or marks.now (slice_index row.now k) NodeState.New ≡ NodeState.Done }
 {
     let mut left = count;
     while left > 0 && is_done(marks[row[left - 1] as usize]) {
@@ -95,7 +95,7 @@ fn advance(rows: &Rows, search: &mut Search, top: u32) -> Result<(), AllocError>
     requires last { search.old.path.items ≡ take (vec_len search.old.path - 1) search.old.path.items ++ top ∷ [] }
     ensures sound { OnOk result (IsSound rows.now search.new) }
     ensures less { OnOk result (work search.new < work search.old) }
-    ensures met { OnOk result (KeepsMet search.old search.new) }
+    ensures visited { OnOk result (KeepsVisited search.old search.new) }
 {
     let left = search.left[top as usize];
     if left == 0 {
@@ -105,15 +105,15 @@ fn advance(rows: &Rows, search: &mut Search, top: u32) -> Result<(), AllocError>
     let row = rows.row(top as usize);
     let need = row[left - 1];
     match search.marks[need as usize] {
-        Mark::Done => search.left[top as usize] = pass_done(row, &search.marks, left - 1),
-        Mark::New => open(search, need)?,
-        Mark::Open => give_up(search, top),
-        Mark::Unordered => give_up(search, top),
+        NodeState::Done => search.left[top as usize] = pass_done(row, &search.marks, left - 1),
+        NodeState::New => open(search, need)?,
+        NodeState::Open => give_up(search, top),
+        NodeState::Unordered => give_up(search, top),
     }
     Ok(())
 }
 
-// Goes through all that a node needs, unless it was met.
+// Goes through all that a node needs, unless it was visited.
 fn visit(rows: &Rows, search: &mut Search, root: u32) -> Result<(), AllocError>
     requires rows_below { RowsBelow (length rows.now) rows.now }
     requires sound { IsSound rows.now search.old }
@@ -121,11 +121,11 @@ fn visit(rows: &Rows, search: &mut Search, root: u32) -> Result<(), AllocError>
     requires idle { length search.old.path.items ≡ 0 }
     ensures sound { OnOk result (IsSound rows.now search.new) }
     ensures idle { OnOk result (length search.new.path.items ≡ 0) }
-    ensures met { OnOk result (KeepsMet search.old search.new) }
-    ensures root_met { OnOk result (mark_of search.new root ≢ Mark.New) }
+    ensures visited { OnOk result (KeepsVisited search.old search.new) }
+    ensures root_met { OnOk result (mark_of search.new root ≢ NodeState.New) }
 {
     match search.marks[root as usize] {
-        Mark::New => {}
+        NodeState::New => {}
         _ => return Ok(()),
     }
     open(search, root)?;
@@ -136,11 +136,11 @@ fn visit(rows: &Rows, search: &mut Search, root: u32) -> Result<(), AllocError>
     Ok(())
 }
 
-// A mark for each node, none of them met.
-fn new_marks(alloc: Global, count: usize) -> Result<Vec<Mark>, AllocError>
-    ensures { IfOk result (λ v. v.items ≡ replicate count Mark.New) }
+// A mark for each node, none of them visited.
+fn new_marks(alloc: Global, count: usize) -> Result<Vec<NodeState>, AllocError>
+    ensures { IfOk result (λ v. v.items ≡ replicate count NodeState.New) }
 {
-    let marks = vec![in alloc; Mark::New; count]?;
+    let marks = vec![in alloc; NodeState::New; count]?;
     Ok(marks)
 }
 
@@ -175,15 +175,15 @@ pub fn search_all(alloc: Global, rows: &Rows) -> Result<Search, AllocError>
 }
 
 /// Whether a node is unordered.
-pub fn is_unordered(mark: Mark) -> bool
+pub fn is_unordered(mark: NodeState) -> bool
     ensures { result ≡ is_unordered mark }
 {
-    matches!(mark, Mark::Unordered)
+    matches!(mark, NodeState::Unordered)
 }
 
 /// The first of these nodes that is unordered.
-pub fn first_unordered(marks: &[Mark]) -> Option<usize>
-    ensures { MatchOption result (All (λ m. is_unordered m ≡ false) marks.now) (λ i. (i < length marks.now) × (is_unordered (slice_index_or marks.now i Mark.New) ≡ true) × ((k : ℕ) → k < i → is_unordered (slice_index_or marks.now k Mark.New) ≡ false)) }
+pub fn first_unordered(marks: &[NodeState]) -> Option<usize>
+    ensures { MatchOption result (All (λ m. is_unordered m ≡ false) marks.now) (λ i. (i < length marks.now) × (is_unordered (slice_index_or marks.now i NodeState.New) ≡ true) × ((k : ℕ) → k < i → is_unordered (slice_index_or marks.now k NodeState.New) ≡ false)) }
 {
     marks.iter().position(|mark| is_unordered(*mark))
 }

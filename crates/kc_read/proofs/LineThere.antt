@@ -9,7 +9,7 @@ use Rattle.kc_read.specs.declared.refusal.Code.TheVariants as code
 use Rattle.kc_read.specs.declared.statement.Keyword.{Keyword}
 use Rattle.kc_read.specs.declared.statement.Keyword.TheVariants as key
 use Rattle.kc_read.specs.Statements.{Named, InputPrompt, IfLine, EndIfLine, CommentLine, SourceLine, MenuLine, EndMenuLine, EndChoiceLine, MainMenuLine, TypeLine, PromptLine, DefaultLine, DefLine, DependsLine, VisibleLine, SelectLine, ImplyLine, RangeLine, HelpLine, ModulesLine}
-use Rattle.kc_read.specs.Lines.{LineContext, Cause, cause, syntax_cause, StartsExpression, ExpressionFault, front, IsWhole, WholeFault, ReadsWhole, begins_with, IsCondition, ConditionFault, ReadsCondition, After, text_of, word_of, target_of, operand_of, finish, ReadsTextLine, plain_text, ReadsSource, good_name, ReadsConfig, choice_line, ReadsPrompt, ReadsType, ReadsValue, expected, ReadsTarget, ReadsRange, option_line, left_out, ReadsRest, in_place, known, placement_cause, keyword_of, ReadsPlaced, ReadsLine, OneStatement}
+use Rattle.kc_read.specs.Lines.{LineContext, Cause, cause, syntax_cause, StartsExpression, ExpressionFault, front, IsWhole, WholeFault, ReadsWhole, begins_with, IsCondition, ConditionFault, ReadsCondition, After, text_of, word_of, named_target, operand_of, finish, ReadsTextLine, plain_text, ReadsSource, good_name, ReadsConfig, choice_line, ReadsPrompt, ReadsType, ReadsValue, expected, ReadsTarget, ReadsRange, option_line, left_out, ReadsRest, in_place, known, placement_cause, keyword_of, ReadsPlaced, ReadsLine, OneStatement}
 use Rattle.kc_read.proofs.OneLine.{one_line}
 
 -- ---- Expressions and conditions
@@ -126,7 +126,7 @@ type_line k [] = (Ok (TypeLine k None), inl (refl, refl))
 type_line k (t ∷ us) = let r = asked_line (λ p. TypeLine k (Some p)) (t ∷ us) in (r.0, inr ((t, us, refl), r.1))
 
 target_line : (make : List ℕ → Option Disjunction → Named) (ts : List Lexeme) → IsThere (ReadsTarget make ts)
-target_line make ts = after (target_of ts) (λ t. ReadsCondition (make t) (drop 1 ts)) (λ t. condition_line (make t) (drop 1 ts))
+target_line make ts = after (named_target ts) (λ t. ReadsCondition (make t) (drop 1 ts)) (λ t. condition_line (make t) (drop 1 ts))
 
 range_line : (ts : List Lexeme) → IsThere (ReadsRange ts)
 range_line ts = after (operand_of ts) (λ a. After (operand_of (drop 1 ts)) (λ b. ReadsCondition (RangeLine a b) (drop 2 ts)))

@@ -9,7 +9,7 @@ use Rattle.kc_expr.proofs.LongestLemmas.{one_longest, is_expression, not_too_dee
 use Rattle.kc_read.specs.declared.statement.Keyword.{Keyword}
 use Rattle.kc_read.specs.declared.statement.Keyword.TheVariants as key
 use Rattle.kc_read.specs.Statements.{Named, InputPrompt, IfLine, EndIfLine, CommentLine, SourceLine, MenuLine, EndMenuLine, EndChoiceLine, MainMenuLine, TypeLine, PromptLine, DefaultLine, DefLine, DependsLine, VisibleLine, SelectLine, ImplyLine, RangeLine, HelpLine, ModulesLine}
-use Rattle.kc_read.specs.Lines.{LineContext, Cause, Front, front, StartsExpression, ExpressionFault, IsMore, IsWhole, WholeFault, ReadsWhole, IsCondition, ConditionFault, ReadsCondition, After, finish, text_of, word_of, target_of, operand_of, plain_text, good_name, choice_line, option_line, expected, keyword_of, known, in_place, placement_cause, left_out, ReadsTextLine, ReadsSource, ReadsConfig, ReadsPrompt, ReadsType, ReadsValue, ReadsTarget, ReadsRange, ReadsRest, ReadsPlaced, ReadsLine, begins_with}
+use Rattle.kc_read.specs.Lines.{LineContext, Cause, Front, front, StartsExpression, ExpressionFault, IsMore, IsWhole, WholeFault, ReadsWhole, IsCondition, ConditionFault, ReadsCondition, After, finish, text_of, word_of, named_target, operand_of, plain_text, good_name, choice_line, option_line, expected, keyword_of, known, in_place, placement_cause, left_out, ReadsTextLine, ReadsSource, ReadsConfig, ReadsPrompt, ReadsType, ReadsValue, ReadsTarget, ReadsRange, ReadsRest, ReadsPlaced, ReadsLine, begins_with}
 
 -- ---- Expressions
 
@@ -144,7 +144,7 @@ one_type k ts r s (inr x) (inl y) = absurd (more_or_none ts x.0 y.0)
 one_type k ts r s (inr x) (inr y) = one_asked (λ p. TypeLine k (Some p)) ts r s x.1 y.1
 
 one_target : (make : List ℕ → Option Disjunction → Named) (ts : List Lexeme) → AtMostOne (ReadsTarget make ts)
-one_target make ts = one_after (target_of ts) (λ t. ReadsCondition (make t) (drop 1 ts)) (λ t. one_condition (make t) (drop 1 ts))
+one_target make ts = one_after (named_target ts) (λ t. ReadsCondition (make t) (drop 1 ts)) (λ t. one_condition (make t) (drop 1 ts))
 
 one_range : (ts : List Lexeme) → AtMostOne (ReadsRange ts)
 one_range ts = one_after (operand_of ts) (λ a. After (operand_of (drop 1 ts)) (λ b. ReadsCondition (RangeLine a b) (drop 2 ts)))

@@ -12,7 +12,7 @@ use Rattle.kc_expr.proofs.ConstantLemmas.{constant_text}
 use Rattle.kc_expr.specs.Grammar.{Atom, Disjunction, WordAtom, QuotedAtom, is_tristate_constant, if_word}
 use Rattle.kc_expr.specs.Names.{IsNumber, same_name, mention}
 use Rattle.kc_read.specs.declared.statement.LineFault.{LineFault}
-use Rattle.kc_read.specs.Lines.{LineContext, Cause, ReadsValue, front, syntax_cause, begins_with, operand_of, IsWhole, IsCondition, WholeFault, ConditionFault, text_of, word_of, target_of, is_pattern, is_good_name, ReadsTextLine, ReadsSource, ReadsConfig, ReadsPrompt, ReadsDepends, ReadsTarget, ReadsVisible, ReadsType, ReadsRange, ReadsRest, ReadsLine, IsMore, keyword_of, placement_cause, option_line}
+use Rattle.kc_read.specs.Lines.{LineContext, Cause, ReadsValue, front, syntax_cause, begins_with, operand_of, IsWhole, IsCondition, WholeFault, ConditionFault, text_of, word_of, named_target, is_pattern, is_good_name, ReadsTextLine, ReadsSource, ReadsConfig, ReadsPrompt, ReadsDepends, ReadsTarget, ReadsVisible, ReadsType, ReadsRange, ReadsRest, ReadsLine, IsMore, keyword_of, placement_cause, option_line}
 use Rattle.kc_expr.specs.declared.expression.Kind.{Kind}
 use Rattle.kc_read.specs.declared.statement.Keyword.{Keyword}
 use Rattle.kc_read.specs.Statements.{Named, InputPrompt, SourceLine, ConfigLine, DependsLine, VisibleLine, ModulesLine, IgnoredLine, TypeLine, RangeLine}
@@ -90,11 +90,11 @@ depends_ok ls ts d b e w = rw (b, e) (d, w, refl)
 pub depends_fault : (ls ts : List Lexeme) (f : LineFault) → begins_with (codes "on") ls ≡ true → drop 1 ls ≡ ts → IsFault f (WholeFault ts) → IsFault f (λ c. ReadsDepends ls (Err c))
 depends_fault ls ts f b e h n = rw (b, e) (h n)
 
-pub target_ok : (make : List ℕ → Option Disjunction → Named) (ls ts : List Lexeme) (t : List ℕ) (w : Option Disjunction) → target_of ls ≡ Ok t →
+pub target_ok : (make : List ℕ → Option Disjunction → Named) (ls ts : List Lexeme) (t : List ℕ) (w : Option Disjunction) → named_target ls ≡ Ok t →
     drop 1 ls ≡ ts → IsCondition ts w → ReadsTarget make ls (Ok (make t w))
 target_ok make ls ts t w e d c = rw (e, d) (w, c, refl)
 
-pub target_fault : (make : List ℕ → Option Disjunction → Named) (ls ts : List Lexeme) (t : List ℕ) (f : LineFault) → target_of ls ≡ Ok t → drop 1 ls ≡ ts →
+pub target_fault : (make : List ℕ → Option Disjunction → Named) (ls ts : List Lexeme) (t : List ℕ) (f : LineFault) → named_target ls ≡ Ok t → drop 1 ls ≡ ts →
     IsFault f (ConditionFault ts) → IsFault f (λ c. ReadsTarget make ls (Err c))
 target_fault make ls ts t f e d h n = rw (e, d) (h n)
 

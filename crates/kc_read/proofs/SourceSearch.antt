@@ -41,7 +41,8 @@ source_passed file at found below none here before after e lt line = elim (cases
     | inl m ↦ none (length before - at) (omega arith) (omega arith) (occurs_in_rest file (codes "source") before after at e l)
     | inr m ↦
         let same : length before ≡ at + found = omega arith in
-        let front : take (at + found) file ≡ before = ap (λ n. take n file) (sym same) ∙ ap (take (length before)) (e ∙ append_assoc before (codes "source") after) ∙ take-append_seam before (codes "source" ++ after) in
+        let front : take (at + found) file ≡ before = ap (λ n. take n file) (sym same) ∙ ap (take (length before)) (e ∙ append_assoc before (codes "source") after)
+        ∙ take-append_seam before (codes "source" ++ after) in
         here (subst BeginsLine (sym front) line)
   ]
 ]
@@ -119,6 +120,7 @@ not_begun before last after here other (start, blank, e, inr (front, f), all) =
           let place : length front + suc (last - (length front + 1)) ≡ last = omega arith in
           let is : is_blank (get_or blank (last - (length front + 1)) 0) ≡ true = all (last - (length front + 1)) (omega arith) in
           let read : get_or before last 0 ≡ get_or blank (last - (length front + 1)) 0 =
-          ap (λ k. get_or before k 0) (sym place) ∙ ap (λ t. get_or t (length front + suc (last - (length front + 1))) 0) same ∙ get_or-append-add front (10 ∷ blank) (suc (last - (length front + 1))) 0 in
+          ap (λ k. get_or before k 0) (sym place) ∙ ap (λ t. get_or t (length front + suc (last - (length front + 1))) 0) same
+          ∙ get_or-append-add front (10 ∷ blank) (suc (last - (length front + 1))) 0 in
           both_ways _ (passes_not _ here) (ap is_blank read ∙ is)
     ]

@@ -11,7 +11,7 @@ use Rattle.kc_read.specs.declared.statement.Keyword.{Keyword}
 use Rattle.kc_read.specs.declared.statement.Keyword.TheVariants as key
 use Rattle.kc_read.specs.Statements.{Named, InputPrompt, IfLine, EndIfLine, CommentLine, SourceLine, MenuLine, EndMenuLine, EndChoiceLine, MainMenuLine, TypeLine, PromptLine, DefaultLine, DefLine, DependsLine, VisibleLine, SelectLine, ImplyLine, RangeLine, HelpLine, ModulesLine, ConfigLine, IgnoredLine}
 use Rattle.kc_read.specs.declared.refusal.Code.TheVariants as code
-use Rattle.kc_read.specs.Lines.{LineContext, Cause, syntax_cause, After, ReadsWhole, ReadsCondition, ReadsTextLine, ReadsSource, ReadsConfig, ReadsPrompt, ReadsType, ReadsValue, ReadsTarget, ReadsRange, ReadsRest, ReadsPlaced, ReadsLine, finish, text_of, word_of, target_of, operand_of, good_name, is_good_name, choice_line, option_line, expected, block_words, type_words, attribute_words, left_out_words, keyword_in, keyword_of, known, in_place, placement_cause, begins_with}
+use Rattle.kc_read.specs.Lines.{LineContext, Cause, syntax_cause, After, ReadsWhole, ReadsCondition, ReadsTextLine, ReadsSource, ReadsConfig, ReadsPrompt, ReadsType, ReadsValue, ReadsTarget, ReadsRange, ReadsRest, ReadsPlaced, ReadsLine, finish, text_of, word_of, named_target, operand_of, good_name, is_good_name, choice_line, option_line, expected, block_words, type_words, attribute_words, left_out_words, keyword_in, keyword_of, known, in_place, placement_cause, begins_with}
 use Rattle.kc_read.proofs.FileLemmas.{same_name_eq}
 use Rattle.kc_read.proofs.KeywordLemmas.{keyword_in_turn}
 use Rattle.kc_read.proofs.OneExpansion.{source_line}
@@ -116,7 +116,7 @@ none_asked make ts h = none_after (text_of ts) (λ t. ReadsCondition (λ w. make
     (λ t. none_condition (λ w. make (record { text = t; when = w })) (drop 1 ts) (λ w. h (record { text = t; when = w })))
 
 none_target : (make : List ℕ → Option Disjunction → Named) (ts : List Lexeme) → ((t : List ℕ) (w : Option Disjunction) → IsOther (Ok (make t w))) → NoSource (ReadsTarget make ts)
-none_target make ts h = none_after (target_of ts) (λ t. ReadsCondition (make t) (drop 1 ts)) (λ t. none_condition (make t) (drop 1 ts) (h t))
+none_target make ts h = none_after (named_target ts) (λ t. ReadsCondition (make t) (drop 1 ts)) (λ t. none_condition (make t) (drop 1 ts) (h t))
 
 none_expected : (make : Disjunction → Named) (w : List ℕ) (ts : List Lexeme) → ((d : Disjunction) → IsOther (Ok (make d))) → NoSource (After (expected w ts) (ReadsWhole make))
 none_expected make w ts h = none_after (expected w ts) (ReadsWhole make) (λ us. none_whole make us h)

@@ -287,11 +287,11 @@ word_of (AQuoted t ∷ ts) = Err syntax_cause
 word_of (AnOp o ∷ ts) = Err syntax_cause
 
 -- the name that a select or an imply names
-abbrev pub target_of : List Lexeme → Result (List ℕ) Cause
-target_of [] = Err syntax_cause
-target_of (AWord w ∷ ts) = if same_name w if_word || is_tristate_constant w then Err syntax_cause else Ok w
-target_of (AQuoted t ∷ ts) = Err syntax_cause
-target_of (AnOp o ∷ ts) = Err syntax_cause
+abbrev pub named_target : List Lexeme → Result (List ℕ) Cause
+named_target [] = Err syntax_cause
+named_target (AWord w ∷ ts) = if same_name w if_word || is_tristate_constant w then Err syntax_cause else Ok w
+named_target (AQuoted t ∷ ts) = Err syntax_cause
+named_target (AnOp o ∷ ts) = Err syntax_cause
 
 -- an operand
 abbrev pub operand_of : List Lexeme → Result Atom Cause
@@ -354,7 +354,7 @@ abbrev pub ReadsVisible : List Lexeme → Result Named Cause → Type 0
 ReadsVisible ts r = After (expected if_word ts) (λ us. ReadsWhole VisibleLine us) r
 
 abbrev pub ReadsTarget : (List ℕ → Option Disjunction → Named) → List Lexeme → Result Named Cause → Type 0
-ReadsTarget make ts = After (target_of ts) (λ t. ReadsCondition (make t) (drop 1 ts))
+ReadsTarget make ts = After (named_target ts) (λ t. ReadsCondition (make t) (drop 1 ts))
 
 abbrev pub ReadsRange : List Lexeme → Result Named Cause → Type 0
 ReadsRange ts = After (operand_of ts) (λ a. After (operand_of (drop 1 ts)) (λ b. ReadsCondition (RangeLine a b) (drop 2 ts)))

@@ -124,7 +124,7 @@ pub fn text_at<'a>(alloc: Global, tokens: &[Token<'a>], at: usize) -> Result<Vec
 
 /// The name that a select or an imply names.
 pub fn target_at<'a>(tokens: &[Token<'a>], at: usize) -> Result<&'a [u8], LineFault<'a>>
-    ensures part { IsPart (spec.target_of (lexemes_from tokens.now at)) (λ w. w.now) result }
+    ensures part { IsPart (spec.named_target (lexemes_from tokens.now at)) (λ w. w.now) result }
     ensures within { OnOk result (at < length tokens.now) }
 {
     match next(tokens, at) {

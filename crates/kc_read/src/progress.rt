@@ -64,7 +64,7 @@ impl Progress {
     }
 
     // The symbol that was defined last has a `modules` line.
-    fn mark_modules(&mut self)
+    fn note_modules(&mut self)
         ensures modules { self.new.modules ≡ option_or self.old.modules self.old.config }
         ensures kept { (self.new.lines ≡ self.old.lines) × (self.new.total_lines ≡ self.old.total_lines) × (self.new.defined ≡ self.old.defined) × (self.new.config ≡ self.old.config) × (self.new.open_files ≡ self.old.open_files) }
     {
@@ -85,7 +85,7 @@ impl Progress {
         match statement {
             Statement::Config(id) => self.define(*id),
             Statement::Modules => {
-                self.mark_modules();
+                self.note_modules();
                 Ok(())
             }
             _ => Ok(()),

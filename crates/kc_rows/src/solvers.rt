@@ -1,5 +1,5 @@
 //! The solver against the plain slow one.
-ghost use Rattle.std.specs.Prelude.{◌≡◌, None, ⊤, IfOk};
+ghost use Rattle.std.specs.Prelude.{None, ⊤, IfOk};
 ghost use Rattle.kc_user.specs.Places.{ArePlacesOf};
 ghost use Rattle.kc_solve.specs.Graphs.{IsGraphOf};
 ghost use Rattle.kc_tree.specs.Layouts.{IsLayoutOf};

@@ -18,9 +18,9 @@ IsLoopText tree text =
     (symbols : List ℕ) × IsNamedLoop (length (needs tree)) (needs_in (needs tree)) symbols × (text ≡ loop_text tree symbols)
 
 -- nothing is said of memory
-abbrev pub IsNamed : TreeFacts → LoopFault → Type 0
-IsNamed tree (Loop text) = IsLoopText tree text.items
-IsNamed tree Memory = Unit {0}
+abbrev pub NamesTheLoop : TreeFacts → LoopFault → Type 0
+NamesTheLoop tree (Loop text) = IsLoopText tree text.items
+NamesTheLoop tree Memory = Unit {0}
 
 -- a loop has no location; its text is the detail
 abbrev pub loop_refused : List ℕ → Refused

@@ -8,7 +8,7 @@ ghost use Rattle.kc_read.specs.declared.refusal.Code.TheVariants.{Memory};
 ghost use Rattle.kc_solve.specs.LoopText.{arrows, loop_text};
 ghost use Rattle.kc_solve.specs.Graphs.{IsGraphOf};
 ghost use Rattle.kc_solve.specs.Refused as refused;
-ghost use Rattle.kc_solve.specs.Refused.{IsNamed, NamesLoop};
+ghost use Rattle.kc_solve.specs.Refused.{NamesTheLoop, NamesLoop};
 ghost use Rattle.kc_tree.specs.Layouts.{IsLayoutOf};
 ghost use Rattle.kc_values.specs.Laws.{IsAccepted};
 ghost use Rattle.kc_values.specs.Needs.{needs};
@@ -134,7 +134,7 @@ fn tree_order(alloc: Global, tree: &Tree, layout: &Layout) -> Result<kc_order::O
     requires { IsLayoutOf tree.now layout.now }
     ensures same { IfOk result (IsGraphOf tree.now layout.now) }
     ensures accepted { OnOk result (IsAccepted tree.now) }
-    ensures refused { IfErr result (IsNamed tree.now) }
+    ensures refused { IfErr result (NamesTheLoop tree.now) }
 {
     needs_are_defined();
     alike_needs();

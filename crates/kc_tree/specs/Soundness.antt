@@ -10,8 +10,8 @@ use Rattle.kc_tree.specs.declared.rows.Title.{Title}
 use Rattle.kc_tree.specs.Contexts.{IsPlain, condition_in}
 
 -- what definitions depend on is there
-abbrev pub AreWithin : List Condition → List Definition → Type 0
-AreWithin conditions ds = (i : ℕ) (d : Definition) → slice_get ds i ≡ Some d → d.within.0 < length conditions
+abbrev pub AreContextsThere : List Condition → List Definition → Type 0
+AreContextsThere conditions ds = (i : ℕ) (d : Definition) → slice_get ds i ≡ Some d → d.within.0 < length conditions
 
 -- what their prompts ask for is there, and no mode counts in it
 abbrev pub ArePromptsWithin : List Condition → List Definition → Type 0

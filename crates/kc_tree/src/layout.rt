@@ -3,7 +3,7 @@
 ghost use Rattle.std.specs.Prelude.{◌≡◌, ◌<◌, ◌+◌, ◌^◌, None, length, option_map, slice_get, slice_index_or, IfSome};
 ghost use Rattle.kc_tree.specs.Contexts.{condition_in, mode_view, IsContext};
 ghost use Rattle.kc_tree.specs.Spans.{slice_of, definition_ids, definition_of};
-ghost use Rattle.kc_tree.specs.Soundness.{AreChoicePromptsPlain, AreChoicePromptsWithin, AreChoicesPlain, AreChoicesWithin, AreModePromptsBehind, AreModesBehind, AreModesBelow, ArePromptsPlain, ArePromptsWithin, AreTitlesPlain, AreWithin};
+ghost use Rattle.kc_tree.specs.Soundness.{AreChoicePromptsPlain, AreChoicePromptsWithin, AreChoicesPlain, AreChoicesWithin, AreModePromptsBehind, AreModesBehind, AreModesBelow, ArePromptsPlain, ArePromptsWithin, AreTitlesPlain, AreContextsThere};
 
 use crate::contexts::Contexts;
 use crate::reverses::Reverses;
@@ -25,7 +25,7 @@ pub struct Tables {
     pub choices: Vec<Choice>,
     pub titles: Vec<Title>,
     pub entries: Vec<ShownEntry>,
-    ghost within: { AreWithin contexts definitions.items },
+    ghost within: { AreContextsThere contexts definitions.items },
     ghost prompts_within: { ArePromptsWithin contexts definitions.items },
     ghost prompts_plain: { ArePromptsPlain contexts definitions.items },
     ghost choices_within: { AreChoicesWithin contexts choices.items },

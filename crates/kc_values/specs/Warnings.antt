@@ -28,26 +28,26 @@ outside_line begin kind r name =
     begin ++ codes " of " ++ name ++ codes " is outside " ++ number_text kind r.low ++ codes " to " ++ number_text kind r.high
 
 -- `user value TEXT of NAME is outside LOW to HIGH`
-abbrev pub user_line : Kind → Interval → List ℕ → List ℕ → List ℕ
-user_line kind r name t = outside_line (codes "warning K12: user value " ++ t) kind r name
+abbrev pub user_warning_line : Kind → Interval → List ℕ → List ℕ → List ℕ
+user_warning_line kind r name t = outside_line (codes "warning K12: user value " ++ t) kind r name
 
 -- `default TEXT of NAME is outside LOW to HIGH, VALUE is used`
-abbrev pub default_line : Kind → Interval → List ℕ → List ℕ → List ℕ
-default_line kind r name t =
+abbrev pub default_warning_line : Kind → Interval → List ℕ → List ℕ → List ℕ
+default_warning_line kind r name t =
     outside_line (codes "warning K13: default " ++ t) kind r name ++ codes ", " ++ clamped kind (Some r) t ++ codes " is used"
 
 -- a visible user value outside the active range
 abbrev pub user_warnings : Kind → List ℕ → Option Interval → Option (List ℕ) → List (List ℕ)
 user_warnings kind name None t = []
 user_warnings kind name (Some r) None = []
-user_warnings kind name (Some r) (Some t) = if is_inside kind (Some r) t then [] else user_line kind r name t ∷ []
+user_warnings kind name (Some r) (Some t) = if is_inside kind (Some r) t then [] else user_warning_line kind r name t ∷ []
 
 -- a default that applied, since no user value was used, and was clamped
 abbrev pub default_warnings : Kind → List ℕ → Option Interval → Option (List ℕ) → Option (List ℕ) → List (List ℕ)
 default_warnings kind name r (Some used) d = []
 default_warnings kind name None None d = []
 default_warnings kind name (Some r) None None = []
-default_warnings kind name (Some r) None (Some t) = if is_inside kind (Some r) t then [] else default_line kind r name t ∷ []
+default_warnings kind name (Some r) None (Some t) = if is_inside kind (Some r) t then [] else default_warning_line kind r name t ∷ []
 
 -- the text of the met default, if there is one
 abbrev pub met_text : (SymId → SymbolValue) → Option (Guarded Form) → Option (List ℕ)

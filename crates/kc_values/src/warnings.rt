@@ -102,7 +102,7 @@ fn outside_into(
 }
 
 // The line of a user's text outside the range.
-fn user_line(
+fn user_warning_line(
     alloc: Global,
     kind: Kind,
     range: Interval,
@@ -110,7 +110,7 @@ fn user_line(
     text: &[u8],
 ) -> Result<Vec<u8>, AllocError>
     requires { HasSmallBounds range }
-    ensures { IfOk result (λ v. v.items ≡ spec.user_line kind range name.now text.now) }
+    ensures { IfOk result (λ v. v.items ≡ spec.user_warning_line kind range name.now text.now) }
 {
     let mut line = Vec::from_slice(alloc, b"warning K12: user value ")?;
     line.extend_from_slice(text)?;
@@ -119,7 +119,7 @@ fn user_line(
 }
 
 // The line of a default outside the range.
-fn default_line(
+fn default_warning_line(
     alloc: Global,
     kind: Kind,
     range: Interval,
@@ -127,7 +127,7 @@ fn default_line(
     text: &[u8],
 ) -> Result<Vec<u8>, AllocError>
     requires { HasSmallBounds range }
-    ensures { IfOk result (λ v. v.items ≡ spec.default_line kind range name.now text.now) }
+    ensures { IfOk result (λ v. v.items ≡ spec.default_warning_line kind range name.now text.now) }
 {
     let used = clamped(alloc, kind, Some(range), text)?;
     let mut line = Vec::from_slice(alloc, b"warning K13: default ")?;
@@ -160,7 +160,7 @@ fn user_warning(
     if is_inside(kind, Some(bounds), text) {
         return Ok(());
     }
-    let line = user_line(alloc, kind, bounds, name, text)?;
+    let line = user_warning_line(alloc, kind, bounds, name, text)?;
     out.push(line)?;
     Ok(())
 }
@@ -190,7 +190,7 @@ fn default_warning(
     if is_inside(kind, Some(bounds), text) {
         return Ok(());
     }
-    let line = default_line(alloc, kind, bounds, name, text)?;
+    let line = default_warning_line(alloc, kind, bounds, name, text)?;
     out.push(line)?;
     Ok(())
 }

@@ -1,4 +1,4 @@
--- From what clap's getters answer to what clap's matches are.
+-- From what clap's getters answer to what clap's matches are; and rows of the least words, each computed.
 use Rattle.std.proofs.Common.{◌≡◌, List, [], refl, ap, ◌∙◌, true, ◌∷◌, codes, false, Some}
 use Rattle.clap.specs.Words.{App, HasMatchesOf, Text, found_of, is_simple, matches_of, rows_of, takes, first_of, all_of}
 use Rattle.clap.specs.Faults.{is_simple_and_free}
@@ -22,7 +22,7 @@ kconf_app-free = refl
 pub rows-matches : (app : App) (words : List Text) (m : ArgMatches) → app ≡ kconf_app → HasMatchesOf app words m → rows_of (found_of m) ≡ matches_of kconf_app words
 rows-matches app words m is has = (has (ap is_simple is ∙ kconf_app-simple)).0 ∙ ap (λ a. matches_of a words) is
 
--- the least words, computed
+-- rows: the least words, computed
 one_word : takes kconf_app (codes "Kconfig" ∷ []) ≡ true
 unfolding clap_on_literals kconf_app with_options
 one_word = refl

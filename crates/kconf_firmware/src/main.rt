@@ -111,47 +111,57 @@ fn replace_other_texts(rt: &HostRuntime) -> io::Result<()> {
     Ok(())
 }
 
-fn main(rt: HostRuntime) -> io::Result<()> {
+// Runs on a choice made for an older release, on what that gives, and on nothing, and shows what each writes.
+fn first_runs(rt: &HostRuntime) -> io::Result<()> {
     run(
-        &rt,
+        rt,
         "--config start.config --out full.config --header config.h --savedefconfig defconfig Kconfig site.config",
     )?;
-    show(&rt, "full.config")?;
-    show(&rt, "config.h")?;
-    show(&rt, "defconfig")?;
-    run(&rt, "--config defconfig --out again.config Kconfig")?;
-    let is_same = fs::read(&rt, "full.config")? == fs::read(&rt, "again.config")?;
+    show(rt, "full.config")?;
+    show(rt, "config.h")?;
+    show(rt, "defconfig")?;
+    run(rt, "--config defconfig --out again.config Kconfig")?;
+    let is_same = fs::read(rt, "full.config")? == fs::read(rt, "again.config")?;
     println!(rt; "again.config is full.config: {is_same}")?;
     run(
-        &rt,
+        rt,
         "--config none.config --out none.config --savedefconfig none.defconfig Kconfig",
     )?;
-    show(&rt, "none.defconfig")?;
+    show(rt, "none.defconfig")?;
     run(
-        &rt,
+        rt,
         "--config none.config --out rule.config --depfile rule.d Kconfig site.config",
     )?;
-    show(&rt, "rule.d")?;
+    show(rt, "rule.d")
+}
+
+// Runs over the small trees in the folder rows.
+fn small_runs(rt: &HostRuntime) -> io::Result<()> {
     run(
-        &rt,
+        rt,
         "--root rows --config rows/a.config --out ab.config --savedefconfig ab.defconfig Kconfig rows/x.cfg rows/y.cfg",
     )?;
-    show(&rt, "ab.config")?;
-    show(&rt, "ab.defconfig")?;
+    show(rt, "ab.config")?;
+    show(rt, "ab.defconfig")?;
     run(
-        &rt,
+        rt,
         "--root rows --config rows/br2.config --out br2.config --header br2.h --prefix BR2_ Kconfig",
     )?;
-    show(&rt, "br2.config")?;
-    show(&rt, "br2.h")?;
+    show(rt, "br2.config")?;
+    show(rt, "br2.h")?;
     run(
-        &rt,
+        rt,
         "--root rows --config rows/lost.config --out lost.config --strict Kconfig",
     )?;
     run(
-        &rt,
+        rt,
         "--root rows --config rows/lost.config --out bad.config --strict --warn-lost Kconfig",
-    )?;
+    )
+}
+
+fn main(rt: HostRuntime) -> io::Result<()> {
+    first_runs(&rt)?;
+    small_runs(&rt)?;
     replace(&rt)?;
     replace_other_texts(&rt)?;
     for line in WITHOUT_FILES {

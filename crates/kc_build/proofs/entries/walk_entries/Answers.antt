@@ -1,7 +1,7 @@
 use Rattle.std.proofs.Common.{map, arith}
 use Rattle.std.proofs.Common.{inr, refl}
 use Rattle.kc_read.specs.StatementViews.{line_view}
-use Rattle.kc_build.specs.SymbolRows.{IsWhole}
+use Rattle.kc_build.specs.SymbolRows.{HasSymbols}
 use Rattle.kc_build.specs.Passes.{statements_of}
 use Rattle.kc_build.proofs.DiagnosedLemmas.{diagnosed_start}
 use Rattle.kc_build.proofs.LineWalkLemmas.{begins-next, diagnosed-next, head-is, plain-head, walk-next, walk-starts}
@@ -32,7 +32,7 @@ entries-preserved c =
     let end = c.entry_end-end.result in
     let head = c.index-lines-place.result in
     let e = c.entry_end-end.ensures in
-    let whole : IsWhole (statements_of lines) symbols = record { symbols_are = c.requires.symbols; below = c.requires.below; ends = c.requires.ends } in
+    let whole : HasSymbols (statements_of lines) symbols = record { symbols_are = c.requires.symbols; below = c.requires.below; ends = c.requires.ends } in
     let is = head-is lines symbols i end head c.entries-test.true c.index-lines-place.is e.count e.within c.entries.invariant.begins in
     let place = c.summary_of-summary.ensures (statements_of lines) i _ whole is c.entries.invariant.walk in
     record {

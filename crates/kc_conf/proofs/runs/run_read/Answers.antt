@@ -23,7 +23,8 @@ pub returns-in-None-clause-ok : goal.returns-in-None-clause-ok
 returns-in-None-clause-ok g c =
     let streamed = c.in-Ok.streamed in
     IfOk-weaker c.run_solved.result _ _ (λ status. λ (s, solves, finishes).
-    Finishes-whole c.args.options.now c.args.tree.now (map g.I.Input.remaining c.args.inputs.now) (map g.I.Input.is_there c.args.inputs.now) _ c.tell_streams.new.user c.args.is_warned streamed.is_warned c.is_either-is_warned.result
+    Finishes-whole c.args.options.now c.args.tree.now (map g.I.Input.remaining c.args.inputs.now)
+    (map g.I.Input.is_there c.args.inputs.now) _ c.tell_streams.new.user c.args.is_warned streamed.is_warned c.is_either-is_warned.result
     (g.O.Outputs.states c.args.outputs.now) (g.O.Outputs.states c.tell_streams.new.outputs) (g.O.Outputs.states c.run_solved.new.outputs) c.in_ok-user.ensures
     status (rw c.in-None.is at c.in-Ok.ensures.ok) c.is_either-is_warned.ensures s solves finishes) c.run_solved.ensures.ok
 
@@ -31,7 +32,8 @@ pub returns-in-None-clause-err : goal.returns-in-None-clause-err
 returns-in-None-clause-err g c =
     let streamed = c.in-Ok.streamed in
     IfErr-weaker c.run_solved.result _ _ (λ cause broken.
-    BreaksRun-whole c.args.options.now c.args.tree.now (map g.I.Input.remaining c.args.inputs.now) (map g.I.Input.is_there c.args.inputs.now) _ c.tell_streams.new.user c.args.is_warned streamed.is_warned c.is_either-is_warned.result
+    BreaksRun-whole c.args.options.now c.args.tree.now (map g.I.Input.remaining c.args.inputs.now)
+    (map g.I.Input.is_there c.args.inputs.now) _ c.tell_streams.new.user c.args.is_warned streamed.is_warned c.is_either-is_warned.result
     (g.O.Outputs.states c.args.outputs.now) (g.O.Outputs.states c.tell_streams.new.outputs) (g.O.Outputs.states c.run_solved.new.outputs) c.in_ok-user.ensures
     cause (rw c.in-None.is at c.in-Ok.ensures.ok) c.is_either-is_warned.ensures broken) c.run_solved.ensures.err
 
@@ -39,7 +41,8 @@ pub returns-clause-ok : goal.returns-clause-ok
 returns-clause-ok g c =
     let streamed = c.in-Ok.streamed in
     IfOk-weaker c.refuse_line.result _ _ (λ status finishes.
-    Finishes-long c.args.options.now c.args.tree.now (map g.I.Input.remaining c.args.inputs.now) (map g.I.Input.is_there c.args.inputs.now) _ c.tell_streams.new.user c.args.is_warned streamed.is_warned streamed.is_warned
+    Finishes-long c.args.options.now c.args.tree.now (map g.I.Input.remaining c.args.inputs.now)
+    (map g.I.Input.is_there c.args.inputs.now) _ c.tell_streams.new.user c.args.is_warned streamed.is_warned streamed.is_warned
     (g.O.Outputs.states c.args.outputs.now) (g.O.Outputs.states c.tell_streams.new.outputs) (g.O.Outputs.states c.refuse_line.new.outputs) c.in_ok-user.ensures
     status (stop_of c.in-Some.long) (rw c.in-Some.is at c.in-Ok.ensures.ok) finishes) c.refuse_line.ensures.ok
 
@@ -47,6 +50,7 @@ pub returns-clause-err : goal.returns-clause-err
 returns-clause-err g c =
     let streamed = c.in-Ok.streamed in
     IfErr-weaker c.refuse_line.result _ _ (λ cause broken.
-    BreaksRun-long c.args.options.now c.args.tree.now (map g.I.Input.remaining c.args.inputs.now) (map g.I.Input.is_there c.args.inputs.now) _ c.tell_streams.new.user c.args.is_warned streamed.is_warned streamed.is_warned
+    BreaksRun-long c.args.options.now c.args.tree.now (map g.I.Input.remaining c.args.inputs.now)
+    (map g.I.Input.is_there c.args.inputs.now) _ c.tell_streams.new.user c.args.is_warned streamed.is_warned streamed.is_warned
     (g.O.Outputs.states c.args.outputs.now) (g.O.Outputs.states c.tell_streams.new.outputs) (g.O.Outputs.states c.refuse_line.new.outputs) c.in_ok-user.ensures
     cause (stop_of c.in-Some.long) (rw c.in-Some.is at c.in-Ok.ensures.ok) broken) c.refuse_line.ensures.err

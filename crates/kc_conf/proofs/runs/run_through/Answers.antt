@@ -17,7 +17,8 @@ returns-in-Err-clause-ok g c =
     let files = files_in c.args.files in
     let why = refused_as files (root_file c.args.options.now) (root_file c.args.options.now) refl c.in-Err.refusal c.in-Err.ensures.refused in
     IfOk-weaker c.refuse.result _ _
-    (λ status. Finishes-refusal c.one_answer.ensures c.opened_are_one_list.ensures.there files c.args.options.now c.in-Err.refusal why (map g.I.Input.remaining c.args.inputs.now) (map g.I.Input.is_there c.args.inputs.now)
+    (λ status. Finishes-refusal c.one_answer.ensures c.opened_are_one_list.ensures.there files c.args.options.now c.in-Err.refusal why (map g.I.Input.remaining c.args.inputs.now)
+    (map g.I.Input.is_there c.args.inputs.now)
     status (g.O.Outputs.states c.args.outputs.now) (g.O.Outputs.states c.refuse.new.outputs)) c.refuse.ensures.ok
 
 pub returns-in-Err-clause-err : goal.returns-in-Err-clause-err
@@ -98,7 +99,8 @@ returns-in-Err-of-clause-ok g c =
     let r = c.in-Err-of.refusal in
     let why = looped_as files (root_file c.args.options.now) (root_file c.args.options.now) refl c.in-Ok.read.0 r c.in-Ok.ensures.built c.in-Err-of.ensures.refused in
     IfOk-weaker c.refuse-in-Err-of.result _ _
-    (λ status. Finishes-refusal c.one_answer.ensures c.opened_are_one_list.ensures.there files c.args.options.now r why (map g.I.Input.remaining c.args.inputs.now) (map g.I.Input.is_there c.args.inputs.now)
+    (λ status. Finishes-refusal c.one_answer.ensures c.opened_are_one_list.ensures.there files c.args.options.now r why (map g.I.Input.remaining c.args.inputs.now)
+    (map g.I.Input.is_there c.args.inputs.now)
     status (g.O.Outputs.states c.args.outputs.now) (g.O.Outputs.states c.refuse-in-Err-of.new.outputs)) c.refuse-in-Err-of.ensures.ok
 
 pub returns-in-Err-of-clause-err : goal.returns-in-Err-of-clause-err

@@ -38,11 +38,11 @@ pub returns-clause-position : goal.returns-clause-position
 returns-clause-position g c =
     rw c.in_ok-push.ensures.items (fed-other c.args.byte (position_of c.args.line_buffer.now) c.requires.opened (ne_eqb c.args.byte 10 c.if-byte-eq10.false))
 
-pub returns-then-len-ge-LONGEST_CONFIG_LINE-clause-err : goal.returns-then-len-ge-LONGEST_CONFIG_LINE-clause-err
-returns-then-len-ge-LONGEST_CONFIG_LINE-clause-err g c =
+pub returns-then-len-ge-LONGEST_DOT_LINE-clause-err : goal.returns-then-len-ge-LONGEST_DOT_LINE-clause-err
+returns-then-len-ge-LONGEST_DOT_LINE-clause-err g c =
     let stream = c.args.stream.now in
     let count = c.len.ensures in
-    let full = c.if-len-ge-LONGEST_CONFIG_LINE.true in
+    let full = c.if-len-ge-LONGEST_DOT_LINE.true in
     let long : 65535 ≤ length c.args.line_buffer.now.pending.items = omega (arith, count, full) in
     StopsAt-long stream.tree.now stream.prefix.now stream.name.now c.args.byte (position_of c.args.line_buffer.now) c.args.user.now
     (g.S.Sink.taken c.args.sink.now) c.requires.opened (ne_eqb c.args.byte 10 c.if-byte-eq10.false) long

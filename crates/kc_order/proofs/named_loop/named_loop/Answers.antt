@@ -8,52 +8,52 @@ use Rattle.kc_order.proofs.Walks.{sets_out, goes_further, has_room, comes_back, 
 use Rattle.kc_order.proofs.named_loop.named_loop.Goals.{After-index, After-next_unordered-at}
 use Rattle.kc_order.proofs.named_loop.named_loop.Goals as goal
 
-pub loop-met-init : goal.loop-met-init
-loop-met-init c = record {
+pub loop-visited-init : goal.loop-visited-init
+loop-visited-init c = record {
   walks = rw c.new-walk.ensures.items (sets_out _ (flat c.args.symbols c.args.rows.now) c.args.first c.requires.first);
-  marked_unordered = subst (λ w. AreMarks c.args.symbols (λ s. list_any (eqb s) w) c.in_ok-met.met.items) (sym c.new-walk.ensures.items)
-      (none_met c.args.symbols c.in_ok-met.met.items c.in_ok-met.ensures);
+  marked_unordered = subst (λ w. AreMarks c.args.symbols (λ s. list_any (eqb s) w) c.in_ok-visited.visited.items) (sym c.new-walk.ensures.items)
+      (none_met c.args.symbols c.in_ok-visited.visited.items c.in_ok-visited.ensures);
 }
 
 -- what is read tells whether the symbol is on the walk
-on_walk : (c : After-index) → list_any (eqb c.loop-met.at) c.loop-met.walk.items ≡ c.index.result.now
+on_walk : (c : After-index) → list_any (eqb c.loop-visited.at) c.loop-visited.walk.items ≡ c.index.result.now
 on_walk c =
-    let below = c.loop-met.invariant.walks.below in
-    sym (c.loop-met.invariant.marked_unordered.each c.loop-met.at below)
-    ∙ sym (get_or_read c.loop-met.met.items c.loop-met.at c.index.result.now (omega (arith, below, c.loop-met.invariant.marked_unordered.length_is)) c.index.ensures false)
+    let below = c.loop-visited.invariant.walks.below in
+    sym (c.loop-visited.invariant.marked_unordered.each c.loop-visited.at below)
+    ∙ sym (get_or_read c.loop-visited.visited.items c.loop-visited.at c.index.result.now (omega (arith, below, c.loop-visited.invariant.marked_unordered.length_is)) c.index.ensures false)
 
 -- the walk after the push, and what comes next
-further : (c : After-next_unordered-at) → list_any (eqb c.loop-met.at) c.loop-met.walk.items ≡ false →
-    IsOnTheWay c.args.symbols (flat c.args.symbols c.args.rows.now) (c.loop-met.walk.items ++ c.loop-met.at ∷ []) c.next_unordered-at.result
+further : (c : After-next_unordered-at) → list_any (eqb c.loop-visited.at) c.loop-visited.walk.items ≡ false →
+    IsOnTheWay c.args.symbols (flat c.args.symbols c.args.rows.now) (c.loop-visited.walk.items ++ c.loop-visited.at ∷ []) c.next_unordered-at.result
 further c new =
-    goes_further _ (flat c.args.symbols c.args.rows.now) c.loop-met.walk.items c.loop-met.at c.next_unordered-at.result
-    (needs_within (graph c.args.symbols c.args.rows.now) c.requires.graph) c.loop-met.invariant.walks (not_met c.loop-met.walk.items c.loop-met.at new) c.next_unordered-at.ensures.next
+    goes_further _ (flat c.args.symbols c.args.rows.now) c.loop-visited.walk.items c.loop-visited.at c.next_unordered-at.result
+    (needs_within (graph c.args.symbols c.args.rows.now) c.requires.graph) c.loop-visited.invariant.walks (not_met c.loop-visited.walk.items c.loop-visited.at new) c.next_unordered-at.ensures.next
 
-pub loop-met-smaller : goal.loop-met-smaller
-loop-met-smaller c =
-    let new = on_walk (goal.at.loop-met-smaller c).After-index ∙ c.loop-met-test.true in
-    let f = further (goal.at.loop-met-smaller c).After-next_unordered-at new in
-    let room = has_room _ c.loop-met.walk.items c.loop-met.at f.all_below f.apart in
-    omega (arith, room, ap length c.in_ok-push.ensures.items, length_push c.loop-met.walk.items c.loop-met.at)
+pub loop-visited-smaller : goal.loop-visited-smaller
+loop-visited-smaller c =
+    let new = on_walk (goal.at.loop-visited-smaller c).After-index ∙ c.loop-visited-test.true in
+    let f = further (goal.at.loop-visited-smaller c).After-next_unordered-at new in
+    let room = has_room _ c.loop-visited.walk.items c.loop-visited.at f.all_below f.apart in
+    omega (arith, room, ap length c.in_ok-push.ensures.items, length_push c.loop-visited.walk.items c.loop-visited.at)
 
-pub loop-met-preserved : goal.loop-met-preserved
-loop-met-preserved c =
-    let new = on_walk (goal.at.loop-met-preserved c).After-index ∙ c.loop-met-test.true in
-    let walk = c.loop-met.walk.items in
-    let at = c.loop-met.at in
+pub loop-visited-preserved : goal.loop-visited-preserved
+loop-visited-preserved c =
+    let new = on_walk (goal.at.loop-visited-preserved c).After-index ∙ c.loop-visited-test.true in
+    let walk = c.loop-visited.walk.items in
+    let at = c.loop-visited.at in
     record {
-      walks = rw c.in_ok-push.ensures.items (further (goal.at.loop-met-preserved c).After-next_unordered-at new);
-      marked_unordered = subst (λ w. AreMarks c.args.symbols (λ s. list_any (eqb s) w) (set c.loop-met.met.items at true)) (sym c.in_ok-push.ensures.items)
-          (met_push c.args.symbols walk c.loop-met.met.items at c.loop-met.invariant.marked_unordered c.loop-met.invariant.walks.below);
+      walks = rw c.in_ok-push.ensures.items (further (goal.at.loop-visited-preserved c).After-next_unordered-at new);
+      marked_unordered = subst (λ w. AreMarks c.args.symbols (λ s. list_any (eqb s) w) (set c.loop-visited.visited.items at true)) (sym c.in_ok-push.ensures.items)
+          (met_push c.args.symbols walk c.loop-visited.visited.items at c.loop-visited.invariant.marked_unordered c.loop-visited.invariant.walks.below);
     }
 
 pub unreachable-requires : goal.unreachable-requires
 unreachable-requires c =
-    is_met c.loop-met.walk.items c.loop-met.at (on_walk (goal.at.unreachable-requires c).After-index ∙ c.loop-met-test.false)
+    is_met c.loop-visited.walk.items c.loop-visited.at (on_walk (goal.at.unreachable-requires c).After-index ∙ c.loop-visited-test.false)
     (rw c.deref-2.ensures.value at c.in-None.ensures)
 
 pub returns : goal.returns
 returns c =
     let found = rw c.deref-2.ensures.value at c.in-Some.ensures in
     rw (c.in_ok-found-in-Some.ensures.items, c.deref-in-Some.ensures.value, take_rest)
-    (comes_back _ (flat c.args.symbols c.args.rows.now) c.loop-met.walk.items c.loop-met.at c.in-Some.start c.loop-met.invariant.walks found.0 found.1)
+    (comes_back _ (flat c.args.symbols c.args.rows.now) c.loop-visited.walk.items c.loop-visited.at c.in-Some.start c.loop-visited.invariant.walks found.0 found.1)

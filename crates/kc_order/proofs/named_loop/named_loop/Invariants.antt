@@ -5,11 +5,11 @@ use Rattle.kc_order.proofs.Groups.{flat}
 use Rattle.kc_order.proofs.Walks.{IsOnTheWay}
 use Rattle.kc_order.proofs.named_loop.named_loop.Given as goal
 
-abbrev pub invariant-loop-met : goal.invariant-loop-met
-invariant-loop-met l = record {
+abbrev pub invariant-loop-visited : goal.invariant-loop-visited
+invariant-loop-visited l = record {
   walks : IsOnTheWay l.symbols (flat l.symbols l.rows) l.walk.items l.at;
-  marked_unordered : AreMarks l.symbols (λ s. list_any (eqb s) l.walk.items) l.met.items;
+  marked_unordered : AreMarks l.symbols (λ s. list_any (eqb s) l.walk.items) l.visited.items;
 }
 
-abbrev pub decreases-loop-met : goal.decreases-loop-met
-decreases-loop-met l = l.symbols - length l.walk.items
+abbrev pub decreases-loop-visited : goal.decreases-loop-visited
+decreases-loop-visited l = l.symbols - length l.walk.items

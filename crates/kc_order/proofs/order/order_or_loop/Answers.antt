@@ -1,6 +1,6 @@
 use Rattle.std.proofs.Common.{arith, sym, ◌∙◌, ap, subst, ◌<◌, ◌≡◌, ℕ, length, false}
 use Rattle.std.proofs.lemmas.List.{get_or-take, length-take-le, get_or_default}
-use Rattle.kc_order.specs.declared.search.Mark.TheVariants.{New}
+use Rattle.kc_order.specs.declared.search.NodeState.TheVariants.{New}
 use Rattle.kc_order.specs.Graph.{IsGraph}
 use Rattle.kc_order.specs.Needs.{AreWithin, needs_in, unordered_after}
 use Rattle.kc_order.specs.Order.{IsOrderOf}

@@ -4,8 +4,8 @@ use Rattle.std.proofs.lemmas.List.{length-set, get_or_read}
 use Rattle.std.proofs.lemmas.List.Sums.{sum_by-set}
 use Rattle.std.proofs.lemmas.List.Elements.{Contains-get_or}
 use Rattle.std.proofs.lemmas.Bool.{cases_lt}
-use Rattle.kc_order.specs.declared.search.Mark.{Mark}
-use Rattle.kc_order.specs.declared.search.Mark.TheVariants.{New, Done}
+use Rattle.kc_order.specs.declared.search.NodeState.{NodeState}
+use Rattle.kc_order.specs.declared.search.NodeState.TheVariants.{New, Done}
 use Rattle.kc_order.specs.Needs.{needs_in}
 use Rattle.kc_order.specs.Search.{IsSearch}
 use Rattle.kc_order.proofs.Held.{needs_below}
@@ -75,7 +75,7 @@ returns-in_ok-open-in-New-clause-less c =
     opens_less c.args.rows.now s c.open.new.search (need a) c.requires.sound (need_below a) new c.in_ok-open-in-New.ensures
 
 -- the last of the needs that are left is done, and so are those before it down to j
-passed_done : (marks : List Mark) (row : List ℕ) (left j : ℕ) → get_or marks (get_or row (left - 1) 0) New ≡ Done →
+passed_done : (marks : List NodeState) (row : List ℕ) (left j : ℕ) → get_or marks (get_or row (left - 1) 0) New ≡ Done →
     ((k : ℕ) → j ≤ k → k < left - 1 → get_or marks (get_or row k 0) New ≡ Done) → (k : ℕ) → j ≤ k → k < left → get_or marks (get_or row k 0) New ≡ Done
 passed_done marks row left j done passed k up b =
     elim (cases_lt k (left - 1)) [
@@ -112,8 +112,10 @@ returns-in-Done-clause-sound c =
       left_len = length-set s.left.items c.args.top c.pass_done.result ∙ h.left_len;
       keeps = passed_to _ (needs_in c.args.rows.now) (λ t. get_or s.marks.items t New)
           (λ t. get_or s.left.items t 0) _ s.path.items s.order.items c.args.top c.pass_done.result h.keeps c.requires.below (omega (arith, left_is a, c.pass_done.ensures.fewer))
-          (λ k up b. ap (λ xs. get_or s.marks.items (get_or xs k 0) New) (sym a.row-row.ensures) ∙ passed_done s.marks.items a.row-row.result.now c.index-left.result.now c.pass_done.result (mark_is i (need_below a) ∙ c.in-Done.is)
-          (subst (λ ms. (i : ℕ) → c.pass_done.result ≤ i → i < c.index-left.result.now - 1 → get_or ms (get_or a.row-row.result.now i 0) New ≡ Done) c.deref.ensures.value c.pass_done.ensures.done) k up (omega (arith, b, left_is a)))
+          (λ k up b. ap (λ xs. get_or s.marks.items (get_or xs k 0) New) (sym a.row-row.ensures)
+          ∙ passed_done s.marks.items a.row-row.result.now c.index-left.result.now c.pass_done.result (mark_is i (need_below a) ∙ c.in-Done.is)
+          (subst (λ ms. (i : ℕ) → c.pass_done.result ≤ i → i < c.index-left.result.now - 1 → get_or ms (get_or a.row-row.result.now i 0) New ≡ Done) c.deref.ensures.value
+          c.pass_done.ensures.done) k up (omega (arith, b, left_is a)))
           (row_passes_to c.args.rows.now s.left.items c.args.top c.pass_done.result (row_in a));
     }
 

@@ -1,5 +1,5 @@
 use Rattle.std.proofs.Common.{◌≡◌, ℕ, ◌<◌, ◌≤◌, get_or}
-use Rattle.kc_order.specs.declared.search.Mark.TheVariants.{New, Done}
+use Rattle.kc_order.specs.declared.search.NodeState.TheVariants.{New, Done}
 use Rattle.kc_order.proofs.search.pass_done.Given as goal
 
 abbrev pub invariant-loop-left : goal.invariant-loop-left

@@ -1,6 +1,6 @@
 use Rattle.std.proofs.Common.{arith, length, ◌∙◌, ap}
 use Rattle.std.proofs.lemmas.List.{length-replicate, get_or-replicate, length-map}
-use Rattle.kc_order.specs.declared.search.Mark.TheVariants.{New}
+use Rattle.kc_order.specs.declared.search.NodeState.TheVariants.{New}
 use Rattle.kc_order.specs.Needs.{needs_in}
 use Rattle.kc_order.proofs.SearchSteps.{starts, counts_are}
 use Rattle.kc_order.proofs.search.search_all.Goals as goal
@@ -17,7 +17,7 @@ loop-root-init c =
             (λ s b. rw c.in_ok-need_counts.ensures (counts_are rows s)));
       };
       idle = ap length c.new.ensures.items;
-      met = λ s b. absurd (omega arith);
+      visited = λ s b. absurd (omega arith);
     }
 
 pub returns : goal.returns
@@ -26,5 +26,5 @@ returns c =
     record {
       sound = h.sound;
       idle = h.idle;
-      met = λ s b. h.met s (omega arith);
+      visited = λ s b. h.visited s (omega arith);
     }

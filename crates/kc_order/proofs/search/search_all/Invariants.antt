@@ -1,5 +1,5 @@
 use Rattle.std.proofs.Common.{◌≡◌, ◌≢◌, ◌<◌, ℕ, length, get_or}
-use Rattle.kc_order.specs.declared.search.Mark.TheVariants.{New}
+use Rattle.kc_order.specs.declared.search.NodeState.TheVariants.{New}
 use Rattle.kc_order.specs.Search.{IsSound}
 use Rattle.kc_order.proofs.search.search_all.Given as goal
 
@@ -7,5 +7,5 @@ abbrev pub invariant-loop-root : goal.invariant-loop-root
 invariant-loop-root l = record {
   sound : IsSound l.rows l.search;
   idle : length l.search.path.items ≡ 0;
-  met : (s : ℕ) → s < l.root → get_or l.search.marks.items s New ≢ New;
+  visited : (s : ℕ) → s < l.root → get_or l.search.marks.items s New ≢ New;
 }

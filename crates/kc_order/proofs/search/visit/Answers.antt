@@ -3,7 +3,7 @@ use Rattle.std.specs.List.{Contains, slice_index}
 use Rattle.std.proofs.lemmas.Grind.{common_steps}
 use Rattle.std.proofs.lemmas.List.Elements.{Contains-push}
 use Rattle.std.proofs.lemmas.List.{get_or_read}
-use Rattle.kc_order.specs.declared.search.Mark.TheVariants.{New}
+use Rattle.kc_order.specs.declared.search.NodeState.TheVariants.{New}
 use Rattle.kc_order.specs.Needs.{needs_in}
 use Rattle.kc_order.proofs.SearchSteps.{opens_sound, opens_met, opens_there, open≢new}
 use Rattle.kc_order.proofs.search.visit.Goals as goal
@@ -22,7 +22,7 @@ loop-top-init c =
     let opens = c.in_ok-open.ensures in
     record {
       sound = opens_sound c.args.rows.now c.args.search.now c.open.new.search c.args.root c.requires.sound c.requires.below new path opens;
-      met = opens_met c.args.rows.now c.args.search.now c.open.new.search c.args.root c.requires.sound c.requires.below opens;
+      visited = opens_met c.args.rows.now c.args.search.now c.open.new.search c.args.root c.requires.sound c.requires.below opens;
       root_met = open≢new (get_or c.open.new.search.marks.items c.args.root New)
           (opens_there c.args.rows.now c.args.search.now c.open.new.search c.args.root c.requires.sound c.requires.below opens);
     }

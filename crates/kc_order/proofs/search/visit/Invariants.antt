@@ -1,12 +1,12 @@
 use Rattle.std.proofs.Common.{◌≢◌, get_or}
-use Rattle.kc_order.specs.declared.search.Mark.TheVariants.{New}
-use Rattle.kc_order.specs.Search.{IsSound, KeepsMet, work}
+use Rattle.kc_order.specs.declared.search.NodeState.TheVariants.{New}
+use Rattle.kc_order.specs.Search.{IsSound, KeepsVisited, work}
 use Rattle.kc_order.proofs.search.visit.Given as goal
 
 abbrev pub invariant-loop-top : goal.invariant-loop-top
 invariant-loop-top l = record {
   sound : IsSound l.rows l.search;
-  met : KeepsMet l.fn.search l.search;
+  visited : KeepsVisited l.fn.search l.search;
   root_met : get_or l.search.marks.items l.root New ≢ New;
 }
 

@@ -21,5 +21,6 @@ backslashes-preserved c = record {
       let whole = rest_whole c.args.file.now c.backslashes.at in
       let high = rw whole at c.in-Some.ensures.0.high in
       omega (arith, high, length-drop c.backslashes.at c.args.file.now);
-  none = join_passed c.args.file.now c.backslashes.at c.in-Some.found c.backslashes.invariant.none (rw (rest_whole c.args.file.now c.backslashes.at) at c.in-Some.ensures.0.before) (rw (rest_whole c.args.file.now (c.backslashes.at + (c.in-Some.found + 1))) at (c.if-ends_line.ensures refl));
+  none = join_passed c.args.file.now c.backslashes.at c.in-Some.found c.backslashes.invariant.none (rw (rest_whole c.args.file.now c.backslashes.at) at c.in-Some.ensures.0.before)
+      (rw (rest_whole c.args.file.now (c.backslashes.at + (c.in-Some.found + 1))) at (c.if-ends_line.ensures refl));
 }

@@ -1,5 +1,5 @@
 use Rattle.kc_dot.proofs.StreamLemmas.{refusals_keep, streams_leave}
-use Rattle.kc_dot.proofs.place_laws.reading_leaves_allowed_places.Goals as goal
+use Rattle.kc_dot.proofs.laws.reading_leaves_allowed_places.Goals as goal
 
 pub returns-clause-streams : goal.returns-clause-streams
 returns-clause-streams c =
