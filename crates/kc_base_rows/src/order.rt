@@ -2,8 +2,8 @@
 
 use kc_order::{
     Graph, NoOrder, Order, accepted_have_one_solution, computing_solves, cycles_are_unordered,
-    minimal_has_nothing_to_spare, minimal_restores, named_loop_is_closed, named_loop_is_within,
-    one_named_loop, order_of, ordered_are_accepted, iterations_solve, solutions_agree,
+    iterations_solve, minimal_has_nothing_to_spare, minimal_restores, named_loop_is_closed,
+    named_loop_is_within, one_named_loop, order_of, ordered_are_accepted, solutions_agree,
 };
 use std::alloc::{AllocError, Global};
 use std::test::Fail;
