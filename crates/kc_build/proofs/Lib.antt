@@ -34,6 +34,7 @@ mod MemberSoundLemmas
 mod MembersLemmas
 mod MenuEndLemmas
 mod MenuEntryLemmas
+mod ModulesSymbolLemmas
 mod NameLemmas
 mod NamedLemmas
 mod NestLemmas

@@ -8,12 +8,12 @@ use Rattle.kc_expr.specs.declared.expression.SymId.{SymId}
 use Rattle.kc_read.specs.declared.statement.Block.{Block}
 use Rattle.kc_read.specs.declared.statement.Block.TheVariants as block
 use Rattle.kc_read.specs.Statements.{Named, Numbered, Located, numbered, ConfigLine, IfLine, MenuLine, EndMenuLine, ChoiceLine, statements}
-use Rattle.kc_read.specs.Blocks.{bracket, bracket_at, bracket_of, opened, depth_after, stays_open, is_open, open_places, open_blocks, enclosing, numbers, last_of}
+use Rattle.kc_read.specs.Blocks.{bracket, bracket_at, bracket_of, opened, depth_after, stays_open, is_open, open_block_indices, open_blocks, enclosing, numbers, last_of}
 use Rattle.kc_read.specs.Expansion.{Log, Expands, is_choice}
 use Rattle.kc_read.specs.Files.{Files}
 use Rattle.kc_read.specs.Numbering.{located_numbered}
 use Rattle.kc_build.specs.Facts.{is_block, of_block, block_at, enclosing_block, enclosing_choice, choice_number}
-use Rattle.kc_build.proofs.ExpansionLemmas.{Leaves, turn, Suits, AreNested, expansion_nested}
+use Rattle.kc_build.proofs.ExpansionLemmas.{Leaves, turn, Suits, AreNested, expansion_is_nested}
 
 -- Statements that are brackets alike have the same blocks.
 module _ {A B : Type 0} (f : A → B) where
@@ -50,10 +50,10 @@ module _ (f : Named → Numbered) (alike : (x : Named) → bracket (f x) ≡ bra
 
   open_blocks-map : (ss : List Named) → open_blocks (map f ss) ≡ open_blocks ss
   open_blocks-map ss =
-      let places : open_places (map f ss) ≡ open_places ss = ap (λ n. filter (is_open (map f ss)) (numbers n)) (length-map ss f)
+      let indices : open_block_indices (map f ss) ≡ open_block_indices ss = ap (λ n. filter (is_open (map f ss)) (numbers n)) (length-map ss f)
       ∙ same_filter (is_open (map f ss)) (is_open ss) (numbers (length ss)) (is_open-map ss) in
-      ap (filter_map (λ j. opened (bracket_at (map f ss) j))) places
-      ∙ same_filter_map (λ j. opened (bracket_at (map f ss) j)) (λ j. opened (bracket_at ss j)) (open_places ss) (λ j. ap opened (bracket_at-map ss j))
+      ap (filter_map (λ j. opened (bracket_at (map f ss) j))) indices
+      ∙ same_filter_map (λ j. opened (bracket_at (map f ss) j)) (λ j. opened (bracket_at ss j)) (open_block_indices ss) (λ j. ap opened (bracket_at-map ss j))
 
   with_statement : (o : Option Named) (s : Numbered) → option_map f o ≡ Some s → (x : Named) × (o ≡ Some x) × (f x ≡ s)
   with_statement None s e = absurd cc
@@ -88,7 +88,7 @@ numbered_nested modules number ls n =
 -- an expanded list, numbered: each line suits its enclosing blocks, and none is open at the end
 pub expanded_nested : (files : Files) (root : List ℕ) (log : Log) (modules : Option SymId) (number : List ℕ → ℕ) → Expands files root (Ok log) →
     AreNested (map (λ l. l.statement) (map (located_numbered modules number) log.lines))
-expanded_nested files root log modules number x = numbered_nested modules number log.lines (expansion_nested files root log x).0
+expanded_nested files root log modules number x = numbered_nested modules number log.lines (expansion_is_nested files root log x).nested
 
 -- Lists of places that a function gives blocks of.
 module _ (f : ℕ → Option Block) where

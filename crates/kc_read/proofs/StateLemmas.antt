@@ -33,7 +33,7 @@ use Rattle.kc_read.proofs.ShapeLemmas.{effect_by, made_name, made_shape, or_none
 abbrev ranked : FileContext → ℕ → Named → Located Named
 ranked a n x = record { file = a.file; line = n; statement = x }
 
-entry_push : (ss : List Named) (x : Named) → entry_after (entry_of (last_no_attribute ss)) x ≡ entry_of (last_no_attribute (ss ++ x ∷ []))
+pub entry_push : (ss : List Named) (x : Named) → entry_after (entry_of (last_no_attribute ss)) x ≡ entry_of (last_no_attribute (ss ++ x ∷ []))
 entry_push ss x = by (is_attribute x) ∙ ap (λ l. entry_of (last_of l)) (sym (filter-append is_no_attribute ss (x ∷ [])))
   where
     by : (b : Bool) → cond b (entry_of (last_no_attribute ss)) (entry_of (Some x)) ≡ entry_of (last_of (filter is_no_attribute ss ++ cond (cond b false true) (x ∷ []) []))

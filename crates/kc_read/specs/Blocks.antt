@@ -94,16 +94,16 @@ module _ {E L S : Type 0} where
   is_open ss j = is_some (opened (bracket_at ss j)) && stays_open 0 (drop (suc j) ss)
 
   -- the places of the openers whose blocks are open after these statements, the outermost first
-  abbrev pub open_places : List (Statement E L S) → List ℕ
-  open_places ss = filter (is_open ss) (numbers (length ss))
+  abbrev pub open_block_indices : List (Statement E L S) → List ℕ
+  open_block_indices ss = filter (is_open ss) (numbers (length ss))
 
   abbrev pub open_blocks : List (Statement E L S) → List Block
-  open_blocks ss = filter_map (λ j. opened (bracket_at ss j)) (open_places ss)
+  open_blocks ss = filter_map (λ j. opened (bracket_at ss j)) (open_block_indices ss)
 
   -- the places of the openers of the blocks that are open before statement i: those that enclose it, and for a statement that
   -- closes a block that block too, so that a closer counts as inside its own block
   abbrev pub enclosing : List (Statement E L S) → ℕ → List ℕ
-  enclosing ss i = open_places (take i ss)
+  enclosing ss i = open_block_indices (take i ss)
 
   -- the attributes of the entry at a place
   abbrev pub attributes : List (Statement E L S) → ℕ → List (Statement E L S)
@@ -138,8 +138,7 @@ module _ {E L S : Type 0} where
   has_modules_line (s ∷ ss) = if is_modules s then true else (if is_some (defined_name s) then false else has_modules_line ss)
 
   -- The modules symbol's name: that of the first `config` line that a `modules` line follows before the next `config` line. In
-  -- what the grammar gives, where no `modules` line stands before the first `config` line, it is the last `config` line before
-  -- the first `modules` line.
+  -- what files say it is the last `config` line before the first `modules` line: kc_build's law `first_modules_line_decides`.
   abbrev pub modules_of : List (Statement E L S) → Option S
   modules_of [] = None
   modules_of (s ∷ ss) = option_or (if has_modules_line ss then defined_name s else None) (modules_of ss)
