@@ -2,7 +2,7 @@
 use Rattle.std.proofs.Common.{◌≡◌, List, ℕ, [], ◌++◌, refl, sym, ap, ◌∙◌, append_assoc, append-nil, Option}
 use Rattle.kc_dot.specs.Pages.{HandsOn, Waits}
 use Rattle.kc_dot.specs.Sink.{extended, BreaksOff, HandsOut}
-use Rattle.kc_dot.proofs.PartLemmas.{BreaksOff-behind, HandsOut-behind}
+use Rattle.kc_dot.proofs.PartLemmas.{BreaksOff-behind}
 use Rattle.kc_dot.proofs.SinkLemmas.{extended-extended, extended-nothing}
 
 -- nothing was taken yet
@@ -26,9 +26,6 @@ waits_on text page kept rest old mid new (front, is, taken) (more, split, now) =
 pub waits_stop : (text page rest : List ℕ) (old now : Option (List ℕ)) → Waits text page rest old now → HandsOut text old now
 waits_stop text page rest old now (front, is, taken) = (front, (page ++ rest, is), taken)
 
-pub waits_broke : (text page rest : List ℕ) (old mid new : Option (List ℕ)) → Waits text page rest old mid → HandsOut page mid new → HandsOut text old new
-waits_broke text page rest old mid new (front, is, taken) broke = rw is (HandsOut-behind front page rest old mid new taken broke)
-
 pub waits_breaks : (text page rest : List ℕ) (old mid new : Option (List ℕ)) → Waits text page rest old mid → BreaksOff page mid new → BreaksOff text old new
 waits_breaks text page rest old mid new (front, is, taken) broke = rw is (BreaksOff-behind front page rest old mid new taken broke)
 
@@ -46,6 +43,10 @@ HandsOut-nothing text taken = ([], (text, refl), extended-nothing taken)
 pub hands_both : (first second waits : List ℕ) (old mid new : Option (List ℕ)) → mid ≡ extended old first → new ≡ extended mid second → waits ≡ [] → HandsOn (first ++ second) waits old new
 hands_both first second waits old mid new before after none =
     (first ++ second, rw none (sym (append-nil (first ++ second))), after ∙ rw before (extended-extended old first second))
+
+-- all was taken, and nothing waits
+pub hands_all : (waited waits : List ℕ) (old new : Option (List ℕ)) → new ≡ extended old waited → waits ≡ [] → HandsOn waited waits old new
+hands_all waited waits old new after none = (waited, rw none (sym (append-nil waited)), after)
 
 -- nothing was taken, and all waits
 pub hands_none : (waited waits : List ℕ) (old : Option (List ℕ)) → waits ≡ waited → HandsOn waited waits old old

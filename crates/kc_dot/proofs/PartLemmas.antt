@@ -6,13 +6,6 @@ use Rattle.kc_dot.specs.Sink.{extended, BreaksOff, HandsOut}
 use Rattle.kc_dot.proofs.SinkLemmas.{extended-extended, extended-nothing}
 
 -- a text that broke off behind another
-pub HandsOut-behind : (front text rest : List ℕ) (old mid new : Option (List ℕ)) → mid ≡ extended old front → HandsOut text mid new → HandsOut (front ++ (text ++ rest)) old new
-HandsOut-behind front text rest old mid new before (part, (more, is), taken) = (
-  front ++ part,
-  (more ++ rest, rw is (ap (λ t. front ++ t) (append_assoc part more rest) ∙ sym (append_assoc front part (more ++ rest)))),
-  taken ∙ rw before (extended-extended old front part),
-)
-
 pub BreaksOff-behind : (front text rest : List ℕ) (old mid new : Option (List ℕ)) → mid ≡ extended old front → BreaksOff text mid new → BreaksOff (front ++ (text ++ rest)) old new
 BreaksOff-behind front text rest old mid new before (part, (b, more, is), taken) = (
   front ++ part,

@@ -1,8 +1,8 @@
 -- What was told, as more and more of a text is taken.
-use Rattle.std.proofs.Common.{◌≡◌, ℕ, ◌+◌, ◌-◌, ◌<◌, List, [], ◌∷◌, ◌++◌, length, take, drop, get_or, refl, sym, ap, ◌∙◌, append_assoc, append-nil, Option, Some, None}
+use Rattle.std.proofs.Common.{◌≡◌, ℕ, ◌+◌, ◌-◌, ◌<◌, ◌≤◌, List, [], ◌∷◌, ◌++◌, length, take, drop, get_or, refl, sym, ap, ◌∙◌, append_assoc, append-nil, Option, Some, None}
 use Rattle.std.proofs.Math.Seq.{take-add}
-use Rattle.std.proofs.lemmas.List.{drop_more, take-append-drop, take_rest}
-use Rattle.kc_dot.specs.Sink.{extended, BreaksOff, HandsOut}
+use Rattle.std.proofs.lemmas.List.{drop_more, take-append-drop, take_all, take_rest}
+use Rattle.kc_dot.specs.Sink.{extended, BreaksOff}
 
 -- the bytes of two calls are one text
 pub extended-extended : (told : Option (List ℕ)) (a b : List ℕ) → extended (extended told a) b ≡ extended told (a ++ b)
@@ -20,8 +20,9 @@ pub extended-nothing : (told : Option (List ℕ)) → told ≡ extended told []
 extended-nothing None = refl
 extended-nothing (Some before) = ap Some (sym (append-nil before))
 
-pub HandsOut-take : (text : List ℕ) (old new : Option (List ℕ)) (at : ℕ) → new ≡ extended old (take at text) → HandsOut text old new
-HandsOut-take text old new at is = (take at text, (drop at text, sym (take-append-drop at text)), is)
+-- a front that is as long as the text is the text
+pub extended-whole : (told : Option (List ℕ)) (text : List ℕ) (at : ℕ) → length text ≤ at → extended told (take at text) ≡ extended told text
+extended-whole told text at end = ap (extended told) (take_all at text end)
 
 pub BreaksOff-take : (text : List ℕ) (old new : Option (List ℕ)) (at : ℕ) → at < length text → new ≡ extended old (take at text) → BreaksOff text old new
 BreaksOff-take text old new at more is =

@@ -4,11 +4,13 @@ use Rattle.std.specs.Prelude.{IsErrAnd}
 use Rattle.std.proofs.lemmas.Result.{err_from_is_err_and}
 use Rattle.kc_dot.specs.declared.fault.WriteFault.{WriteFault}
 use Rattle.kc_dot.specs.declared.fault.WriteFault.TheVariants.{Sink, Memory}
+use Rattle.kc_dot.specs.declared.sink.Fault.{Fault}
 use Rattle.kc_dot.specs.declared.sink.Sink.{Ghosts}
 use Rattle.kc_dot.specs.Pages.{HandsOn, IsUnderWay}
-use Rattle.kc_dot.specs.Sink.{extended, next_failure, HandsOut}
-use Rattle.kc_dot.specs.Writing.{Writes}
-use Rattle.kc_dot.proofs.PageLemmas.{waits_from, waits_more, waits_on, waits_stop, waits_broke, waits_all, HandsOut-nothing}
+use Rattle.kc_dot.specs.Sink.{extended, next_failure, BreaksOff}
+use Rattle.kc_dot.specs.Writing.{Puts, Writes}
+use Rattle.kc_dot.proofs.PageLemmas.{waits_from, waits_more, waits_on, waits_stop, waits_breaks, waits_all, HandsOut-nothing}
+use Rattle.kc_dot.proofs.PartLemmas.{BreaksOff-HandsOut}
 
 module _ {S : Type 0} (sink : Ghosts S) where
   -- nothing was taken yet
@@ -42,14 +44,25 @@ module _ {S : Type 0} (sink : Ghosts S) where
         record { waits = waits_on text page kept rest _ _ _ way.waits on; quiet = quiet ∙ way.quiet; keeps = goes_on _ _ _ way.keeps keeps }
 
     -- the sink failed at what waits
+    pub puts_broken : {text page rest : List ℕ} {fault : Fault} {old mid new : S} → IsUnderWay sink text page rest old mid →
+        BreaksOff page (sink.taken mid) (sink.taken new) → sink.failures new ≡ next_failure (sink.failures mid) → sink.goes_to mid new → Puts sink text (Err fault) old new
+    puts_broken {text = text} {page = page} {rest = rest} way broke counted keeps =
+        let broken = waits_breaks text page rest _ _ _ way.waits broke in
+        record { whole = tt; quiet = tt; broken = broken; counted = counted ∙ ap next_failure way.quiet; keeps = goes_on _ _ _ way.keeps keeps }
+
     pub writes_broken : {text page rest : List ℕ} (r : Result (Unit {0}) WriteFault) {old mid new : S} → IsErrAnd r (λ e. e ≡ Sink) → IsUnderWay sink text page rest old mid →
-        HandsOut page (sink.taken mid) (sink.taken new) → sink.failures new ≡ next_failure (sink.failures mid) → sink.goes_to mid new → Writes sink text r old new
+        BreaksOff page (sink.taken mid) (sink.taken new) → sink.failures new ≡ next_failure (sink.failures mid) → sink.goes_to mid new → Writes sink text r old new
     writes_broken {text = text} {page = page} {rest = rest} r is way broke counted keeps =
         let p = err_from_is_err_and r is in
-        let beginning = waits_broke text page rest _ _ _ way.waits broke in
+        let beginning = BreaksOff-HandsOut text _ _ (waits_breaks text page rest _ _ _ way.waits broke) in
         rw (p.1 ∙ ap Err p.2) (record { whole = tt; quiet = tt; beginning = beginning; counted = counted ∙ ap next_failure way.quiet; keeps = goes_on _ _ _ way.keeps keeps })
 
     -- all was taken
+    pub puts_all : {text page rest : List ℕ} {old mid new : S} → rest ≡ [] → IsUnderWay sink text page rest old mid →
+        sink.taken new ≡ extended (sink.taken mid) page → sink.failures new ≡ sink.failures mid → sink.goes_to mid new → Puts sink text (Ok tt) old new
+    puts_all {text = text} {page = page} {rest = rest} none way whole quiet keeps =
+        record { whole = waits_all text page rest _ _ _ none way.waits whole; quiet = quiet ∙ way.quiet; broken = tt; counted = tt; keeps = goes_on _ _ _ way.keeps keeps }
+
     pub writes_all : {text page rest : List ℕ} {old mid new : S} → rest ≡ [] → IsUnderWay sink text page rest old mid →
         sink.taken new ≡ extended (sink.taken mid) page → sink.failures new ≡ sink.failures mid → sink.goes_to mid new → Writes sink text (Ok tt) old new
     writes_all {text = text} {page = page} {rest = rest} none way whole quiet keeps =

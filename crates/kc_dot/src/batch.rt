@@ -1,21 +1,32 @@
-//! A text that is handed out part by part.
-ghost use Rattle.std.specs.Prelude.{◌≡◌, ◌++◌, OnOk, OnErr, flat_map};
-ghost use Rattle.kc_dot.specs.Pages.{HandsOn};
-ghost use Rattle.kc_dot.specs.Sink.{extended, next_failure, BreaksOff, HandsOut};
+//! Texts that are handed out, whole or part by part.
+ghost use Rattle.std.specs.Prelude.{◌++◌, flat_map};
+ghost use Rattle.kc_dot.specs.Pages.{PutsOn};
+ghost use Rattle.kc_dot.specs.Writing.{Puts};
 
-use crate::sink::{Fault, Sink, put};
+use crate::sink::{Fault, Sink};
 use arrayvec::ArrayVec;
 
 /// How many bytes of a text are handed out together at most, where its parts are short.
 const ROOM: usize = 256;
 
+/// Hands out the whole text, in as many writes as the sink wants (our own).
+///
+/// On `Fault` the sink took a beginning of the text, never the whole, and one failure more is counted. Empty bytes are never
+/// handed to `write`, so an empty text makes no call.
+pub fn put<S: Sink>(text: &[u8], sink: &mut S) -> Result<(), Fault>
+    ensures { Puts S.Sink text.now result sink.old sink.new }
+{
+    let mut at = 0;
+    while at < text.len() {
+        let count = sink.write(&text[at..])?;
+        at += count;
+    }
+    Ok(())
+}
+
 // Hands out what waits and the part behind it, so that nothing waits any more.
 fn put_both<S: Sink>(waits: &mut ArrayVec<u8, ROOM>, part: &[u8], sink: &mut S) -> Result<(), Fault>
-    ensures on { OnOk result (HandsOn (waits.old.items ++ part.now) waits.new.items (S.taken sink.old) (S.taken sink.new)) }
-    ensures quiet { OnOk result (S.failures sink.new ≡ S.failures sink.old) }
-    ensures broken { OnErr result (BreaksOff (waits.old.items ++ part.now) (S.taken sink.old) (S.taken sink.new)) }
-    ensures counted { OnErr result (S.failures sink.new ≡ next_failure (S.failures sink.old)) }
-    ensures keeps { S.goes_to sink.old sink.new }
+    ensures { PutsOn S.Sink (waits.old.items ++ part.now) waits.new.items result sink.old sink.new }
 {
     put(waits.as_slice(), sink)?;
     waits.clear();
@@ -24,11 +35,7 @@ fn put_both<S: Sink>(waits: &mut ArrayVec<u8, ROOM>, part: &[u8], sink: &mut S) 
 
 // Lets the part wait behind what waits. Where there is no room for it, hands out both, one after the other.
 fn add_part<S: Sink>(part: &[u8], waits: &mut ArrayVec<u8, ROOM>, sink: &mut S) -> Result<(), Fault>
-    ensures on { OnOk result (HandsOn (waits.old.items ++ part.now) waits.new.items (S.taken sink.old) (S.taken sink.new)) }
-    ensures quiet { OnOk result (S.failures sink.new ≡ S.failures sink.old) }
-    ensures broken { OnErr result (BreaksOff (waits.old.items ++ part.now) (S.taken sink.old) (S.taken sink.new)) }
-    ensures counted { OnErr result (S.failures sink.new ≡ next_failure (S.failures sink.old)) }
-    ensures keeps { S.goes_to sink.old sink.new }
+    ensures { PutsOn S.Sink (waits.old.items ++ part.now) waits.new.items result sink.old sink.new }
 {
     match waits.try_extend_from_slice(part) {
         Ok(()) => Ok(()),
@@ -40,12 +47,7 @@ fn add_part<S: Sink>(part: &[u8], waits: &mut ArrayVec<u8, ROOM>, sink: &mut S) 
 ///
 /// Parts that have no more than 256 bytes together are handed out as one.
 pub fn put_parts<S: Sink>(parts: &[&[u8]], sink: &mut S) -> Result<(), Fault>
-    ensures whole { OnOk result (S.taken sink.new ≡ extended (S.taken sink.old) (flat_map (λ part. part.now) parts.now)) }
-    ensures quiet { OnOk result (S.failures sink.new ≡ S.failures sink.old) }
-    ensures beginning { OnErr result (HandsOut (flat_map (λ part. part.now) parts.now) (S.taken sink.old) (S.taken sink.new)) }
-    ensures broken { OnErr result (BreaksOff (flat_map (λ part. part.now) parts.now) (S.taken sink.old) (S.taken sink.new)) }
-    ensures counted { OnErr result (S.failures sink.new ≡ next_failure (S.failures sink.old)) }
-    ensures keeps { S.goes_to sink.old sink.new }
+    ensures { Puts S.Sink (flat_map (λ part. part.now) parts.now) result sink.old sink.new }
 {
     let mut waits = ArrayVec::<u8, ROOM>::new();
     for part in parts {

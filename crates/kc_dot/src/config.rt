@@ -12,11 +12,12 @@ ghost use Rattle.kc_dot.specs.Writing.{Writes};
 ghost use Rattle.kc_solve.specs.Solved.{value_of};
 ghost use Rattle.kc_user.specs.Places.{ArePlaces};
 
+use crate::batch::put;
 use crate::fault::WriteFault;
 use crate::laws::{config_is_idempotent, written_texts_are_short};
 use crate::page::{add_parts, new_page, put_full};
 use crate::prefix::Prefix;
-use crate::sink::{Sink, put};
+use crate::sink::Sink;
 use crate::symbol_line::{add_dot_line, symbol_value};
 use kc_expr::expression::{SymId, Tri};
 use kc_solve::solved::Solved;

@@ -1,9 +1,9 @@
 //! What a line does for a tree: nothing, a warning, or an assignment.
-ghost use Rattle.std.specs.Prelude.{◌≡◌, ◌++◌, OnOk, OnErr, IfOk, Some};
+ghost use Rattle.std.specs.Prelude.{◌≡◌, ◌++◌, IfOk, Some};
 ghost use Rattle.kc_dot.specs.DotLine.{meaning_view};
 ghost use Rattle.kc_dot.specs.Effects as spec;
 ghost use Rattle.kc_dot.specs.EffectView.{AssignsDefined, warning_view, effect_view};
-ghost use Rattle.kc_dot.specs.Sink.{extended, next_failure, BreaksOff};
+ghost use Rattle.kc_dot.specs.Writing.{Puts};
 
 use crate::batch::put_parts;
 use crate::line::DotLine;
@@ -129,11 +129,7 @@ pub fn warn<S: Sink>(
     line_warning: LineWarning<'_>,
     sink: &mut S,
 ) -> Result<(), Fault>
-    ensures whole { OnOk result (S.taken sink.new ≡ extended (S.taken sink.old) (spec.warning_line stream.now number (warning_view line_warning.entry))) }
-    ensures quiet { OnOk result (S.failures sink.new ≡ S.failures sink.old) }
-    ensures broken { OnErr result (BreaksOff (spec.warning_line stream.now number (warning_view line_warning.entry)) (S.taken sink.old) (S.taken sink.new)) }
-    ensures counted { OnErr result (S.failures sink.new ≡ next_failure (S.failures sink.old)) }
-    ensures keeps { S.goes_to sink.old sink.new }
+    ensures { Puts S.Sink (spec.warning_line stream.now number (warning_view line_warning.entry)) result sink.old sink.new }
 {
     let mut buffer = Buffer::new();
     let digits = buffer.format(number).as_bytes();

@@ -8,11 +8,12 @@ ghost use Rattle.kc_solve.specs.Solved.{value_of};
 ghost use Rattle.kc_user.specs.Places.{ArePlaces};
 ghost use Rattle.kc_values.specs.Solution.{symbol_count};
 
+use crate::batch::put;
 use crate::fault::WriteFault;
 use crate::laws::{minimal_gives_back, written_texts_are_short};
 use crate::page::{add_parts, new_page, put_full};
 use crate::prefix::Prefix;
-use crate::sink::{Sink, put};
+use crate::sink::Sink;
 use crate::symbol_line::{add_dot_line, add_header_line, symbol_value};
 use kc_expr::expression::SymId;
 use kc_solve::solved::Solved;

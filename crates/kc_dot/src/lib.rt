@@ -17,4 +17,5 @@ mod step;
 mod symbol_line;
 pub mod value;
 
-pub use sink::{Fault, Sink, put};
+pub use batch::put;
+pub use sink::{Fault, Sink};

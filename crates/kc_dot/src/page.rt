@@ -1,9 +1,9 @@
 //! Text that waits until there is a page of it.
-ghost use Rattle.std.specs.Prelude.{◌≡◌, ◌++◌, [], OnOk, OnErr, IfOk, flat_map};
-ghost use Rattle.kc_dot.specs.Pages.{HandsOn};
-ghost use Rattle.kc_dot.specs.Sink.{next_failure, HandsOut};
+ghost use Rattle.std.specs.Prelude.{◌≡◌, ◌++◌, [], OnOk, IfOk, flat_map};
+ghost use Rattle.kc_dot.specs.Pages.{PutsOn};
 
-use crate::sink::{Fault, Sink, put};
+use crate::batch::put;
+use crate::sink::{Fault, Sink};
 use std::alloc::{AllocError, Global};
 
 /// From how many bytes on a page is handed out.
@@ -29,13 +29,10 @@ pub fn add_parts(parts: &[&[u8]], page: &mut Vec<u8>) -> Result<(), AllocError>
     Ok(())
 }
 
-/// Hands out the page where it is full, and begins the next one. After an error the sink took a beginning of it.
+/// Hands out the page where it is full, and begins the next one. After an error the sink took a
+/// beginning of it, never the whole.
 pub fn put_full<S: Sink>(page: &mut Vec<u8>, sink: &mut S) -> Result<(), Fault>
-    ensures on { OnOk result (HandsOn page.old.items page.new.items (S.taken sink.old) (S.taken sink.new)) }
-    ensures quiet { OnOk result (S.failures sink.new ≡ S.failures sink.old) }
-    ensures beginning { OnErr result (HandsOut page.old.items (S.taken sink.old) (S.taken sink.new)) }
-    ensures counted { OnErr result (S.failures sink.new ≡ next_failure (S.failures sink.old)) }
-    ensures keeps { S.goes_to sink.old sink.new }
+    ensures { PutsOn S.Sink page.old.items page.new.items result sink.old sink.new }
 {
     if page.len() < FULL {
         return Ok(());

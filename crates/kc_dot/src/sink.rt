@@ -1,6 +1,6 @@
-//! Where text goes, and the loop that hands a whole text out.
+//! Where text goes.
 ghost use Rattle.std.specs.Prelude.{◌≡◌, ◌<◌, ◌≤◌, List, ℕ, Option, length, take, IfOk, OnOk, OnErr};
-ghost use Rattle.kc_dot.specs.Sink.{extended, next_failure, BreaksOff, HandsOut};
+ghost use Rattle.kc_dot.specs.Sink.{extended, next_failure};
 
 /// A device failed. Why is not told: whoever owns the device names it in the error line (our own).
 #[derive(Clone, Copy, Debug, PartialEq, Eq)]
@@ -36,24 +36,4 @@ pub trait Sink {
     ghost stays: { (s : Self) → goes_to s s };
 
     ghost goes_on: { (s t u : Self) → goes_to s t → goes_to t u → goes_to s u };
-}
-
-/// Hands out the whole text, in as many writes as the sink wants (our own).
-///
-/// On `Fault` the sink took a beginning of the text, never the whole, and one failure more is counted. Empty bytes are never
-/// handed to `write`, so an empty text makes no call.
-pub fn put<S: Sink>(text: &[u8], sink: &mut S) -> Result<(), Fault>
-    ensures whole { OnOk result (S.taken sink.new ≡ extended (S.taken sink.old) text.now) }
-    ensures quiet { OnOk result (S.failures sink.new ≡ S.failures sink.old) }
-    ensures beginning { OnErr result (HandsOut text.now (S.taken sink.old) (S.taken sink.new)) }
-    ensures broken { OnErr result (BreaksOff text.now (S.taken sink.old) (S.taken sink.new)) }
-    ensures counted { OnErr result (S.failures sink.new ≡ next_failure (S.failures sink.old)) }
-    ensures keeps { S.goes_to sink.old sink.new }
-{
-    let mut at = 0;
-    while at < text.len() {
-        let count = sink.write(&text[at..])?;
-        at += count;
-    }
-    Ok(())
 }

@@ -8,7 +8,8 @@ ghost use Rattle.kc_user.specs.Places.{ArePlacesOf};
 ghost use Rattle.kc_dot.specs.Feeding.{failures_after};
 ghost use Rattle.kc_dot.specs.LineSteps.{places_by, with_member, FailsIn};
 ghost use Rattle.kc_dot.specs.Reading.{set_again, effect_warning, warning_line_if, choice_of, is_yes, places_given};
-ghost use Rattle.kc_dot.specs.Sink.{extended, next_failure, BreaksOff};
+ghost use Rattle.kc_dot.specs.Sink.{extended};
+ghost use Rattle.kc_dot.specs.Writing.{Puts};
 
 use crate::effect::{Effect, LineWarning, line_effect, warn};
 use crate::fault::DotFault;
@@ -87,11 +88,7 @@ fn warn_again<S: Sink>(
 ) -> Result<(), Fault>
     requires defined { id.0 < length stream.now.tree.now.symbols }
     requires user { ArePlacesOf stream.now.tree.now user.now }
-    ensures whole { OnOk result (S.taken sink.new ≡ extended (S.taken sink.old) (warning_line_if stream.now.name.now number (set_again stream.now.tree.now user.now id))) }
-    ensures quiet { OnOk result (S.failures sink.new ≡ S.failures sink.old) }
-    ensures broken { OnErr result (BreaksOff (warning_line_if stream.now.name.now number (set_again stream.now.tree.now user.now id)) (S.taken sink.old) (S.taken sink.new)) }
-    ensures counted { OnErr result (S.failures sink.new ≡ next_failure (S.failures sink.old)) }
-    ensures keeps { S.goes_to sink.old sink.new }
+    ensures { Puts S.Sink (warning_line_if stream.now.name.now number (set_again stream.now.tree.now user.now id)) result sink.old sink.new }
 {
     if user.get(id).is_none() || id.0 >= stream.tree.symbol_count() {
         return Ok(());
@@ -116,9 +113,13 @@ pub fn read_line<S: Sink>(
 ) -> Result<(), DotFault>
     requires { ArePlacesOf stream.now.tree.now user.old }
     ensures places { OnOk result (user.new ≡ places_by stream.now.tree.now user.old (effect_of stream.now.tree.now (meaning_of stream.now.prefix.now text.now))) }
-    ensures warned { OnOk result (S.taken sink.new ≡ extended (S.taken sink.old) (warning_line_if stream.now.name.now number (effect_warning stream.now.tree.now user.old (effect_of stream.now.tree.now (meaning_of stream.now.prefix.now text.now))))) }
+    ensures warned { OnOk result (S.taken sink.new ≡ extended (S.taken sink.old)
+        (warning_line_if stream.now.name.now number (effect_warning stream.now.tree.now user.old
+        (effect_of stream.now.tree.now (meaning_of stream.now.prefix.now text.now))))) }
     ensures unchanged { OnErr result (user.new ≡ user.old) }
-    ensures fault { IfErr result (λ fault. FailsIn (warning_line_if stream.now.name.now number (effect_warning stream.now.tree.now user.old (effect_of stream.now.tree.now (meaning_of stream.now.prefix.now text.now)))) fault (S.taken sink.old) (S.taken sink.new)) }
+    ensures fault { IfErr result (λ fault. FailsIn (warning_line_if stream.now.name.now number
+        (effect_warning stream.now.tree.now user.old (effect_of stream.now.tree.now (meaning_of stream.now.prefix.now text.now)))) fault (S.taken sink.old)
+        (S.taken sink.new)) }
     ensures quiet { OnOk result (S.failures sink.new ≡ S.failures sink.old) }
     ensures counted { IfErr result (λ fault. S.failures sink.new ≡ failures_after fault (S.failures sink.old)) }
     ensures keeps { S.goes_to sink.old sink.new }

@@ -1,10 +1,9 @@
-use Rattle.std.proofs.Common.{[], List, ℕ, drop, refl, sym, subst}
+use Rattle.std.proofs.Common.{[], List, ℕ, refl, sym, subst}
 use Rattle.std.specs.Prelude.{flat_map}
 use Rattle.std.proofs.lemmas.Result.{err_from_is_err_and}
 use Rattle.kc_dot.specs.Pages.{IsUnderWay}
-use Rattle.kc_dot.proofs.PageLemmas.{waits_more, waits_breaks, waits_all}
-use Rattle.kc_dot.proofs.PartLemmas.{BreaksOff-HandsOut, parts_next, parts_end}
-use Rattle.kc_dot.proofs.WritingLemmas.{way_from, way_more, way_on}
+use Rattle.kc_dot.proofs.PartLemmas.{parts_next, parts_end}
+use Rattle.kc_dot.proofs.WritingLemmas.{puts_all, puts_broken, way_from, way_more, way_on}
 use Rattle.kc_dot.proofs.batch.put_parts.Goals as goal
 
 pub loop-part-init : goal.loop-part-init
@@ -20,31 +19,22 @@ loop-part-preserved g c =
     let way = way_more g.S.Sink _ c.loop-part.waits.items _ _ _ _ _ _ next refl c.loop-part.invariant in
     way_on g.S.Sink g.met.S.Sink.goes_on way put.on put.quiet put.keeps
 
-pub returns-in_err-add_part-clause-broken : goal.returns-in_err-add_part-clause-broken
-returns-in_err-add_part-clause-broken g c =
+pub returns-in_err-add_part : goal.returns-in_err-add_part
+returns-in_err-add_part g c =
     let p = err_from_is_err_and c.from_residual.result c.from_residual.ensures.1 in
     let next = parts_next (λ part. part.now) c.args.parts.now c.loop-part.part-index _ c.loop-part-test.true in
-    rw p.1 (waits_breaks _ _ _ _ _ _ (waits_more _ c.loop-part.waits.items _ _ _ _ _ _ next refl c.loop-part.invariant.waits) c.in_err-add_part.ensures.broken)
+    let way = way_more g.S.Sink _ c.loop-part.waits.items _ _ _ _ _ _ next refl c.loop-part.invariant in
+    let put = c.in_err-add_part.ensures in
+    rw p.1 (puts_broken g.S.Sink g.met.S.Sink.goes_on way put.broken put.counted put.keeps)
 
-pub returns-in_err-add_part-clause-beginning : goal.returns-in_err-add_part-clause-beginning
-returns-in_err-add_part-clause-beginning g c =
-    let p = err_from_is_err_and c.from_residual.result c.from_residual.ensures.1 in
-    let next = parts_next (λ part. part.now) c.args.parts.now c.loop-part.part-index _ c.loop-part-test.true in
-    rw p.1 (BreaksOff-HandsOut _ _ _ (waits_breaks _ _ _ _ _ _ (waits_more _ c.loop-part.waits.items _ _ _ _ _ _ next refl c.loop-part.invariant.waits) c.in_err-add_part.ensures.broken))
-
-pub returns-in_err-put-clause-broken : goal.returns-in_err-put-clause-broken
-returns-in_err-put-clause-broken g c =
+pub returns-in_err-put : goal.returns-in_err-put
+returns-in_err-put g c =
     let p = err_from_is_err_and c.from_residual-in_err-put.result c.from_residual-in_err-put.ensures.1 in
-    rw p.1 (waits_breaks _ c.loop-part.waits.items (flat_map (λ part. part.now) (drop c.loop-part.part-index c.args.parts.now)) _ _ _ c.loop-part.invariant.waits
-    (rw c.as_slice.ensures.value at c.in_err-put.ensures.broken))
+    let put = c.in_err-put.ensures in
+    rw p.1 (puts_broken g.S.Sink g.met.S.Sink.goes_on c.loop-part.invariant (rw c.as_slice.ensures.value at put.broken) put.counted put.keeps)
 
-pub returns-in_err-put-clause-beginning : goal.returns-in_err-put-clause-beginning
-returns-in_err-put-clause-beginning g c =
-    let p = err_from_is_err_and c.from_residual-in_err-put.result c.from_residual-in_err-put.ensures.1 in
-    rw p.1 (BreaksOff-HandsOut _ _ _ (waits_breaks _ c.loop-part.waits.items (flat_map (λ part. part.now) (drop c.loop-part.part-index c.args.parts.now))
-    _ _ _ c.loop-part.invariant.waits (rw c.as_slice.ensures.value at c.in_err-put.ensures.broken)))
-
-pub returns-clause-whole : goal.returns-clause-whole
-returns-clause-whole g c =
+pub returns : goal.returns
+returns g c =
     let none = parts_end (λ part. part.now) c.args.parts.now c.loop-part.part-index c.loop-part-test.false in
-    waits_all _ c.loop-part.waits.items _ _ _ _ none c.loop-part.invariant.waits (rw c.as_slice.ensures.value at c.in_ok-put.ensures.whole)
+    let put = c.in_ok-put.ensures in
+    puts_all g.S.Sink g.met.S.Sink.goes_on none c.loop-part.invariant (rw c.as_slice.ensures.value at put.whole) put.quiet put.keeps

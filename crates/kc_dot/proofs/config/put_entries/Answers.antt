@@ -63,10 +63,10 @@ returns-in_err-put_full g c =
     c.layout-layout.result.now.tables entries c.loop-index.index entry c.loop-index.after_end c.in_ok-after_end.after_end
     c.loop-index-test.true (get_or_default entries c.loop-index.index (Symbol (symbol 0)) entry c.loop-index-test.true) added.next in
     let way = way_more g.S.Sink _ _ _ _ _ _ _ _ next added.text c.loop-index.invariant in
-    writes_broken g.S.Sink g.met.S.Sink.goes_on _ c.from_residual-in_err-put_full.ensures.1 way put.beginning put.counted put.keeps
+    writes_broken g.S.Sink g.met.S.Sink.goes_on _ c.from_residual-in_err-put_full.ensures.1 way put.broken put.counted put.keeps
 
 pub returns-in_err-put : goal.returns-in_err-put
 returns-in_err-put g c =
     let put = c.in_err-put.ensures in
     writes_broken g.S.Sink g.met.S.Sink.goes_on _ c.from_residual-in_err-put.ensures.1 c.loop-index.invariant
-    (rw c.deref.ensures.value at put.beginning) put.counted put.keeps
+    (rw c.deref.ensures.value at put.broken) put.counted put.keeps

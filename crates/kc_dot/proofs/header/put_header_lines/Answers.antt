@@ -35,10 +35,10 @@ returns-in_err-put_full g c =
     let lt : c.loop-i.i < length c.args.tree.now.symbols = omega arith in
     let next = symbols_next c.args.tree.now (header_if c.args.tree.now c.args.prefix.now (solution_view c.args.solved.now)) c.loop-i.i lt in
     let way = way_more g.S.Sink _ _ _ _ _ _ _ _ next (rw c.symbol.ensures at c.in_ok-add_header_if.ensures) c.loop-i.invariant in
-    writes_broken g.S.Sink g.met.S.Sink.goes_on _ c.from_residual-in_err-put_full.ensures.1 way put.beginning put.counted put.keeps
+    writes_broken g.S.Sink g.met.S.Sink.goes_on _ c.from_residual-in_err-put_full.ensures.1 way put.broken put.counted put.keeps
 
 pub returns-in_err-put : goal.returns-in_err-put
 returns-in_err-put g c =
     let put = c.in_err-put.ensures in
     writes_broken g.S.Sink g.met.S.Sink.goes_on _ c.from_residual-in_err-put.ensures.1 c.loop-i.invariant
-    (rw c.deref.ensures.value at put.beginning) put.counted put.keeps
+    (rw c.deref.ensures.value at put.broken) put.counted put.keeps

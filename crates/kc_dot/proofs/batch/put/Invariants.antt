@@ -1,7 +1,7 @@
 -- The text is handed out from its front on.
 use Rattle.std.proofs.Common.{length, ◌-◌, ◌≡◌, ◌≤◌, take}
 use Rattle.kc_dot.specs.Sink.{extended}
-use Rattle.kc_dot.proofs.sink.put.Given as goal
+use Rattle.kc_dot.proofs.batch.put.Given as goal
 
 -- the first l.at bytes were taken, with no failure
 abbrev pub invariant-loop-at : goal.invariant-loop-at
