@@ -17,7 +17,7 @@ install: build
 
 # The main job on the example: its full .config on standard output.
 example: build
-	@cd examples/firmware && ../../crates/kconf/out/kconf --config start.config --out /dev/stdout Kconfig site.config
+	@cd crates/kconf_firmware/data && ../../kconf/out/kconf --config start.config --out /dev/stdout Kconfig site.config
 
 test:
 	rt ci

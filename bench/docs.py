@@ -3,13 +3,12 @@
 
 Every example of a diagnostic in docs/formats.md is run, and the line that comes must be the one
 that stands there, and so must the rule for make. The makefiles of docs/make.md are run over
-examples/firmware, the first with each of its two rules; that folder must hold what the gate's run of it has. The version of the command must be the one of the program, the man page and the changelog, and
-each option of the help must stand in README.md, the man page and both completions. Every link from a
-document to a file of the repository must lead somewhere, and the lines of README.md must fit into 140
-columns.
+the example (crates/kconf_firmware/data), the first with each of its two rules. The version of the command must be the one of
+the program, the man page and the changelog, and each option of the help must stand in README.md, the
+man page and both completions. Every link from a document to a file of the repository must lead
+somewhere, and the lines of README.md must fit into 140 columns.
 """
 
-import filecmp
 import os
 import re
 import shutil
@@ -66,7 +65,7 @@ class Built:
 
     def __init__(self, folder, kconf, text):
         self.folder, self.kconf = folder, kconf
-        shutil.copytree(os.path.join(TOP, "examples/firmware"), folder, dirs_exist_ok=True)
+        shutil.copytree(os.path.join(TOP, "crates/kconf_firmware/data"), folder, dirs_exist_ok=True)
         shutil.copy(os.path.join(folder, "start.config"), os.path.join(folder, ".config"))
         self.put("Makefile", text)
         self.put("main.c", self.PROGRAM)
@@ -106,7 +105,7 @@ def rule(kconf):
     """Complaints about the rule for make that docs/formats.md shows."""
     shown = re.search(r"writes\n\n((?: {4}.*\n|\n)*)", read("docs/formats.md").partition("## The rule for make")[2]).group(1)
     with tempfile.TemporaryDirectory() as folder:
-        shutil.copytree(os.path.join(TOP, "examples/firmware"), folder, dirs_exist_ok=True)
+        shutil.copytree(os.path.join(TOP, "crates/kconf_firmware/data"), folder, dirs_exist_ok=True)
         subprocess.run([kconf, "--depfile", ".config.d", "Kconfig", "site.config"], cwd=folder, capture_output=True, check=True)
         with open(os.path.join(folder, ".config.d"), encoding="utf-8") as file:
             came = file.read()
@@ -167,15 +166,6 @@ def makefile(kconf, name, text):
     return complaints
 
 
-def example():
-    """Complaints about a file of the example that is not as the one that the gate runs on (which has rows/ besides)."""
-    shown, run = os.path.join(TOP, "examples/firmware"), os.path.join(TOP, "crates/kconf_firmware/data")
-    names = {os.path.relpath(os.path.join(at, it), top) for top in (shown, run) for at, _, them in os.walk(top) for it in them}
-    names = {name for name in names if not name.startswith("rows/") and name != ".config"}
-    _, other, missing = filecmp.cmpfiles(shown, run, sorted(names), shallow=False)
-    return [f"examples/firmware/{name} is not the file of crates/kconf_firmware/data" for name in other + missing]
-
-
 def versions(kconf):
     """Complaints about the version where it stands beside the command."""
     version = re.search(r'^const VERSION: &str = "(.*)";$', read("crates/kc_words/src/command.rt"), re.M).group(1)
@@ -221,7 +211,7 @@ def links():
 def main():
     kconf = os.path.abspath(sys.argv[1])
     wrong, runs = examples(kconf)
-    unmade = example() + rule(kconf) + versions(kconf) + options(kconf)
+    unmade = rule(kconf) + versions(kconf) + options(kconf)
     for name, text in makefiles().items():
         unmade += makefile(kconf, name, text)
     broken, count = links()
